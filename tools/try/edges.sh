@@ -155,6 +155,53 @@ same '-h and --help'
 "$program" -V > "$work/first"
 echo 'csvtable 2.0.0' > "$work/second"
 same '-V'
+
+# With a limit the input is read no further than it needs.
+yes 1,2,3 | timeout 20 "$program" --limit 3 > "$work/first" 2> "$work/err"
+printf '╭───┬───┬───╮\n│ 1 ┆ 2 ┆ 3 │\n╞═══╪═══╪═══╡\n' > "$work/second"
+printf '│ 1 ┆ 2 ┆ 3 │\n│ 1 ┆ 2 ┆ 3 │\n│ 1 ┆ 2 ┆ 3 │\n╰───┴───┴───╯\n3 of more records\n' >> "$work/second"
+same 'three records of an input that never ends'
+yes 1,2 | timeout 20 "$program" --limit 3 -c 3 > "$work/out" 2> "$work/err"
+compare 'a column that is not there in an input that never ends' $? 1 'csvtable: standard input: no column 3'
+yes 1,2,3 | head -n 50000 > "$work/input"
+"$program" --limit 3 --count "$work/input" | tail -n 1 > "$work/first"
+echo '3 of 49999 records' > "$work/second"
+same 'all records counted'
+{ echo a,b; yes 1,2 | head -n 20; echo '3,"'; yes long | head -n 50000; echo '"'; yes 1,2 | head -n 50000; } > "$work/input"
+"$program" --limit 2 "$work/input" | tail -n 1 > "$work/first"
+echo '2 of more records' > "$work/second"
+same 'a quote that is closed behind the first 64 kB'
+{ yes 1,2 | head -n 50000; printf '\377\n'; } > "$work/input"
+"$program" --limit 2 "$work/input" | tail -n 1 > "$work/first"
+same 'a byte that is no text, behind what is read'
+"$program" --limit 2 --count "$work/input" > "$work/out" 2> "$work/err"
+compare 'such a byte where all records are counted' $? 1 "csvtable: $work/input: line 50001 isn't UTF-8; try -e cp1252"
+
+# An output that takes no more for now: a pipe in nonblocking mode that nobody reads.
+if command -v python3 > /dev/null; then
+  python3 - "$program" "$work/input" > "$work/status" 2> "$work/err" << 'END'
+import fcntl, os, subprocess, sys
+reader, writer = os.pipe()
+fcntl.fcntl(writer, fcntl.F_SETFL, fcntl.fcntl(writer, fcntl.F_GETFL) | os.O_NONBLOCK)
+run = [sys.argv[1], "-e", "cp1252", sys.argv[2]]
+print(subprocess.run(run, stdin=subprocess.DEVNULL, stdout=writer).returncode)
+END
+  : > "$work/out"
+  compare 'a full pipe in nonblocking mode' "$(cat "$work/status")" 1 \
+    'csvtable: the output takes no more for now; is it nonblocking?'
+fi
+
+# Reads and writes that a signal interrupts.
+if command -v strace > /dev/null; then
+  "$program" "$work/input" -e cp1252 --limit 3 --count > "$work/first"
+  strace -o "$work/trace" -P "$work/input" -e trace=read -e inject=read:error=EINTR:when=1+2 \
+    "$program" "$work/input" -e cp1252 --limit 3 --count > "$work/second"
+  same 'each second read interrupted'
+  strace -o "$work/trace" -e trace=write -e inject=write:error=EINTR:when=1 \
+    "$program" "$work/input" -e cp1252 --limit 3 --count > "$work/second"
+  same 'the first write interrupted'
+fi
+
 : > "$work/out"
 "$program" --wide < "$work/input" > "$work/out" 2> "$work/err"
 compare 'a word that is not known' $? 2 "$(cat "$work/err")"

@@ -1,8 +1,8 @@
 -- One more record behind others.
-use Rattle.std.proofs.Common.{◌≡◌, ◌<◌, ◌≤◌, ◌+◌, ◌-◌, ◌^◌, ◌++◌, ◌∷◌, [], ℕ, zero, suc, All, List, Some, None, unwrap_or, zero-add, ap, ap₂, arith, drop, length, map, refl, sym, take, ◌∙◌}
+use Rattle.std.proofs.Common.{◌≡◌, ◌<◌, ◌≤◌, ◌+◌, ◌-◌, ◌++◌, ◌∷◌, [], ℕ, zero, suc, All, List, Some, None, unwrap_or, zero-add, ap, ap₂, arith, drop, length, map, refl, sym, take, ◌∙◌}
 use Rattle.std.proofs.Math.Seq.{drop-append_seam, take-length}
 use Rattle.std.proofs.lemmas.List.{drop-append-le, length-append, length-drop, length-take-le, map-append, take-append-le}
-use Rattle.std.proofs.lemmas.List.Elements.{All-append, All-drop}
+use Rattle.std.proofs.lemmas.List.Elements.{All-drop}
 use Rattle.comfy_parts.specs.Text.{Text}
 use Rattle.csv.specs.Records.{field_at}
 use Rattle.csv_records.specs.Places.{IsWithin, fields_at}
@@ -29,19 +29,6 @@ module _ (fields more : List Text) where
       let own : length (fields ++ more) - length fields ≡ length more = omega (arith, length-append fields more) in
       let last : fields_at (fields ++ more) last_place ≡ more = ap₂ take own (drop-append_seam fields more) ∙ take-length more in
       map-append (fields_at (fields ++ more)) places (last_place ∷ []) ∙ ap₂ (λ xs x. xs ++ x ∷ []) (all_kept places within) last
-
-  pub all_within : (places : List Place) → length (fields ++ more) < 2 ^ 64 → All (IsWithin fields) places → All (IsWithin (fields ++ more)) (places ++ last_place ∷ [])
-  all_within places few within = All-append (IsWithin (fields ++ more)) places (last_place ∷ []) still last
-    where
-      size : length (fields ++ more) ≡ length fields + length more
-      size = length-append fields more
-
-      still : All (IsWithin (fields ++ more)) places
-      still k d below = let before = within k d below in (before.0, omega (arith, before.1, size), before.2)
-
-      last : All (IsWithin (fields ++ more)) (last_place ∷ [])
-      last zero d below = (omega (arith, size), omega arith, few)
-      last (suc k) d below = absurd (omega arith)
 
 -- ---- going over a record
 

@@ -1,2 +1,1 @@
 pub mod DeviceLemmas
-pub mod StreamLemmas

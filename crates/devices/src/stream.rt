@@ -164,9 +164,9 @@ impl<W: Write> ToWriter<W> {
                 self.failed = true;
                 Err(DeviceFault)
             }
-            Err(error) => {
+            Err(fault) => {
                 self.failed = true;
-                self.fault = Some(error.kind());
+                self.fault = Some(fault.kind());
                 Err(DeviceFault)
             }
         }
@@ -195,7 +195,7 @@ fn write_again<W: Write>(writer: &mut W, piece: &[u8]) -> io::Result<usize>
     for _ in 1..TRIES {
         match writer.write(piece) {
             Err(error) if error.kind() == ErrorKind::Interrupted => {}
-            said => return said,
+            taken => return taken,
         }
     }
     writer.write(piece)

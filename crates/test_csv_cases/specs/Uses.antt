@@ -1,17 +1,23 @@
 -- What the callers claim.
-use Rattle.std.specs.Prelude.{◌<◌, ◌≤◌, length}
+use Rattle.std.specs.Prelude.{◌≡◌, ◌⊎◌, ◌<◌, ◌≤◌, List, ◌++◌, length}
 use Rattle.comfy_parts.specs.Text.{Text, measure}
 use Rattle.csv_tables.specs.declared.options.Options.{Options}
-use Rattle.csv_tables.specs.Drawn.{RendersInput, RendersRecords}
+use Rattle.csv_tables.specs.Drawn.{RendersBeginning, RendersInput, RendersRecords, counting}
 use Rattle.csv_tables.specs.Laws.{EachText}
 use Rattle.csv_tables.specs.MarkdownLines.{GivesRecordsBack}
 
--- the records of an input are given back by its output, where no field is too wide and a column is
--- drawn
+-- an output for records gives them back, where no field is too wide and a column is drawn
+abbrev pub GivesBack : Options → List (List Text) → Text → Type 0
+GivesBack options records output =
+    (drawn : RendersRecords options records output)
+    → EachText (λ text. measure text ≤ 65535) options.look records
+    → 0 < length drawn.content.columns
+    → GivesRecordsBack options records output
+
+-- the records of an input, or of a beginning that is enough, are given back by what is written
 abbrev pub GivesInputBack : Options → Text → Text → Type 0
 GivesInputBack options input output =
-    (made : RendersInput options input output)
-    × ((drawn : RendersRecords options made.records output)
-    → EachText (λ text. measure text ≤ 65535) options.look made.records
-    → 0 < length drawn.content.columns
-    → GivesRecordsBack options made.records output)
+    ((made : RendersInput options input output)
+    × GivesBack (counting options) made.records output)
+    ⊎ ((beginning : Text) × (behind : Text) × (input ≡ beginning ++ behind)
+    × (made : RendersBeginning options beginning output) × GivesBack options made.records output)

@@ -5,7 +5,7 @@ ghost use Rattle.std.specs.List.{list_any};
 ghost use Rattle.comfy_parts.specs.VisibleText.{visible_text};
 ghost use Rattle.csv_records.specs.Cleaning.{is_harmful, nothing_kept};
 ghost use Rattle.csv_tables.specs.Controls.{HasNoStrayControl};
-ghost use Rattle.csv_tables.specs.Drawn.{RendersInput};
+ghost use Rattle.csv_tables.specs.Drawn.{IsDrawnOf};
 ghost use Rattle.csv_tables.specs.Laws.{IsLookWithoutControls};
 ghost use Rattle.test_csv_cases.specs.Uses.{GivesInputBack};
 
@@ -31,7 +31,7 @@ pub fn output_for(
     room: usize,
     options: &Options,
 ) -> Result<MemorySink, CsvError>
-    ensures { IfOk result (λ sink. RendersInput options.now input.now sink.bytes) }
+    ensures { IfOk result (λ sink. IsDrawnOf options.now input.now sink.bytes) }
 {
     let mut source = MemorySource::new(input, 0);
     let mut sink = MemorySink::new(alloc, room, 0)?;

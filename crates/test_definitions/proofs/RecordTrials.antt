@@ -257,12 +257,12 @@ chosen_alignments = refl
 
 -- ---- the line on records that aren't drawn
 
-notes : map (note_for false (Some 2)) (1 ∷ 2 ∷ 3 ∷ []) ≡ [] ∷ [] ∷ codes "2 of 3 records\n" ∷ []
+notes : map (note_for false (Some 2)) (Some 1 ∷ Some 2 ∷ Some 3 ∷ None ∷ []) ≡ [] ∷ [] ∷ codes "2 of 3 records\n" ∷ codes "2 of more records\n" ∷ []
 unfolding digits
 notes = refl
 
 -- in Markdown below an empty line
-note_in_markdown : note_for true (Some 2) 3 ≡ codes "\n2 of 3 records\n"
+note_in_markdown : note_for true (Some 2) (Some 3) ≡ codes "\n2 of 3 records\n"
 unfolding digits
 note_in_markdown = refl
 
@@ -271,9 +271,14 @@ rule : rule_line (record { position = 0; alignment = None } ∷ record { positio
 rule = refl
 
 -- the line above a record
-third_record : record_line 3 12 ≡ codes "record 3 of 12\n"
+third_record : record_line 3 (Some 12) ≡ codes "record 3 of 12\n"
 unfolding digits
 third_record = refl
+
+-- and where it isn't known how many there are
+third_of_more : record_line 3 None ≡ codes "record 3 of more\n"
+unfolding digits
+third_of_more = refl
 
 -- a column with a header and a field of seven letters, drawn with a border at each side: its least width is 8
 abbrev seven : TableValue
@@ -372,6 +377,10 @@ row_is_missing same = let is : ◌≡◌ {A = ℕ} 1 2 = same in omega (arith, i
 -- false: csv_records::laws::records_are_one
 one_record_is_not_none : ¬ (◌≡◌ {A = List (List Text)} [] ((codes "a" ∷ []) ∷ []))
 one_record_is_not_none same = cc same
+
+-- false: csv_records::laws::first_records_stay
+other_records : ¬ ((more : List (List Text)) × ((codes "b" ∷ []) ∷ [] ≡ ((codes "a" ∷ []) ∷ []) ++ more))
+other_records found = let is : ◌≡◌ {A = ℕ} 0x62 0x61 = cc found.1 in omega (arith, is)
 
 -- false: csv_tables::laws::printable_texts_make_printable_tables
 tab_is_not_printable : ¬ (All (λ text. is_printable_ascii text ≡ true) (codes "\t" ∷ []))

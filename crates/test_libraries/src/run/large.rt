@@ -247,6 +247,7 @@ pub(super) fn options(alloc: Global, width: Option<u16>, has_sequences: bool) ->
         selection: Selection {
             has_header: true,
             limit: None,
+            counts_all: false,
             columns: Vec::new(alloc),
             dropped: Vec::new(alloc),
             right: Vec::new(alloc),
