@@ -524,12 +524,6 @@ unfolding Reached next_record
 none_in_nothing cfg [] are = refl
 none_in_nothing cfg (r ∷ records) (s, ys, (p, is, at, more), none) = absurd (cc is)
 
-parted_nothing : (d : Delimiter) (q : Bool) → (delimited d q []).1 ≡ []
-unfolding strip_bom
-parted_nothing (Byte b) q = refl
-parted_nothing Auto q = refl
-parted_nothing NamedOrTab q = refl
-
 unmarked_nothing : strip_bom [] ≡ []
 unfolding strip_bom
 unmarked_nothing = refl
