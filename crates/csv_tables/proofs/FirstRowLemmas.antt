@@ -3,7 +3,6 @@ use Rattle.std.proofs.Common.{◌≡◌, ◌≢◌, ◌<◌, ◌+◌, ◌-◌, �
 use Rattle.std.specs.List.{slice_get}
 use Rattle.std.specs.Prelude.{if◌then◌else◌}
 use Rattle.std.proofs.lemmas.List.{length-take}
-use Rattle.std.proofs.lemmas.Str.{IsUtf8-nil}
 use Rattle.comfy_parts.specs.Text.{Text}
 use Rattle.csv_records.proofs.FirstLemmas.{all_of_few}
 use Rattle.csv_records.specs.Beginning.{AreFirstByBeginning, IsEnough}
@@ -15,8 +14,12 @@ use Rattle.csv_tables.specs.Drawn.{AreEnough, ContentValue, HasLimit, RendersAny
 use Rattle.csv_tables.specs.Errors.{of_columns}
 use Rattle.csv_tables.specs.Run.{IsInputRefusal, IsRefusal}
 use Rattle.csv_tables.specs.declared.error.ColumnsError.{ColumnsError}
+<<<<<<< HEAD
 use Rattle.csv_tables.specs.declared.error.ColumnsError.TheVariants.{NoColumn, NoneLeft, OutOfMemory, TwoSides}
 use Rattle.csv_tables.specs.declared.error.CsvError.TheVariants as err
+=======
+use Rattle.csv_tables.specs.declared.error.ColumnsError.TheVariants.{NoColumn, OutOfMemory, TwoSides}
+>>>>>>> hC
 use Rattle.csv_tables.specs.declared.options.DrawnColumn.{DrawnColumn}
 use Rattle.csv_tables.specs.declared.options.Options.{Options}
 use Rattle.devices.specs.Outcome.{Beginning}
