@@ -14,12 +14,8 @@ use Rattle.csv_tables.specs.Drawn.{AreEnough, ContentValue, HasLimit, RendersAny
 use Rattle.csv_tables.specs.Errors.{of_columns}
 use Rattle.csv_tables.specs.Run.{IsInputRefusal, IsRefusal}
 use Rattle.csv_tables.specs.declared.error.ColumnsError.{ColumnsError}
-<<<<<<< HEAD
 use Rattle.csv_tables.specs.declared.error.ColumnsError.TheVariants.{NoColumn, NoneLeft, OutOfMemory, TwoSides}
 use Rattle.csv_tables.specs.declared.error.CsvError.TheVariants as err
-=======
-use Rattle.csv_tables.specs.declared.error.ColumnsError.TheVariants.{NoColumn, OutOfMemory, TwoSides}
->>>>>>> hC
 use Rattle.csv_tables.specs.declared.options.DrawnColumn.{DrawnColumn}
 use Rattle.csv_tables.specs.declared.options.Options.{Options}
 use Rattle.devices.specs.Outcome.{Beginning}
