@@ -41,12 +41,7 @@ pub fn read_beginning(
         Err(_) => return Ok(None),
     };
     if !ends_with_line(below_lines(lines, options.skip))
-        || !shows_delimiter(
-            alloc,
-            text.as_str(),
-            options.delimiter,
-            options.has_quotes,
-        )?
+        || !shows_delimiter(alloc, text.as_str(), options.delimiter, options.has_quotes)?
     {
         return Ok(None);
     }

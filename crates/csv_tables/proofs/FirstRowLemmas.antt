@@ -3,6 +3,7 @@ use Rattle.std.proofs.Common.{◌≡◌, ◌≢◌, ◌<◌, ◌+◌, ◌-◌, �
 use Rattle.std.specs.List.{slice_get}
 use Rattle.std.specs.Prelude.{if◌then◌else◌}
 use Rattle.std.proofs.lemmas.List.{length-take}
+use Rattle.std.proofs.lemmas.Str.{IsUtf8-nil}
 use Rattle.comfy_parts.specs.Text.{Text}
 use Rattle.csv_records.proofs.FirstLemmas.{all_of_few}
 use Rattle.csv_records.specs.Beginning.{AreFirstByBeginning, IsEnough}

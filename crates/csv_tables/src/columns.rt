@@ -391,11 +391,7 @@ fn joined_kind(one: FieldKind, other: FieldKind) -> FieldKind
 }
 
 // Puts a kind in the place of another, or behind the last.
-fn put_kind(
-    kinds: &mut Vec<FieldKind>,
-    position: usize,
-    kind: FieldKind,
-) -> Result<(), AllocError>
+fn put_kind(kinds: &mut Vec<FieldKind>, position: usize, kind: FieldKind) -> Result<(), AllocError>
     ensures { OnOk result (kinds.new.items ≡ if nat_lt position (length kinds.old.items)
         then slice_set kinds.old.items position kind
         else kinds.old.items ++ kind ∷ []) }

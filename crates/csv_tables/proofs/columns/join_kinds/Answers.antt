@@ -27,9 +27,10 @@ loop-position-preserved c =
     let one : suc k ≡ k + 1 = omega arith in
     let more = joined-more old fields k below ∙ ap (λ (n : ℕ). joined_kinds old (take n fields)) one in
     elim c.match-kind_in.branch [
-      in-Other w ↦
+      | in-Other w ↦
           ap (λ ks. ks.items) w.kinds-is ∙ same ∙ sym (other-stays before k (kind_of (field_or_blank fields k)) (sym known ∙ w.in-Other.is)) ∙ more
-    | in_default+in_ok-kind_at-in_default+in_ok-put_kind-in_default w ↦
+      | in_default+in_ok-kind_at-in_default+in_ok-put_kind-in_default w ↦
           ap (λ ks. ks.items) w.kinds-is ∙ w.in_ok-put_kind-in_default.ensures
           ∙ ap₂ (λ (ks : List FieldKind) (kind : FieldKind). with_kind ks k kind) same (w.joined_kind-kind.ensures ∙ ap₂ joined_kind known w.in_ok-kind_at-in_default.ensures)
-          ∙ more ]
+          ∙ more
+    ]

@@ -27,8 +27,7 @@ loop-behind-preserved c =
     ap (λ (k : ℕ). drop k columns) here ∙ drop_more columns at record { position = 0; alignment = None } below ∙ ap (λ (k : ℕ). column ∷ drop k columns) before in
     let ends = c.loop-behind.invariant in
     let least : c.min-least.result ≡ least_position (column ∷ drop (n - behind) columns) =
-    c.min-least.ensures ∙ ap (λ (l : ℕ). min l column.position) ends.1 ∙ swapped (least_position (drop (n - behind) columns)) column.position in
-    (
+    c.min-least.ensures ∙ ap (λ (l : ℕ). min l column.position) ends.1 ∙ swapped (least_position (drop (n - behind) columns)) column.position in (
       ap reverse c.in_ok-push.ensures.items ∙ reverse-append c.loop-behind.leasts.items (c.min-least.result ∷ []) ∙ ap₂ (λ (l : ℕ) (ls : List ℕ). l ∷ ls) least ends.0 ∙ sym (ap least_positions rest),
       least ∙ sym (ap least_position rest),
     )

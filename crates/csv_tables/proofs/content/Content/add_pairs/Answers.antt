@@ -34,7 +34,7 @@ loop-column-preserved c =
     let next : DrawnColumn = slice_index_or columns i record { position = 0; alignment = None } in
     let before : List RowValue = pairs_of look (take i columns) names fields in
     elim c.match-get.branch [
-      in-Some+in_ok-name+in_ok-pair_of+in_ok-try_add_row w ↦
+      | in-Some+in_ok-name+in_ok-pair_of+in_ok-try_add_row w ↦
           let own = has-some fields column.position w.in-Some.field.now w.in-Some.ensures.value in
           let is : has_field fields next ≡ true = ap (has_field fields) (sym same) ∙ own.0 in
           let row : w.in_ok-pair_of.field-0 ≡ shown next =
@@ -43,12 +43,13 @@ loop-column-preserved c =
           more ∙ ap (λ (b : Bool). before ++ map shown (cond b (next ∷ []) [])) is in
           w.table-is ∙ w.in_ok-try_add_row.ensures.ok ∙ ap₂ (λ (r : RowValue) (t : TableValue). with_row r t) row c.loop-column.invariant
           ∙ sym (with_rows-more before (shown next) c.args.table.now) ∙ ap (λ (rs : List RowValue). with_rows rs c.args.table.now) (sym rows)
-    | in_default w ↦
+      | in_default w ↦
           let none = sym (ap (option_map (λ s. s.now)) w.in_default.is) ∙ gets in
           let is : has_field fields next ≡ false = ap (has_field fields) (sym same) ∙ has-none fields column.position none in
           let rows : pairs_of look (take (i + 1) columns) names fields ≡ before =
           more ∙ ap (λ (b : Bool). before ++ map shown (cond b (next ∷ []) [])) is ∙ append-nil before in
-          w.table-is ∙ c.loop-column.invariant ∙ ap (λ (rs : List RowValue). with_rows rs c.args.table.now) (sym rows) ]
+          w.table-is ∙ c.loop-column.invariant ∙ ap (λ (rs : List RowValue). with_rows rs c.args.table.now) (sym rows)
+    ]
 
 pub returns : goal.returns
 returns c =
