@@ -1,5 +1,5 @@
 -- Lines that the promises on files refuse, and records for which one is made.
-use Rattle.std.proofs.Common.{◌≡◌, ◌⊎◌, inl, inr, ◌+◌, ◌<◌, ◌≤◌, ℕ, List, [], None, ◌∷◌, ◌++◌, arith, codes, decimal, length, length-append, refl, sym, ap, ◌∙◌, subst, true, false}
+use Rattle.std.proofs.Common.{◌≡◌, ◌⊎◌, inl, inr, ◌+◌, ◌<◌, ◌≤◌, ℕ, List, [], None, Option, ◌∷◌, ◌++◌, arith, codes, decimal, length, length-append, refl, sym, ap, ◌∙◌, subst, true, false}
 use Rattle.std.specs.List.{All, AllByRecursion}
 use Rattle.std.proofs.lemmas.List.Elements.{All-from_recursion, All-head, All-tail}
 use Rattle.std.specs.Global.{Vec}
@@ -12,6 +12,7 @@ use Rattle.csv_tables.specs.declared.options.Look.{Look}
 use Rattle.csv_tables.specs.declared.options.Options.{Options}
 use Rattle.csv_tables.specs.declared.options.RowSeparators.TheVariants.{Styled}
 use Rattle.promises.specs.Shown.{ShowsColumns}
+use Rattle.csv_tables.specs.Drawn.{count_text}
 use Rattle.csv_promises.specs.Kept.{AsksForNothing, EachHasALine, IsPlainRecord}
 use Rattle.csv_promises.specs.Straight.{CountsRecords, IsStraight, counted}
 use Rattle.test_definitions.proofs.OutputLineTrials.{found, two_lines}
@@ -20,10 +21,10 @@ use Rattle.test_definitions.proofs.PromiseTrials.{none_in_nothing, shows_itself,
 -- ---- straight edges
 
 -- a line that counts has more than ten characters
-long_count : (before : Text) (n m : ℕ) (behind : Text) → length before + 4 + length behind ≤ length (counted before n m behind)
+long_count : (before : Text) (n : ℕ) (m : Option ℕ) (behind : Text) → length before + 4 + length behind ≤ length (counted before n m behind)
 long_count before n m behind =
-    let whole = length-append (((before ++ decimal n) ++ codes " of ") ++ decimal m) behind in
-    let third = length-append ((before ++ decimal n) ++ codes " of ") (decimal m) in
+    let whole = length-append (((before ++ decimal n) ++ codes " of ") ++ count_text m) behind in
+    let third = length-append ((before ++ decimal n) ++ codes " of ") (count_text m) in
     let second = length-append (before ++ decimal n) (codes " of ") in
     let first = length-append before (decimal n) in
     omega (arith, whole, third, second, first)
