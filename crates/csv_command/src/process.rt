@@ -6,11 +6,11 @@ use crate::ending::{
     Ending, Outcome, ending_of_outcome, ending_of_refusal, ending_without_arguments, said_before,
 };
 use csv_tables::{CsvError, draw};
-use devices::{FromReader, ToWriter, arguments_of_process, write_all};
+use devices::{FromReader, ToWriter, Uninterrupted, arguments_of_process, write_all};
 use std::alloc::AllocError;
 use std::env::VarError;
 use std::fs::File;
-use std::io::{IsTerminal, Read};
+use std::io::{IsTerminal, Read, Write};
 use std::process::ExitCode;
 use std::{env, io};
 
@@ -32,15 +32,22 @@ pub fn run_with_arguments(rt: &HostRuntime) -> ExitCode {
     end(rt, &ending)
 }
 
+// A sink that goes on where a signal interrupts a write.
+type WriterTo<W> = ToWriter<Uninterrupted<W>>;
+
+fn writer_of<W: Write>(writer: W) -> WriterTo<W> {
+    ToWriter::new(Uninterrupted::new(writer))
+}
+
 // Says what there is to say, and ends. Where a message can't be said there is nowhere left to say
 // so; help is an output.
 fn end(rt: &HostRuntime, ending: &Ending) -> ExitCode {
     let text = ending.said.text().as_bytes();
     if ending.is_message {
-        let _ = write_all(&mut ToWriter::new(rt.stderr()), text);
+        let _ = write_all(&mut writer_of(rt.stderr()), text);
         return ExitCode::from(ending.status);
     }
-    match write_all(&mut ToWriter::new(rt.stdout()), text) {
+    match write_all(&mut writer_of(rt.stdout()), text) {
         Ok(()) => ExitCode::from(ending.status),
         Err(_) => ExitCode::FAILURE,
     }
@@ -81,8 +88,8 @@ fn variable(rt: &HostRuntime, name: &str) -> Result<Option<String>, AllocError> 
 // Draws the file, or standard input.
 fn run(rt: &HostRuntime, invocation: &Invocation) -> Ending {
     let said = said_before(&invocation.file, rt.stdin().is_terminal());
-    let _ = write_all(&mut ToWriter::new(rt.stderr()), said.as_bytes());
-    let mut sink = ToWriter::new(rt.stdout());
+    let _ = write_all(&mut writer_of(rt.stderr()), said.as_bytes());
+    let mut sink = writer_of(rt.stdout());
     let (result, fault) = drawn(rt, &mut sink, invocation);
     let output_fault = sink.fault();
     ending_of_outcome(
@@ -99,7 +106,7 @@ fn run(rt: &HostRuntime, invocation: &Invocation) -> Ending {
 // What came of it, and with which error the input couldn't be opened or read.
 type Drawn = (Result<(), CsvError>, Option<io::ErrorKind>);
 
-fn drawn(rt: &HostRuntime, sink: &mut ToWriter<io::Stdout>, invocation: &Invocation) -> Drawn {
+fn drawn(rt: &HostRuntime, sink: &mut WriterTo<io::Stdout>, invocation: &Invocation) -> Drawn {
     let Some(path) = &invocation.file else {
         return drawn_from(rt, rt.stdin(), sink, invocation);
     };
@@ -112,10 +119,10 @@ fn drawn(rt: &HostRuntime, sink: &mut ToWriter<io::Stdout>, invocation: &Invocat
 fn drawn_from<R: Read + Drop>(
     rt: &HostRuntime,
     reader: R,
-    sink: &mut ToWriter<io::Stdout>,
+    sink: &mut WriterTo<io::Stdout>,
     invocation: &Invocation,
 ) -> Drawn {
-    let mut source = FromReader::new(reader);
+    let mut source = FromReader::new(Uninterrupted::new(reader));
     let result = draw(rt.alloc(), &mut source, sink, &invocation.options);
     (result, source.fault())
 }

@@ -7,9 +7,11 @@ mod memory;
 mod process;
 mod stream;
 mod transfer;
+mod uninterrupted;
 
 pub use device::{DeviceFault, Sink, Source};
 pub use memory::{MemorySink, MemorySource};
 pub use process::arguments_of_process;
 pub use stream::{FromReader, ToWriter};
 pub use transfer::{ReadError, Render, Stop, read_all, run, write_all};
+pub use uninterrupted::Uninterrupted;

@@ -1,8 +1,6 @@
 //! Devices over readers and writers, which keep whether those have failed.
 
 ghost use Rattle.std.specs.Prelude.{◌≡◌, ◌||◌, ◌↔◌, IfErr, IfOk, None, Ok, Some, is_err, is_some, false, true};
-ghost use Rattle.std.specs.Io.{ReadsAtMost, WritesAtMost};
-ghost use Rattle.std.specs.Io.KnownBytes.{ReadConsumes, WriteAppends};
 ghost use Rattle.std.specs.IoError.{error_kind};
 ghost use Rattle.devices.specs.Device.{is_end};
 ghost use Rattle.devices.specs.Stream.{fault_after, left_before, none_is_left};
@@ -11,11 +9,8 @@ use crate::device::{DeviceFault, Sink, Source};
 use std::io::{self, ErrorKind, Read, Write};
 use std::marker::Model;
 
-// How often a call is made that a signal interrupts.
-const TRIES: u32 = 1000;
-
-/// A source over a reader. A call of the reader that was interrupted took nothing, and is made
-/// again, up to a thousand times. Every other error of the reader is a failure.
+/// A source over a reader. Every error of the reader is a failure; over `Uninterrupted` a signal is
+/// none.
 #[derive(Drop)]
 pub struct FromReader<R> {
     reader: R,
@@ -91,29 +86,13 @@ impl<R: Read> Source for FromReader<R> {
         if self.ended {
             return Ok(0);
         }
-        let said = read_again(&mut self.reader, buffer);
+        let said = self.reader.read(buffer);
         self.kept(said, buffer.len())
     }
 }
 
-// One read, made again where it was interrupted.
-fn read_again<R: Read>(reader: &mut R, buffer: &mut [u8]) -> io::Result<usize>
-    ensures bound { ReadsAtMost result buffer.new }
-    ensures bytes { ReadConsumes (R.remaining reader.old) (R.remaining reader.new) result
-        buffer.new }
-{
-    for _ in 1..TRIES {
-        match reader.read(buffer) {
-            Err(error) if error.kind() == ErrorKind::Interrupted => {}
-            said => return said,
-        }
-    }
-    reader.read(buffer)
-}
-
-/// A sink over a writer. A call of the writer that was interrupted took nothing, and is made again,
-/// up to a thousand times. Every other error of the writer is a failure, and so is a piece that
-/// isn't empty of which it takes nothing.
+/// A sink over a writer. Every error of the writer is a failure, and so is a piece that isn't empty
+/// of which it takes nothing; over `Uninterrupted` a signal is none.
 #[derive(Drop)]
 pub struct ToWriter<W> {
     writer: W,
@@ -182,21 +161,7 @@ impl<W: Write> Sink for ToWriter<W> {
         if self.failed {
             return Err(DeviceFault);
         }
-        let said = write_again(&mut self.writer, piece);
+        let said = self.writer.write(piece);
         self.kept(said, piece.len())
     }
-}
-
-// One write, made again where it was interrupted.
-fn write_again<W: Write>(writer: &mut W, piece: &[u8]) -> io::Result<usize>
-    ensures bound { WritesAtMost result piece.now }
-    ensures bytes { WriteAppends (W.contents writer.old) (W.contents writer.new) result piece.now }
-{
-    for _ in 1..TRIES {
-        match writer.write(piece) {
-            Err(error) if error.kind() == ErrorKind::Interrupted => {}
-            taken => return taken,
-        }
-    }
-    writer.write(piece)
 }

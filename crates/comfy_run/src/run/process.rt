@@ -2,7 +2,7 @@
 
 use crate::error::RunError;
 use crate::run::command::program;
-use devices::{FromReader, ToWriter, arguments_of_process};
+use devices::{FromReader, ToWriter, Uninterrupted, arguments_of_process};
 use std::alloc::AllocError;
 use std::io;
 use std::io::ErrorKind;
@@ -43,9 +43,9 @@ fn run_with_words(rt: &HostRuntime) -> io::Result<ExitCode> {
 }
 
 fn run_with(rt: &HostRuntime, words: &[&str]) -> ExitCode {
-    let mut source = FromReader::new(rt.stdin());
-    let mut sink = ToWriter::new(rt.stdout());
-    let mut messages = ToWriter::new(rt.stderr());
+    let mut source = FromReader::new(Uninterrupted::new(rt.stdin()));
+    let mut sink = ToWriter::new(Uninterrupted::new(rt.stdout()));
+    let mut messages = ToWriter::new(Uninterrupted::new(rt.stderr()));
     let status = program(rt.alloc(), words, &mut source, &mut sink, &mut messages);
     ExitCode::from(status)
 }
