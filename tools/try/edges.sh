@@ -153,7 +153,7 @@ same 'COLUMNS where standard output is no terminal'
 "$program" --help > "$work/second"
 same '-h and --help'
 "$program" -V > "$work/first"
-echo 'csvtable 2.0.0' > "$work/second"
+echo 'csvtable 3.0.0' > "$work/second"
 same '-V'
 
 # With a limit the input is read no further than it needs.
@@ -162,7 +162,8 @@ printf '╭───┬───┬───╮\n│ 1 ┆ 2 ┆ 3 │\n╞═�
 printf '│ 1 ┆ 2 ┆ 3 │\n│ 1 ┆ 2 ┆ 3 │\n│ 1 ┆ 2 ┆ 3 │\n╰───┴───┴───╯\n3 of more records\n' >> "$work/second"
 same 'three records of an input that never ends'
 yes 1,2 | timeout 20 "$program" --limit 3 -c 3 > "$work/out" 2> "$work/err"
-compare 'a column that is not there in an input that never ends' $? 1 'csvtable: standard input: no column 3'
+compare 'a column that is not there in an input that never ends' $? 1 \
+  'csvtable: standard input: no column 3; there are 1 and 2'
 yes 1,2,3 | head -n 50000 > "$work/input"
 "$program" --limit 3 --count "$work/input" | tail -n 1 > "$work/first"
 echo '3 of 49999 records' > "$work/second"
@@ -176,6 +177,18 @@ same 'a quote that is closed behind the first 64 kB'
 same 'a byte that is no text, behind what is read'
 "$program" --limit 2 --count "$work/input" > "$work/out" 2> "$work/err"
 compare 'such a byte where all records are counted' $? 1 "csvtable: $work/input: line 50001 isn't UTF-8; try -e cp1252"
+
+# Missing fields take no memory: 4,000 commas and 2,000 records of one field, and 1 MB of such a file.
+ragged() {
+  { head -c "$2" /dev/zero | tr '\0' ,; echo; yes a | head -n "$3"; } > "$work/input"
+  (ulimit -v "$4" && exec timeout 20 "$program" -w 80 "$work/input" > "$work/first" 2> "$work/err")
+  echo "$? records: $(grep -c '^record' "$work/first")" > "$work/first.counted"
+  mv "$work/first.counted" "$work/first"
+  echo "0 records: $3" > "$work/second"
+  same "$1"
+}
+ragged '8 kB of missing fields within 50 MB' 4000 2000 50000
+ragged '1 MB of missing fields within 250 MB' 500000 250000 250000
 
 # An output that takes no more for now: a pipe in nonblocking mode that nobody reads.
 if command -v python3 > /dev/null; then

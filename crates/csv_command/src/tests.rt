@@ -259,7 +259,7 @@ fn help_is_an_output(rt: HostRuntime) {
             &ending_by(&rt, &arguments),
             0,
             false,
-            "csvtable 2.0.0\n",
+            "csvtable 3.0.0\n",
         );
     }
 }
