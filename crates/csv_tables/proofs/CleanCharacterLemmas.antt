@@ -72,7 +72,7 @@ module _ (p : ℕ → Bool) where
       subst (All (IsMadeOf p)) (sym (lines-front (encode_utf8 c) text (encoded_clear 0x0A c (omega arith) other) lines.first lines.others lines.are))
       (All-cons (IsMadeOf p) (encode_utf8 c ++ lines.first) lines.others (made-append p (encode_utf8 c) lines.first (made-one p c scalar passes) (All-head (IsMadeOf p) lines.first lines.others own)) (All-tail (IsMadeOf p) lines.first lines.others own))
 
-  lines_made : (cs : List ℕ) → all_scalars cs ≡ true → list_all or_feed cs ≡ true → All (IsMadeOf p) (text_lines (encode_utf8_all cs))
+  pub lines_made : (cs : List ℕ) → all_scalars cs ≡ true → list_all or_feed cs ≡ true → All (IsMadeOf p) (text_lines (encode_utf8_all cs))
   lines_made [] scalars pass = All-cons (IsMadeOf p) [] [] (made-nil p) (All-nil (IsMadeOf p))
   lines_made (c ∷ cs) scalars pass =
       let both = and_parts (scalar_of c) (all_scalars cs) scalars in

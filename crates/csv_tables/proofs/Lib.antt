@@ -9,6 +9,7 @@ pub mod FieldLemmas
 pub mod FirstRowLemmas
 pub mod KeptWidthLemmas
 mod KindLemmas
+pub mod LinedLemmas
 pub mod LineLemmas
 pub mod MarkdownDrawingLemmas
 pub mod MarkdownLineLemmas

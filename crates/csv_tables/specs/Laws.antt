@@ -6,7 +6,8 @@ use Rattle.comfy_parts.specs.Columns.{CharactersFit, IsOneColumnStyle, Selectors
 use Rattle.comfy_parts.specs.Text.{Text, is_printable_ascii, measure}
 use Rattle.comfy_parts.specs.VisibleText.{visible_text}
 use Rattle.comfy_table.specs.Arrangement.{IsArranged}
-use Rattle.comfy_table.specs.Drawing.{terminated_text_of}
+use Rattle.comfy_table.specs.Drawing.{infos_of, terminated_text_of}
+use Rattle.comfy_table.specs.Pieces.{row_height, shown_infos}
 use Rattle.comfy_table.specs.FittingTables.{CharactersFitColumn}
 use Rattle.comfy_table.specs.Headline.{LineWidthsSatisfy, IsTableDrawing}
 use Rattle.comfy_table.specs.Laws.{AreLinesOf, HasNoBreak, HasNoControl, IsPrintableTable, IsStyleWithout, count, least_total}
@@ -77,6 +78,22 @@ abbrev pub IsDrawnTable : Look → ContentValue → TableValue → Type 0
 IsDrawnTable look content table =
     (has_separators : Bool) × (table
     ≡ separated_table has_separators (output_table (is_expanded_for look content) look content))
+
+-- ---- lines of records
+
+-- each row of a table has a line, where a column is drawn
+abbrev pub EachRowHasALine : TableValue → List ℕ → Type 0
+EachRowHasALine table widths =
+    0 < length (shown_infos (infos_of table widths))
+    → All (λ row. 0 < row_height table (infos_of table widths) row) table.rows
+
+-- so it is of the table of records, and of that of their fields, where no sequences are kept
+abbrev pub RecordsHaveLines : Options → List (List Text) → ContentValue → TableValue → List ℕ
+    → Type 0
+RecordsHaveLines options records content table widths =
+    options.look.is_markdown ≡ false → options.look.has_sequences ≡ false → All AllText records
+    → content_of options records ≡ Ok content → IsDrawnTable options.look content table
+    → IsArranged table widths → EachRowHasALine table widths
 
 -- ---- widths of lines
 

@@ -6,7 +6,7 @@ ghost use Rattle.comfy_parts.specs.Text.{Text};
 ghost use Rattle.comfy_table.specs.TableValue.{TableValue};
 ghost use Rattle.csv_tables.specs.ColumnLaws.{KeepsChosenColumns};
 ghost use Rattle.csv_tables.specs.Drawn.{ContentValue};
-ghost use Rattle.csv_tables.specs.Laws.{BeginningIsDrawnWithoutControls, FittingOutputIsStraight, InputIsDrawnWithoutControls, IsFilling, IsWithin, MarkdownOutputIsStraight, NarrowLinesHave, NarrowOutputIsStraight, OutputFillsWidth, OutputHoldsNoControls, OutputKeepsToWidth, PrintableFieldsStay, PrintableLinesHave, PrintableTextsMakePrintableTable, TableKeepsRows, UnbrokenColumnIsWhole, WholeOutputIsStraight};
+ghost use Rattle.csv_tables.specs.Laws.{BeginningIsDrawnWithoutControls, FittingOutputIsStraight, InputIsDrawnWithoutControls, IsFilling, IsWithin, MarkdownOutputIsStraight, NarrowLinesHave, NarrowOutputIsStraight, OutputFillsWidth, OutputHoldsNoControls, OutputKeepsToWidth, PrintableFieldsStay, PrintableLinesHave, PrintableTextsMakePrintableTable, RecordsHaveLines, TableKeepsRows, UnbrokenColumnIsWhole, WholeOutputIsStraight};
 ghost use Rattle.csv_tables.specs.Markdown.{IsReadBack};
 ghost use Rattle.csv_tables.specs.MarkdownLines.{MarkdownGivesRecordsBack};
 ghost use Rattle.csv_tables.specs.OneOutput.{OutputIsOne, OutputOfIsOne};
@@ -132,4 +132,13 @@ pub fn outputs_are_one()
         → OutputIsOne options others input output other }
     ensures records { (options : Options) (records : List (List Text)) (output other : Text)
         → OutputOfIsOne options records output other }
+{}
+
+/// Each record has a line, and so has each field of an expanded one: a row of the table that is
+/// drawn is at least one line high, under every width and height, where a column is drawn.
+/// Sequences in fields are not kept. In Markdown each record has one line anyway.
+pub fn records_have_lines()
+    ensures { (options : Options) (records : List (List Text)) (content : ContentValue)
+        (table : TableValue) (widths : List ℕ)
+        → RecordsHaveLines options records content table widths }
 {}
