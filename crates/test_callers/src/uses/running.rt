@@ -43,7 +43,7 @@ pub fn devices_over<R: Read, W: Write>(reader: R, writer: W) -> (FromReader<R>, 
         fault = None;
         ended = false;
       },
-      record { writer = writer; failed = false; unread = false },
+      record { writer = writer; failed = false; fault = None },
     ) }
 {
     (FromReader::new(reader), ToWriter::new(writer))
