@@ -132,7 +132,7 @@ def sizes():
     status, out, err = run("-c", "  *'$HOME", "", text=text, columns=120)
     see("an empty word", status == 1 and err == "csvtable: : no such file\n", out + err)
     status, out, err = run("-c", "  *'$HOME", text=text, columns=120)
-    see("a word with spaces and signs of the shell", status == 1 and err.endswith(": no column   *'$HOME\n"), out + err)
+    see("a word with spaces and signs of the shell", status == 1 and err.endswith(": no column   *'$HOME; there are name and text\n"), out + err)
     with tempfile.TemporaryDirectory() as folder:
         prefix = os.path.join(folder, "a b")
         for part in ("bin", "libexec"):
