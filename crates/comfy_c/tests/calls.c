@@ -186,6 +186,10 @@ static void expect_refusals_are_said(void) {
     expect_csv("0xFF is no UTF-8 in csv", bad, TEXT(""), COMFY_CSV_INPUT_REFUSED, TEXT(NOT_UTF8));
     expect_csv("a message names the file", bad, TEXT("no/such.csv\0"), COMFY_CSV_INPUT_REFUSED,
                TEXT("csvtable: no/such.csv: line 2 isn't UTF-8; try -e cp1252\n"));
+    expect_csv("a NUL is no text", TEXT("a\0"), TEXT(""), COMFY_CSV_INPUT_REFUSED,
+               TEXT("csvtable: standard input: line 1 has a NUL byte, so this isn't text; -e utf-8 reads it anyway\n"));
+    expect_csv("an encoding says that it is", TEXT("a\0\n"), TEXT("-sascii\0-eutf-8"), COMFY_CSV_DRAWN,
+               TEXT("+----+\n| a\xef\xbf\xbd |\n+====+\n+----+\n"));
     expect_csv("a column isn't there", TEXT(CSV), TEXT("-c\0zz\0"), COMFY_CSV_INPUT_REFUSED,
                TEXT("csvtable: standard input: no column zz; there are name and days\n"));
     expect_csv("a quote isn't closed", TEXT("a\n\"b"), TEXT(""), COMFY_CSV_INPUT_REFUSED,
@@ -279,7 +283,7 @@ int main(void) {
     expect_all_fill(TEXT("\0"));
     expect_csv_fills(mixed);
     expect_csv_fills(TEXT("\n"));
-    expect_csv_fills(TEXT("\0"));
+    expect_csv_fills(TEXT("\x01"));
     expect_threads_agree();
     if (!wrong) printf("calls: all as comfy_table.h says\n");
     return wrong ? 1 : 0;
