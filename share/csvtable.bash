@@ -1,4 +1,4 @@
-# Completes the words of csvtable in bash.
+# Completes the options of csvtable in bash.
 _csvtable() {
   local word=${COMP_WORDS[COMP_CWORD]}
   case ${COMP_WORDS[COMP_CWORD - 1]} in

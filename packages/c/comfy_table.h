@@ -4,14 +4,14 @@
  * Proved of both functions:
  *  - Each result comes only where the function's list says so, but for what it says of malloc. There is no other result.
  *  - The drawing, the message about an input, *needed and what stays unchanged are as the list says.
- *  - Words are cut at zero bytes as said, and ask for what csvtable takes them for.
+ *  - Arguments are cut at zero bytes as said, and ask for what csvtable takes them for.
  *  - A call returns, and reads and writes only memory of its own, and that which its arguments give it.
  *
  * Not proved, but tested:
  *  - COMFY_OUT_OF_MEMORY and COMFY_CSV_OUT_OF_MEMORY come only after malloc or realloc returned null.
  *  - A call keeps no memory, and several threads may be inside one at once.
  *  - Null stands for no bytes.
- *  - What csvtable says of words. Proved is that it has no control character but line feeds.
+ *  - What csvtable says of arguments. Proved is that it has no control character but line feeds.
  *
  * Owed by the caller, and checked by nothing:
  *  - Each pointer points to as many bytes as its length says, and needed to a size_t. A pointer whose length is 0 isn't
@@ -99,30 +99,30 @@ enum {
     COMFY_CSV_ROOM_TOO_SMALL,
     COMFY_CSV_INPUT_REFUSED,
     COMFY_CSV_OUT_OF_MEMORY,
-    COMFY_CSV_WORDS_REFUSED
+    COMFY_CSV_ARGUMENTS_REFUSED
 };
 
 /*
- * Draws the table of CSV into the caller's buffer, as the program csvtable draws it for these words where its output goes
- * to no terminal, and neither COLUMNS nor NO_COLOR is set. `csvtable --help` lists the words.
+ * Draws the table of CSV into the caller's buffer, as the program csvtable draws it for these arguments where its output goes
+ * to no terminal, and neither COLUMNS nor NO_COLOR is set. `csvtable --help` lists the arguments.
  *
- * words is UTF-8, and a zero byte ends each word. It may be missing behind the last one, so the one that ends a string of
+ * arguments is UTF-8, and a zero byte ends each argument. It may be missing behind the last one, so the one that ends a string of
  * C serves: with "-r\0price\0-w\0" "60" and its size, numbers of the column price stand at the right, in 60 terminal
- * columns. No bytes are no words.
+ * columns. No bytes are no arguments.
  *
- * No file is opened. A word for one names the input in messages, and where it ends with .tsv or .tab, TABs may stand
+ * No file is opened. An argument for one names the input in messages, and where it ends with .tsv or .tab, TABs may stand
  * between fields.
  *
  *   COMFY_CSV_DRAWN           the drawing is the first *needed bytes of output
  *   COMFY_CSV_ROOM_TOO_SMALL  the drawing takes *needed bytes, which is more than output_length
- *   COMFY_CSV_INPUT_REFUSED   the input can't be drawn as the words ask; what csvtable says is *needed bytes long
+ *   COMFY_CSV_INPUT_REFUSED   the input can't be drawn as the arguments ask; what csvtable says is *needed bytes long
  *   COMFY_CSV_OUT_OF_MEMORY   malloc or realloc returned null
- *   COMFY_CSV_WORDS_REFUSED   the words ask for no drawing, as --help does; what csvtable says is *needed bytes long
+ *   COMFY_CSV_ARGUMENTS_REFUSED   the arguments ask for no drawing, as --help does; what csvtable says is *needed bytes long
  *
  * What csvtable says is put into output as the drawing is, where there is room for all of it. The bytes of output after
  * what was put there are unchanged, and all of them where nothing was. With COMFY_CSV_OUT_OF_MEMORY *needed is unchanged.
  */
-uint32_t comfy_csv_draw(const uint8_t *input, size_t input_length, const uint8_t *words, size_t words_length,
+uint32_t comfy_csv_draw(const uint8_t *input, size_t input_length, const uint8_t *arguments, size_t arguments_length,
                         uint8_t *output, size_t output_length, size_t *needed);
 
 #ifdef __cplusplus

@@ -1,5 +1,5 @@
 #!/usr/bin/env python3
-"""Makes the man page of csvtable and its completions for bash and zsh, in share/, from the table of its words.
+"""Makes the man page of csvtable, its completions for bash and zsh, and the list on its page, from the table of its options.
 
     tools/make/manual.py
 
@@ -12,23 +12,23 @@ import textwrap
 
 from project import TOP, text_of
 
-WORD = r'name: "(.+?)",\s+letter: (?:None|Some\(\'(.)\'\)),\s+kind: Kind::(\w+),\s+value: "(.*?)",\s+help: "((?:[^"\\]|\\[\s\S])*)"'
+SPEC = r'name: "(.+?)",\s+letter: (?:None|Some\(\'(.)\'\)),\s+kind: Kind::(\w+),\s+value: "(.*?)",\s+help: "((?:[^"\\]|\\[\s\S])*)"'
 
 
-class Word:
+class Option:
     def __init__(self, name, letter, kind, value, help):
         self.letter, self.kind, self.value = letter, kind, value
         self.name = name if kind not in ("File", "Letter") else None
         self.help = re.sub(r"\\\n *", "", help).replace("\\n", " ")
 
     def forms(self):
-        """How the word is given, as `-w` and `--width`."""
+        """How it is given, as `-w` and `--width`."""
         return ([f"-{self.letter}"] if self.letter else []) + ([f"--{self.name}"] if self.name else [])
 
 
 SOURCE = text_of("crates/csv_command/src/options.rt")
-WORDS = [Word(*it) for it in re.findall(WORD, SOURCE)]
-OPTIONS = [it for it in WORDS if it.kind != "File"]
+SPECS = [Option(*it) for it in re.findall(SPEC, SOURCE)]
+OPTIONS = [it for it in SPECS if it.kind != "File"]
 VERSION = re.search(r'\.version\("(.+?)"\)', SOURCE)[1]
 DATE = "2026-11-27"  # of this version
 ABOUT = re.search(r'\.about\("(.+?)"\)', SOURCE)[1]
@@ -58,20 +58,20 @@ def man_page():
     lines = [f'.TH CSVTABLE 1 {DATE} "csvtable {VERSION}" "User Commands"']
     lines += [".SH NAME", f"csvtable \\- {ABOUT[0].lower()}{ABOUT[1:]}"]
     lines += [".SH SYNOPSIS", ".B csvtable", "[\\fIoptions\\fR]", "[\\fIFILE\\fR]"]
-    lines += [".SH DESCRIPTION", "Each record is a row.", "Columns of numbers stand at the right."]
+    lines += [".SH DESCRIPTION", "Each record is a row.", "Columns of numbers are right-aligned."]
     lines += [escaped("In a terminal the table keeps to its width; where columns would be too narrow, each record is drawn as names and fields.")]
     lines += [escaped("Without FILE, or with `-`, it reads standard input; where that is a terminal, a line on standard error says so.")]
     lines += [escaped("Nothing that a file holds is sent to the terminal but text, unless it is asked for.")]
     lines += [".SH OPTIONS"]
-    for word in OPTIONS:
-        value = f" \\fI{word.value}\\fR" if word.value else ""
-        lines += [".TP", ", ".join(f"\\fB{escaped(it)}\\fR" for it in word.forms()) + value, escaped(word.help)]
-        if word.kind == "Style":
-            lines += [".br", escaped(", ".join(VALUES[word.kind]))]
+    for option in OPTIONS:
+        value = f" \\fI{option.value}\\fR" if option.value else ""
+        lines += [".TP", ", ".join(f"\\fB{escaped(it)}\\fR" for it in option.forms()) + value, escaped(option.help)]
+        if option.kind == "Style":
+            lines += [".br", escaped(", ".join(VALUES[option.kind]))]
     lines += [".TP", "\\fB\\-h\\fR, \\fB\\-\\-help\\fR", "Print help", ".TP", "\\fB\\-V\\fR, \\fB\\-\\-version\\fR", "Print version"]
     lines += [".SH EXIT STATUS", ".TP", "0", "The drawing was written.", ".TP", "1"]
     lines += [escaped("The input or the output failed, the input is no text, isn't in its encoding or has a quote that is never closed, there is no such column, or no memory.")]
-    lines += [".TP", "2", escaped("The words aren't known.")]
+    lines += [".TP", "2", escaped("The arguments aren't known.")]
     lines += [".SH ENVIRONMENT", ".TP", ".B COLUMNS"]
     lines += ["The width of a terminal.", escaped("Where it isn't set, csvtable asks the terminal by stty; where that tells nothing either, the width is 80.")]
     lines += [".TP", ".B NO_COLOR", escaped("Where it is set and isn't empty, the header isn't in bold unless that is asked for.")]
@@ -89,7 +89,7 @@ def bash():
     )
     taking = "|".join(form for it in OPTIONS if it.value and it.kind not in VALUES for form in it.forms())
     forms = " ".join(form for it in OPTIONS for form in it.forms()) + " -h --help -V --version"
-    return f"""# Completes the words of csvtable in bash.
+    return f"""# Completes the options of csvtable in bash.
 _csvtable() {{
   local word=${{COMP_WORDS[COMP_CWORD]}}
   case ${{COMP_WORDS[COMP_CWORD - 1]}} in
@@ -111,12 +111,12 @@ def zsh_text(text):
 
 
 def zsh():
-    lines = ["#compdef csvtable", "# Completes the words of csvtable in zsh.", "_arguments -s \\"]
-    for word in OPTIONS:
-        values = f"({' '.join(VALUES[word.kind])})" if word.kind in VALUES else " "
-        value = f":{word.value}:{values}" if word.value else ""
-        text = zsh_text(word.help)
-        forms = word.forms()
+    lines = ["#compdef csvtable", "# Completes the options of csvtable in zsh.", "_arguments -s \\"]
+    for option in OPTIONS:
+        values = f"({' '.join(VALUES[option.kind])})" if option.kind in VALUES else " "
+        value = f":{option.value}:{values}" if option.value else ""
+        text = zsh_text(option.help)
+        forms = option.forms()
         if len(forms) == 2:
             lines.append(f"  '({' '.join(forms)})'{{{','.join(forms)}}}'[{text}]{value}' \\")
         else:
@@ -125,7 +125,17 @@ def zsh():
     return "\n".join([*lines, "  '::FILE:_files'"]) + "\n"
 
 
-MADE = {"share/csvtable.1": man_page, "share/csvtable.bash": bash, "share/_csvtable": zsh}
+PAGE = "docs/CSVTABLE.md"
+
+
+def page():
+    """The page of csvtable, with its list of options."""
+    lines = [f"- `{', '.join(it.forms())}{' ' + it.value if it.value else ''}`: {it.help}" for it in OPTIONS]
+    before, after = "<!-- options -->\n", "<!-- end of options -->"
+    return re.sub(f"{before}.*?{after}", lambda _: before + "\n".join(lines) + "\n" + after, text_of(PAGE), flags=re.S)
+
+
+MADE = {"share/csvtable.1": man_page, "share/csvtable.bash": bash, "share/_csvtable": zsh, PAGE: page}
 
 
 def wrong_files():
@@ -137,8 +147,9 @@ def main():
     if sys.argv[1:]:
         sys.exit(__doc__)
     for path in wrong_files():
+        text = MADE[path]()
         with open(os.path.join(TOP, path), "w", encoding="utf-8") as file:
-            file.write(MADE[path]())
+            file.write(text)
 
 
 if __name__ == "__main__":

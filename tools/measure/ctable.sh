@@ -41,13 +41,13 @@ shrinking() {
     }'
 }
 
-# Counts for the programs on a file, with these words.
+# Counts for the programs on a file, with these arguments.
 count() {
   name=$1
-  words=$2
+  arguments=$2
   shift 2
-  echo "$name${words:+, $words}"
-  compare "$work/$name" "$words" 0 "$@"
+  echo "$name${arguments:+, $arguments}"
+  compare "$work/$name" "$arguments" 0 "$@"
 }
 
 short_cells 10000 6 cell > "$work/10,000 x 6 short cells"
@@ -74,9 +74,9 @@ awk 'BEGIN { for (row = 0; row < 2; row++) for (column = 0; column < 7000; colum
 for name in '10,000 x 6 short cells' '50,000 x 4 short cells' '1,000 x 60 short cells' '100,000 x 4 numbers' '20,000 x 10 empty cells' sentences 'wide sentences'; do
   count "$name" '' "$@"
 done
-for words in '120 dynamic' '97 full' '145 full' '265 full'; do
-  count sentences "$words" "$@"
-  count 'wide sentences' "$words" "$@"
+for arguments in '120 dynamic' '97 full' '145 full' '265 full'; do
+  count sentences "$arguments" "$@"
+  count 'wide sentences' "$arguments" "$@"
 done
 for name in mixed Thai Devanagari Arabic Hebrew Vietnamese 'Vietnamese in marks' Cyrillic; do
   count "$name" '' "$@"

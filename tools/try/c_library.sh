@@ -1,7 +1,7 @@
 #!/bin/sh
 # Builds the static library of comfy_c and the programs ctable and csvtable, which proves them, and looks at what callers get:
 #  - programs in C with bad and extreme arguments, with each request for memory refused in turn, and with random bytes
-#    and words must end as packages/c/comfy_table.h says; valgrind, where it is there, must find nothing in the first
+#    and arguments must end as packages/c/comfy_table.h says; valgrind, where it is there, must find nothing in the first
 #    two, nor clang's AddressSanitizer in the third
 #  - the packages for C, Rust and Python must draw as ctable and csvtable do (tools/try/package_test.sh)
 #
@@ -21,7 +21,7 @@ cmp "$work/printed" "$top/crates/ctable/stdout"
 (cd "$top/crates/csvtable" && rt run -- --version > /dev/null 2> "$work/log") || { cat "$work/log"; exit 1; }
 cp "$crate/out/libcomfy_c.a" "$libc" "$work"
 
-# Compiles a C file of the crate with the library behind it. Further words are for the linker.
+# Compiles a C file of the crate with the library behind it. Further arguments are for the linker.
 compile() {
   name=$1
   shift

@@ -1,5 +1,5 @@
 #!/bin/sh
-# Runs a built ctable or csvtable where its memory, its input or its output ends, and with words that aren't text. It
+# Runs a built ctable or csvtable where its memory, its input or its output ends, and with arguments that aren't text. It
 # compares its status and what it says on standard error. In each of these runs nothing may stand on standard output. Of
 # csvtable it also compares what is written of a file and of standard input. It prints a line for each run, and ends with
 # status 1 where one is otherwise than written here.
@@ -16,10 +16,10 @@ work=$(mktemp -d) || exit 2
 trap 'rm -rf "$work"' EXIT
 ended=0
 
-# What each program says of words that aren't text, and of a pipe that has no reader any more.
+# What each program says of arguments that aren't text, and of a pipe that has no reader any more.
 case $name in
   csvtable)
-    misused="csvtable: a word isn't UTF-8"
+    misused="csvtable: an argument isn't UTF-8"
     unread=
     unreadable="csvtable: standard input: can't be read"
     folder='csvtable: standard input: is a directory'
@@ -89,8 +89,8 @@ status=$?
 : > "$work/err"
 compare 'a folder as input, and a closed standard error' $status 1 ''
 
-# Words that aren't UTF-8: a byte that no text has, one behind letters, and a character that ends too early. Reading the
-# folder would end with another status: the words alone decide.
+# Arguments that aren't UTF-8: a byte that no text has, one behind letters, and a character that ends too early. Reading the
+# folder would end with another status: the arguments alone decide.
 byte=$(printf '\377')
 behind=$(printf 'dynamic\377')
 early=$(printf 'UTF8_FULL\342\202')
@@ -103,7 +103,7 @@ misuse() {
 misuse 'a width that is no text' "$byte"
 misuse 'an arrangement that is no text' 40 "$behind"
 misuse 'a style that is no text' 40 dynamic "$early"
-misuse 'a fourth word that is no text' 40 dynamic UTF8_FULL "$byte"
+misuse 'a fourth argument that is no text' 40 dynamic UTF8_FULL "$byte"
 
 [ "$name" = csvtable ] || exit $ended
 
@@ -217,6 +217,6 @@ ragged '1 MB of missing fields within 250 MB' 500000 250000 250000
 
 : > "$work/out"
 "$program" --wide < "$work/small" > "$work/out" 2> "$work/err"
-compare 'a word that is not known' $? 2 "$(cat "$work/err")"
+compare 'an argument that is not known' $? 2 "$(cat "$work/err")"
 
 exit $ended

@@ -84,9 +84,9 @@ def spaceless(text):
 
 
 def read_by(drawn, extensions):
-    words = ["cmark-gfm", "--unsafe"] + [word for extension in extensions for word in ("-e", extension)]
+    arguments = ["cmark-gfm", "--unsafe"] + [argument for extension in extensions for argument in ("-e", extension)]
     tables = Tables()
-    tables.feed(subprocess.run(words, input=drawn, stdout=subprocess.PIPE, check=True).stdout.decode())
+    tables.feed(subprocess.run(arguments, input=drawn, stdout=subprocess.PIPE, check=True).stdout.decode())
     return tables
 
 
@@ -103,13 +103,13 @@ def differences(number, counts):
     right = [column for column in range(width) if given.randrange(2)]
     file = io.StringIO()
     csv.writer(file, lineterminator="\n", quoting=csv.QUOTE_ALL).writerows(records)
-    words = ["--markdown", "-d", ","]
+    arguments = ["--markdown", "-d", ","]
     if right:
-        words += ["-r", ",".join(str(1 + column) for column in right)]
+        arguments += ["-r", ",".join(str(1 + column) for column in right)]
     left = [str(1 + column) for column in range(width) if column not in right]
     if left:
-        words += ["--left", ",".join(left)]
-    drawn = subprocess.run([PROGRAM, *words], input=file.getvalue().encode(), stdout=subprocess.PIPE, check=True).stdout
+        arguments += ["--left", ",".join(left)]
+    drawn = subprocess.run([PROGRAM, *arguments], input=file.getvalue().encode(), stdout=subprocess.PIPE, check=True).stdout
     wanted = [[spaceless(field) for field in record] for record in records]
     sides = [["right" if column in right else None for column in range(width)] for _ in records]
     for extensions in (["table"], ["table", "strikethrough", "autolink", "tagfilter"]):

@@ -35,26 +35,26 @@ printf 'name;price\n\377;\351\n' > "$work/csv/bank.csv"
 printf 'name,price\n"oats,3\n' > "$work/csv/open.csv"
 : > "$work/csv/nothing"
 
-# Compares a program's drawings with those of ctable. Further words are the program and its arguments.
+# Compares a program's drawings with those of ctable. Further arguments are the program and its arguments.
 compare() {
-  words=$1
+  arguments=$1
   shift
   for input in "$work"/tabs/*; do
-    crates/ctable/out/ctable $words < "$input" > "$work/wanted"
+    crates/ctable/out/ctable $arguments < "$input" > "$work/wanted"
     "$@" < "$input" > "$work/drawn"
     cmp "$work/wanted" "$work/drawn"
   done
-  echo "$* draws as ctable $words"
+  echo "$* draws as ctable $arguments"
 }
 
-# Compares what a program writes and says with what csvtable does, with words that are accepted and others.
+# Compares what a program writes and says with what csvtable does, with arguments that are accepted and others.
 compare_csv() {
-  for words in '' '-w 40' '-s grid -r 1' '-x --limit 2 --color always' '--markdown -e cp1252' '-t -n --rows' '-c 2,1 -m 1' \
+  for arguments in '' '-w 40' '-s grid -r 1' '-x --limit 2 --color always' '--markdown -e cp1252' '-t -n --rows' '-c 2,1 -m 1' \
     '--no-quotes --raw -s NOTHING' '-w 65535 --full -d ;' '-c nothing' '--rows --no-rows' '-w wide' '-d ab' '--odd' '--help'; do
     for input in "$work"/csv/*; do
       name=$(basename "$input")
-      (cd "$work/csv" && "$CSVTABLE" $words "$name") > "$work/wanted" 2>&1 || true
-      "$@" $words "$name" < "$input" > "$work/drawn" 2>&1 || true
+      (cd "$work/csv" && "$CSVTABLE" $arguments "$name") > "$work/wanted" 2>&1 || true
+      "$@" $arguments "$name" < "$input" > "$work/drawn" 2>&1 || true
       cmp "$work/wanted" "$work/drawn"
     done
   done

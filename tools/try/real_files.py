@@ -35,10 +35,10 @@ PREAMBLE = "Bank of Nowhere\nAccount 12\n\ndate,amount\n2026-05-02,-84.50\n2026-
 
 
 class Run:
-    """A file, the words with which it is drawn, and what is wanted: a status, a text in the output or in the message."""
+    """A file, the arguments with which it is drawn, and what is wanted: a status, a text in the output or in the message."""
 
-    def __init__(self, name, text, words="", status=0, drawn=(), said="", encoding="utf-8", delimiter=","):
-        self.name, self.words, self.status, self.drawn, self.said = name, words.split(), status, drawn, said
+    def __init__(self, name, text, arguments="", status=0, drawn=(), said="", encoding="utf-8", delimiter=","):
+        self.name, self.arguments, self.status, self.drawn, self.said = name, arguments.split(), status, drawn, said
         self.bytes = text if isinstance(text, bytes) else text.encode(encoding)
         self.encoding, self.delimiter = encoding, delimiter
 
@@ -99,8 +99,8 @@ def width_of(line):
     return sum(2 if unicodedata.east_asian_width(c) in "WF" else 1 for c in characters if unicodedata.category(c) not in ("Mn", "Me", "Cf"))
 
 
-def ran(words, folder):
-    return subprocess.run(words, cwd=folder, stdin=subprocess.DEVNULL, capture_output=True, timeout=120)
+def ran(arguments, folder):
+    return subprocess.run(arguments, cwd=folder, stdin=subprocess.DEVNULL, capture_output=True, timeout=120)
 
 
 def write(run, folder):
@@ -126,9 +126,9 @@ def tried(program, folder):
     faults = 0
     for run in RUNS + ADVISED:
         write(run, folder)
-        words = run.words if "-w" in run.words else ["-w", "80", *run.words]
-        fault = fault_of(run, ran([program, *words, run.name], folder))
-        print(f"{run.name} {' '.join(run.words)}: {fault or 'as it should be'}")
+        arguments = run.arguments if "-w" in run.arguments else ["-w", "80", *run.arguments]
+        fault = fault_of(run, ran([program, *arguments, run.name], folder))
+        print(f"{run.name} {' '.join(run.arguments)}: {fault or 'as it should be'}")
         faults += bool(fault)
     os.mkdir(os.path.join(folder, "folder"))
     for name, message in OTHERS:
@@ -157,9 +157,9 @@ def said_in(result):
 
 def lost_in(run, text, out):
     """The fields that don't stand in a drawing as they are."""
-    skipped = 3 if "--skip" in run.words else 0
+    skipped = 3 if "--skip" in run.arguments else 0
     below = "".join(text.removeprefix("sep=;\n").splitlines(True)[skipped:])
-    quoting = csv.QUOTE_NONE if "--no-quotes" in run.words else csv.QUOTE_MINIMAL
+    quoting = csv.QUOTE_NONE if "--no-quotes" in run.arguments else csv.QUOTE_MINIMAL
     rows = csv.reader(io.StringIO(below, newline=""), delimiter=run.delimiter, quoting=quoting)
     lines = [line.strip() for row in rows for field in row for line in field.split("\n")]
     return [it for it in lines if it.isprintable() and it not in out]
@@ -190,15 +190,15 @@ def seen_of(run, result, whole, has_frame=True):
 
 
 def row_of(program, run, folder):
-    """What each program draws of a file: csvtable without words, and with the words that it is given here."""
+    """What each program draws of a file: csvtable without arguments, and with the arguments that it is given here."""
     write(run, folder)
-    seen = [seen_of(run, ran([program, "-w", "80", run.name], folder), ran([program, "-w", "0", run.name], folder))] if not run.words else []
+    seen = [seen_of(run, ran([program, "-w", "80", run.name], folder), ran([program, "-w", "0", run.name], folder))] if not run.arguments else []
     for it in RUNS:
-        if it.name == run.name and it.words and not it.status and (run.words or seen[0].startswith("refused")):
-            words = [program, *it.words, it.name]
-            seen.append(f"`{' '.join(it.words)}`: " + seen_of(it, ran([*words, "-w", "80"], folder), ran([*words, "-w", "0"], folder)))
+        if it.name == run.name and it.arguments and not it.status and (run.arguments or seen[0].startswith("refused")):
+            arguments = [program, *it.arguments, it.name]
+            seen.append(f"`{' '.join(it.arguments)}`: " + seen_of(it, ran([*arguments, "-w", "80"], folder), ran([*arguments, "-w", "0"], folder)))
             break
-    others = [seen_of(run, ran([*words, run.name], folder), ran([*words, run.name], folder), words[0] != "column") for words in PROGRAMS.values()]
+    others = [seen_of(run, ran([*arguments, run.name], folder), ran([*arguments, run.name], folder), arguments[0] != "column") for arguments in PROGRAMS.values()]
     return "| " + " | ".join([run.name, "; ".join(seen), *others]) + " |"
 
 
@@ -214,12 +214,12 @@ def compared(program, folder):
 
 
 def main():
-    words = [it for it in sys.argv[1:] if it != "--compare"]
-    if len(words) != 1:
+    arguments = [it for it in sys.argv[1:] if it != "--compare"]
+    if len(arguments) != 1:
         sys.exit(__doc__)
     with tempfile.TemporaryDirectory() as folder:
         act = compared if "--compare" in sys.argv else tried
-        sys.exit(1 if act(os.path.realpath(words[0]), folder) else 0)
+        sys.exit(1 if act(os.path.realpath(arguments[0]), folder) else 0)
 
 
 if __name__ == "__main__":

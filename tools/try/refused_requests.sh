@@ -1,6 +1,6 @@
 #!/bin/sh
 # Refuses each request for memory of four built programs, one after another: those of ctable and csvtable on their stored
-# inputs, without words and with some, those of test_cases on two of its cases, and those of test_refused on each call by
+# inputs, without arguments and with some, those of test_cases on two of its cases, and those of test_refused on each call by
 # itself. Each such run of the first three must end with status 1, print nothing, and say that there is no memory. One of
 # test_refused must say that the call was refused as promised, or end with status 3 and print nothing, where the request
 # wasn't the call's. Of a call that adds three rows it must also say how many are kept: 0 at first, then 1, then 2, as
@@ -17,7 +17,7 @@ trap 'rm -rf "$work"' EXIT
 ${CC:-cc} -O2 -Wall -Wextra -Werror "$tools/refuse.c" -o "$work/refuse" || exit 2
 ${CC:-cc} -O2 -Wall -Wextra -Werror -shared -fPIC "$tools/refusing.c" -o "$work/refuse.so" || exit 2
 
-# Builds a program. With ample memory it must print what is stored, on its stored input, or with the words behind its name.
+# Builds a program. With ample memory it must print what is stored, on its stored input, or with the arguments behind its name.
 build() {
   name=$1
   shift
@@ -32,7 +32,7 @@ build() {
   fi
 }
 
-# Each refused request of a built program on an input must end with what is said. Behind it stand the program's words.
+# Each refused request of a built program on an input must end with what is said. Behind it stand the program's arguments.
 refuse() {
   name=$1
   input=$2

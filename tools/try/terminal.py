@@ -4,7 +4,7 @@
     tools/try/terminal.py PROGRAM
 
 PROGRAM is the command as tools/install.sh installs it, PREFIX/bin/csvtable; of a built program alone it tries all but the
-widths of terminals. Each try has words, an input and an environment, and standard input, output and error each are a
+widths of terminals. Each try has arguments, an input and an environment, and standard input, output and error each are a
 terminal or not. It looks at the widths of lines, at bold headers, at statuses, at which stream a text stands on, and at
 characters that would speak to the terminal. It prints a line for each try, and ends with 1 where one shows something else.
 """
@@ -51,7 +51,7 @@ def all_of(ends):
     return said
 
 
-def run(*words, text=b"", out="terminal", err="pipe", columns=0, program="", **variables):
+def run(*arguments, text=b"", out="terminal", err="pipe", columns=0, program="", **variables):
     """A run's status, output and messages. Each stream is a terminal, a pipe, or a file that it is written to."""
     environment = {name: it for name, it in os.environ.items() if name not in ("COLUMNS", "NO_COLOR")} | variables
     ends, theirs = {}, {}
@@ -63,7 +63,7 @@ def run(*words, text=b"", out="terminal", err="pipe", columns=0, program="", **v
     with tempfile.TemporaryFile() as file:
         file.write(text if isinstance(text, bytes) else text.encode())
         file.seek(0)
-        process = subprocess.Popen([program or PROGRAM, *words], stdin=file, stdout=theirs["out"], stderr=theirs["err"], env=environment)
+        process = subprocess.Popen([program or PROGRAM, *arguments], stdin=file, stdout=theirs["out"], stderr=theirs["err"], env=environment)
         for end in theirs.values():
             os.close(end)
         said = all_of(ends.values())
@@ -113,9 +113,9 @@ def widths():
         see(f"a terminal with {name}", status == 0 and widest(out) == width, out)
         status, out, _ = run(text=text, out="pipe", err="terminal", **variables)
         see(f"a pipe with {name}", status == 0 and widest(out) == 331, out)
-    for words, width in ((["-w", "0"], 331), (["-w", "30"], 30), (["-w", "30", "-w", "50"], 50)):
-        status, out, _ = run(*words, text=text, COLUMNS="40")
-        see(f"a terminal with {' '.join(words)}", status == 0 and widest(out) == width, out)
+    for arguments, width in ((["-w", "0"], 331), (["-w", "30"], 30), (["-w", "30", "-w", "50"], 50)):
+        status, out, _ = run(*arguments, text=text, COLUMNS="40")
+        see(f"a terminal with {' '.join(arguments)}", status == 0 and widest(out) == width, out)
 
 
 def sizes():
@@ -124,15 +124,15 @@ def sizes():
     for columns, width in ((40, 40), (80, 80), (120, 120), (200, 200), (0, 80)):
         status, out, err = run(text=text, columns=columns)
         see(f"a terminal of {columns} columns", status == 0 and widest(out) == width and err == "", out)
-    for words, variables, width in (([], {"COLUMNS": "40"}, 40), ([], {"COLUMNS": ""}, 120), (["-w", "30"], {}, 30), (["-w", "0"], {}, 331)):
-        status, out, _ = run(*words, text=text, columns=120, **variables)
-        see(f"a terminal of 120 columns with {words} and {variables}", status == 0 and widest(out) == width, out)
+    for arguments, variables, width in (([], {"COLUMNS": "40"}, 40), ([], {"COLUMNS": ""}, 120), (["-w", "30"], {}, 30), (["-w", "0"], {}, 331)):
+        status, out, _ = run(*arguments, text=text, columns=120, **variables)
+        see(f"a terminal of 120 columns with {arguments} and {variables}", status == 0 and widest(out) == width, out)
     status, out, _ = run(text=text, out="pipe", err="terminal", columns=120)
     see("a pipe beside a terminal of 120 columns", status == 0 and widest(out) == 331, out)
     status, out, err = run("-c", "  *'$HOME", "", text=text, columns=120)
-    see("an empty word", status == 1 and err == "csvtable: : no such file\n", out + err)
+    see("an empty argument", status == 1 and err == "csvtable: : no such file\n", out + err)
     status, out, err = run("-c", "  *'$HOME", text=text, columns=120)
-    see("a word with spaces and signs of the shell", status == 1 and err.endswith(": no column   *'$HOME; there are name and text\n"), out + err)
+    see("an argument with spaces and signs of the shell", status == 1 and err.endswith(": no column   *'$HOME; there are name and text\n"), out + err)
     with tempfile.TemporaryDirectory() as folder:
         prefix = os.path.join(folder, "a b")
         for part in ("bin", "libexec"):
@@ -171,13 +171,13 @@ def resized():
 def waits():
     """A terminal gives the input, and is told so."""
     said = "csvtable: reading from the terminal; end with Ctrl-D\n"
-    for words in ([], ["-"]):
+    for arguments in ([], ["-"]):
         ours, theirs = terminal(80)
         pipes = {"stdout": subprocess.PIPE, "stderr": subprocess.PIPE}
-        process = subprocess.Popen([PROGRAM, *words], stdin=theirs, **pipes)
+        process = subprocess.Popen([PROGRAM, *arguments], stdin=theirs, **pipes)
         is_said = select.select([process.stderr], [], [], 10)[0]
         first = process.stderr.read(len(said)).decode() if is_said else ""
-        see(f"a terminal is told before it is read {' '.join(words)}", first == said and process.poll() is None, first)
+        see(f"a terminal is told before it is read {' '.join(arguments)}", first == said and process.poll() is None, first)
         os.write(ours, b"a,b\nx,y\n\x04")
         out, err = process.communicate(timeout=10)
         see("and what it gives is drawn", process.returncode == 0 and err == b"" and "│ x ┆ y │" in out.decode(), out.decode())
@@ -194,7 +194,7 @@ def waits():
 
 
 def bold():
-    for name, words, variables, out, is_bold in (
+    for name, arguments, variables, out, is_bold in (
         ("a terminal", [], {}, "terminal", True),
         ("a terminal with NO_COLOR=1", [], {"NO_COLOR": "1"}, "terminal", False),
         ("a terminal with an empty NO_COLOR", [], {"NO_COLOR": ""}, "terminal", True),
@@ -204,17 +204,17 @@ def bold():
         ("NO_COLOR=1 and --color always", ["--color", "always"], {"NO_COLOR": "1"}, "terminal", True),
     ):
         err = "pipe" if out == "terminal" else "terminal"
-        status, said, _ = run(*words, text="a,b\nx,y\n", out=out, err=err, **variables)
+        status, said, _ = run(*arguments, text="a,b\nx,y\n", out=out, err=err, **variables)
         see(f"bold in {name}", status == 0 and ("\x1b[1m" in said) == is_bold, said)
 
 
 def endings():
     text = "a,b\nx,y\n"
     status, out, err = run("--bogus", text=text)
-    see("a word that isn't known", status == 2 and out == "" and "--bogus" in err, out + err)
+    see("an argument that isn't known", status == 2 and out == "" and "--bogus" in err, out + err)
     status, out, err = run("--bogus\x1b[2J", text=text)
-    see("a word with a sequence", status == 2 and out == "" and not speaks(err), repr(err))
-    see("a word that isn't known, and a full disk", run("--bogus", text=text, err="/dev/full")[0] == 2)
+    see("an argument with a sequence", status == 2 and out == "" and not speaks(err), repr(err))
+    see("an argument that isn't known, and a full disk", run("--bogus", text=text, err="/dev/full")[0] == 2)
     status, out, err = run("--help")
     see("help", status == 0 and "--columns" in out and err == "", out + err)
     see("help on a full disk", run("--help", out="/dev/full")[0] == 1)
@@ -242,10 +242,10 @@ def texts():
     see("30 columns in rows", status == 0 and "record" not in out and widest(out) == 121, out)
     status, out, _ = run("--markdown", text="a,b\n" + "x,%s\n" % ("y" * 100) * 3, COLUMNS="20")
     see("Markdown where COLUMNS is 20", status == 0 and out.count("\n") == 5, out)
-    for words in ([], ["--ansi"]):
+    for arguments in ([], ["--ansi"]):
         text = "a,b\n\x1b]52;c;eA==\x07,\x1b[2J\n\u009b2J,\u202etxt\n\x1b[31mred\x1b[0m,\x1b[1A\n"
-        status, out, _ = run(*words, text=text)
-        see(f"a file that would speak {' '.join(words)}", status == 0 and not speaks(out) and widest(out) <= 80, repr(out))
+        status, out, _ = run(*arguments, text=text)
+        see(f"a file that would speak {' '.join(arguments)}", status == 0 and not speaks(out) and widest(out) <= 80, repr(out))
     script = "José,Ελένη,Анна,רות,ليلى,ნინო,王小明,김철수\n"
     status, out, _ = run("-n", text=script)
     see("eight scripts", status == 0 and len({columns(line) for line in out.split("\n") if line}) == 1, out)

@@ -39,8 +39,8 @@ drawn_as invocation same whole whole_drawing output = rw (← invocation) (whole
 
 -- ---- CSV
 
--- why there is no drawing for words that a text stands for
+-- why there is no drawing for arguments that a text stands for
 pub refused_for : (text input : Text) (line : List Text) → IsUtf8 text → IsCommandLine text line → (refusal : Refusal) → IsRefusedFor line input refusal → IsCsvRefusal text input refusal
-refused_for text input line is_text are (Arguments message) is = (IsUtf8-string_bytes message, inl (record { is_text = is_text; words = line; are_words = are; is_so = is }))
-refused_for text input line is_text are (Input message) is = (IsUtf8-string_bytes message, record { is_text = is_text; words = line; are_words = are; is_so = is })
+refused_for text input line is_text are (Arguments message) is = (IsUtf8-string_bytes message, inl (record { is_text = is_text; arguments = line; are_arguments = are; is_so = is }))
+refused_for text input line is_text are (Input message) is = (IsUtf8-string_bytes message, record { is_text = is_text; arguments = line; are_arguments = are; is_so = is })
 refused_for text input line is_text are OutOfMemory is = tt

@@ -1,4 +1,4 @@
--- Examples of what is made of a buffer, and of the words that bytes stand for.
+-- Examples of what is made of a buffer, and of the arguments that bytes stand for.
 use Rattle.std.proofs.Common.{◌≡◌, [], ◌∷◌, ◌++◌, codes, refl}
 use Rattle.std.proofs.lemmas.List.Elements.{All-cons, All-nil}
 use Rattle.comfy_parts.specs.Text.{HasNo}
@@ -18,12 +18,12 @@ room_is_missing = refl
 no_text : with_front [] (codes "1234") ≡ codes "1234"
 no_text = refl
 
--- ---- words
+-- ---- arguments
 
 both_ended : IsCommandLine (codes "-w" ++ 0 ∷ codes "60" ++ 0 ∷ []) (codes "csvtable" ∷ codes "-w" ∷ codes "60" ∷ [])
 both_ended =
     record {
-      words = codes "-w" ∷ codes "60" ∷ [];
+      arguments = codes "-w" ∷ codes "60" ∷ [];
       behind_name = refl;
       hold_no_end = All-cons (HasNo 0) (codes "-w") (codes "60" ∷ []) refl (All-cons (HasNo 0) (codes "60") [] refl (All-nil (HasNo 0)));
       are_all = refl;
@@ -32,14 +32,14 @@ both_ended =
 last_is_open : IsCommandLine (codes "-w" ++ 0 ∷ codes "60") (codes "csvtable" ∷ codes "-w" ∷ codes "60" ∷ [])
 last_is_open =
     record {
-      words = codes "-w" ∷ codes "60" ∷ [];
+      arguments = codes "-w" ∷ codes "60" ∷ [];
       behind_name = refl;
       hold_no_end = All-cons (HasNo 0) (codes "-w") (codes "60" ∷ []) refl (All-cons (HasNo 0) (codes "60") [] refl (All-nil (HasNo 0)));
       are_all = refl;
     }
 
-empty_word : IsCommandLine (0 ∷ []) (codes "csvtable" ∷ [] ∷ [])
-empty_word = record { words = [] ∷ []; behind_name = refl; hold_no_end = All-cons (HasNo 0) [] [] refl (All-nil (HasNo 0)); are_all = refl }
+empty_argument : IsCommandLine (0 ∷ []) (codes "csvtable" ∷ [] ∷ [])
+empty_argument = record { arguments = [] ∷ []; behind_name = refl; hold_no_end = All-cons (HasNo 0) [] [] refl (All-nil (HasNo 0)); are_all = refl }
 
-no_words : IsCommandLine [] (codes "csvtable" ∷ [])
-no_words = record { words = []; behind_name = refl; hold_no_end = All-nil (HasNo 0); are_all = refl }
+no_arguments : IsCommandLine [] (codes "csvtable" ∷ [])
+no_arguments = record { arguments = []; behind_name = refl; hold_no_end = All-nil (HasNo 0); are_all = refl }

@@ -1,4 +1,4 @@
--- What numbers and words mean that a caller passes, and what is made of its buffer.
+-- What numbers and arguments mean that a caller passes, and what is made of its buffer.
 use Rattle.std.specs.Prelude.{◌≡◌, ◌⊎◌, ◌-◌, ℕ, nat_le, ◌==◌, List, [], ◌∷◌, ◌++◌, All, Option, Some, None, IsUtf8, codes, drop, flat_map, length, slice_get, slice_index, string_bytes, if◌then◌else◌}
 use Rattle.comfy_parts.specs.Presets.{preset_at}
 use Rattle.comfy_parts.specs.Text.{HasNo, Text}
@@ -51,47 +51,49 @@ IsDrawnAs (Some settings) input output =
 
 -- ---- CSV
 
--- a word, and the zero byte that ends it
+-- an argument, and the zero byte that ends it
 abbrev pub ended : Text → Text
-ended word = word ++ 0 ∷ []
+ended argument = argument ++ 0 ∷ []
 
 -- a text with a zero byte at its end, unless it is empty
 abbrev pub closed : Text → Text
 closed text = if slice_index text (length text - 1) == 0 then text else ended text
 
--- the words of a call of `csvtable` that a text stands for: its name, and words of which none holds
--- a zero byte; each with its end they are the text, at whose end a zero byte may be missing
+-- the arguments of a call of `csvtable` that a text stands for: its name, and arguments of which
+-- none holds a zero byte; each with its end they are the text, at whose end a zero byte may be
+-- missing
 pub record IsCommandLine (text : Text) (line : List Text) : Type 0 where
-  pub words : List Text
-  pub behind_name : line ≡ codes "csvtable" ∷ words
-  pub hold_no_end : All (HasNo 0) words
-  pub are_all : flat_map ended words ≡ closed text
+  pub arguments : List Text
+  pub behind_name : line ≡ codes "csvtable" ∷ arguments
+  pub hold_no_end : All (HasNo 0) arguments
+  pub are_all : flat_map ended arguments ≡ closed text
 
--- P holds of the words that a caller's bytes stand for
-pub record IsForWords (P : List Text → Type 0) (bytes : Text) : Type 0 where
+-- P holds of the arguments that a caller's bytes stand for
+pub record IsForArguments (P : List Text → Type 0) (bytes : Text) : Type 0 where
   pub is_text : IsUtf8 bytes
-  pub words : List Text
-  pub are_words : IsCommandLine bytes words
-  pub is_so : P words
+  pub arguments : List Text
+  pub are_arguments : IsCommandLine bytes arguments
+  pub is_so : P arguments
 
--- the drawing for words and an input
+-- the drawing for arguments and an input
 abbrev pub IsCsvDrawing : Text → Text → Text → Type 0
 IsCsvDrawing bytes input drawing =
-    IsUtf8 drawing × IsForWords (λ words. IsRendered words input drawing) bytes
+    IsUtf8 drawing × IsForArguments (λ arguments. IsRendered arguments input drawing) bytes
 
--- the line on an input that can't be drawn as words ask
+-- the line on an input that can't be drawn as arguments ask
 abbrev pub IsInputMessage : Text → Text → Text → Type 0
 IsInputMessage bytes input message =
-    IsUtf8 message × IsForWords (λ words. IsSaidOfInput words input message) bytes
+    IsUtf8 message × IsForArguments (λ arguments. IsSaidOfInput arguments input message) bytes
 
--- the text on words that ask for no drawing, or aren't UTF-8
-abbrev pub IsWordsMessage : Text → Text → Type 0
-IsWordsMessage bytes message =
-    IsUtf8 message × (IsForWords (λ words. IsSaidOfArguments words message) bytes ⊎ ¬ (IsUtf8 bytes)
-    × (message ≡ argument_not_utf8))
+-- the text on arguments that ask for no drawing, or aren't UTF-8
+abbrev pub IsArgumentsMessage : Text → Text → Type 0
+IsArgumentsMessage bytes message =
+    IsUtf8 message
+    × (IsForArguments (λ arguments. IsSaidOfArguments arguments message) bytes
+    ⊎ ¬ (IsUtf8 bytes) × (message ≡ argument_not_utf8))
 
 -- why there is no drawing
 abbrev pub IsCsvRefusal : Text → Text → Refusal → Type 0
 IsCsvRefusal bytes input (Input message) = IsInputMessage bytes input (string_bytes message)
 IsCsvRefusal bytes input OutOfMemory = Unit {0}
-IsCsvRefusal bytes input (Arguments message) = IsWordsMessage bytes (string_bytes message)
+IsCsvRefusal bytes input (Arguments message) = IsArgumentsMessage bytes (string_bytes message)

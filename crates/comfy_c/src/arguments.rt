@@ -1,4 +1,4 @@
-//! The words that a caller passes as one text.
+//! The arguments that a caller passes as one text.
 
 ghost use Rattle.std.specs.Prelude.{◌≡◌, ◌<◌, IfOk, length, map};
 ghost use Rattle.comfy_c.specs.Calls.{IsCommandLine, closed, ended};
@@ -7,19 +7,20 @@ use std::alloc::{AllocError, Global};
 
 const PROGRAM: &str = "csvtable";
 
-/// The program's name, and the words of a text.
+/// The program's name, and the arguments of a text.
 pub(crate) fn command_line(alloc: Global, text: &str) -> Result<Vec<&str>, AllocError>
-    ensures { IfOk result (λ words. IsCommandLine text.now (map (λ word. word.now) words.items)) }
+    ensures { IfOk result (λ arguments.
+        IsCommandLine text.now (map (λ argument. argument.now) arguments.items)) }
 {
-    let mut words = Vec::new(alloc);
-    words.push(PROGRAM)?;
+    let mut arguments = Vec::new(alloc);
+    arguments.push(PROGRAM)?;
     if text.is_empty() {
-        return Ok(words);
+        return Ok(arguments);
     }
-    for word in without_end(text).split('\0') {
-        words.push(word)?;
+    for argument in without_end(text).split('\0') {
+        arguments.push(argument)?;
     }
-    Ok(words)
+    Ok(arguments)
 }
 
 // A text without the zero byte at its end, where it has one.

@@ -1,7 +1,7 @@
-//! Tables of CSV, as the words of `csvtable` ask for them.
+//! Tables of CSV, as the arguments of `csvtable` ask for them.
 
 ghost use Rattle.std.specs.Prelude.{◌≡◌, ◌≢◌, ◌≤◌, ◌<◌, IfErr, IfOk, IsUtf8, List, ℕ, drop, length, string_bytes, take};
-ghost use Rattle.comfy_c.specs.Calls.{IsHanded, IsCsvDrawing, IsCsvRefusal, IsInputMessage, IsWordsMessage};
+ghost use Rattle.comfy_c.specs.Calls.{IsHanded, IsCsvDrawing, IsCsvRefusal, IsInputMessage, IsArgumentsMessage};
 
 use crate::arguments::command_line;
 use crate::room::{DRAWN, OUT_OF_MEMORY, ROOM_TOO_SMALL, put};
@@ -14,20 +14,20 @@ const INPUT_REFUSED: u32 = 2;
 
 const WORDS_REFUSED: u32 = 4;
 
-/// Draws the table of CSV into the caller's buffer, as `csvtable` does for these words and a file
-/// of these bytes where standard output is no terminal, and neither `COLUMNS` nor `NO_COLOR` is
-/// set.
+/// Draws the table of CSV into the caller's buffer, as `csvtable` does for these arguments and a
+/// file of these bytes where standard output is no terminal, and neither `COLUMNS` nor `NO_COLOR`
+/// is set.
 ///
-/// A zero byte ends each word; that of the last one may be missing. No file is opened: a word for
-/// one names the input in messages, and its end may tell what stands between fields.
+/// A zero byte ends each argument; that of the last one may be missing. No file is opened: an
+/// argument for one names the input in messages, and its end may tell what stands between fields.
 ///
 /// | Returned | Meaning | At the front of the buffer |
 /// |---|---|---|
 /// | 0 | the input is drawn | the drawing |
 /// | 1 | the buffer is too small | nothing |
-/// | 2 | the input can't be drawn as the words ask | the line that `csvtable` says |
+/// | 2 | the input can't be drawn as the arguments ask | the line that `csvtable` says |
 /// | 3 | memory ran out | nothing |
-/// | 4 | the words ask for no drawing | what `csvtable` says, help and version too |
+/// | 4 | the arguments ask for no drawing | what `csvtable` says, help and version too |
 ///
 /// `needed` is then the length in bytes of what stands there; after 1 it is that of the drawing,
 /// and after 3 it is unchanged.
@@ -42,27 +42,27 @@ const WORDS_REFUSED: u32 = 4;
 pub extern "C" fn comfy_csv_draw(
     alloc: Global,
     input: &[u8],
-    words: &[u8],
+    arguments: &[u8],
     output: &mut [u8],
     needed: &mut usize,
 ) -> u32
     ensures drawn { result ≡ 0
         → (needed.new ≤ length output.old)
-        × IsCsvDrawing words.now input.now (take needed.new output.new) }
+        × IsCsvDrawing arguments.now input.now (take needed.new output.new) }
     ensures room_too_small { result ≡ 1
         → (length output.old < needed.new) × (drawing : List ℕ) × (needed.new ≡ length drawing)
-        × IsCsvDrawing words.now input.now drawing }
+        × IsCsvDrawing arguments.now input.now drawing }
     ensures input_refused { result ≡ 2
-        → IsHanded (IsInputMessage words.now input.now) output.old output.new needed.new }
-    ensures out_of_memory { result ≡ 3 → IsUtf8 words.now }
+        → IsHanded (IsInputMessage arguments.now input.now) output.old output.new needed.new }
+    ensures out_of_memory { result ≡ 3 → IsUtf8 arguments.now }
     ensures words_refused { result ≡ 4
-        → IsHanded (IsWordsMessage words.now) output.old output.new needed.new }
+        → IsHanded (IsArgumentsMessage arguments.now) output.old output.new needed.new }
     ensures no_other { result ≤ 4 }
     ensures rest { drop needed.new output.new ≡ drop needed.new output.old }
     ensures untouched { result ≢ 0 → result ≢ 2 → result ≢ 4 → output.new ≡ output.old }
     ensures needed_kept { result ≡ 3 → needed.new ≡ needed.old }
 {
-    let Ok(text) = simdutf8::compat::from_utf8(words) else {
+    let Ok(text) = simdutf8::compat::from_utf8(arguments) else {
         put(ARGUMENT_NOT_UTF8.as_bytes(), output, needed);
         return WORDS_REFUSED;
     };
@@ -86,12 +86,12 @@ pub extern "C" fn comfy_csv_draw(
     }
 }
 
-// The drawing for the words of a text, or why there is none.
+// The drawing for the arguments of a text, or why there is none.
 fn drawing_for(alloc: Global, text: &str, input: &[u8]) -> Result<String, Refusal>
     ensures drawn { IfOk result (λ drawing.
         IsCsvDrawing text.now input.now (string_bytes drawing)) }
     ensures refused { IfErr result (λ refusal. IsCsvRefusal text.now input.now refusal) }
 {
-    let words = command_line(alloc, text)?;
-    render_csv(alloc, words.as_slice(), input)
+    let arguments = command_line(alloc, text)?;
+    render_csv(alloc, arguments.as_slice(), input)
 }

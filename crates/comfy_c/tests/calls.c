@@ -88,12 +88,12 @@ static struct call made(struct bytes input, uint32_t width, uint32_t arrangement
     return call;
 }
 
-static struct call made_csv(struct bytes input, struct bytes words, size_t room) {
+static struct call made_csv(struct bytes input, struct bytes arguments, size_t room) {
     struct call call = with_room(room);
-    uint8_t *copy = copied(input), *word = copied(words);
-    call.status = comfy_csv_draw(copy, input.length, word, words.length, call.output, room, &call.needed);
+    uint8_t *copy = copied(input), *argument = copied(arguments);
+    call.status = comfy_csv_draw(copy, input.length, argument, arguments.length, call.output, room, &call.needed);
     free(copy);
-    free(word);
+    free(argument);
     return call;
 }
 
@@ -144,10 +144,10 @@ static void expect_all_fill(struct bytes input) {
 }
 
 /* A text that csvtable draws or says: into its room and into more, and into none that is smaller. */
-static void expect_csv(const char *what, struct bytes input, struct bytes words, uint32_t status, struct bytes text) {
+static void expect_csv(const char *what, struct bytes input, struct bytes arguments, uint32_t status, struct bytes text) {
     uint32_t without = status == COMFY_CSV_DRAWN ? COMFY_CSV_ROOM_TOO_SMALL : status;
-    struct call full = made_csv(input, words, text.length), more = made_csv(input, words, text.length + 20);
-    struct call less = made_csv(input, words, text.length - 1), none = made_csv(input, words, 0);
+    struct call full = made_csv(input, arguments, text.length), more = made_csv(input, arguments, text.length + 20);
+    struct call less = made_csv(input, arguments, text.length - 1), none = made_csv(input, arguments, 0);
     expect(what, full.status == status && is_put(&full, text));
     expect(what, more.status == status && is_put(&more, text));
     expect(what, less.status == without && less.needed == text.length && is_untouched(&less, 0));
@@ -158,10 +158,10 @@ static void expect_csv(const char *what, struct bytes input, struct bytes words,
     free(none.output);
 }
 
-/* A text on words of which only a part is known. */
-static void expect_said(const char *what, struct bytes words, const char *part) {
-    struct call call = made_csv(TEXT(CSV), words, 8192);
-    int is_text = call.status == COMFY_CSV_WORDS_REFUSED && call.needed && call.needed < call.room && call.output[call.needed - 1] == '\n';
+/* A text on arguments of which only a part is known. */
+static void expect_said(const char *what, struct bytes arguments, const char *part) {
+    struct call call = made_csv(TEXT(CSV), arguments, 8192);
+    int is_text = call.status == COMFY_CSV_ARGUMENTS_REFUSED && call.needed && call.needed < call.room && call.output[call.needed - 1] == '\n';
     expect(what, is_text && is_untouched(&call, call.needed));
     if (is_text) {
         call.output[call.needed] = 0;
@@ -170,14 +170,14 @@ static void expect_said(const char *what, struct bytes words, const char *part) 
     free(call.output);
 }
 
-/* Where words are cut, and what they ask for. */
+/* Where arguments are cut, and what they ask for. */
 static void expect_words_are_read(void) {
     struct bytes drawing = TEXT(CSV_DRAWING);
-    expect_csv("csv is drawn as words ask", TEXT(CSV), TEXT("-s\0ascii\0"), COMFY_CSV_DRAWN, drawing);
-    expect_csv("the last word may lack its end", TEXT(CSV), TEXT("-s\0ascii"), COMFY_CSV_DRAWN, drawing);
-    expect_csv("a word may be empty", TEXT(CSV), TEXT("-s\0ascii\0\0"), COMFY_CSV_DRAWN, drawing);
-    expect_csv("the last word counts", TEXT(CSV), TEXT("-s\0ascii\0--drop\0days\0"), COMFY_CSV_DRAWN, TEXT(WITHOUT_DAYS));
-    expect_csv("the first word counts", TEXT(CSV), TEXT("--drop=days\0-s\0ascii"), COMFY_CSV_DRAWN, TEXT(WITHOUT_DAYS));
+    expect_csv("csv is drawn as arguments ask", TEXT(CSV), TEXT("-s\0ascii\0"), COMFY_CSV_DRAWN, drawing);
+    expect_csv("the last argument may lack its end", TEXT(CSV), TEXT("-s\0ascii"), COMFY_CSV_DRAWN, drawing);
+    expect_csv("an argument may be empty", TEXT(CSV), TEXT("-s\0ascii\0\0"), COMFY_CSV_DRAWN, drawing);
+    expect_csv("the last argument counts", TEXT(CSV), TEXT("-s\0ascii\0--drop\0days\0"), COMFY_CSV_DRAWN, TEXT(WITHOUT_DAYS));
+    expect_csv("the first argument counts", TEXT(CSV), TEXT("--drop=days\0-s\0ascii"), COMFY_CSV_DRAWN, TEXT(WITHOUT_DAYS));
     expect_csv("a name may tell the delimiter", TEXT("name\tdays\noats\t3\n"), TEXT("-sascii\0no/such.tsv"), COMFY_CSV_DRAWN, drawing);
 }
 
@@ -194,32 +194,32 @@ static void expect_refusals_are_said(void) {
                TEXT("csvtable: standard input: no column zz; there are name and days\n"));
     expect_csv("a quote isn't closed", TEXT("a\n\"b"), TEXT(""), COMFY_CSV_INPUT_REFUSED,
                TEXT("csvtable: standard input: a quote that opens in line 2 is never closed; try --no-quotes\n"));
-    expect_csv("0xFF is no UTF-8 in words", TEXT(CSV), TEXT("-s\0\xff\0"), COMFY_CSV_WORDS_REFUSED, TEXT("csvtable: a word isn't UTF-8\n"));
-    expect_csv("half a character isn't either", TEXT(CSV), TEXT("\xe9\x9b\0"), COMFY_CSV_WORDS_REFUSED, TEXT("csvtable: a word isn't UTF-8\n"));
+    expect_csv("0xFF is no UTF-8 in arguments", TEXT(CSV), TEXT("-s\0\xff\0"), COMFY_CSV_ARGUMENTS_REFUSED, TEXT("csvtable: an argument isn't UTF-8\n"));
+    expect_csv("half a character isn't either", TEXT(CSV), TEXT("\xe9\x9b\0"), COMFY_CSV_ARGUMENTS_REFUSED, TEXT("csvtable: an argument isn't UTF-8\n"));
     expect_said("the version is said", TEXT("--version"), "csvtable ");
     expect_said("help is said", TEXT("-h\0"), "Usage: csvtable [OPTIONS] [FILE]\n");
-    expect_said("an unknown word is said", TEXT("--nope\0"), "'--nope'");
+    expect_said("an unknown argument is said", TEXT("--nope\0"), "'--nope'");
     expect_said("two files are too many", TEXT("a\0b\0"), "'b'");
     expect_said("a width is a number", TEXT("-w\0wide\0"), "'wide'");
-    expect_said("ESC in a word isn't said", TEXT("--\x1b[31m"), "error: ");
+    expect_said("ESC in an argument isn't said", TEXT("--\x1b[31m"), "error: ");
 }
 
-/* Whether a call made its drawing fill the room that another one asked for. Some words exclude each other. */
+/* Whether a call made its drawing fill the room that another one asked for. Some arguments exclude each other. */
 static int is_filled(const struct call *asked, const struct call *call) {
-    if (call->status == COMFY_CSV_WORDS_REFUSED) return asked->status == call->status && asked->needed == call->needed;
+    if (call->status == COMFY_CSV_ARGUMENTS_REFUSED) return asked->status == call->status && asked->needed == call->needed;
     return asked->status == (asked->needed ? COMFY_CSV_ROOM_TOO_SMALL : COMFY_CSV_DRAWN) && call->status == COMFY_CSV_DRAWN
         && call->needed == asked->needed && (!call->needed || call->output[call->needed - 1] == '\n');
 }
 
-/* Every style beside words with extreme values, as above. */
+/* Every style beside arguments with extreme values, as above. */
 static void expect_csv_fills(struct bytes input) {
     static const char *styles[] = {"rounded", "box", "grid", "ascii", "plain", "markdown", "UTF8_BORDERS_ONLY", "NOTHING"};
     static const char *others[] = {"-w0", "-w1", "-w65535", "-x", "-m1", "--color=always", "--limit=1", "--raw", "-ecp1252"};
     for (size_t style = 0; style < sizeof styles / sizeof *styles; style++)
         for (size_t other = 0; other < sizeof others / sizeof *others; other++) {
-            char words[80];
-            int count = snprintf(words, sizeof words, "-s%s%c%s", styles[style], 0, others[other]);
-            struct bytes line = {words, (size_t)count};
+            char arguments[80];
+            int count = snprintf(arguments, sizeof arguments, "-s%s%c%s", styles[style], 0, others[other]);
+            struct bytes line = {arguments, (size_t)count};
             struct call asked = made_csv(input, line, 0), call = made_csv(input, line, asked.needed);
             expect("a drawing of csv fills the room that was asked for", is_filled(&asked, &call));
             free(asked.output);

@@ -1,5 +1,5 @@
 /*
- * Random calls: any bytes, lengths, words, numbers and rooms. What a call reads ends where no page follows, and so does
+ * Random calls: any bytes, lengths, arguments, numbers and rooms. What a call reads ends where no page follows, and so does
  * its buffer, so that a byte too many ends the program. It prints what is wrong, and ends with 1 where anything is.
  * The calls are those of a seed, first from one thread, and then from four at once: random_calls [SEED].
  */
@@ -32,7 +32,7 @@ struct caller {
     uint64_t seed;
     long calls, wrong;
     long results[2][5];
-    struct region input, words, output;
+    struct region input, arguments, output;
 };
 
 static uint64_t next(struct caller *caller) {
@@ -79,17 +79,17 @@ static void fill_input(struct caller *caller, uint8_t *bytes, size_t length) {
     fill(caller, bytes, length, pieces, sizeof pieces / sizeof *pieces);
 }
 
-/* Words of csvtable, each with its end; the last one may lose it. */
+/* Arguments of csvtable, each with its end; the last one may lose it. */
 static size_t put_words(struct caller *caller, uint8_t *bytes, size_t room) {
-    static const char *const words[] = {"-d", ";", "tab", "auto", "-t", "-e", "cp1252", "utf-16", "--no-quotes", "--skip", "1", "-n", "--limit", "2",
+    static const char *const arguments[] = {"-d", ";", "tab", "auto", "-t", "-e", "cp1252", "utf-16", "--no-quotes", "--skip", "1", "-n", "--limit", "2",
         "-c", "1", "2-", "name", "--drop", "a", "-r", "--left", "-w", "40", "0", "65535", "--full", "-x", "--expanded", "never", "-s", "grid", "ascii",
         "UTF8_FULL", "--rows", "--no-rows", "-m", "3", "--markdown", "--color", "always", "--ansi", "--bidi", "--raw", "-", "x.tsv", "--", "", "--help", "-V"};
     size_t length = 0;
     for (size_t count = below(caller, 7); count > 0; count--) {
-        const char *word = words[below(caller, sizeof words / sizeof *words)];
-        if (length + strlen(word) + 1 > room) break;
-        memcpy(bytes + length, word, strlen(word) + 1);
-        length += strlen(word) + 1;
+        const char *argument = arguments[below(caller, sizeof arguments / sizeof *arguments)];
+        if (length + strlen(argument) + 1 > room) break;
+        memcpy(bytes + length, argument, strlen(argument) + 1);
+        length += strlen(argument) + 1;
     }
     return length && below(caller, 2) ? length - 1 : length;
 }
@@ -125,12 +125,12 @@ static int is_as_said_of_csv(uint32_t status, const uint8_t *output, size_t room
     case COMFY_CSV_DRAWN: return is_put(output, room, needed);
     case COMFY_CSV_ROOM_TOO_SMALL: return is_too_small(output, room, needed);
     case COMFY_CSV_INPUT_REFUSED:
-    case COMFY_CSV_WORDS_REFUSED: return is_put(output, room, needed) || is_too_small(output, room, needed);
+    case COMFY_CSV_ARGUMENTS_REFUSED: return is_put(output, room, needed) || is_too_small(output, room, needed);
     default: return 0;
     }
 }
 
-/* A call of one function or the other. What it reads stands at the ends of its pages, where words are written from a copy. */
+/* A call of one function or the other. What it reads stands at the ends of its pages, where arguments are written from a copy. */
 static void call(struct caller *caller) {
     size_t length = any_length(caller), room = any_length(caller), needed = KEPT;
     uint8_t *input = caller->input.end - length, *output = caller->output.end - room;
@@ -142,8 +142,8 @@ static void call(struct caller *caller) {
         uint8_t line[256];
         size_t count = put_words(caller, line, sizeof line);
         if (count && below(caller, 16) == 0) line[below(caller, count)] = (uint8_t)next(caller);
-        memcpy(caller->words.end - count, line, count);
-        status = comfy_csv_draw(input, length, caller->words.end - count, count, output, room, &needed);
+        memcpy(caller->arguments.end - count, line, count);
+        status = comfy_csv_draw(input, length, caller->arguments.end - count, count, output, room, &needed);
     } else {
         uint32_t width = any_number(caller, 120), arrangement = any_number(caller, 3), style = any_number(caller, 13);
         status = comfy_table_draw(input, length, width, arrangement, style, output, room, &needed);
@@ -173,8 +173,8 @@ static int has_all(const struct caller *caller) {
     return 1;
 }
 
-int main(int count, char **words) {
-    uint64_t seed = count > 1 ? strtoull(words[1], NULL, 10) : 1;
+int main(int count, char **arguments) {
+    uint64_t seed = count > 1 ? strtoull(arguments[1], NULL, 10) : 1;
     struct caller alone = new_caller(seed, CALLS), together[THREADS];
     pthread_t threads[THREADS];
     call_often(&alone);

@@ -44,34 +44,34 @@ static uint32_t table_is_drawn(size_t *needed) {
     return comfy_table_draw(input, sizeof input - 1, 12, COMFY_DYNAMIC, COMFY_ASCII_FULL, output, sizeof output, needed);
 }
 
-static uint32_t csv_with(const char *words, size_t length, size_t *needed) {
+static uint32_t csv_with(const char *arguments, size_t length, size_t *needed) {
     static const uint8_t input[] = "name,days\noats and \xe9\x9b\xa8 more,3\n\"a\nb\",,\n";
-    return comfy_csv_draw(input, sizeof input - 1, (const uint8_t *)words, length, output, sizeof output, needed);
+    return comfy_csv_draw(input, sizeof input - 1, (const uint8_t *)arguments, length, output, sizeof output, needed);
 }
 
 static uint32_t csv_is_drawn(size_t *needed) {
-    static const char words[] = "-c\0name,days\0-w\0" "20\0-s\0ascii";
-    return csv_with(words, sizeof words, needed);
+    static const char arguments[] = "-c\0name,days\0-w\0" "20\0-s\0ascii";
+    return csv_with(arguments, sizeof arguments, needed);
 }
 
 static uint32_t records_are_drawn(size_t *needed) {
-    static const char words[] = "-x\0--color=always\0--limit=1";
-    return csv_with(words, sizeof words, needed);
+    static const char arguments[] = "-x\0--color=always\0--limit=1";
+    return csv_with(arguments, sizeof arguments, needed);
 }
 
 static uint32_t markdown_is_drawn(size_t *needed) {
-    static const char words[] = "--markdown\0-e\0latin1";
-    return csv_with(words, sizeof words, needed);
+    static const char arguments[] = "--markdown\0-e\0latin1";
+    return csv_with(arguments, sizeof arguments, needed);
 }
 
 static uint32_t column_is_refused(size_t *needed) {
-    static const char words[] = "-r\0zz\0file";
-    return csv_with(words, sizeof words, needed);
+    static const char arguments[] = "-r\0zz\0file";
+    return csv_with(arguments, sizeof arguments, needed);
 }
 
 static uint32_t word_is_refused(size_t *needed) {
-    static const char words[] = "--wdith\0" "20";
-    return csv_with(words, sizeof words, needed);
+    static const char arguments[] = "--wdith\0" "20";
+    return csv_with(arguments, sizeof arguments, needed);
 }
 
 static int is_untouched(void) {
@@ -81,7 +81,7 @@ static int is_untouched(void) {
 }
 
 /*
- * Refuses each request of a call in turn, until none is left. A drawing needs them all. What is said of words may do without
+ * Refuses each request of a call in turn, until none is left. A drawing needs them all. What is said of arguments may do without
  * some, and is as long then.
  */
 static long wrong_in(const char *what, uint32_t (*call)(size_t *), uint32_t wanted) {
@@ -99,7 +99,7 @@ static long wrong_in(const char *what, uint32_t (*call)(size_t *), uint32_t want
         if (status == COMFY_OUT_OF_MEMORY ? needed != 7 || !is_untouched() : status != wanted || needed != whole) wrong++;
         if (status == wanted && refused_one <= requests) spared++;
     } while (refused_one <= requests);
-    if (refused_one == 1 || (spared && wanted != COMFY_CSV_WORDS_REFUSED)) wrong++;
+    if (refused_one == 1 || (spared && wanted != COMFY_CSV_ARGUMENTS_REFUSED)) wrong++;
     printf("%s: %ld requests refused in turn, %ld of them spared, %ld wrong\n", what, refused_one - 1, spared, wrong);
     return wrong;
 }
@@ -110,6 +110,6 @@ int main(void) {
     wrong += wrong_in("expanded records", records_are_drawn, COMFY_CSV_DRAWN);
     wrong += wrong_in("markdown", markdown_is_drawn, COMFY_CSV_DRAWN);
     wrong += wrong_in("a column that isn't there", column_is_refused, COMFY_CSV_INPUT_REFUSED);
-    wrong += wrong_in("an unknown word", word_is_refused, COMFY_CSV_WORDS_REFUSED);
+    wrong += wrong_in("an unknown argument", word_is_refused, COMFY_CSV_ARGUMENTS_REFUSED);
     return wrong ? 1 : 0;
 }

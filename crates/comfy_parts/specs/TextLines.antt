@@ -19,20 +19,20 @@ widths_of (Single text width) = width ∷ []
 widths_of (Multiple texts widths) = widths.items
 
 -- some lines are the visible ones of others, each with its measure beside it
-pub record AreVisible (whole visible : Texts) : Type 0 where
-  pub escaped : list_any has_escape (texts_of whole) ≡ true
-  pub texts : texts_of visible ≡ map visible_text (texts_of whole)
+pub record AreVisible (raw visible : Texts) : Type 0 where
+  pub escaped : list_any has_escape (texts_of raw) ≡ true
+  pub texts : texts_of visible ≡ map visible_text (texts_of raw)
   pub widths : widths_of visible ≡ map measure (texts_of visible)
 
 -- the visible lines are kept where ESC stands in a line
 abbrev pub IsVisible : Texts → Option Texts → Type 0
-IsVisible whole None = list_any has_escape (texts_of whole) ≡ false
-IsVisible whole (Some visible) = AreVisible whole visible
+IsVisible raw None = list_any has_escape (texts_of raw) ≡ false
+IsVisible raw (Some visible) = AreVisible raw visible
 
 -- each text has its measure beside it, and what is visible of it with its measure
-pub record AreMeasured (whole : Texts) (visible : Option Texts) : Type 0 where
-  pub widths : widths_of whole ≡ map measure (texts_of whole)
-  pub are_visible : IsVisible whole visible
+pub record AreMeasured (raw : Texts) (visible : Option Texts) : Type 0 where
+  pub widths : widths_of raw ≡ map measure (texts_of raw)
+  pub are_visible : IsVisible raw visible
 
 -- a text that is one text line without ESC, of this width
 pub record IsClearLine (text : Text) (columns : ℕ) : Type 0 where
@@ -43,9 +43,9 @@ pub record IsClearLine (text : Text) (columns : ℕ) : Type 0 where
 -- the text lines that are kept
 abbrev pub kept_texts : Storage → List Text
 kept_texts (kept.Plain text width) = string_bytes text ∷ []
-kept_texts (kept.Boxed several) = texts_of several.value.whole
+kept_texts (kept.Boxed several) = texts_of several.value.raw
 
 -- a single one is such a text, and others are kept with what is visible of them
 abbrev pub KeepsMeasured : Storage → Type 0
 KeepsMeasured (kept.Plain text width) = IsClearLine (string_bytes text) width
-KeepsMeasured (kept.Boxed several) = AreMeasured several.value.whole several.value.visible
+KeepsMeasured (kept.Boxed several) = AreMeasured several.value.raw several.value.visible

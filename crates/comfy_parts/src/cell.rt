@@ -109,7 +109,7 @@ impl Cell {
         ensures value { map string_bytes result.now ≡ self.now.text_lines }
         ensures is_cell { IsCell self.now }
     {
-        self.text_lines.whole().0
+        self.text_lines.raw().0
     }
 
     /// Sets the character at which the cell's texts may break, whatever its column and its table

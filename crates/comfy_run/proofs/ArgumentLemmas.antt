@@ -1,4 +1,4 @@
--- What `parse` gives of a word that holds digits alone.
+-- What `parse` gives of an argument that holds digits alone.
 use Rattle.std.proofs.Common.{◌≡◌, ℕ, ◌<◌, ◌≤◌, true, false, None, Result, Ok, Err, rules, tests, length}
 use Rattle.std.specs.Char.{is_ascii_digit}
 use Rattle.std.specs.List.{list_all}
@@ -9,20 +9,20 @@ use Rattle.comfy_parts.proofs.CallerLemmas.{digits, none_where, some_where}
 use Rattle.comfy_parts.specs.Text.{Text}
 use Rattle.comfy_run.specs.Arguments.{is_short_number, number_for}
 
-module _ (word : Text) where
-  -- longer words aren't known
-  pub long : 5 < length word → None ≡ number_for word
-  long h = none_where (is_short_number word) (digits_value 10 word) (search (rules, tests))
+module _ (argument : Text) where
+  -- longer arguments aren't known
+  pub long : 5 < length argument → None ≡ number_for argument
+  long h = none_where (is_short_number argument) (digits_value 10 argument) (search (rules, tests))
 
-  -- nor are words with other characters
-  pub other : list_all is_ascii_digit word ≡ false → None ≡ number_for word
-  other h = none_where (is_short_number word) (digits_value 10 word) (search (rules, tests))
+  -- nor are arguments with other characters
+  pub other : list_all is_ascii_digit argument ≡ false → None ≡ number_for argument
+  other h = none_where (is_short_number argument) (digits_value 10 argument) (search (rules, tests))
 
   -- of digits, `parse` gives the number where it is at most 65535
-  pub parsed : {E : Type 0} (r : Result ℕ E) → ParsesUnsigned 16 10 word r → length word ≤ 5 → list_all is_ascii_digit word ≡ true → result_ok r ≡ number_for word
+  pub parsed : {E : Type 0} (r : Result ℕ E) → ParsesUnsigned 16 10 argument r → length argument ≤ 5 → list_all is_ascii_digit argument ≡ true → result_ok r ≡ number_for argument
   parsed {E} (Ok n) h short all =
-      let e = parse_digits digits {E = E} 16 word (Ok n) h all in
-      some_where (is_short_number word) n (digits_value 10 word) (search (rules, tests)) e.1
+      let e = parse_digits digits {E = E} 16 argument (Ok n) h all in
+      some_where (is_short_number argument) n (digits_value 10 argument) (search (rules, tests)) e.1
   parsed {E} (Err e) h short all =
-      let none = parse_digits digits {E = E} 16 word (Err e) h all in
-      none_where (is_short_number word) (digits_value 10 word) (search (rules, tests))
+      let none = parse_digits digits {E = E} 16 argument (Err e) h all in
+      none_where (is_short_number argument) (digits_value 10 argument) (search (rules, tests))

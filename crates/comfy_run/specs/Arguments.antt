@@ -1,4 +1,4 @@
--- What the words after the program's name ask for.
+-- What the arguments after the program's name ask for.
 use Rattle.std.specs.Prelude.{ℕ, Bool, ◌&&◌, nat_le, nat_lt, List, [], ◌∷◌, length, Option, Some, None, option_map, codes, bytes_eq, if◌then◌else◌}
 use Rattle.std.specs.Char.{is_ascii_digit}
 use Rattle.std.specs.List.{list_all}
@@ -18,19 +18,20 @@ default_settings = record { width = None; arrangement = Disabled; style = ascii_
 
 -- one to five digits, of a number that is at most 65535
 abbrev pub is_short_number : Text → Bool
-is_short_number word =
-    list_all is_ascii_digit word && nat_lt 0 (length word) && nat_le (length word) 5
-    && nat_le (digits_value 10 word) 65535
+is_short_number argument =
+    list_all is_ascii_digit argument && nat_lt 0 (length argument) && nat_le (length argument) 5
+    && nat_le (digits_value 10 argument) 65535
 
 -- such a number
 abbrev pub number_for : Text → Option ℕ
-number_for word = if is_short_number word then Some (digits_value 10 word) else None
+number_for argument = if is_short_number argument then Some (digits_value 10 argument) else None
 
 -- a width, which is none for a hyphen
 abbrev pub width_for : Text → Option (Option ℕ)
-width_for word = if bytes_eq word (codes "-") then Some None else option_map Some (number_for word)
+width_for argument =
+    if bytes_eq argument (codes "-") then Some None else option_map Some (number_for argument)
 
--- the arrangements by their words
+-- the arrangements by their names
 abbrev pub arrangement_for : Text → Option ContentArrangement
 arrangement_for =
     beside ((codes "disabled", Disabled) ∷ (codes "dynamic", Dynamic)
@@ -43,8 +44,8 @@ settings_with (Some width) (Some arrangement) (Some style) =
     Some (record { width = width; arrangement = arrangement; style = style })
 settings_with _ _ _ = None
 
--- the settings that the words ask for: a width, an arrangement and a style, of which the last ones
--- may be missing
+-- the settings that the arguments ask for: a width, an arrangement and a style, of which the last
+-- ones may be missing
 abbrev pub settings_for : List (Bor Text) → Option Settings
 settings_for [] = Some default_settings
 settings_for (width ∷ []) = settings_with (width_for width.now) (Some Disabled) (Some ascii_full)

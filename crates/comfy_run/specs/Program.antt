@@ -5,7 +5,7 @@ use Rattle.comfy_parts.specs.declared.error.TableError.TheVariants.{OutOfMemory}
 use Rattle.comfy_run.specs.declared.error.RunError.{RunError}
 use Rattle.comfy_run.specs.declared.error.RunError.TheVariants.{Read, Write, NotUtf8, Table}
 
--- the line on other words
+-- the line on other arguments
 abbrev pub usage_line : Text
 usage_line = codes "usage: ctable [WIDTH|- [disabled|dynamic|full [STYLE]]]\n"
 

@@ -1,4 +1,4 @@
-//! The words after the program's name, and the settings that they ask for.
+//! The arguments after the program's name, and the settings that they ask for.
 
 ghost use Rattle.std.specs.Prelude.{◌≡◌};
 ghost use Rattle.std.specs.Char.{is_ascii_digit};
@@ -12,8 +12,8 @@ use comfy_parts::style::presets::by_name;
 
 const MOST_DIGITS: usize = 5;
 
-/// The settings that the words after the program's name ask for, or none where a word isn't known.
-/// Words that are missing stand for no width, `Disabled` and `ASCII_FULL`.
+/// The settings that the arguments after the program's name ask for, or none where an argument
+/// isn't known. Arguments that are missing stand for no width, `Disabled` and `ASCII_FULL`.
 pub fn settings_of(args: &[&str]) -> Option<Settings>
     ensures { result ≡ settings_for args.now }
 {
@@ -31,32 +31,33 @@ pub fn settings_of(args: &[&str]) -> Option<Settings>
     })
 }
 
-// The width that a word asks for, which is none for a hyphen. Other words ask for nothing that is
-// known.
-fn width_of(word: &str) -> Option<Option<u16>>
-    ensures { result ≡ width_for word.now }
+// The width that an argument asks for, which is none for a hyphen. Other arguments ask for nothing
+// that is known.
+fn width_of(argument: &str) -> Option<Option<u16>>
+    ensures { result ≡ width_for argument.now }
 {
-    if word == "-" {
+    if argument == "-" {
         return Some(None);
     }
-    number_of(word).map(Some)
+    number_of(argument).map(Some)
 }
 
 // A number of up to five digits. `parse` alone would take a plus sign and further zeros.
-#[tactic(auto, using(crate::proofs::ArgumentLemmas::long, crate::proofs::ArgumentLemmas::other, crate::proofs::ArgumentLemmas::parsed))]
-fn number_of(word: &str) -> Option<u16>
-    ensures { result ≡ number_for word.now }
+# [tactic(auto, using(crate::proofs::ArgumentLemmas::long, crate::proofs::ArgumentLemmas::other,
+# crate::proofs::ArgumentLemmas::parsed))]
+fn number_of(argument: &str) -> Option<u16>
+    ensures { result ≡ number_for argument.now }
 {
-    if word.len() > MOST_DIGITS || !are_digits(word.as_bytes()) {
+    if argument.len() > MOST_DIGITS || !are_digits(argument.as_bytes()) {
         return None;
     }
-    word.parse::<u16>().ok()
+    argument.parse::<u16>().ok()
 }
 
-fn arrangement_of(word: &str) -> Option<ContentArrangement>
-    ensures { result ≡ arrangement_for word.now }
+fn arrangement_of(argument: &str) -> Option<ContentArrangement>
+    ensures { result ≡ arrangement_for argument.now }
 {
-    match word {
+    match argument {
         "disabled" => Some(ContentArrangement::Disabled),
         "dynamic" => Some(ContentArrangement::Dynamic),
         "full" => Some(ContentArrangement::DynamicFullWidth),

@@ -7,7 +7,7 @@ use Rattle.std.proofs.lemmas.List.Elements.{All-map}
 use Rattle.std.proofs.lemmas.List.FromFn.{length-enumerate_from}
 use Rattle.std.proofs.lemmas.List.Sums.{sum_by-append}
 use Rattle.comfy_table.specs.Deciding.{HasRoomToSpread, HasSettled, HasTaken, HasGoneRound, decided, filled, final_widths, offer_by_rule, shared_evenly, undecided_count, with_room_spread}
-use Rattle.comfy_table.specs.Dynamic.{IsDynamicLayout, IsLevel, IsTakenInOrder, Placed, Share, Steps, added, all_shares, content_room, contents_after, even_columns, even_shares, fixed_shares, others, places_of, room_left, room_of_others, room_of_unsettled, settled_at, settled_shares, share_at, total, undecided, unsettled, widened}
+use Rattle.comfy_table.specs.Dynamic.{IsDynamicLayout, IsLevel, IsTakenInOrder, Positioned, Claim, Steps, added, all_claims, content_room, contents_after, even_columns, even_shares, fixed_claims, others, places_of, room_left, room_of_others, room_of_unsettled, settled_at, settled_claims, claim_at, total, undecided, unsettled, widened}
 use Rattle.comfy_table.specs.Widths.{ColumnNeeds, even_spread}
 use Rattle.comfy_table.specs.declared.utils.arrangement.dynamic.budget.Budget.{Budget}
 use Rattle.comfy_table.specs.declared.utils.arrangement.dynamic.round_robin.Rule.TheVariants.{Lower, Shrunk}
@@ -15,9 +15,9 @@ use Rattle.comfy_parts.proofs.CallerLemmas.{All-every}
 use Rattle.comfy_table.proofs.FilledWidthLemmas.{filled-decided, filled-widths_of, fixed-widths_of, undecided-fixed}
 use Rattle.comfy_table.proofs.PlacedWidthLemmas.{width_at, widths_of}
 use Rattle.comfy_table.proofs.StepLemmas.{one_each-places, total-fixed}
-use Rattle.comfy_table.proofs.TakenShareLemmas.{taken_among}
-use Rattle.comfy_table.proofs.TakingLemmas.{count_at-shares_of}
-use Rattle.comfy_table.proofs.GivenLemmas.{IsGiven, undecided_left, undecided_count_left, one_left, given_more, taken_by_rule, share_at-le_total}
+use Rattle.comfy_table.proofs.TakenClaimLemmas.{taken_among}
+use Rattle.comfy_table.proofs.TakingLemmas.{count_at-claims_of}
+use Rattle.comfy_table.proofs.GivenLemmas.{IsGiven, undecided_left, undecided_count_left, one_left, given_more, taken_by_rule, claim_at-le_total}
 
 module _ (room : ℕ) (needs : List ColumnNeeds) (start lower settled shrunk : Budget) (widths_are : start.widths.items ≡ map (λ (c : ColumnNeeds). c.fixed) needs) (room_is : start.room ≡ content_room room needs)
     (by_lower : HasGoneRound Lower needs start lower) (by_level : HasSettled needs lower settled) (by_lines : HasGoneRound Shrunk needs settled shrunk) where
@@ -25,16 +25,16 @@ module _ (room : ℕ) (needs : List ColumnNeeds) (start lower settled shrunk : B
   abbrev steps : Steps
   steps = record { lower = by_lower.0; level = by_level.0; shrunk = by_lines.0 }
 
-  -- the fixed shares
-  abbrev fixed_ones : List Share
-  fixed_ones = fixed_shares (places_of needs)
+  -- the fixed claims
+  abbrev fixed_ones : List Claim
+  fixed_ones = fixed_claims (places_of needs)
 
-  -- the shares that the level settles
-  abbrev settled_ones : List Share
-  settled_ones = settled_shares steps.level (others room needs steps.lower)
+  -- the claims that the level settles
+  abbrev settled_ones : List Claim
+  settled_ones = settled_claims steps.level (others room needs steps.lower)
 
-  -- all shares but the even ones
-  abbrev decided_ones : List Share
+  -- all claims but the even ones
+  abbrev decided_ones : List Claim
   decided_ones = ((fixed_ones ++ steps.lower) ++ settled_ones) ++ steps.shrunk
 
   -- ---- the fixed widths
@@ -43,7 +43,7 @@ module _ (room : ℕ) (needs : List ColumnNeeds) (start lower settled shrunk : B
   given_at_first : IsGiven needs fixed_ones (undecided room needs) start
   given_at_first = record {
     widths = widths_are ∙ fixed-widths_of needs;
-    one = λ i. omega (arith, count_at-shares_of (λ (p : Placed). p.1.fixed) i (places_of needs), one_each-places 0 needs i);
+    one = λ i. omega (arith, count_at-claims_of (λ (p : Positioned). p.1.fixed) i (places_of needs), one_each-places 0 needs i);
     left_is = undecided-fixed room needs;
   }
 
@@ -53,7 +53,7 @@ module _ (room : ℕ) (needs : List ColumnNeeds) (start lower settled shrunk : B
   lower_taken : IsTakenInOrder (undecided room needs) (offer_by_rule Lower (content_room room needs) (undecided room needs)) steps.lower
   lower_taken = taken_by_rule Lower (content_room room needs) needs fixed_ones (undecided room needs) start lower given_at_first room_is by_lower
 
-  -- then their shares are given too
+  -- then their claims are given too
   given_by_lower : IsGiven needs (fixed_ones ++ steps.lower) (others room needs steps.lower) lower
   given_by_lower =
       given_more needs fixed_ones steps.lower (undecided room needs) start lower given_at_first
@@ -72,12 +72,12 @@ module _ (room : ℕ) (needs : List ColumnNeeds) (start lower settled shrunk : B
   -- what it settles is taken
   settled_taken : HasTaken settled_ones lower settled
   settled_taken =
-      subst (λ (ps : List Placed). HasTaken (settled_shares steps.level ps) lower settled) (undecided_left needs (fixed_ones ++ steps.lower) (others room needs steps.lower) lower given_by_lower) by_level.2
+      subst (λ (ps : List Positioned). HasTaken (settled_claims steps.level ps) lower settled) (undecided_left needs (fixed_ones ++ steps.lower) (others room needs steps.lower) lower given_by_lower) by_level.2
 
-  -- then these shares are given too
+  -- then these claims are given too
   given_by_level : IsGiven needs ((fixed_ones ++ steps.lower) ++ settled_ones) (unsettled room needs steps) settled
   given_by_level =
-      given_more needs (fixed_ones ++ steps.lower) settled_ones (others room needs steps.lower) lower settled given_by_lower (λ i. count_at-shares_of (λ (p : Placed). settled_at steps.level p.1) i (others room needs steps.lower)) settled_taken
+      given_more needs (fixed_ones ++ steps.lower) settled_ones (others room needs steps.lower) lower settled given_by_lower (λ i. count_at-claims_of (λ (p : Positioned). settled_at steps.level p.1) i (others room needs steps.lower)) settled_taken
 
   -- and this room is left
   room_by_level : settled.room ≡ room_of_unsettled room needs steps
@@ -89,7 +89,7 @@ module _ (room : ℕ) (needs : List ColumnNeeds) (start lower settled shrunk : B
   shrunk_taken : IsTakenInOrder (unsettled room needs steps) (offer_by_rule Shrunk (room_of_unsettled room needs steps) (unsettled room needs steps)) steps.shrunk
   shrunk_taken = taken_by_rule Shrunk (room_of_unsettled room needs steps) needs ((fixed_ones ++ steps.lower) ++ settled_ones) (unsettled room needs steps) settled shrunk given_by_level room_by_level by_lines
 
-  -- then their shares are given too
+  -- then their claims are given too
   given_by_lines : IsGiven needs decided_ones (even_columns room needs steps) shrunk
   given_by_lines =
       given_more needs ((fixed_ones ++ steps.lower) ++ settled_ones) steps.shrunk (unsettled room needs steps) settled shrunk given_by_level
@@ -106,8 +106,8 @@ module _ (room : ℕ) (needs : List ColumnNeeds) (start lower settled shrunk : B
   count_left : undecided_count shrunk.widths.items ≡ length (even_columns room needs steps)
   count_left = undecided_count_left needs decided_ones (even_columns room needs steps) shrunk given_by_lines
 
-  -- the shares of all columns, joined in another order
-  regrouped : decided_ones ++ even_shares room needs steps ≡ all_shares room needs steps
+  -- the claims of all columns, joined in another order
+  regrouped : decided_ones ++ even_shares room needs steps ≡ all_claims room needs steps
   regrouped = grind (arith, append_assoc)
 
   -- the widths where the undecided columns share the room evenly
@@ -118,11 +118,11 @@ module _ (room : ℕ) (needs : List ColumnNeeds) (start lower settled shrunk : B
       (λ k. filled (given_by_lines.widths k) (spread k))
       ∙ filled-widths_of needs decided_ones (even_columns room needs steps)
       (even_spread (max (room_left room needs steps) (length (even_columns room needs steps))) (length (even_columns room needs steps))) given_by_lines.left_is
-      ∙ ap (λ (shares : List Share). map (λ (p : Placed). share_at shares p.0) (places_of needs)) regrouped
+      ∙ ap (λ (claims : List Claim). map (λ (p : Positioned). claim_at claims p.0) (places_of needs)) regrouped
 
   -- as many widths as columns
   length_widths : length shrunk.widths.items ≡ length needs
-  length_widths = ap length given_by_lines.widths ∙ length-map (places_of needs) (λ (p : Placed). width_at decided_ones p.0) ∙ length-enumerate_from 0 needs
+  length_widths = ap length given_by_lines.widths ∙ length-map (places_of needs) (λ (p : Positioned). width_at decided_ones p.0) ∙ length-enumerate_from 0 needs
 
   -- the widths with the room spread over them, where no column is undecided
   widened_is : undecided_count shrunk.widths.items ≡ 0 → with_room_spread shrunk ≡ added (contents_after room needs steps) (even_spread (room_left room needs steps) (length needs))
@@ -138,7 +138,7 @@ module _ (room : ℕ) (needs : List ColumnNeeds) (start lower settled shrunk : B
 
   -- ---- sizes
 
-  -- where room is left, it is what the shares and the paddings leave
+  -- where room is left, it is what the claims and the paddings leave
   pub room_adds_up : 0 < shrunk.room → total decided_ones + sum_by (λ (column : ColumnNeeds). column.padding) needs + shrunk.room ≡ room
   room_adds_up some = grind (arith, sum_by-append, room_by_lines, total-fixed)
 
@@ -148,8 +148,8 @@ module _ (room : ℕ) (needs : List ColumnNeeds) (start lower settled shrunk : B
       let IsWithin : ℕ → Type 0 = λ w. 0 < shrunk.room → w + shrunk.room ≤ room in
       subst (λ (ws : List (Option ℕ)). All IsWithin (decided ws)) (sym given_by_lines.widths)
       (All-map IsWithin (λ (w : Option ℕ). unwrap_or w 0) (widths_of needs decided_ones)
-      (All-map (λ (w : Option ℕ). IsWithin (unwrap_or w 0)) (λ (p : Placed). width_at decided_ones p.0) (places_of needs)
-      (All-every (λ (p : Placed). IsWithin (share_at decided_ones p.0)) (places_of needs) (λ p some. omega (arith, some, room_adds_up some, share_at-le_total p.0 decided_ones)))))
+      (All-map (λ (w : Option ℕ). IsWithin (unwrap_or w 0)) (λ (p : Positioned). width_at decided_ones p.0) (places_of needs)
+      (All-every (λ (p : Positioned). IsWithin (claim_at decided_ones p.0)) (places_of needs) (λ p some. omega (arith, some, room_adds_up some, claim_at-le_total p.0 decided_ones)))))
 
   -- in a room of sixteen bits they are numbers of sixteen bits
   pub has_room_to_spread : room ≤ 65535 → HasRoomToSpread shrunk

@@ -10,7 +10,7 @@ use Rattle.comfy_parts.specs.declared.style.table.ContentArrangement.{ContentArr
 use Rattle.comfy_parts.specs.declared.style.table.ContentArrangement.TheVariants.{Dynamic, DynamicFullWidth}
 use Rattle.comfy_table.specs.Arrangement.{IsArranged, width_kept, is_full_width, room_beside_borders, widths_at}
 use Rattle.comfy_table.specs.Drawing.{infos_of, outer_widths}
-use Rattle.comfy_table.specs.Dynamic.{Share, Steps, IsArrangedBy, IsDynamicLayout, contents_after, added, even_columns, room_left}
+use Rattle.comfy_table.specs.Dynamic.{Claim, Steps, IsArrangedBy, IsDynamicLayout, contents_after, added, even_columns, room_left}
 use Rattle.comfy_table.specs.Frame.{border_count}
 use Rattle.comfy_table.specs.Laws.{NoConstraints, KeepsToWidth, FillsWidth, line_total, least_total, least_with_steps}
 use Rattle.comfy_table.specs.Levels.{IsUnconstrained}
@@ -104,7 +104,7 @@ paddings_of_needs table (p ∷ more) =
 -- ---- each width is at least 1
 
 -- an even share is at least the level
-some_content : (room : ℕ) (columns : List ColumnNeeds) → AllByRecursion IsUnconstrained columns → (full : Bool) (lower : List Share) (level : Option ℕ) (shrunk : List Share) (widths : List ℕ)
+some_content : (room : ℕ) (columns : List ColumnNeeds) → AllByRecursion IsUnconstrained columns → (full : Bool) (lower : List Claim) (level : Option ℕ) (shrunk : List Claim) (widths : List ℕ)
     → IsArrangedBy room columns full (steps_with lower level shrunk) widths → AllZip (λ (column : ColumnNeeds) (width : ℕ). 1 ≤ width) columns (contents_after room columns (steps_with lower level shrunk))
 some_content room columns plain full lower None shrunk widths arranged =
     each_content_short room columns plain (λ column width. 1 ≤ width) full lower shrunk widths arranged (λ column free. omega arith)

@@ -4,11 +4,11 @@ use Rattle.std.specs.List.{cons_option}
 use Rattle.std.proofs.lemmas.List.Sums.{sum_by-cons}
 use Rattle.std.proofs.lemmas.Nat.{le-div}
 use Rattle.comfy_table.specs.Deciding.{is_undecided, undecided_among}
-use Rattle.comfy_table.specs.Dynamic.{Placed, Share, IsLevel, average, places_of, settled_at, settled_shares, total, without_shares}
+use Rattle.comfy_table.specs.Dynamic.{Positioned, Claim, IsLevel, average, places_of, settled_at, settled_claims, total, without_claims}
 use Rattle.comfy_table.specs.Widths.{ColumnNeeds}
-use Rattle.comfy_table.proofs.ShareLemmas.{count_at, IsOneEach, length-without}
-use Rattle.comfy_table.proofs.StepLemmas.{one_each-places, settled_shares-none}
-use Rattle.comfy_table.proofs.TakingLemmas.{count_at-shares_of}
+use Rattle.comfy_table.proofs.ClaimLemmas.{count_at, IsOneEach, length-without}
+use Rattle.comfy_table.proofs.StepLemmas.{one_each-places, settled_claims-none}
+use Rattle.comfy_table.proofs.TakingLemmas.{count_at-claims_of}
 
 -- ---- one column
 
@@ -31,67 +31,67 @@ need_higher level higher column one above = grind arith
 -- ---- all columns
 
 -- what columns need
-abbrev pub needed : ℕ → ℕ → List Placed → ℕ
-needed level other columns = sum_by (λ (p : Placed). need_at level other p.1) columns
+abbrev pub needed : ℕ → ℕ → List Positioned → ℕ
+needed level other columns = sum_by (λ (p : Positioned). need_at level other p.1) columns
 
 -- how many columns a level leaves
-abbrev pub left_count : ℕ → List Placed → ℕ
-left_count level columns = length (filter (λ (p : Placed). is_none (settled_at (Some level) p.1)) columns)
+abbrev pub left_count : ℕ → List Positioned → ℕ
+left_count level columns = length (filter (λ (p : Positioned). is_none (settled_at (Some level) p.1)) columns)
 
 -- at a higher level they need no more
-needed_higher : (level higher : ℕ) (columns : List Placed) → 1 ≤ higher → level ≤ higher → needed higher higher columns ≤ needed level higher columns
+needed_higher : (level higher : ℕ) (columns : List Positioned) → 1 ≤ higher → level ≤ higher → needed higher higher columns ≤ needed level higher columns
 needed_higher level higher [] one above = omega arith
 needed_higher level higher (p ∷ more) one above =
-    omega (arith, need_higher level higher p.1 one above, needed_higher level higher more one above, sum_by-cons (λ (q : Placed). need_at higher higher q.1) p more, sum_by-cons (λ (q : Placed). need_at level higher q.1) p more)
+    omega (arith, need_higher level higher p.1 one above, needed_higher level higher more one above, sum_by-cons (λ (q : Positioned). need_at higher higher q.1) p more, sum_by-cons (λ (q : Positioned). need_at level higher q.1) p more)
 
 -- at most the level each
-needed_within : (level : ℕ) (columns : List Placed) → 1 ≤ level → needed level level columns ≤ length columns * level
+needed_within : (level : ℕ) (columns : List Positioned) → 1 ≤ level → needed level level columns ≤ length columns * level
 needed_within level [] one = omega arith
 needed_within level (p ∷ more) one =
-    omega (arith, need_within level p.1 one, needed_within level more one, sum_by-cons (λ (q : Placed). need_at level level q.1) p more, suc-mul (length more) level)
+    omega (arith, need_within level p.1 one, needed_within level more one, sum_by-cons (λ (q : Positioned). need_at level level q.1) p more, suc-mul (length more) level)
 
 -- and at least 1 each
-needed_some : (level : ℕ) (columns : List Placed) → 1 ≤ level → length columns ≤ needed level level columns
+needed_some : (level : ℕ) (columns : List Positioned) → 1 ≤ level → length columns ≤ needed level level columns
 needed_some level [] one = omega arith
 needed_some level (p ∷ more) one =
-    omega (arith, need_some level p.1 one, needed_some level more one, sum_by-cons (λ (q : Placed). need_at level level q.1) p more)
+    omega (arith, need_some level p.1 one, needed_some level more one, sum_by-cons (λ (q : Positioned). need_at level level q.1) p more)
 
 -- it is what the level settles, and the other number for each column that it leaves
-needed-is : (level other : ℕ) (columns : List Placed) → needed level other columns ≡ total (settled_shares (Some level) columns) + left_count level columns * other
+needed-is : (level other : ℕ) (columns : List Positioned) → needed level other columns ≡ total (settled_claims (Some level) columns) + left_count level columns * other
 needed-is level other [] = omega arith
-needed-is level other (p ∷ more) = sum_by-cons (λ (q : Placed). need_at level other q.1) p more ∙ by_settled (settled_at (Some level) p.1) (needed-is level other more)
+needed-is level other (p ∷ more) = sum_by-cons (λ (q : Positioned). need_at level other q.1) p more ∙ by_settled (settled_at (Some level) p.1) (needed-is level other more)
   where
-    by_settled : (o : Option ℕ) → needed level other more ≡ total (settled_shares (Some level) more) + left_count level more * other
+    by_settled : (o : Option ℕ) → needed level other more ≡ total (settled_claims (Some level) more) + left_count level more * other
         → unwrap_or o other + needed level other more
-        ≡ total (cons_option (option_map (λ (width : ℕ). (p.0, width)) o) (settled_shares (Some level) more))
-        + length (cond (is_none o) (p ∷ filter (λ (q : Placed). is_none (settled_at (Some level) q.1)) more) (filter (λ (q : Placed). is_none (settled_at (Some level) q.1)) more)) * other
+        ≡ total (cons_option (option_map (λ (width : ℕ). (p.0, width)) o) (settled_claims (Some level) more))
+        + length (cond (is_none o) (p ∷ filter (λ (q : Positioned). is_none (settled_at (Some level) q.1)) more) (filter (λ (q : Positioned). is_none (settled_at (Some level) q.1)) more)) * other
     by_settled None rest = omega (arith, rest, suc-mul (left_count level more) other)
-    by_settled (Some width) rest = omega (arith, rest, sum_by-cons (λ (t : Share). t.1) (p.0, width) (settled_shares (Some level) more))
+    by_settled (Some width) rest = omega (arith, rest, sum_by-cons (λ (t : Claim). t.1) (p.0, width) (settled_claims (Some level) more))
 
 -- what a level settles and leaves are all columns
-settled_and_left : (level : ℕ) (columns : List Placed) → length (settled_shares (Some level) columns) + left_count level columns ≡ length columns
+settled_and_left : (level : ℕ) (columns : List Positioned) → length (settled_claims (Some level) columns) + left_count level columns ≡ length columns
 settled_and_left level [] = refl
 settled_and_left level (p ∷ more) = grind (arith, settled_and_left level more)
 
--- the columns without its shares are those that it leaves
-pub left_count-is : (level : ℕ) (columns : List Placed) → IsOneEach columns → length (without_shares (settled_shares (Some level) columns) columns) ≡ left_count level columns
+-- the columns without its claims are those that it leaves
+pub left_count-is : (level : ℕ) (columns : List Positioned) → IsOneEach columns → length (without_claims (settled_claims (Some level) columns) columns) ≡ left_count level columns
 left_count-is level columns one =
-    omega (arith, settled_and_left level columns, length-without (settled_shares (Some level) columns) columns one (λ i. count_at-shares_of (λ (p : Placed). settled_at (Some level) p.1) i columns))
+    omega (arith, settled_and_left level columns, length-without (settled_claims (Some level) columns) columns one (λ i. count_at-claims_of (λ (p : Positioned). settled_at (Some level) p.1) i columns))
 
 -- ---- the search
 
 -- the average beside what a level settles
-abbrev pub raised_from : ℕ → List Placed → ℕ → ℕ
-raised_from room columns level = average room columns (settled_shares (Some level) columns)
+abbrev pub raised_from : ℕ → List Positioned → ℕ → ℕ
+raised_from room columns level = average room columns (settled_claims (Some level) columns)
 
 -- at the average of all columns there is room for what they need
-pub needed_at_first : (room level : ℕ) (columns : List Placed) → 0 < level → level ≡ room / length columns → needed level level columns ≤ room
+pub needed_at_first : (room level : ℕ) (columns : List Positioned) → 0 < level → level ≡ room / length columns → needed level level columns ≤ room
 needed_at_first room level columns some is =
     omega (arith, needed_within level columns some, ap (λ (n : ℕ). n * length columns) is, div-mul-le_self room (length columns), mul_comm (length columns) level)
 
-module _ (room : ℕ) (columns : List Placed) (one : IsOneEach columns) where
+module _ (room : ℕ) (columns : List Positioned) (one : IsOneEach columns) where
   -- what the average beside a level takes
-  raised_room : (level raised : ℕ) → raised ≡ raised_from room columns level → left_count level columns * raised ≤ room - total (settled_shares (Some level) columns)
+  raised_room : (level raised : ℕ) → raised ≡ raised_from room columns level → left_count level columns * raised ≤ room - total (settled_claims (Some level) columns)
   raised_room level raised is = grind (arith, left_count-is)
 
   -- and at that average where it is higher
@@ -104,25 +104,25 @@ module _ (room : ℕ) (columns : List Placed) (one : IsOneEach columns) where
   level_found level raised some below is enough = grind (arith, needed_some, needed-is, left_count-is, le-div, mul_comm)
 
 -- columns that have no room on average have a level that settles nothing
-pub level_without_average : (room : ℕ) (columns : List Placed) → room / length columns ≡ 0 → (level : Option ℕ) × IsLevel room columns level × (settled_shares level columns ≡ [])
+pub level_without_average : (room : ℕ) (columns : List Positioned) → room / length columns ≡ 0 → (level : Option ℕ) × IsLevel room columns level × (settled_claims level columns ≡ [])
 level_without_average room [] none = (Some 1, (omega arith, omega arith, omega arith, λ some. absurd (omega arith)), refl)
-level_without_average room (p ∷ more) none = grind (arith, settled_shares-none)
+level_without_average room (p ∷ more) none = grind (arith, settled_claims-none)
 
 -- ---- the undecided columns
 
 -- columns that pass a test have one for each place, where all have
-one_each-filter : (test : Placed → Bool) (columns : List Placed) → IsOneEach columns → IsOneEach (filter test columns)
+one_each-filter : (test : Positioned → Bool) (columns : List Positioned) → IsOneEach columns → IsOneEach (filter test columns)
 one_each-filter test columns one i = omega (arith, fewer columns, one i)
   where
-    by_test : (p : Placed) (more : List Placed) (b : Bool) → count_at i (filter test more) ≤ count_at i more
+    by_test : (p : Positioned) (more : List Positioned) (b : Bool) → count_at i (filter test more) ≤ count_at i more
         → count_at i (cond b (p ∷ filter test more) (filter test more)) ≤ cond (p.0 == i) 1 0 + count_at i more
     by_test p more true rest = omega arith
     by_test p more false rest = omega arith
 
-    fewer : (ps : List Placed) → count_at i (filter test ps) ≤ count_at i ps
+    fewer : (ps : List Positioned) → count_at i (filter test ps) ≤ count_at i ps
     fewer [] = omega arith
     fewer (p ∷ more) = by_test p more (test p) (fewer more)
 
 -- no place has two undecided columns
 pub one_each-undecided : (needs : List ColumnNeeds) (widths : List (Option ℕ)) → IsOneEach (undecided_among needs widths)
-one_each-undecided needs widths = one_each-filter (λ (p : Placed). is_undecided widths p.0) (places_of needs) (one_each-places 0 needs)
+one_each-undecided needs widths = one_each-filter (λ (p : Positioned). is_undecided widths p.0) (places_of needs) (one_each-places 0 needs)

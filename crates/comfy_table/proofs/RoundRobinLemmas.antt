@@ -4,15 +4,15 @@ use Rattle.std.specs.Prelude.{◌⊎◌, slice_set}
 use Rattle.std.proofs.lemmas.Bool.{cases_lt, eq-eqb, and_parts}
 use Rattle.std.proofs.lemmas.Option.{slice_get_within}
 use Rattle.std.proofs.lemmas.List.Sums.{sum_by_push}
-use Rattle.comfy_table.specs.Deciding.{HasTaken, HasGoneRound, average_room, is_undecided, offer_by_rule, position_after, undecided_among, undecided_count, width_at, width_by_rule, with_shares}
-use Rattle.comfy_table.specs.Dynamic.{Placed, Share, going_round, next_taken, total, without_shares}
+use Rattle.comfy_table.specs.Deciding.{HasTaken, HasGoneRound, average_room, is_undecided, offer_by_rule, position_after, undecided_among, undecided_count, width_at, width_by_rule, with_claims}
+use Rattle.comfy_table.specs.Dynamic.{Positioned, Claim, going_round, next_taken, total, without_claims}
 use Rattle.comfy_table.specs.Widths.{ColumnNeeds}
 use Rattle.comfy_table.specs.declared.utils.arrangement.dynamic.budget.Budget.{Budget}
 use Rattle.comfy_table.specs.declared.utils.arrangement.dynamic.round_robin.Rule.{Rule}
 use Rattle.comfy_table.proofs.TakenLemmas.{IsTakenSoFar, place_after, so_far-ends, so_far-push}
-use Rattle.comfy_table.proofs.TakingLemmas.{shares_of}
+use Rattle.comfy_table.proofs.TakingLemmas.{claims_of}
 use Rattle.comfy_table.proofs.TurnLemmas.{IsBetween, none_next, some_next}
-use Rattle.comfy_table.proofs.UndecidedLemmas.{is_undecided-set, length-undecided_among, length-with_shares, undecided_among-with_shares}
+use Rattle.comfy_table.proofs.UndecidedLemmas.{is_undecided-set, length-undecided_among, length-with_claims, undecided_among-with_claims}
 
 -- one of the last places before this one, of so many, going round n places
 abbrev pub IsBehind : ℕ → ℕ → ℕ → ℕ → Type 0
@@ -36,14 +36,14 @@ between_behind : (n place passed from i : ℕ) → place < n → i < n → IsBeh
 between_behind n place passed from i within below since between = grind arith
 
 -- the last one taken is that from which the next is looked for
-place_after-push : (candidates : List Placed) (offer : List Share → Placed → Option ℕ) (from : ℕ) (order : List Share) (t : Share) → place_after candidates offer from (order ++ t ∷ []) ≡ t.0
+place_after-push : (candidates : List Positioned) (offer : List Claim → Positioned → Option ℕ) (from : ℕ) (order : List Claim) (t : Claim) → place_after candidates offer from (order ++ t ∷ []) ≡ t.0
 place_after-push candidates offer from [] t = refl
 place_after-push candidates offer from (s ∷ order) t = place_after-push candidates offer s.0 order t
 
--- one share more
-with_shares-push : (order : List Share) (t : Share) (widths : List (Option ℕ)) → with_shares (order ++ t ∷ []) widths ≡ slice_set (with_shares order widths) t.0 (Some t.1)
-with_shares-push [] t widths = refl
-with_shares-push (s ∷ order) t widths = with_shares-push order t (slice_set widths s.0 (Some s.1))
+-- one claim more
+with_claims-push : (order : List Claim) (t : Claim) (widths : List (Option ℕ)) → with_claims (order ++ t ∷ []) widths ≡ slice_set (with_claims order widths) t.0 (Some t.1)
+with_claims-push [] t widths = refl
+with_claims-push (s ∷ order) t widths = with_claims-push order t (slice_set widths s.0 (Some s.1))
 
 -- a width that is set is one undecided column fewer
 pub count-set : (widths : List (Option ℕ)) (i width : ℕ) → is_undecided widths i ≡ true → undecided_count (slice_set widths i (Some width)) + 1 ≡ undecided_count widths
@@ -79,16 +79,16 @@ module _ (rule : Rule) (average : ℕ) (needs : List ColumnNeeds) (widths : List
 
 module _ (rule : Rule) (needs : List ColumnNeeds) (old : Budget) where
   -- the columns that may take a width
-  abbrev candidates : List Placed
+  abbrev candidates : List Positioned
   candidates = undecided_among needs old.widths.items
 
   -- what they are offered
-  abbrev offer : List Share → Placed → Option ℕ
+  abbrev offer : List Claim → Positioned → Option ℕ
   offer = offer_by_rule rule old.room candidates
 
   -- what the loop keeps: the columns taken so far, and that the last places that were passed take nothing
   pub record IsTurn (now : Budget) (place passed average : ℕ) : Type 0 where
-    pub order : List Share
+    pub order : List Claim
     pub so_far : IsTakenSoFar candidates offer 0 [] order
     pub taken : HasTaken order old now
     pub within : 0 < length needs → place < length needs
@@ -98,22 +98,22 @@ module _ (rule : Rule) (needs : List ColumnNeeds) (old : Budget) where
 
   module _ (same_length : length old.widths.items ≡ length needs) (now : Budget) (place passed average : ℕ) (turn : IsTurn now place passed average) where
     -- the columns that are left
-    left_is : without_shares turn.order candidates ≡ undecided_among needs now.widths.items
-    left_is = sym (undecided_among-with_shares needs turn.order old.widths.items) ∙ sym (ap (undecided_among needs) turn.taken.widths)
+    left_is : without_claims turn.order candidates ≡ undecided_among needs now.widths.items
+    left_is = sym (undecided_among-with_claims needs turn.order old.widths.items) ∙ sym (ap (undecided_among needs) turn.taken.widths)
 
     -- they are counted
     length_now : length now.widths.items ≡ length needs
-    length_now = ap length turn.taken.widths ∙ length-with_shares turn.order old.widths.items ∙ same_length
+    length_now = ap length turn.taken.widths ∙ length-with_claims turn.order old.widths.items ∙ same_length
 
     -- their average room
-    average_now : (old.room - total turn.order) / length (without_shares turn.order candidates) ≡ average
+    average_now : (old.room - total turn.order) / length (without_claims turn.order candidates) ≡ average
     average_now =
         ap₂ (λ (room n : ℕ). room / n) (sym turn.taken.room) (ap length left_is ∙ length-undecided_among needs now.widths.items length_now) ∙ sym turn.average_is
 
     -- the next one is looked for among the undecided columns, at the average
-    next_is : (from : ℕ) → next_taken candidates offer from turn.order ≡ slice_get (shares_of (λ (p : Placed). width_by_rule rule average p.1) (going_round from (undecided_among needs now.widths.items))) 0
+    next_is : (from : ℕ) → next_taken candidates offer from turn.order ≡ slice_get (claims_of (λ (p : Positioned). width_by_rule rule average p.1) (going_round from (undecided_among needs now.widths.items))) 0
     next_is from =
-        ap₂ (λ (a : ℕ) (ps : List Placed). slice_get (shares_of (λ (p : Placed). width_by_rule rule a p.1) (going_round from ps)) 0) average_now left_is
+        ap₂ (λ (a : ℕ) (ps : List Positioned). slice_get (claims_of (λ (p : Positioned). width_by_rule rule a p.1) (going_round from ps)) 0) average_now left_is
 
     -- a place that takes nothing is passed
     pub turn_passes : passed < length needs → width_at rule average needs now.widths.items place ≡ None → IsTurn now (position_after (length needs) place) (passed + 1) average
@@ -138,7 +138,7 @@ module _ (rule : Rule) (needs : List ColumnNeeds) (old : Budget) where
       turn.order,
       so_far-ends candidates offer 0 [] turn.order turn.so_far
           (next_is (place_after candidates offer 0 turn.order)
-          ∙ none_next needs now.widths.items (λ (p : Placed). width_by_rule rule average p.1) (place_after candidates offer 0 turn.order)
+          ∙ none_next needs now.widths.items (λ (p : Positioned). width_by_rule rule average p.1) (place_after candidates offer 0 turn.order)
           (λ i d found left. let below : i < length needs = slice_get_within needs i d found in
           turn.nothing i d found (all_behind (length needs) place passed i (turn.within (omega (arith, below))) all below) left)),
       turn.taken,
@@ -153,18 +153,18 @@ module _ (rule : Rule) (needs : List ColumnNeeds) (old : Budget) where
         let takes = width_at-some rule average needs now.widths.items place width some in
         let below : place < length needs = slice_get_within needs place takes.column takes.found in
         let from = place_after candidates offer 0 turn.order in
-        let t : Share = (place, width) in
+        let t : Claim = (place, width) in
         let next : next_taken candidates offer from ([] ++ turn.order) ≡ Some t =
         next_is from
-        ∙ some_next needs now.widths.items (λ (p : Placed). width_by_rule rule average p.1) from place takes.column width takes.found takes.left takes.takes
+        ∙ some_next needs now.widths.items (λ (p : Positioned). width_by_rule rule average p.1) from place takes.column width takes.found takes.left takes.takes
         (λ i d found between left. turn.nothing i d found (between_behind (length needs) place passed from i below (slice_get_within needs i d found) turn.since between) left) in
         let last : place_after candidates offer 0 (turn.order ++ t ∷ []) ≡ place = place_after-push candidates offer 0 turn.order t in
         record {
           order = turn.order ++ t ∷ [];
           so_far = so_far-push candidates offer 0 [] turn.order t turn.so_far next;
           taken = record {
-            widths = widths_are ∙ ap (λ (ws : List (Option ℕ)). slice_set ws place (Some width)) turn.taken.widths ∙ sym (with_shares-push turn.order t old.widths.items);
-            room = omega (arith, room_is, turn.taken.room, sum_by_push (λ (s : Share). s.1) turn.order t);
+            widths = widths_are ∙ ap (λ (ws : List (Option ℕ)). slice_set ws place (Some width)) turn.taken.widths ∙ sym (with_claims-push turn.order t old.widths.items);
+            room = omega (arith, room_is, turn.taken.room, sum_by_push (λ (s : Claim). s.1) turn.order t);
           };
           within = λ _. place_within below;
           average_is = average_is;

@@ -3,14 +3,14 @@ use Rattle.std.proofs.Common.{◌≡◌, ◌≤◌, ℕ, List, [], length, map, 
 use Rattle.std.specs.List.{enumerate_from}
 use Rattle.std.proofs.lemmas.List.{drop_all}
 use Rattle.comfy_table.specs.Deciding.{is_undecided}
-use Rattle.comfy_table.specs.Dynamic.{Placed}
+use Rattle.comfy_table.specs.Dynamic.{Positioned}
 use Rattle.comfy_table.specs.Widths.{ColumnNeeds}
 
 -- the undecided columns from a place on
-abbrev pub undecided_past : {X : Type 0} → List (Option ℕ) → (X → ColumnNeeds) → List X → ℕ → List Placed
-undecided_past widths needs columns place = filter (λ (p : Placed). is_undecided widths p.0) (enumerate_from place (map needs (drop place columns)))
+abbrev pub undecided_past : {X : Type 0} → List (Option ℕ) → (X → ColumnNeeds) → List X → ℕ → List Positioned
+undecided_past widths needs columns place = filter (λ (p : Positioned). is_undecided widths p.0) (enumerate_from place (map needs (drop place columns)))
 
 -- past the last column there is none
 pub undecided_past-none : {X : Type 0} (widths : List (Option ℕ)) (needs : X → ColumnNeeds) (columns : List X) (place : ℕ) → length columns ≤ place → undecided_past widths needs columns place ≡ []
 undecided_past-none {X} widths needs columns place past =
-    ap (λ (xs : List X). filter (λ (p : Placed). is_undecided widths p.0) (enumerate_from place (map needs xs))) (drop_all place columns past)
+    ap (λ (xs : List X). filter (λ (p : Positioned). is_undecided widths p.0) (enumerate_from place (map needs xs))) (drop_all place columns past)

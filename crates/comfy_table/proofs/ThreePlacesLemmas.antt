@@ -12,7 +12,7 @@ use Rattle.comfy_parts.specs.declared.style.column.ColumnConstraint.{ColumnConst
 use Rattle.comfy_parts.specs.declared.style.table.ContentArrangement.{ContentArrangement}
 use Rattle.comfy_parts.specs.declared.style.table.ContentArrangement.TheVariants.{Dynamic}
 use Rattle.comfy_table.specs.Arrangement.{AreShownWidths, width_kept, is_full_width, room_beside_borders}
-use Rattle.comfy_table.specs.Dynamic.{Share, IsArrangedBy, IsDynamicLayout, contents_after, content_room}
+use Rattle.comfy_table.specs.Dynamic.{Claim, IsArrangedBy, IsDynamicLayout, contents_after, content_room}
 use Rattle.comfy_table.specs.Laws.{IsPrintableCell, NoConstraints, HasPrintableCells}
 use Rattle.comfy_table.specs.TableLaws.{IsAtMostThreeOver, shown_contents}
 use Rattle.comfy_table.specs.Levels.{IsUnconstrained}
@@ -90,7 +90,7 @@ abbrev IsThreeOver : ColumnNeeds → ℕ → Type 0
 IsThreeOver column width = IsWithinContent column → width ≤ column.content + 3
 
 -- each content width is so
-three_over : (room : ℕ) (columns : List ColumnNeeds) → AllByRecursion IsUnconstrained columns → (lower : List Share) (level : Option ℕ) (shrunk : List Share) (widths : List ℕ) → IsArrangedBy room columns false (steps_with lower level shrunk) widths
+three_over : (room : ℕ) (columns : List ColumnNeeds) → AllByRecursion IsUnconstrained columns → (lower : List Claim) (level : Option ℕ) (shrunk : List Claim) (widths : List ℕ) → IsArrangedBy room columns false (steps_with lower level shrunk) widths
     → content_room room columns ≤ 65535 → AllZip IsThreeOver columns (contents_after room columns (steps_with lower level shrunk))
 three_over room columns plain lower None shrunk widths arranged small =
     each_content_short room columns plain IsThreeOver false lower shrunk widths arranged (λ column free within. omega arith)

@@ -4,11 +4,11 @@ use Rattle.std.specs.Prelude.{◌&&◌, slice_set}
 use Rattle.std.specs.List.{enumerate_from}
 use Rattle.std.proofs.lemmas.Bool.Decides.{nat_tests}
 use Rattle.std.proofs.lemmas.List.{append_assoc, get_or_at, length-set}
-use Rattle.comfy_table.specs.Deciding.{is_undecided, undecided_among, undecided_count, with_shares}
-use Rattle.comfy_table.specs.Dynamic.{Placed, Share, places_of, without_shares}
+use Rattle.comfy_table.specs.Deciding.{is_undecided, undecided_among, undecided_count, with_claims}
+use Rattle.comfy_table.specs.Dynamic.{Positioned, Claim, places_of, without_claims}
 use Rattle.comfy_table.specs.Widths.{ColumnNeeds}
-use Rattle.comfy_table.proofs.PlacedWidthLemmas.{without_shares-append}
-use Rattle.comfy_table.proofs.ShareLemmas.{without_shares-nil}
+use Rattle.comfy_table.proofs.PlacedWidthLemmas.{without_claims-append}
+use Rattle.comfy_table.proofs.ClaimLemmas.{without_claims-nil}
 
 -- ---- a width is taken
 
@@ -32,32 +32,32 @@ is_undecided-set (w ∷ widths) (suc i) (suc j) width =
     let same : (i == j) ≡ (suc i == suc j) = grind (arith, nat_tests) in is_undecided-set widths i j width ∙ ap (λ (b : Bool). is_undecided widths j && not b) same
 
 -- of any columns, those without a width then are those without one before, but for the one at that place
-undecided_set : (widths : List (Option ℕ)) (t : Share) (columns : List Placed) → filter (λ (p : Placed). is_undecided (slice_set widths t.0 (Some t.1)) p.0) columns ≡ without_shares (t ∷ []) (filter (λ (p : Placed). is_undecided widths p.0) columns)
+undecided_set : (widths : List (Option ℕ)) (t : Claim) (columns : List Positioned) → filter (λ (p : Positioned). is_undecided (slice_set widths t.0 (Some t.1)) p.0) columns ≡ without_claims (t ∷ []) (filter (λ (p : Positioned). is_undecided widths p.0) columns)
 undecided_set widths t [] = refl
 undecided_set widths t (p ∷ more) = grind (arith, is_undecided-set, undecided_set widths t more)
 
--- where a column gets its share, the undecided columns are those without it
-pub undecided_among-set : (needs : List ColumnNeeds) (widths : List (Option ℕ)) (t : Share) → undecided_among needs (slice_set widths t.0 (Some t.1)) ≡ without_shares (t ∷ []) (undecided_among needs widths)
+-- where a column gets its claim, the undecided columns are those without it
+pub undecided_among-set : (needs : List ColumnNeeds) (widths : List (Option ℕ)) (t : Claim) → undecided_among needs (slice_set widths t.0 (Some t.1)) ≡ without_claims (t ∷ []) (undecided_among needs widths)
 undecided_among-set needs widths t = undecided_set widths t (places_of needs)
 
--- columns take shares
-pub undecided_among-with_shares : (needs : List ColumnNeeds) (order : List Share) (widths : List (Option ℕ)) → undecided_among needs (with_shares order widths) ≡ without_shares order (undecided_among needs widths)
-undecided_among-with_shares needs [] widths = sym (without_shares-nil (undecided_among needs widths))
-undecided_among-with_shares needs (t ∷ more) widths =
-    undecided_among-with_shares needs more (slice_set widths t.0 (Some t.1))
-    ∙ ap (without_shares more) (undecided_among-set needs widths t)
-    ∙ sym (without_shares-append (t ∷ []) more (undecided_among needs widths))
+-- columns take claims
+pub undecided_among-with_claims : (needs : List ColumnNeeds) (order : List Claim) (widths : List (Option ℕ)) → undecided_among needs (with_claims order widths) ≡ without_claims order (undecided_among needs widths)
+undecided_among-with_claims needs [] widths = sym (without_claims-nil (undecided_among needs widths))
+undecided_among-with_claims needs (t ∷ more) widths =
+    undecided_among-with_claims needs more (slice_set widths t.0 (Some t.1))
+    ∙ ap (without_claims more) (undecided_among-set needs widths t)
+    ∙ sym (without_claims-append (t ∷ []) more (undecided_among needs widths))
 
 -- there are as many widths as before
-pub length-with_shares : (order : List Share) (widths : List (Option ℕ)) → length (with_shares order widths) ≡ length widths
-length-with_shares [] widths = refl
-length-with_shares (t ∷ more) widths = length-with_shares more (slice_set widths t.0 (Some t.1)) ∙ length-set widths t.0 (Some t.1)
+pub length-with_claims : (order : List Claim) (widths : List (Option ℕ)) → length (with_claims order widths) ≡ length widths
+length-with_claims [] widths = refl
+length-with_claims (t ∷ more) widths = length-with_claims more (slice_set widths t.0 (Some t.1)) ∙ length-set widths t.0 (Some t.1)
 
 -- ---- their number
 
 -- as many columns are undecided as widths are missing, after others
 length-undecided_from : (front widths : List (Option ℕ)) (n : ℕ) (needs : List ColumnNeeds) → length widths ≡ length needs → n ≡ length front
-    → length (filter (λ (p : Placed). is_undecided (front ++ widths) p.0) (enumerate_from n needs)) ≡ undecided_count widths
+    → length (filter (λ (p : Positioned). is_undecided (front ++ widths) p.0) (enumerate_from n needs)) ≡ undecided_count widths
 length-undecided_from front [] n [] same from = refl
 length-undecided_from front [] n (column ∷ more) same from = absurd (omega arith)
 length-undecided_from front (w ∷ widths) n [] same from = absurd (omega arith)
@@ -68,8 +68,8 @@ length-undecided_from front (w ∷ widths) n (column ∷ more) same from =
     ap (λ (b : Bool). length (cond b ((n, column) ∷ later (front ++ w ∷ widths)) (later (front ++ w ∷ widths)))) here
     ∙ by_test (is_none w) (ap (λ (ws : List (Option ℕ)). length (later ws)) (sym grouped) ∙ length-undecided_from (front ++ w ∷ []) widths (n + 1) more (omega arith) (omega (arith, length-append front (w ∷ []))))
   where
-    later : List (Option ℕ) → List Placed
-    later ws = filter (λ (p : Placed). is_undecided ws p.0) (enumerate_from (n + 1) more)
+    later : List (Option ℕ) → List Positioned
+    later ws = filter (λ (p : Positioned). is_undecided ws p.0) (enumerate_from (n + 1) more)
 
     by_test : (b : Bool) → length (later (front ++ w ∷ widths)) ≡ undecided_count widths
         → length (cond b ((n, column) ∷ later (front ++ w ∷ widths)) (later (front ++ w ∷ widths))) ≡ length (cond b (w ∷ filter is_none widths) (filter is_none widths))

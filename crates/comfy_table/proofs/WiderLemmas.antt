@@ -10,22 +10,22 @@ use Rattle.comfy_parts.specs.declared.style.table.ContentArrangement.TheVariants
 use Rattle.comfy_table.proofs.BudgetLemmas.{keeps_to_wider_bound, fills_wider_bound}
 use Rattle.comfy_table.proofs.DrawnWidthLemmas.{sum-outer_widths, paddings_of_needs, dynamic_widths, every_added}
 use Rattle.comfy_parts.proofs.CallerLemmas.{every-always, every-append, every-map, every-places, every-weaker}
-use Rattle.comfy_table.proofs.ShareLemmas.{count_at, share_at-where}
-use Rattle.comfy_table.proofs.SpreadLemmas.{IsPartOf, every-even_spread, shares_beside, every-shares_beside}
-use Rattle.comfy_table.proofs.StepLemmas.{count_at-all_shares}
-use Rattle.comfy_table.proofs.TakenShareLemmas.{every_stands}
-use Rattle.comfy_table.proofs.TakingLemmas.{next_taken-where, every-shares_of}
+use Rattle.comfy_table.proofs.ClaimLemmas.{count_at, claim_at-where}
+use Rattle.comfy_table.proofs.SpreadLemmas.{IsPartOf, every-even_spread, claims_beside, every-claims_beside}
+use Rattle.comfy_table.proofs.StepLemmas.{count_at-all_claims}
+use Rattle.comfy_table.proofs.TakenClaimLemmas.{every_stands}
+use Rattle.comfy_table.proofs.TakingLemmas.{next_taken-where, every-claims_of}
 use Rattle.std.proofs.lemmas.List.{length-map}
 use Rattle.comfy_table.specs.Arrangement.{IsArranged, room_beside_borders}
-use Rattle.comfy_table.specs.Dynamic.{Placed, Share, Steps, IsArrangedBy, IsTakenAfter, lower_of_boundary, shrunk_at, settled_at, settled_shares, fixed_shares, places_of, without_shares, share_at, undecided, others, unsettled, even_columns, even_shares, all_shares, contents_after, room_left, content_room, room_of_unsettled, average}
+use Rattle.comfy_table.specs.Dynamic.{Positioned, Claim, Steps, IsArrangedBy, IsTakenAfter, lower_of_boundary, shrunk_at, settled_at, settled_claims, fixed_claims, places_of, without_claims, claim_at, undecided, others, unsettled, even_columns, even_shares, all_claims, contents_after, room_left, content_room, room_of_unsettled, average}
 use Rattle.comfy_table.specs.Frame.{border_count}
 use Rattle.comfy_table.specs.Laws.{line_total, least_with_steps}
 use Rattle.comfy_table.specs.TableLaws.{KeepsToWiderTotal, KeepsToWiderTotalInFull, FillsWiderTotal, shown_contents}
 use Rattle.comfy_table.specs.TableValue.{TableValue, shown_columns, column_content_width}
 use Rattle.comfy_table.specs.Widths.{ColumnNeeds, needs_of, shown_needs, shown_count, without_padding, even_spread, fixed_by_boundary, fixed_by_constraint, resolved_width}
 
--- a share of at least one place
-abbrev HasPlace : Share → Type 0
+-- a claim of at least one place
+abbrev HasPlace : Claim → Type 0
 HasPlace t = 1 ≤ t.1
 
 -- a fixed width, where there is one, has a place
@@ -74,38 +74,38 @@ every_early table [] = tt
 every_early table (p ∷ more) =
     (fixed-some table (shown_count table) (column_content_width table p.0) (column_padding p.1) p.1.constraint, every_early table more)
 
--- ---- all shares have a place
+-- ---- all claims have a place
 
--- shares that are taken one after another
-every_taken : (candidates : List Placed) (offer : List Share → Placed → Option ℕ) → ((ts : List Share) (p : Placed) (width : ℕ) → offer ts p ≡ Some width → 1 ≤ width)
-    → (from : ℕ) (taken order : List Share) → IsTakenAfter candidates offer from taken order → AllByRecursion HasPlace order
+-- claims that are taken one after another
+every_taken : (candidates : List Positioned) (offer : List Claim → Positioned → Option ℕ) → ((ts : List Claim) (p : Positioned) (width : ℕ) → offer ts p ≡ Some width → 1 ≤ width)
+    → (from : ℕ) (taken order : List Claim) → IsTakenAfter candidates offer from taken order → AllByRecursion HasPlace order
 every_taken candidates offer some from taken [] goes = tt
 every_taken candidates offer some from taken (t ∷ more) goes =
-    let next = next_taken-where candidates offer (λ (p : Placed). ⊤) from taken t (every-always (λ (p : Placed). ⊤) (without_shares taken candidates) (λ p. tt)) goes.0 in
+    let next = next_taken-where candidates offer (λ (p : Positioned). ⊤) from taken t (every-always (λ (p : Positioned). ⊤) (without_claims taken candidates) (λ p. tt)) goes.0 in
     (some taken (t.0, next.column) t.1 next.offered, every_taken candidates offer some t.0 (taken ++ t ∷ []) more goes.1)
 
 -- the even shares
-every_even : (columns : List Placed) (x : ℕ) → AllByRecursion HasPlace (shares_beside columns (even_spread (max x (length columns)) (length columns)))
+every_even : (columns : List Positioned) (x : ℕ) → AllByRecursion HasPlace (claims_beside columns (even_spread (max x (length columns)) (length columns)))
 every_even [] x = tt
 every_even (p ∷ more) x =
     let n : ℕ = length (p ∷ more) in
     let one : 1 ≤ max x n / n = le-div 1 (max x n) n (omega arith) (omega arith) in
-    every-shares_beside (λ (q : Placed). ⊤) (λ (w : ℕ). 1 ≤ w) HasPlace (p ∷ more) (even_spread (max x n) n) (λ q w any some. some) (every-always (λ (q : Placed). ⊤) (p ∷ more) (λ q. tt))
+    every-claims_beside (λ (q : Positioned). ⊤) (λ (w : ℕ). 1 ≤ w) HasPlace (p ∷ more) (even_spread (max x n) n) (λ q w any some. some) (every-always (λ (q : Positioned). ⊤) (p ∷ more) (λ q. tt))
     (every-weaker (IsPartOf (max x n) n) (λ (w : ℕ). 1 ≤ w) (even_spread (max x n) n) (λ w part. omega (arith, part.0, one)) (every-even_spread (max x n) n))
 
--- the shares of fixed widths
-every_early_share : (n : ℕ) (columns : List ColumnNeeds) → AllByRecursion HasEarlyPlace columns → AllByRecursion HasPlace (fixed_shares (enumerate_from n columns))
-every_early_share n columns each =
-    every-shares_of (λ (p : Placed). p.1.fixed) (λ (p : Placed). HasEarlyPlace p.1) HasPlace (enumerate_from n columns) (λ p width fair is. fair width is) (every-places HasEarlyPlace n columns each)
+-- the claims of fixed widths
+every_early_claim : (n : ℕ) (columns : List ColumnNeeds) → AllByRecursion HasEarlyPlace columns → AllByRecursion HasPlace (fixed_claims (enumerate_from n columns))
+every_early_claim n columns each =
+    every-claims_of (λ (p : Positioned). p.1.fixed) (λ (p : Positioned). HasEarlyPlace p.1) HasPlace (enumerate_from n columns) (λ p width fair is. fair width is) (every-places HasEarlyPlace n columns each)
 
 module _ (room : ℕ) (columns : List ColumnNeeds) (fair : AllByRecursion HasEarlyPlace columns) (full : Bool) (steps : Steps) (widths : List ℕ) (arranged : IsArrangedBy room columns full steps widths) where
-  -- the shares of all kinds
-  every_share : AllByRecursion HasPlace (all_shares room columns steps)
-  every_share =
-      every-append HasPlace (fixed_shares (places_of columns)) _ (every_early_share 0 columns fair)
+  -- the claims of all kinds
+  every_claim : AllByRecursion HasPlace (all_claims room columns steps)
+  every_claim =
+      every-append HasPlace (fixed_claims (places_of columns)) _ (every_early_claim 0 columns fair)
       (every-append HasPlace steps.lower _ (every_taken (undecided room columns) _ (λ ts p width is. lower-some (average (content_room room columns) (undecided room columns) ts) p.1.padding p.1.lower width is) 0 [] steps.lower arranged.lower_taken)
-      (every-append HasPlace (settled_shares steps.level (others room columns steps.lower)) _
-      (every-shares_of (λ (p : Placed). settled_at steps.level p.1) (λ (p : Placed). ⊤) HasPlace (others room columns steps.lower) (λ p width any is. settled-some steps.level p.1 width is) (every-always (λ (p : Placed). ⊤) (others room columns steps.lower) (λ p. tt)))
+      (every-append HasPlace (settled_claims steps.level (others room columns steps.lower)) _
+      (every-claims_of (λ (p : Positioned). settled_at steps.level p.1) (λ (p : Positioned). ⊤) HasPlace (others room columns steps.lower) (λ p width any is. settled-some steps.level p.1 width is) (every-always (λ (p : Positioned). ⊤) (others room columns steps.lower) (λ p. tt)))
       (every-append HasPlace steps.shrunk (even_shares room columns steps)
       (every_taken (unsettled room columns steps) _ (λ ts p width is. shrunk-some (average (room_of_unsettled room columns steps) (unsettled room columns steps) ts) p.1 width is) 0 [] steps.shrunk arranged.shrunk_taken)
       (every_even (even_columns room columns steps) (room_left room columns steps)))))
@@ -113,9 +113,9 @@ module _ (room : ℕ) (columns : List ColumnNeeds) (fair : AllByRecursion HasEar
   -- so the contents have
   every_content : AllByRecursion (λ (w : ℕ). 1 ≤ w) (contents_after room columns steps)
   every_content =
-      every-map (λ (w : ℕ). 1 ≤ w) (λ (p : Placed). share_at (all_shares room columns steps) p.0) (places_of columns)
-      (every-weaker (λ (p : Placed). 0 < count_at p.0 (places_of columns)) (λ (p : Placed). 1 ≤ share_at (all_shares room columns steps) p.0) (places_of columns)
-      (λ p stands. share_at-where (λ i w. 1 ≤ w) p.0 (all_shares room columns steps) every_share (omega (arith, stands, count_at-all_shares room columns full steps widths arranged p.0)))
+      every-map (λ (w : ℕ). 1 ≤ w) (λ (p : Positioned). claim_at (all_claims room columns steps) p.0) (places_of columns)
+      (every-weaker (λ (p : Positioned). 0 < count_at p.0 (places_of columns)) (λ (p : Positioned). 1 ≤ claim_at (all_claims room columns steps) p.0) (places_of columns)
+      (λ p stands. claim_at-where (λ i w. 1 ≤ w) p.0 (all_claims room columns steps) every_claim (omega (arith, stands, count_at-all_claims room columns full steps widths arranged p.0)))
       (every_stands (places_of columns)))
 
   -- and each width, under every constraint

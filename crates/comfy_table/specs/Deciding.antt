@@ -1,7 +1,7 @@
 -- Private: the dynamic widths while they are decided, one column after another.
 use Rattle.std.specs.Prelude.{◌≡◌, ℕ, ◌+◌, ◌-◌, ◌/◌, ◌<◌, ◌≤◌, ◌==◌, ◌&&◌, All, Bool, List, [], ◌∷◌, Option, Some, None, drop, fold, filter, is_none, length, map, max, nat_lt, option_and_then, slice_get, slice_index_or, slice_set, unwrap_or, if◌then◌else◌}
 use Rattle.comfy_parts.specs.CellValue.{column_padding}
-use Rattle.comfy_table.specs.Dynamic.{IsLevel, IsTakenInOrder, Placed, Share, added, lower_of_boundary, places_of, settled_shares, shrunk_at, total, without_shares}
+use Rattle.comfy_table.specs.Dynamic.{IsLevel, IsTakenInOrder, Positioned, Claim, added, lower_of_boundary, places_of, settled_claims, shrunk_at, total, without_claims}
 use Rattle.comfy_table.specs.Lines.{longest_line}
 use Rattle.comfy_table.specs.TableValue.{TableValue}
 use Rattle.comfy_table.specs.Widths.{ColumnNeeds, even_spread}
@@ -31,8 +31,8 @@ abbrev pub is_undecided : List (Option ℕ) → ℕ → Bool
 is_undecided widths position = is_none (slice_index_or widths position (Some 0))
 
 -- the columns without a width, each with its position
-abbrev pub undecided_among : List ColumnNeeds → List (Option ℕ) → List Placed
-undecided_among needs widths = filter (λ (p : Placed). is_undecided widths p.0) (places_of needs)
+abbrev pub undecided_among : List ColumnNeeds → List (Option ℕ) → List Positioned
+undecided_among needs widths = filter (λ (p : Positioned). is_undecided widths p.0) (places_of needs)
 
 -- how many they are
 abbrev pub undecided_count : List (Option ℕ) → ℕ
@@ -42,15 +42,15 @@ undecided_count widths = length (filter is_none widths)
 abbrev pub average_room : Budget → ℕ
 average_room budget = budget.room / undecided_count budget.widths.items
 
--- the widths once these shares are taken
-abbrev pub with_shares : List Share → List (Option ℕ) → List (Option ℕ)
-with_shares shares widths =
-    fold (λ (ws : List (Option ℕ)) (t : Share). slice_set ws t.0 (Some t.1)) widths shares
+-- the widths once these claims are taken
+abbrev pub with_claims : List Claim → List (Option ℕ) → List (Option ℕ)
+with_claims claims widths =
+    fold (λ (ws : List (Option ℕ)) (t : Claim). slice_set ws t.0 (Some t.1)) widths claims
 
--- these shares are taken, and no others
-pub record HasTaken (shares : List Share) (old new : Budget) : Type 0 where
-  pub widths : new.widths.items ≡ with_shares shares old.widths.items
-  pub room : new.room ≡ old.room - total shares
+-- these claims are taken, and no others
+pub record HasTaken (claims : List Claim) (old new : Budget) : Type 0 where
+  pub widths : new.widths.items ≡ with_claims claims old.widths.items
+  pub room : new.room ≡ old.room - total claims
 
 -- what a column takes by a rule where the undecided ones have this average room
 abbrev pub width_by_rule : Rule → ℕ → ColumnNeeds → Option ℕ
@@ -65,9 +65,9 @@ width_at rule average needs widths position =
     else None
 
 -- what a column at its position takes by a rule, once some are taken
-abbrev pub offer_by_rule : Rule → ℕ → List Placed → List Share → Placed → Option ℕ
+abbrev pub offer_by_rule : Rule → ℕ → List Positioned → List Claim → Positioned → Option ℕ
 offer_by_rule rule room candidates taken p =
-    width_by_rule rule ((room - total taken) / length (without_shares taken candidates)) p.1
+    width_by_rule rule ((room - total taken) / length (without_claims taken candidates)) p.1
 
 -- the position after one of n, going round
 abbrev pub position_after : ℕ → ℕ → ℕ
@@ -76,7 +76,7 @@ position_after n position = if nat_lt (position + 1) n then position + 1 else 0
 -- columns have taken their widths by a rule, in turn, until none took one
 abbrev pub HasGoneRound : Rule → List ColumnNeeds → Budget → Budget → Type 0
 HasGoneRound rule needs old new =
-    (order : List Share) × IsTakenInOrder (undecided_among needs old.widths.items)
+    (order : List Claim) × IsTakenInOrder (undecided_among needs old.widths.items)
     (offer_by_rule rule old.room (undecided_among needs old.widths.items)) order
     × HasTaken order old new
 
@@ -84,7 +84,7 @@ HasGoneRound rule needs old new =
 abbrev pub HasSettled : List ColumnNeeds → Budget → Budget → Type 0
 HasSettled needs old new =
     (level : Option ℕ) × IsLevel old.room (undecided_among needs old.widths.items) level
-    × HasTaken (settled_shares level (undecided_among needs old.widths.items)) old new
+    × HasTaken (settled_claims level (undecided_among needs old.widths.items)) old new
 
 -- the decided widths, 0 for an undecided column
 abbrev pub decided : List (Option ℕ) → List ℕ

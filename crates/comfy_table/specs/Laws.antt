@@ -14,7 +14,7 @@ use Rattle.comfy_parts.specs.declared.style.table.ContentArrangement.TheVariants
 use Rattle.comfy_parts.specs.declared.style.table_style.TableStyle.{TableStyle}
 use Rattle.comfy_table.specs.Arrangement.{IsArranged}
 use Rattle.comfy_table.specs.Drawing.{infos_of, terminated_text_of, text_of, outer_widths}
-use Rattle.comfy_table.specs.Dynamic.{Steps, IsDynamicLayout, fixed_shares, places_of, total}
+use Rattle.comfy_table.specs.Dynamic.{Steps, IsDynamicLayout, fixed_claims, places_of, total}
 use Rattle.comfy_table.specs.Frame.{border_count}
 use Rattle.comfy_table.specs.Lines.{cell_lines, cell_delimiter, fitting_indicator, uncut_count, uncut_lines}
 use Rattle.comfy_table.specs.Pieces.{shown_infos, row_cell_lines}
@@ -98,8 +98,8 @@ FillsWidth table w widths =
 abbrev pub least_with_steps : List ColumnNeeds → Steps → ℕ
 least_with_steps columns steps =
     sum_by (λ (column : ColumnNeeds). column.padding) columns
-    + (total (fixed_shares (places_of columns)) + total steps.lower)
-    + (length columns - (length (fixed_shares (places_of columns)) + length steps.lower))
+    + (total (fixed_claims (places_of columns)) + total steps.lower)
+    + (length columns - (length (fixed_claims (places_of columns)) + length steps.lower))
 
 -- ---- widths
 

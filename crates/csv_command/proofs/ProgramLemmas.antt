@@ -33,15 +33,15 @@ not_global : (arg : Arg) → is_simple_arg arg ≡ true → arg.global ≡ false
 not_global arg h = search (rules, tests)
 
 -- no argument's argument is global
-pub local : (arg : Arg) (word : OptionSpec) → bare (rule_of arg) ≡ rule_for word → arg.global ≡ false
+pub local : (arg : Arg) (option : OptionSpec) → bare (rule_of arg) ≡ rule_for option → arg.global ≡ false
 unfolding rule_for
-local arg word is =
-    not_global arg (ap (λ (known : Rule × List Text). known.0.is_simple) is ∙ stays_simple word.kind word.name.now _ (lettered_simple word.letter word.name.now))
+local arg option is =
+    not_global arg (ap (λ (known : Rule × List Text). known.0.is_simple) is ∙ stays_simple option.kind option.name.now _ (lettered_simple option.letter option.name.now))
 
 -- one more rule, for one more argument
-pub one_more : (arguments : List OptionSpec) (i : ℕ) (word : OptionSpec) (had : List Rule) (rule : Rule) → i < length arguments → map bare had ≡ map rule_for (take i arguments)
-    → bare rule ≡ rule_for (slice_index_or arguments i word) → map bare (had ++ rule ∷ []) ≡ map rule_for (take (i + 1) arguments)
-one_more arguments i word had rule inside same new = grind (arith, common_steps)
+pub one_more : (arguments : List OptionSpec) (i : ℕ) (option : OptionSpec) (had : List Rule) (rule : Rule) → i < length arguments → map bare had ≡ map rule_for (take i arguments)
+    → bare rule ≡ rule_for (slice_index_or arguments i option) → map bare (had ++ rule ∷ []) ≡ map rule_for (take (i + 1) arguments)
+one_more arguments i option had rule inside same new = grind (arith, common_steps)
 
 -- ---- such a command is simple
 

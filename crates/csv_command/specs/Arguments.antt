@@ -1,7 +1,7 @@
 -- What arguments on the command line ask for.
-use Rattle.std.specs.Prelude.{◌≡◌, ◌≢◌, ◌⊎◌, ◌-◌, ℕ, Bool, true, false, not, ◌==◌, ◌&&◌, ◌||◌, nat_le, nat_lt, List, [], ◌∷◌, Option, Some, None, bytes_eq, codes, drop, length, map, option_and_then, option_map, string_bytes, unwrap_or, if◌then◌else◌}
-use Rattle.std.specs.List.{list_any, slice_split}
-use Rattle.std.specs.Option.{option_map_or}
+use Rattle.std.specs.Prelude.{◌≡◌, ◌≢◌, ◌⊎◌, ◌-◌, ℕ, Bool, true, false, not, ◌==◌, ◌&&◌, ◌||◌, nat_le, nat_lt, List, [], ◌∷◌, Option, Some, None, bytes_eq, codes, drop, is_some, length, map, option_and_then, option_map, string_bytes, unwrap_or, if◌then◌else◌}
+use Rattle.std.specs.List.{find, slice_split}
+use Rattle.std.specs.Option.{option_map_or, option_or}
 use Rattle.std.specs.Str.{str_eq_ignore_ascii_case}
 use Rattle.std.specs.Str.Parse.{without_leading_plus}
 use Rattle.clap.specs.Words.{App, IsAmong, fault_of, first_value, kind_of, matches_of, one_text, rows_of, takes}
@@ -136,11 +136,22 @@ not_beside_markdown =
     codes "width" ∷ codes "full" ∷ codes "all-expanded" ∷ codes "expanded" ∷ codes "max-height"
     ∷ codes "ansi" ∷ codes "raw" ∷ []
 
--- the options that were found exclude each other
-abbrev pub are_exclusive : Found → Bool
-are_exclusive found =
-    list_any (are_both_given found) exclusive_options
-    || (is_markdown_in found && list_any (is_given found) not_beside_markdown)
+-- what asks for a table for Markdown
+abbrev pub markdown_option : Found → Text
+markdown_option found =
+    if is_given found (codes "markdown") then codes "markdown" else codes "style markdown"
+
+-- that, and the first option that was found and that such a table excludes
+abbrev pub clash_with_markdown : Found → Option (Text × Text)
+clash_with_markdown found =
+    if is_markdown_in found
+    then option_map (λ id. (markdown_option found, id)) (find (is_given found) not_beside_markdown)
+    else None
+
+-- the first two options that were found and exclude each other
+abbrev pub first_clash : Found → Option (Text × Text)
+first_clash found =
+    option_or (find (are_both_given found) exclusive_options) (clash_with_markdown found)
 
 -- where lines between rows are drawn: by the arguments for them, else by the style
 abbrev pub separators_for : Bool → Bool → Option Text → RowSeparators
@@ -231,7 +242,7 @@ pub record IsParsed (arguments : List Text) (context : OutputContext)
     (invocation : Invocation) : Type 0 where
   pub found : Found
   pub are_found : AreFound arguments found
-  pub not_exclusive : are_exclusive found ≡ false
+  pub no_clash : first_clash found ≡ None
   pub options : AreOptionsParsed context found invocation.options
   pub file : option_map string_bytes invocation.file ≡ file_for (first_value found (codes "file"))
 
@@ -247,7 +258,7 @@ pub record AreNotTaken (arguments : List Text) (kind : ErrorKind) : Type 0 where
 pub record AreFoundInVain (arguments : List Text) : Type 0 where
   pub found : Found
   pub are_found : AreFound arguments found
-  pub in_vain : (are_exclusive found ≡ true) ⊎ (wanted_delimiter found ≡ None)
+  pub in_vain : (is_some (first_clash found) ≡ true) ⊎ (wanted_delimiter found ≡ None)
 
 -- why nothing is asked for: the arguments aren't taken, or were found in vain, which is told as an
 -- invalid value, or there is no memory

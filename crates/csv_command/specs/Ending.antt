@@ -119,7 +119,7 @@ said_before (Some path) is_terminal = []
 
 -- the line where an argument isn't UTF-8
 abbrev pub argument_not_utf8 : Text
-argument_not_utf8 = codes "csvtable: a word isn't UTF-8\n"
+argument_not_utf8 = codes "csvtable: an argument isn't UTF-8\n"
 
 -- the line where the output can't be written
 abbrev pub output_unwritten : Text

@@ -1,12 +1,9 @@
 -- What is said of options that exclude each other, and of words that are no numbers.
-use Rattle.std.specs.Prelude.{ℕ, ◌-◌, ◌^◌, Bool, false, ◌||◌, nat_le, List, [], ◌∷◌, ◌++◌, Option, Some, None, bytes_eq, codes, decimal, option_and_then, unwrap_or, if◌then◌else◌}
-use Rattle.std.specs.List.{find}
+use Rattle.std.specs.Prelude.{ℕ, ◌-◌, ◌^◌, Bool, false, ◌||◌, nat_le, List, [], ◌∷◌, ◌++◌, Option, Some, None, bytes_eq, codes, decimal, option_and_then, if◌then◌else◌}
 use Rattle.std.specs.Option.{option_map_or, option_or}
 use Rattle.std.specs.Str.Parse.{without_leading_plus}
-use Rattle.clap.specs.declared.parser.matches.Found.{Found}
 use Rattle.comfy_parts.specs.Text.{Text}
 use Rattle.csv_records.specs.Numerals.{number_for}
-use Rattle.csv_command.specs.Arguments.{are_both_given, exclusive_options, is_given, not_beside_markdown}
 
 -- ---- options that exclude each other
 
@@ -17,25 +14,10 @@ shown_option id =
     else if bytes_eq id (codes "all-expanded") then codes "-x"
     else codes "--" ++ id
 
--- what asks for a table for Markdown
-abbrev pub markdown_option : Found → Text
-markdown_option found =
-    if is_given found (codes "markdown") then codes "markdown" else codes "style markdown"
-
--- the first that a table for Markdown excludes
-abbrev pub first_beside_markdown : Found → Text
-first_beside_markdown found = unwrap_or (find (is_given found) not_beside_markdown) []
-
--- the first two that exclude each other, where some do
-abbrev pub first_clash : Found → Text × Text
-first_clash found =
-    unwrap_or (find (are_both_given found) exclusive_options)
-    (markdown_option found, first_beside_markdown found)
-
--- what is said of them
-abbrev pub clash_reason : Text × Text → Text
-clash_reason pair =
-    (shown_option pair.0 ++ codes " can't be used with ") ++ shown_option pair.1
+-- what is said of two that exclude each other
+abbrev pub clash_reason : Text → Text → Text
+clash_reason one other =
+    (shown_option one ++ codes " can't be used with ") ++ shown_option other
 
 -- ---- numbers
 

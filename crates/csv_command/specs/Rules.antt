@@ -34,6 +34,6 @@ of_kind kind.Letter name rule = record rule { action = Some SetTrue }
 of_kind kind name rule = record rule { long = Some name; value_names = 1 }
 
 unfoldable pub rule_for : OptionSpec → Rule × List Text
-rule_for word =
-    with_values word.kind
-    (bare (of_kind word.kind word.name.now (lettered word.letter (new_rule word.name.now))))
+rule_for option =
+    with_values option.kind
+    (bare (of_kind option.kind option.name.now (lettered option.letter (new_rule option.name.now))))

@@ -1,13 +1,13 @@
 //! The arguments after the program's name, and what they ask for.
 
-ghost use Rattle.std.specs.Prelude.{◌≡◌, ◌≢◌, ◌==◌, ◌&&◌, IfOk, IfErr, Some, codes, map, option_map, string_bytes};
-ghost use Rattle.std.specs.List.{list_any, slice_split};
+ghost use Rattle.std.specs.Prelude.{◌≡◌, ◌≢◌, ◌==◌, IfOk, IfErr, Some, codes, map, option_map, string_bytes};
+ghost use Rattle.std.specs.List.{slice_split};
 ghost use Rattle.clap.specs.Words.{app_of, first_value, found_of, kind_of};
 ghost use Rattle.clap.specs.declared.error.kind.ErrorKind.TheVariants.{OutOfMemory};
 ghost use Rattle.csv_command.specs.Program.{IsCsvtable};
-ghost use Rattle.csv_command.specs.Arguments.{IsInputParsed, IsParsed, IsRefusedBy, IsLookParsed, AreOptionsParsed, IsSelectionParsed, are_exclusive, delimiter_by, delimiter_for, encoding_for, expansion_for, file_for, has_end, is_bold_for, is_bold_there, is_given, is_markdown_in, separators_for, some_columns, some_width, terminal_width, wanted_delimiter, wants_color, width_for, words_in};
+ghost use Rattle.csv_command.specs.Arguments.{IsInputParsed, IsParsed, IsRefusedBy, IsLookParsed, AreOptionsParsed, IsSelectionParsed, delimiter_by, delimiter_for, encoding_for, expansion_for, file_for, has_end, is_bold_for, is_bold_there, is_given, is_markdown_in, separators_for, some_columns, some_width, terminal_width, wanted_delimiter, wants_color, width_for, words_in};
 
-use crate::mistakes::{reason_of_clash, reason_of_number};
+use crate::mistakes::{first_clash, reason_of_clash, reason_of_number};
 use crate::options::command;
 use crate::styles::{is_compact, is_named, style_names, style_of};
 use clap::error::ErrorKind;
@@ -19,25 +19,6 @@ use std::alloc::{AllocError, Global};
 
 // The width of a terminal that doesn't say its own.
 const TERMINAL_WIDTH: u16 = 80;
-
-/// Options that exclude each other.
-pub(crate) static EXCLUSIVE_OPTIONS: [(&str, &str); 4] = [
-    ("tabs", "delimiter"),
-    ("markdown", "style"),
-    ("rows", "no-rows"),
-    ("all-expanded", "expanded"),
-];
-
-/// Options that a table for Markdown excludes.
-pub(crate) static NOT_BESIDE_MARKDOWN: [&str; 7] = [
-    "width",
-    "full",
-    "all-expanded",
-    "expanded",
-    "max-height",
-    "ansi",
-    "raw",
-];
 
 /// What the arguments ask for.
 #[derive(Debug)]
@@ -101,8 +82,8 @@ fn parse_by<'a>(
         Ok(matches) => matches,
         Err(error) => return Err(explained(alloc, command, arguments, error)),
     };
-    if are_exclusive(&matches) {
-        let reason = reason_of_clash(alloc, &matches)?;
+    if let Some((one, other)) = first_clash(&matches) {
+        let reason = reason_of_clash(alloc, one, other)?;
         return Err(refusal(command, ErrorKind::InvalidValue, reason.as_str()));
     }
     match wanted_delimiter(&matches) {
@@ -165,29 +146,8 @@ fn refusal<'a>(command: &mut Command<'a>, kind: ErrorKind, reason: &str) -> Erro
     said.unwrap_or_else(Error::from)
 }
 
-// Whether options were found that exclude each other.
-fn are_exclusive<'a>(matches: &ArgMatches<'a>) -> bool
-    ensures { result ≡ are_exclusive (found_of matches.now) }
-{
-    is_any_pair_given(matches, &EXCLUSIVE_OPTIONS)
-        || is_markdown(matches) && is_any_given(matches, &NOT_BESIDE_MARKDOWN)
-}
-
-fn is_any_pair_given<'a>(matches: &ArgMatches<'a>, pairs: &[(&str, &str)]) -> bool
-    ensures { result ≡ list_any (λ pair. is_given (found_of matches.now) pair.0.now
-        && is_given (found_of matches.now) pair.1.now) pairs.now }
-{
-    pairs.iter().any(|(one, other)| is_given(matches, one) && is_given(matches, other))
-}
-
-fn is_any_given<'a>(matches: &ArgMatches<'a>, ids: &[&str]) -> bool
-    ensures { result ≡ list_any (λ id. is_given (found_of matches.now) id.now) ids.now }
-{
-    ids.iter().any(|id| is_given(matches, id))
-}
-
-// Whether a table for Markdown is asked for.
-fn is_markdown<'a>(matches: &ArgMatches<'a>) -> bool
+/// Whether a table for Markdown is asked for.
+pub(crate) fn is_markdown<'a>(matches: &ArgMatches<'a>) -> bool
     ensures { result ≡ is_markdown_in (found_of matches.now) }
 {
     if is_given(matches, "markdown") {

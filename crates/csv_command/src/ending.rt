@@ -26,7 +26,7 @@ const ZIP: &str = "a zip archive; try unzip -p FILE | csvtable, or save a spread
 const OUT_OF_MEMORY: &str = "out of memory";
 
 /// The line where an argument isn't UTF-8.
-pub const ARGUMENT_NOT_UTF8: &str = "csvtable: a word isn't UTF-8\n";
+pub const ARGUMENT_NOT_UTF8: &str = "csvtable: an argument isn't UTF-8\n";
 
 /// How the program ends.
 #[derive(Drop)]

@@ -3,22 +3,36 @@
 ghost use Rattle.std.specs.Prelude.{◌≡◌, IfOk, Some, map, option_map, string_bytes};
 ghost use Rattle.std.specs.List.{find};
 ghost use Rattle.clap.specs.Words.{found_of};
-ghost use Rattle.csv_command.specs.Arguments.{are_both_given, is_given};
-ghost use Rattle.csv_command.specs.Mistakes.{allowed_numbers, clash_reason, first_beside_markdown, first_clash, greatest_behind, is_number_to, markdown_option, number_reason, reason_behind, shown_option, wrong_number};
+ghost use Rattle.csv_command.specs.Arguments.{are_both_given, clash_with_markdown, first_clash, is_given, markdown_option};
+ghost use Rattle.csv_command.specs.Mistakes.{allowed_numbers, clash_reason, greatest_behind, is_number_to, number_reason, reason_behind, shown_option, wrong_number};
 
-use crate::arguments::{EXCLUSIVE_OPTIONS, NOT_BESIDE_MARKDOWN, is_given};
+use crate::arguments::{is_given, is_markdown};
 use clap::parser::ArgMatches;
 use std::alloc::{AllocError, Global};
 
-/// What is said of the first two options that exclude each other.
-pub(crate) fn reason_of_clash<'a>(
-    alloc: Global,
-    matches: &ArgMatches<'a>,
-) -> Result<String, AllocError>
-    ensures { IfOk result (λ text. string_bytes text
-        ≡ clash_reason (first_clash (found_of matches.now))) }
+// Options that exclude each other.
+static EXCLUSIVE_OPTIONS: [(&str, &str); 4] = [
+    ("tabs", "delimiter"),
+    ("markdown", "style"),
+    ("rows", "no-rows"),
+    ("all-expanded", "expanded"),
+];
+
+// Options that a table for Markdown excludes.
+static NOT_BESIDE_MARKDOWN: [&str; 7] = [
+    "width",
+    "full",
+    "all-expanded",
+    "expanded",
+    "max-height",
+    "ansi",
+    "raw",
+];
+
+/// What is said of two options that exclude each other.
+pub(crate) fn reason_of_clash(alloc: Global, one: &str, other: &str) -> Result<String, AllocError>
+    ensures { IfOk result (λ text. string_bytes text ≡ clash_reason one.now other.now) }
 {
-    let (one, other) = first_clash(matches);
     let mut text = shown_option(alloc, one)?;
     text.push_str(" can't be used with ")?;
     text.push_str(shown_option(alloc, other)?.as_str())?;
@@ -36,24 +50,27 @@ fn shown_option(alloc: Global, id: &str) -> Result<String, AllocError>
     }
 }
 
-// The first two that exclude each other, where some do.
-fn first_clash<'a>(matches: &ArgMatches<'a>) -> (&'static str, &'static str)
-    ensures { (result.0.now, result.1.now) ≡ first_clash (found_of matches.now) }
+/// The first two options that were found and exclude each other.
+pub(crate) fn first_clash<'a>(matches: &ArgMatches<'a>) -> Option<(&'static str, &'static str)>
+    ensures { option_map (λ pair. (pair.0.now, pair.1.now)) result
+        ≡ first_clash (found_of matches.now) }
 {
     match first_pair_given(matches, &EXCLUSIVE_OPTIONS) {
-        Some(pair) => pair,
-        None => (markdown_option(matches), first_beside_markdown(matches)),
+        Some(pair) => Some(pair),
+        None => clash_with_markdown(matches),
     }
 }
 
-// The first that a table for Markdown excludes.
-fn first_beside_markdown<'a>(matches: &ArgMatches<'a>) -> &'static str
-    ensures { result.now ≡ first_beside_markdown (found_of matches.now) }
+// What asks for a table for Markdown, and the first option that such a table excludes.
+fn clash_with_markdown<'a>(matches: &ArgMatches<'a>) -> Option<(&'static str, &'static str)>
+    ensures { option_map (λ pair. (pair.0.now, pair.1.now)) result
+        ≡ clash_with_markdown (found_of matches.now) }
 {
-    match first_given(matches, &NOT_BESIDE_MARKDOWN) {
-        Some(id) => id,
-        None => "",
+    if !is_markdown(matches) {
+        return None;
     }
+    let other = first_given(matches, &NOT_BESIDE_MARKDOWN)?;
+    Some((markdown_option(matches), other))
 }
 
 fn first_pair_given<'a>(

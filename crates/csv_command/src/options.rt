@@ -73,7 +73,7 @@ static OPTIONS: [OptionSpec; 26] = [
         letter: None,
         kind: Kind::Flag,
         value: "",
-        help: "Quotes are characters like others",
+        help: "Read quotes as characters like others",
     },
     OptionSpec {
         name: "skip",
@@ -87,7 +87,7 @@ static OPTIONS: [OptionSpec; 26] = [
         letter: Some('n'),
         kind: Kind::Flag,
         value: "",
-        help: "The first record is a row, not the header",
+        help: "Draw the first record as a row, not as the header",
     },
     OptionSpec {
         name: "limit",
@@ -122,14 +122,14 @@ static OPTIONS: [OptionSpec; 26] = [
         letter: Some('r'),
         kind: Kind::Text,
         value: "LIST",
-        help: "Columns at the right, beside those of numbers",
+        help: "Right-align these columns, as those of numbers are",
     },
     OptionSpec {
         name: "left",
         letter: None,
         kind: Kind::Text,
         value: "LIST",
-        help: "Columns at the left, numbers or not",
+        help: "Left-align these columns, numbers or not",
     },
     OptionSpec {
         name: "width",
@@ -172,21 +172,21 @@ static OPTIONS: [OptionSpec; 26] = [
         letter: None,
         kind: Kind::Flag,
         value: "",
-        help: "Lines between rows, in each style that has them",
+        help: "Draw lines between rows, in each style that has them",
     },
     OptionSpec {
         name: "no-rows",
         letter: None,
         kind: Kind::Flag,
         value: "",
-        help: "No lines between rows",
+        help: "Draw no lines between rows",
     },
     OptionSpec {
         name: "max-height",
         letter: Some('m'),
         kind: Kind::Count,
         value: "N",
-        help: "How many lines a row has at most",
+        help: "Cut rows after N lines",
     },
     OptionSpec {
         name: "markdown",
@@ -208,21 +208,21 @@ static OPTIONS: [OptionSpec; 26] = [
         letter: None,
         kind: Kind::Flag,
         value: "",
-        help: "SGR sequences in fields count no columns",
+        help: "Keep the colours of fields; they take no room",
     },
     OptionSpec {
         name: "bidi",
         letter: None,
         kind: Kind::Flag,
         value: "",
-        help: "Characters that turn the direction of text stay",
+        help: "Keep characters that turn the direction of text",
     },
     OptionSpec {
         name: "raw",
         letter: None,
         kind: Kind::Flag,
         value: "",
-        help: "Leave TABs and control characters as they are",
+        help: "Keep TABs and control characters as they are",
     },
 ];
 
@@ -232,7 +232,7 @@ ASCII_BORDERS_ONLY_CONDENSED; ASCII_ or UTF8_ before FULL, FULL_CONDENSED,
 NO_BORDERS, BORDERS_ONLY or HORIZONTAL_ONLY; all in any case of letters.
 
 Examples:
-  csvtable -r price list.csv                  one column at the right
+  csvtable -r price list.csv                  one column right-aligned
   csvtable -c name,3-5 --limit 20 big.csv     some columns of the first records
   csvtable -e cp1252 --skip 4 bank.csv        what a bank sends
 
@@ -252,8 +252,8 @@ pub(crate) fn command<'a>(alloc: Global, styles: &'a [&'a str]) -> Result<Comman
         .about("Draws the records of a CSV file as a table")
         .after_help(AFTER_HELP)
         .args_override_self(true);
-    for word in &OPTIONS {
-        command = command.arg(arg_of(alloc, word, styles)?)?;
+    for option in &OPTIONS {
+        command = command.arg(arg_of(alloc, option, styles)?)?;
     }
     Ok(command)
 }
@@ -261,18 +261,18 @@ pub(crate) fn command<'a>(alloc: Global, styles: &'a [&'a str]) -> Result<Comman
 // An option for clap.
 fn arg_of<'a>(
     alloc: Global,
-    word: &OptionSpec,
+    option: &OptionSpec,
     styles: &'a [&'a str],
 ) -> Result<Arg<'a>, AllocError>
     requires { map (λ name. name.now) styles.now ≡ style_names }
-    ensures { IfOk result (λ arg. bare (rule_of arg) ≡ rule_for word.now) }
+    ensures { IfOk result (λ arg. bare (rule_of arg) ≡ rule_for option.now) }
 {
-    let arg = with_letter(Arg::new(alloc, word.name).help(word.help), word.letter);
-    match word.kind {
-        Kind::File => Ok(arg.value_name(word.value)),
-        Kind::Flag => Ok(arg.long(word.name).action(ArgAction::SetTrue)),
+    let arg = with_letter(Arg::new(alloc, option.name).help(option.help), option.letter);
+    match option.kind {
+        Kind::File => Ok(arg.value_name(option.value)),
+        Kind::Flag => Ok(arg.long(option.name).action(ArgAction::SetTrue)),
         Kind::Letter => Ok(arg.action(ArgAction::SetTrue)),
-        kind => Ok(with_value(arg.long(word.name).value_name(word.value), kind, styles)),
+        kind => Ok(with_value(arg.long(option.name).value_name(option.value), kind, styles)),
     }
 }
 

@@ -361,7 +361,7 @@ fn words_that_are_no_numbers(rt: HostRuntime) {
 #[test]
 fn words_that_can_not_be_read(rt: HostRuntime) {
     let ending = ending_without_arguments(ErrorKind::InvalidData);
-    assert_says(&rt, &ending, 2, true, "csvtable: a word isn't UTF-8\n");
+    assert_says(&rt, &ending, 2, true, "csvtable: an argument isn't UTF-8\n");
     let ending = ending_without_arguments(ErrorKind::OutOfMemory);
     assert_says(&rt, &ending, 1, true, "csvtable: out of memory\n");
 }

@@ -1,4 +1,4 @@
--- What is written for words is straight: where no character takes more than one terminal column, or where no width is kept to.
+-- What is written for arguments is straight: where no character takes more than one terminal column, or where no width is kept to.
 use Rattle.std.proofs.Common.{ap, ◌≡◌, ◌==◌, ◌&&◌, ◌||◌, inl, ℕ, Bool, true, false, not, List, [], ◌∷◌, Option, Some, None, is_some, arith, chars, nat_le, refl, sym, ap₂, ◌∙◌, subst, inr, ◌++◌}
 use Rattle.std.specs.Char.{is_control}
 use Rattle.std.specs.List.{All, list_any}
@@ -107,15 +107,15 @@ All-front : {A : Type 0} (P : A → Type 0) (xs ys : List A) → All P (xs ++ ys
 All-front P [] ys all = All-nil P
 All-front P (x ∷ xs) ys all = All-cons P x xs (All-head P x (xs ++ ys) all) (All-front P xs ys (All-tail P x (xs ++ ys) all))
 
-module _ (words : List Text) (context : OutputContext) (invocation : Invocation) (input : Text) (records : List (List Text)) (output : Text) (is : IsWritten words context invocation input records output) where
+module _ (arguments : List Text) (context : OutputContext) (invocation : Invocation) (input : Text) (records : List (List Text)) (output : Text) (is : IsWritten arguments context invocation input records output) where
   abbrev options : Options
   options = invocation.options
 
   clear : IsStyleWithoutControls options.look.style
-  clear = parsed_style_without_controls words context invocation is.is_asked
+  clear = parsed_style_without_controls arguments context invocation is.is_asked
 
   one_column : IsOneColumnStyle options.look.style
-  one_column = parsed_style_is_one_column words context invocation is.is_asked
+  one_column = parsed_style_is_one_column arguments context invocation is.is_asked
 
   texts : All AllText records
   texts = is.are.are_records.are_records.are_text

@@ -1,4 +1,4 @@
--- Private: what is written of an input for words.
+-- Private: what is written of an input for arguments.
 use Rattle.std.specs.Prelude.{◌≡◌, false, List}
 use Rattle.comfy_parts.specs.Text.{Text}
 use Rattle.csv_command.specs.Arguments.{IsParsed}
@@ -7,11 +7,11 @@ use Rattle.csv_command.specs.declared.arguments.OutputContext.{OutputContext}
 use Rattle.csv_records.specs.Reading.{AreRecordsFor}
 use Rattle.csv_tables.specs.Drawn.{IsDrawnOf}
 
--- words ask for a table of cleaned fields in which no sequences are kept; and these are the records
--- of an input, and what is written of it
-pub record IsWritten (words : List Text) (context : OutputContext) (invocation : Invocation)
+-- arguments ask for a table of cleaned fields in which no sequences are kept; and these are the
+-- records of an input, and what is written of it
+pub record IsWritten (arguments : List Text) (context : OutputContext) (invocation : Invocation)
     (input : Text) (records : List (List Text)) (output : Text) : Type 0 where
-  pub is_asked : IsParsed words context invocation
+  pub is_asked : IsParsed arguments context invocation
   pub tidy : invocation.options.look.is_raw ≡ false
   pub unkept : invocation.options.look.has_sequences ≡ false
   pub no_markdown : invocation.options.look.is_markdown ≡ false

@@ -17,13 +17,13 @@ const NOT_A_TERMINAL: OutputContext<'static> = OutputContext {
     no_color: None,
 };
 
-/// What the program writes for these words and these bytes of a file: nothing where the words ask
-/// for raw fields, or for no drawing, or where it can't be drawn so. Whatever the words, the
-/// terminal and the bytes are, it tells a terminal nothing but characters, line ends, colours and
-/// attributes.
+/// What the program writes for these arguments and these bytes of a file: nothing where the
+/// arguments ask for raw fields, or for no drawing, or where it can't be drawn so. Whatever the
+/// arguments, the terminal and the bytes are, it tells a terminal nothing but characters, line
+/// ends, colours and attributes.
 pub fn harmless_output(
     alloc: Global,
-    words: &[&str],
+    arguments: &[&str],
     context: OutputContext<'_>,
     input: &[u8],
     room: usize,
@@ -31,26 +31,26 @@ pub fn harmless_output(
     ensures { IfSome result (λ sink. IsHarmless sink.bytes) }
 {
     drawings_hold_no_controls();
-    let invocation = parse(alloc, words, context).ok()?;
+    let invocation = parse(alloc, arguments, context).ok()?;
     if invocation.options.look.is_raw {
         return None;
     }
     output_for(alloc, input, room, &invocation.options).ok()
 }
 
-/// What a caller gets as a value for these words and these bytes, for no terminal: nothing where
-/// the words ask for raw fields, or for no drawing, or where it can't be drawn so. It tells a
-/// terminal nothing else either.
-pub fn harmless_drawing(alloc: Global, words: &[&str], input: &[u8]) -> Option<String>
+/// What a caller gets as a value for these arguments and these bytes, for no terminal: nothing
+/// where the arguments ask for raw fields, or for no drawing, or where it can't be drawn so. It
+/// tells a terminal nothing else either.
+pub fn harmless_drawing(alloc: Global, arguments: &[&str], input: &[u8]) -> Option<String>
     ensures { IfSome result (λ drawing. IsHarmless (string_bytes drawing)) }
 {
     drawings_hold_no_controls();
-    let invocation = parse(alloc, words, NOT_A_TERMINAL).ok()?;
+    let invocation = parse(alloc, arguments, NOT_A_TERMINAL).ok()?;
     let look = invocation.options.look;
     if look.is_raw {
         return None;
     }
-    render_csv(alloc, words, input).ok()
+    render_csv(alloc, arguments, input).ok()
 }
 
 /// A sink that holds the output for an input.

@@ -15,14 +15,14 @@ use csv_tables::laws::outputs_are_straight;
 use csv_tables::{CsvError, Options};
 use std::alloc::Global;
 
-/// The records of a file's bytes, and what the program writes of them for these words: nothing
-/// where the words ask for raw fields, for sequences in fields or for Markdown, or for no drawing,
-/// or where it can't be drawn so. Where no character of a field takes more than one terminal
-/// column, all lines of the table show the same number of columns, under every width and height,
-/// with a bold header too, and where records are expanded.
+/// The records of a file's bytes, and what the program writes of them for these arguments: nothing
+/// where the arguments ask for raw fields, for sequences in fields or for Markdown, or for no
+/// drawing, or where it can't be drawn so. Where no character of a field takes more than one
+/// terminal column, all lines of the table show the same number of columns, under every width and
+/// height, with a bold header too, and where records are expanded.
 pub fn straight_output(
     alloc: Global,
-    words: &[&str],
+    arguments: &[&str],
     context: OutputContext<'_>,
     input: &[u8],
     room: usize,
@@ -32,7 +32,7 @@ pub fn straight_output(
 {
     outputs_are_straight();
     records_are_one();
-    let (_asked, records, sink) = written(alloc, words, context, input, room)?;
+    let (_invocation, records, sink) = written(alloc, arguments, context, input, room)?;
     Some((records, sink))
 }
 
@@ -41,7 +41,7 @@ pub fn straight_output(
 /// the table show the same number of columns.
 pub fn straight_whole_output(
     alloc: Global,
-    words: &[&str],
+    arguments: &[&str],
     context: OutputContext<'_>,
     input: &[u8],
     room: usize,
@@ -50,26 +50,26 @@ pub fn straight_whole_output(
 {
     outputs_are_straight();
     records_are_one();
-    let (invocation, records, sink) = written(alloc, words, context, input, room)?;
+    let (invocation, records, sink) = written(alloc, arguments, context, input, room)?;
     if invocation.options.look.width.is_some() || invocation.options.look.max_height.is_some() {
         return None;
     }
     Some((records, sink))
 }
 
-// What the words ask for, the records of an input, and what is written of them.
+// What the arguments ask for, the records of an input, and what is written of them.
 fn written(
     alloc: Global,
-    words: &[&str],
+    arguments: &[&str],
     context: OutputContext<'_>,
     input: &[u8],
     room: usize,
 ) -> Option<(Invocation, Records, MemorySink)>
     ensures { IfSome result (λ w.
-        IsWritten (map (λ x. x.now) words.entry.now) context.entry w.0 input.now w.1
+        IsWritten (map (λ x. x.now) arguments.entry.now) context.entry w.0 input.now w.1
         w.2.bytes) }
 {
-    let invocation = parse(alloc, words, context).ok()?;
+    let invocation = parse(alloc, arguments, context).ok()?;
     let look = invocation.options.look;
     if look.is_raw || look.has_sequences || look.is_markdown {
         return None;

@@ -11,7 +11,7 @@ use Rattle.comfy_table.proofs.BudgetLemmas.{length-contents_after}
 use Rattle.comfy_table.proofs.BuiltTableLemmas.{IsNewColumn}
 use Rattle.comfy_table.proofs.DrawnWidthLemmas.{dynamic_widths}
 use Rattle.comfy_table.specs.Arrangement.{IsArranged, is_full_width, room_beside_borders, width_kept, widths_at}
-use Rattle.comfy_table.specs.Dynamic.{Share, Steps, added, all_shares, contents_after, even_columns, fixed_shares, room_left, share_at, widened}
+use Rattle.comfy_table.specs.Dynamic.{Claim, Steps, added, all_claims, contents_after, even_columns, fixed_claims, room_left, claim_at, widened}
 use Rattle.comfy_table.specs.TableValue.{TableValue, column_content_width, shown_columns, table_width}
 use Rattle.comfy_table.specs.Widths.{ColumnNeeds, even_spread, needs_of, part_of, shown_needs}
 use Rattle.csv_tables.proofs.LineLemmas.{Any, any_built, any_drawn, kept_setting}
@@ -28,33 +28,33 @@ use Rattle.csv_tables.specs.declared.options.Look.{Look}
 abbrev pub IsFixedAt : List ColumnNeeds → ℕ → ℕ → Type 0
 IsFixedAt columns k x = (need : ColumnNeeds) × (slice_get columns k ≡ Some need) × (need.fixed ≡ Some x)
 
--- so it has that share
-fixed_share : (columns : List ColumnNeeds) (n k x : ℕ) (rest : List Share) → IsFixedAt columns k x → share_at (fixed_shares (enumerate_from n columns) ++ rest) (n + k) ≡ x
-fixed_share [] n k x rest at = absurd (cc at.1)
-fixed_share (c ∷ cs) n zero x rest at =
+-- so it has that claim
+fixed_claim : (columns : List ColumnNeeds) (n k x : ℕ) (rest : List Claim) → IsFixedAt columns k x → claim_at (fixed_claims (enumerate_from n columns) ++ rest) (n + k) ≡ x
+fixed_claim [] n k x rest at = absurd (cc at.1)
+fixed_claim (c ∷ cs) n zero x rest at =
     let own : c ≡ at.0 = cc at.1 in
     let fixed : c.fixed ≡ Some x = ap (λ (need : ColumnNeeds). need.fixed) own ∙ at.2 in
-    let others = fixed_shares (enumerate_from (n + 1) cs) in
-    let shares : fixed_shares (enumerate_from n (c ∷ cs)) ≡ (n, x) ∷ others = ap (λ (o : Option ℕ). cons_option (option_map (λ (width : ℕ). (n, width)) o) others) fixed in
-    ap (λ (ts : List Share). share_at (ts ++ rest) (n + 0)) shares
-    ∙ ap (λ (b : Bool). unwrap_or (option_map (λ (s : Share). s.1) (cond b (Some (n, x)) (find (λ (s : Share). s.0 == n + 0) (others ++ rest)))) 0) (eq-eqb n (n + 0) (omega arith))
-fixed_share (c ∷ cs) n (suc k) x rest at = by_fixed c.fixed refl (fixed_share cs (n + 1) k x rest at)
+    let others = fixed_claims (enumerate_from (n + 1) cs) in
+    let claims : fixed_claims (enumerate_from n (c ∷ cs)) ≡ (n, x) ∷ others = ap (λ (o : Option ℕ). cons_option (option_map (λ (width : ℕ). (n, width)) o) others) fixed in
+    ap (λ (ts : List Claim). claim_at (ts ++ rest) (n + 0)) claims
+    ∙ ap (λ (b : Bool). unwrap_or (option_map (λ (s : Claim). s.1) (cond b (Some (n, x)) (find (λ (s : Claim). s.0 == n + 0) (others ++ rest)))) 0) (eq-eqb n (n + 0) (omega arith))
+fixed_claim (c ∷ cs) n (suc k) x rest at = by_fixed c.fixed refl (fixed_claim cs (n + 1) k x rest at)
   where
-    others : List Share
-    others = fixed_shares (enumerate_from (n + 1) cs)
+    others : List Claim
+    others = fixed_claims (enumerate_from (n + 1) cs)
 
     place : n + suc k ≡ (n + 1) + k
     place = omega arith
 
-    by_fixed : (o : Option ℕ) → c.fixed ≡ o → share_at (others ++ rest) ((n + 1) + k) ≡ x → share_at (fixed_shares (enumerate_from n (c ∷ cs)) ++ rest) (n + suc k) ≡ x
+    by_fixed : (o : Option ℕ) → c.fixed ≡ o → claim_at (others ++ rest) ((n + 1) + k) ≡ x → claim_at (fixed_claims (enumerate_from n (c ∷ cs)) ++ rest) (n + suc k) ≡ x
     by_fixed None is more =
-        let shares : fixed_shares (enumerate_from n (c ∷ cs)) ≡ others = ap (λ (o : Option ℕ). cons_option (option_map (λ (width : ℕ). (n, width)) o) others) is in
-        ap (λ (ts : List Share). share_at (ts ++ rest) (n + suc k)) shares ∙ ap (share_at (others ++ rest)) place ∙ more
+        let claims : fixed_claims (enumerate_from n (c ∷ cs)) ≡ others = ap (λ (o : Option ℕ). cons_option (option_map (λ (width : ℕ). (n, width)) o) others) is in
+        ap (λ (ts : List Claim). claim_at (ts ++ rest) (n + suc k)) claims ∙ ap (claim_at (others ++ rest)) place ∙ more
     by_fixed (Some y) is more =
-        let shares : fixed_shares (enumerate_from n (c ∷ cs)) ≡ (n, y) ∷ others = ap (λ (o : Option ℕ). cons_option (option_map (λ (width : ℕ). (n, width)) o) others) is in
-        ap (λ (ts : List Share). share_at (ts ++ rest) (n + suc k)) shares
-        ∙ ap (λ (b : Bool). unwrap_or (option_map (λ (s : Share). s.1) (cond b (Some (n, y)) (find (λ (s : Share). s.0 == n + suc k) (others ++ rest)))) 0) (ne_eqb n (n + suc k) (λ same. absurd (omega (arith, same))))
-        ∙ ap (share_at (others ++ rest)) place ∙ more
+        let claims : fixed_claims (enumerate_from n (c ∷ cs)) ≡ (n, y) ∷ others = ap (λ (o : Option ℕ). cons_option (option_map (λ (width : ℕ). (n, width)) o) others) is in
+        ap (λ (ts : List Claim). claim_at (ts ++ rest) (n + suc k)) claims
+        ∙ ap (λ (b : Bool). unwrap_or (option_map (λ (s : Claim). s.1) (cond b (Some (n, y)) (find (λ (s : Claim). s.0 == n + suc k) (others ++ rest)))) 0) (ne_eqb n (n + suc k) (λ same. absurd (omega (arith, same))))
+        ∙ ap (claim_at (others ++ rest)) place ∙ more
 
 -- what is added makes no width less
 le-added : (xs ys : List ℕ) (k : ℕ) → length xs ≤ length ys → slice_index xs k ≤ slice_index (added xs ys) k
@@ -72,11 +72,11 @@ inside (c ∷ cs) (suc k) need at = let more = inside cs k need at in omega (ari
 pub fixed_is_kept : (room : ℕ) (columns : List ColumnNeeds) (full : Bool) (steps : Steps) (k x : ℕ) → IsFixedAt columns k x → x ≤ slice_index (widened room columns full steps) k
 fixed_is_kept room columns full steps k x at = by_test (full && (length (even_columns room columns steps) == 0))
   where
-    share : share_at (all_shares room columns steps) (0 + k) ≡ x
-    share = fixed_share columns 0 k x _ at
+    claim : claim_at (all_claims room columns steps) (0 + k) ≡ x
+    claim = fixed_claim columns 0 k x _ at
 
     content : slice_index (contents_after room columns steps) k ≡ x
-    content = index-places (share_at (all_shares room columns steps)) 0 columns k 0 (inside columns k at.0 at.1) ∙ share
+    content = index-places (claim_at (all_claims room columns steps)) 0 columns k 0 (inside columns k at.0 at.1) ∙ claim
 
     by_test : (b : Bool) → x ≤ slice_index (if b then added (contents_after room columns steps) (even_spread (room_left room columns steps) (length columns)) else contents_after room columns steps) k
     by_test false = omega (arith, content)

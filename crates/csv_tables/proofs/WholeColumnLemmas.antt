@@ -5,9 +5,9 @@ use Rattle.std.proofs.lemmas.List.Sums.{sum_by-cons}
 use Rattle.comfy_parts.proofs.CallerLemmas.{every-filter, every-places, filter_all}
 use Rattle.comfy_parts.specs.CellValue.{ColumnValue, column_padding, is_hidden_column, is_hidden_constraint}
 use Rattle.comfy_table.proofs.BuiltTableLemmas.{IsNewColumn}
-use Rattle.comfy_table.proofs.ShareLemmas.{without_shares-nil}
+use Rattle.comfy_table.proofs.ClaimLemmas.{without_claims-nil}
 use Rattle.comfy_table.proofs.TakingLemmas.{next_taken-where}
-use Rattle.comfy_table.specs.Dynamic.{IsTakenAfter, Placed, Share, average, content_room, fixed_shares, lower_of_boundary, lower_offer, places_of, total, undecided}
+use Rattle.comfy_table.specs.Dynamic.{IsTakenAfter, Positioned, Claim, average, content_room, fixed_claims, lower_of_boundary, lower_offer, places_of, total, undecided}
 use Rattle.comfy_table.specs.TableValue.{TableValue, column_content_width}
 use Rattle.comfy_table.specs.Widths.{ColumnNeeds, fixed_by_constraint, lower_boundary, needs_of, shown_count}
 use Rattle.csv_tables.specs.Unbroken.{needed_content, needed_contents, constrained_column, constrained_columns}
@@ -18,12 +18,12 @@ abbrev HasNoLower : ColumnNeeds → Type 0
 HasNoLower column = column.lower ≡ None
 
 -- no column takes a lower boundary where none has one
-pub lower-none : (room : ℕ) (columns : List ColumnNeeds) → AllByRecursion HasNoLower columns → (order : List Share) → IsTakenAfter (undecided room columns) (lower_offer (content_room room columns) (undecided room columns)) 0 [] order → order ≡ []
+pub lower-none : (room : ℕ) (columns : List ColumnNeeds) → AllByRecursion HasNoLower columns → (order : List Claim) → IsTakenAfter (undecided room columns) (lower_offer (content_room room columns) (undecided room columns)) 0 [] order → order ≡ []
 lower-none room columns none [] goes = refl
 lower-none room columns none (t ∷ more) goes =
-    let free = every-filter (λ (p : Placed). HasNoLower p.1) (λ (p : Placed). is_none p.1.fixed) (places_of columns) (every-places HasNoLower 0 columns none) in
-    let left = subst (AllByRecursion (λ (p : Placed). HasNoLower p.1)) (sym (without_shares-nil (undecided room columns))) free in
-    let next = next_taken-where (undecided room columns) (lower_offer (content_room room columns) (undecided room columns)) (λ (p : Placed). HasNoLower p.1) 0 [] t left goes.0 in
+    let free = every-filter (λ (p : Positioned). HasNoLower p.1) (λ (p : Positioned). is_none p.1.fixed) (places_of columns) (every-places HasNoLower 0 columns none) in
+    let left = subst (AllByRecursion (λ (p : Positioned). HasNoLower p.1)) (sym (without_claims-nil (undecided room columns))) free in
+    let next = next_taken-where (undecided room columns) (lower_offer (content_room room columns) (undecided room columns)) (λ (p : Positioned). HasNoLower p.1) 0 [] t left goes.0 in
     let nothing = ap (lower_of_boundary (average (content_room room columns) (undecided room columns) []) next.column.padding) next.left in
     absurd (cc (nothing, next.offered))
 
@@ -33,28 +33,28 @@ fixed_or_one column = unwrap_or column.fixed 1
 
 -- the fixed widths, and one terminal column for each other column
 pub record AreFixed (n : ℕ) (columns : List ColumnNeeds) : Type 0 where
-  pub no_more : length (fixed_shares (enumerate_from n columns)) ≤ length columns
-  pub widths : total (fixed_shares (enumerate_from n columns)) + length columns ≡ sum_by fixed_or_one columns + length (fixed_shares (enumerate_from n columns))
+  pub no_more : length (fixed_claims (enumerate_from n columns)) ≤ length columns
+  pub widths : total (fixed_claims (enumerate_from n columns)) + length columns ≡ sum_by fixed_or_one columns + length (fixed_claims (enumerate_from n columns))
 
 pub are_fixed : (n : ℕ) (columns : List ColumnNeeds) → AreFixed n columns
 are_fixed n [] = record { no_more = omega arith; widths = refl }
 are_fixed n (column ∷ more) = by_fixed column.fixed refl (are_fixed (n + 1) more)
   where
-    rest : List Share
-    rest = fixed_shares (enumerate_from (n + 1) more)
+    rest : List Claim
+    rest = fixed_claims (enumerate_from (n + 1) more)
 
     by_fixed : (o : Option ℕ) → column.fixed ≡ o → AreFixed (n + 1) more → AreFixed n (column ∷ more)
     by_fixed None is own =
-        let shares : fixed_shares (enumerate_from n (column ∷ more)) ≡ rest = ap (λ (o : Option ℕ). cons_option (option_map (λ (width : ℕ). (n, width)) o) rest) is in
+        let claims : fixed_claims (enumerate_from n (column ∷ more)) ≡ rest = ap (λ (o : Option ℕ). cons_option (option_map (λ (width : ℕ). (n, width)) o) rest) is in
         let one : fixed_or_one column ≡ 1 = ap (λ (o : Option ℕ). unwrap_or o 1) is in
         let sums = sum_by-cons fixed_or_one column more in
-        record { no_more = rw shares (omega (arith, own.no_more)); widths = rw shares (omega (arith, own.widths, sums, one)) }
+        record { no_more = rw claims (omega (arith, own.no_more)); widths = rw claims (omega (arith, own.widths, sums, one)) }
     by_fixed (Some width) is own =
-        let shares : fixed_shares (enumerate_from n (column ∷ more)) ≡ (n, width) ∷ rest = ap (λ (o : Option ℕ). cons_option (option_map (λ (width : ℕ). (n, width)) o) rest) is in
+        let claims : fixed_claims (enumerate_from n (column ∷ more)) ≡ (n, width) ∷ rest = ap (λ (o : Option ℕ). cons_option (option_map (λ (width : ℕ). (n, width)) o) rest) is in
         let one : fixed_or_one column ≡ width = ap (λ (o : Option ℕ). unwrap_or o 1) is in
         let sums = sum_by-cons fixed_or_one column more in
-        let shared = sum_by-cons (λ (t : Share). t.1) (n, width) rest in
-        record { no_more = rw shares (omega (arith, own.no_more)); widths = rw shares (omega (arith, own.widths, sums, one, shared)) }
+        let shared = sum_by-cons (λ (t : Claim). t.1) (n, width) rest in
+        record { no_more = rw claims (omega (arith, own.no_more)); widths = rw claims (omega (arith, own.widths, sums, one, shared)) }
 
 -- these columns need no more than their paddings and these contents, and no less than one terminal column each
 pub record AreNeeds (columns : List ColumnNeeds) (contents : List ℕ) : Type 0 where

@@ -108,11 +108,11 @@ fields_are_turned_round (line ∷ drawn, (before, behind, made, later), (fields,
         turned_round 0x62 0x61 line other (sym own) fields
     by_before (x ∷ before) same = none_in_nothing before [] behind line (let end : [] ≡ before ++ (line ∷ behind) = cc same in end)
 
--- two records share a line
-records_share_a_line : ¬ (EachHasALine ((codes "a" ∷ []) ∷ (codes "b" ∷ []) ∷ []) (codes "ab" ∷ []))
-records_share_a_line ([], stand, each) = each
-records_share_a_line (one ∷ [], stand, each) = each.1
-records_share_a_line (one ∷ other ∷ drawn, (before, behind, made, (between, rest, are, later)), each) = by_before before made
+-- two records claim a line
+records_claim_a_line : ¬ (EachHasALine ((codes "a" ∷ []) ∷ (codes "b" ∷ []) ∷ []) (codes "ab" ∷ []))
+records_claim_a_line ([], stand, each) = each
+records_claim_a_line (one ∷ [], stand, each) = each.1
+records_claim_a_line (one ∷ other ∷ drawn, (before, behind, made, (between, rest, are, later)), each) = by_before before made
   where
     by_before : (before : List Text) → ¬ (codes "ab" ∷ [] ≡ before ++ (one ∷ behind))
     by_before [] same = let gone : [] ≡ behind = cc same in none_in_nothing between [] rest other (gone ∙ are)

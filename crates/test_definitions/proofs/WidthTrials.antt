@@ -113,7 +113,7 @@ longest_lines = (refl, refl, refl, refl, refl)
 
 -- ---- dynamic widths, and drawings over them
 
--- three columns that share evenly; the first row's first cell is centred
+-- three columns that claim evenly; the first row's first cell is centred
 three_even_columns : IsDrawingOf
     (with_alignments (Left ∷ Left ∷ Right ∷ []) (arranged Dynamic 40 (with_row (row_of ("This is another text" ∷ "Now\nadd some\nmulti line stuff" ∷ "This is awesome" ∷ [])) (with_row (plain_row (aligned_cell Center "This is a text" ∷ cells_of ("This is another text" ∷ "This is the third text" ∷ []))) (with_header (row_of ("Header1" ∷ "Header2" ∷ "Header3" ∷ [])) (new_table rounded_utf8)))))) (texts
     ("╭────────────┬────────────┬────────────╮"
@@ -131,7 +131,7 @@ three_even_columns : IsDrawingOf
 unfolding wrapping
 three_even_columns = (10 ∷ 10 ∷ 10 ∷ [], at_widths refl refl (by_steps (record { lower = []; level = Some 10; shrunk = [] }) refl (lit≤ tt, lit≤ tt, lit≤ tt, λ some. refl) refl refl), refl)
 
--- at 10 the first column's longest line is 7, and the others share 23
+-- at 10 the first column's longest line is 7, and the others claim 23
 first_column_shrinks : IsDrawingOf
     (with_alignments (Left ∷ Left ∷ Right ∷ []) (arranged Dynamic 40 (with_row (row_of ("This is another text" ∷ "Now\nadd some\nmulti line stuff" ∷ "This is awesome" ∷ [])) (with_row (plain_row (aligned_cell Center "Center aligned" ∷ cells_of ("This is another text" ∷ "This is the third text" ∷ []))) (with_header (row_of ("Header1" ∷ "Header2" ∷ "Header3" ∷ [])) (new_table rounded_utf8)))))) (texts
     ("╭─────────┬──────────────┬─────────────╮"

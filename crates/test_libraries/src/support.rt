@@ -1,4 +1,4 @@
-//! What the tests share.
+//! What the tests claim.
 
 use comfy_parts::{IntoRow, Row};
 use comfy_run::run::MemorySink;

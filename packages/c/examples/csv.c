@@ -1,26 +1,26 @@
-/* Draws CSV of standard input as a table, by the words of csvtable: csv [WORD].. */
+/* Draws CSV of standard input as a table, by the arguments of csvtable: csv [ARGUMENT].. */
 #include "comfy_table.h"
 #include "reading.h"
 
 #include <string.h>
 
-/* The words, each with the zero byte that ends it. */
-static struct bytes joined(char **words) {
+/* The arguments, each with the zero byte that ends it. */
+static struct bytes joined(char **arguments) {
     struct bytes all = {NULL, 0};
-    for (char **word = words; *word; word++) all.length += strlen(*word) + 1;
+    for (char **argument = arguments; *argument; argument++) all.length += strlen(*argument) + 1;
     all.start = malloc(all.length + 1);
     uint8_t *end = all.start;
-    for (char **word = words; end && *word; word++) {
-        size_t length = strlen(*word) + 1;
-        memcpy(end, *word, length);
+    for (char **argument = arguments; end && *argument; argument++) {
+        size_t length = strlen(*argument) + 1;
+        memcpy(end, *argument, length);
         end += length;
     }
     return all;
 }
 
-int main(int count, char **arguments) {
-    struct bytes input = read_all(stdin), words = joined(arguments + (count > 0)), output = {NULL, 0};
-    if (!input.start || !words.start) return 1;
+int main(int count, char **given) {
+    struct bytes input = read_all(stdin), arguments = joined(given + (count > 0)), output = {NULL, 0};
+    if (!input.start || !arguments.start) return 1;
     size_t needed = 4096 + 4 * input.length;
     uint32_t status;
     /* Again where the room was too small for the drawing or the message. */
@@ -29,13 +29,13 @@ int main(int count, char **arguments) {
         output.length = needed;
         output.start = malloc(output.length);
         if (!output.start) return 1;
-        status = comfy_csv_draw(input.start, input.length, words.start, words.length, output.start, output.length, &needed);
+        status = comfy_csv_draw(input.start, input.length, arguments.start, arguments.length, output.start, output.length, &needed);
     } while (status != COMFY_CSV_OUT_OF_MEMORY && needed > output.length);
     if (status == COMFY_CSV_OUT_OF_MEMORY) return 1;
     FILE *stream = status == COMFY_CSV_DRAWN ? stdout : stderr;
     int is_written = fwrite(output.start, 1, needed, stream) == needed && fflush(stream) == 0;
     free(output.start);
-    free(words.start);
+    free(arguments.start);
     free(input.start);
     return is_written && status == COMFY_CSV_DRAWN ? 0 : 1;
 }

@@ -2,8 +2,8 @@
 #include "comfy_table.h"
 #include "reading.h"
 
-int main(int count, char **words) {
-    uint32_t width = count > 1 ? (uint32_t)strtoul(words[1], NULL, 10) : COMFY_NO_WIDTH;
+int main(int count, char **arguments) {
+    uint32_t width = count > 1 ? (uint32_t)strtoul(arguments[1], NULL, 10) : COMFY_NO_WIDTH;
     struct bytes input = read_all(stdin);
     if (!input.start) return 1;
     size_t room = 4096 + 4 * input.length, needed = 0;

@@ -1,4 +1,4 @@
-"""Draws CSV of standard input as a table, by the words of csvtable: draw_csv.py [WORD].."""
+"""Draws CSV of standard input as a table, by the arguments of csvtable: draw_csv.py [ARGUMENT].."""
 
 import sys
 

@@ -1,14 +1,14 @@
-//! Draws CSV of standard input as a table, by the words of csvtable: csv [WORD]..
+//! Draws CSV of standard input as a table, by the arguments of csvtable: csv [ARGUMENT]..
 use comfy_table_proved::draw_csv;
 use std::io::{Read, stdin};
 use std::process::ExitCode;
 
 fn main() -> ExitCode {
-    let words: Vec<String> = std::env::args().skip(1).collect();
-    let words: Vec<&str> = words.iter().map(String::as_str).collect();
+    let arguments: Vec<String> = std::env::args().skip(1).collect();
+    let arguments: Vec<&str> = arguments.iter().map(String::as_str).collect();
     let mut input = Vec::new();
     stdin().read_to_end(&mut input).expect("standard input");
-    match draw_csv(&input, &words) {
+    match draw_csv(&input, &arguments) {
         Ok(drawing) => print!("{drawing}"),
         Err(error) => {
             eprintln!("{error}");

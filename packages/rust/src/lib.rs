@@ -15,7 +15,7 @@
 //! ");
 //! ```
 //!
-//! [`draw_csv`] takes CSV and the words of the program csvtable, and [`draw`] tab-separated text.
+//! [`draw_csv`] takes CSV and the arguments of the program csvtable, and [`draw`] tab-separated text.
 
 mod error;
 mod library;
@@ -26,9 +26,9 @@ pub use error::Error;
 pub use rows::{Column, Expanded, Rows};
 pub use tabs::{Arrangement, Options, Style, draw};
 
-/// The drawing of CSV, by the words of the program csvtable, as `&["-r", "price", "-w", "60"]`.
+/// The drawing of CSV, by the arguments of the program csvtable, as `&["-r", "price", "-w", "60"]`.
 ///
-/// The input is UTF-8, or in another encoding, which csvtable finds or is told by `-e`. A word that names a file opens none:
+/// The input is UTF-8, or in another encoding, which csvtable finds or is told by `-e`. An argument that names a file opens none:
 /// messages have the name. The drawing ends with a line feed, and there is no width but that of `-w`.
 ///
 /// ```
@@ -41,6 +41,6 @@ pub use tabs::{Arrangement, Options, Style, draw};
 /// +------+-------+
 /// ");
 /// ```
-pub fn draw_csv(input: impl AsRef<[u8]>, words: &[&str]) -> Result<String, Error> {
-    library::draw_csv(input.as_ref(), words)
+pub fn draw_csv(input: impl AsRef<[u8]>, arguments: &[&str]) -> Result<String, Error> {
+    library::draw_csv(input.as_ref(), arguments)
 }

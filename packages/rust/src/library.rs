@@ -18,8 +18,8 @@ unsafe extern "C" {
     fn comfy_csv_draw(
         input: *const u8,
         input_length: usize,
-        words: *const u8,
-        words_length: usize,
+        arguments: *const u8,
+        arguments_length: usize,
         output: *mut u8,
         output_length: usize,
         needed: *mut usize,
@@ -51,20 +51,20 @@ pub fn draw_tabbed(text: &str, width: u32, arrangement: u32, style: u32) -> Resu
     })
 }
 
-/// The drawing of CSV, by the words of csvtable.
-pub fn draw_csv(input: &[u8], words: &[&str]) -> Result<String, Error> {
-    if words.iter().any(|word| word.contains('\0')) {
-        return Err(Error::Words("a word holds a zero byte".into()));
+/// The drawing of CSV, by the arguments of csvtable.
+pub fn draw_csv(input: &[u8], arguments: &[&str]) -> Result<String, Error> {
+    if arguments.iter().any(|argument| argument.contains('\0')) {
+        return Err(Error::Arguments("an argument holds a zero byte".into()));
     }
-    let words: String = words.iter().flat_map(|word| [word, "\0"]).collect();
+    let arguments: String = arguments.iter().flat_map(|argument| [argument, "\0"]).collect();
     written(input.len(), |output, needed| {
         // SAFETY: as above, of two slices and a vector.
         unsafe {
             comfy_csv_draw(
                 input.as_ptr(),
                 input.len(),
-                words.as_ptr(),
-                words.len(),
+                arguments.as_ptr(),
+                arguments.len(),
                 output.as_mut_ptr(),
                 output.len(),
                 needed,
@@ -91,7 +91,7 @@ fn written(input_length: usize, mut call: impl FnMut(&mut [u8], &mut usize) -> u
             return match status {
                 DRAWN => Ok(text),
                 INPUT_REFUSED => Err(Error::Input(text)),
-                _ => Err(Error::Words(text)),
+                _ => Err(Error::Arguments(text)),
             };
         }
         room = needed;

@@ -162,9 +162,9 @@ impl Rows {
 
     /// The drawing, which ends with a line feed. It is empty where there are neither header nor rows.
     pub fn draw(&self) -> Result<String, Error> {
-        let words = self.words()?;
-        let words: Vec<&str> = words.iter().map(String::as_str).collect();
-        draw_csv(self.csv.as_bytes(), &words)
+        let arguments = self.arguments()?;
+        let arguments: Vec<&str> = arguments.iter().map(String::as_str).collect();
+        draw_csv(self.csv.as_bytes(), &arguments)
     }
 
     // Adds a record. Quotes stand around each field, so that no text is taken for the file's form. An empty record has one
@@ -177,8 +177,8 @@ impl Rows {
         self.count = self.count.max(cells.len());
     }
 
-    // The words of csvtable that ask for this table.
-    fn words(&self) -> Result<Vec<String>, Error> {
+    // The arguments of csvtable that ask for this table.
+    fn arguments(&self) -> Result<Vec<String>, Error> {
         let (style, is_markdown) = match &self.style {
             Some(name) if name.eq_ignore_ascii_case("markdown") => (None, true),
             style => (style.as_ref(), self.is_markdown),
@@ -190,7 +190,7 @@ impl Rows {
             Expanded::Auto => Some("auto"),
             Expanded::Always => Some("always"),
         };
-        let words = [
+        let arguments = [
             // Without these csvtable would look for what stands between fields, and refuse a NUL.
             option("delimiter", Some(",")),
             option("encoding", Some("utf-8")),
@@ -209,7 +209,7 @@ impl Rows {
             flag("markdown", is_markdown),
             option("color", self.has_bold_header.then_some("always")),
         ];
-        Ok(words.into_iter().flatten().collect())
+        Ok(arguments.into_iter().flatten().collect())
     }
 
     // These columns for csvtable, which counts them from 1; none without one.

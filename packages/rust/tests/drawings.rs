@@ -106,8 +106,8 @@ fn errors() {
     assert_eq!(rows.clone().right([3]).draw(), Err(Error::NoColumn("3".into())));
     assert_eq!(rows.clone().left(["a"]).draw(), Err(Error::TwoColumns("a".into())));
     assert!(matches!(rows.clone().left(["b"]).right([1]).draw(), Err(Error::Input(_))));
-    assert!(matches!(rows.clone().style("box\0--raw").draw(), Err(Error::Words(_))));
-    assert!(matches!(rows.style("odd").draw(), Err(Error::Words(_))));
+    assert!(matches!(rows.clone().style("box\0--raw").draw(), Err(Error::Arguments(_))));
+    assert!(matches!(rows.style("odd").draw(), Err(Error::Arguments(_))));
     let said = "csvtable: list.csv: a quote that opens in line 1 is never closed; try --no-quotes";
     assert_eq!(draw_csv("a,\"b\n", &["list.csv"]).unwrap_err().to_string(), said);
     assert_eq!(draw_csv([0xff], &["-e", "cp1252", "-n", "-s", "ascii"]).unwrap(), "+---+\n| ÿ |\n+---+\n");

@@ -25,7 +25,7 @@ pub fn measured_lines(cell: &Cell, without_sequences: bool) -> (&[String], &[usi
     if without_sequences {
         cell.text_lines.visible()
     } else {
-        cell.text_lines.whole()
+        cell.text_lines.raw()
     }
 }
 

@@ -33,7 +33,7 @@ enum Storage {
 // ones again and again, and each time without memory, so they are kept.
 #[derive(Drop)]
 struct BoxedLines {
-    whole: Texts,
+    raw: Texts,
     visible: Option<Texts>,
 }
 
@@ -82,22 +82,22 @@ impl TextLines {
         ensures value { IfOk result (λ lines. lines ≡ (plain_cell (string_bytes text)).text_lines) }
         ensures text_lines { IfOk result HasTextLines }
     {
-        let whole = Texts::of_text(alloc, text)?;
-        let visible = whole.visible(alloc)?;
-        let several = BoxedLines { whole, visible };
+        let raw = Texts::of_text(alloc, text)?;
+        let visible = raw.visible(alloc)?;
+        let several = BoxedLines { raw, visible };
         Ok(TextLines {
             kept: Storage::Boxed(Box::new(alloc, several)?),
         })
     }
 
     // The text lines, and the columns that each takes.
-    pub(crate) fn whole(&self) -> (&[String], &[usize])
+    pub(crate) fn raw(&self) -> (&[String], &[usize])
         ensures texts { map string_bytes result.0.now ≡ self.now }
         ensures widths { result.1.now ≡ map measure self.now }
     {
         match &self.kept {
             Storage::Plain { text, width } => (slice::from_ref(text), slice::from_ref(width)),
-            Storage::Boxed(several) => several.whole.measured(),
+            Storage::Boxed(several) => several.raw.measured(),
         }
     }
 
@@ -111,7 +111,7 @@ impl TextLines {
             Storage::Plain { text, width } => (slice::from_ref(text), slice::from_ref(width)),
             Storage::Boxed(several) => match &several.visible {
                 Some(visible) => visible.measured(),
-                None => several.whole.measured(),
+                None => several.raw.measured(),
             },
         }
     }
@@ -252,16 +252,16 @@ impl Clone for TextLines {
 impl Clone for BoxedLines {
     ghost use Rattle.comfy_parts.specs.TextLines.{AreMeasured};
 
-    ghost is_clone = { λ source copy. (texts_of copy.whole ≡ texts_of source.whole)
-        × (AreMeasured source.whole source.visible → AreMeasured copy.whole copy.visible) };
+    ghost is_clone = { λ source copy. (texts_of copy.raw ≡ texts_of source.raw)
+        × (AreMeasured source.raw source.visible → AreMeasured copy.raw copy.visible) };
 
     fn clone(&self) -> std::result::Result<BoxedLines, AllocError> {
-        let whole = self.whole.clone()?;
+        let raw = self.raw.clone()?;
         let visible = match &self.visible {
             Some(visible) => Some(visible.clone()?),
             None => None,
         };
-        Ok(BoxedLines { whole, visible })
+        Ok(BoxedLines { raw, visible })
     }
 }
 

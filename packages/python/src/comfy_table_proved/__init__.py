@@ -9,7 +9,7 @@
     │ rye  ┆ -12.5 │
     ╰──────┴───────╯
 
-`tabulate` draws rows, and `Table` keeps them for more. `draw_csv` takes CSV and the words of the program csvtable. The module
+`tabulate` draws rows, and `Table` keeps them for more. `draw_csv` takes CSV and the arguments of the program csvtable. The module
 `tabs` draws tab-separated text. All may be called from several threads.
 """
 

@@ -33,18 +33,18 @@ def draw_tabbed(text: bytes, width: int, arrangement: int, style: int) -> str:
     return _written(_TABLE_DRAW, text, width, arrangement, style)
 
 
-def draw_csv(data: str | bytes, words: Sequence[str] = ()) -> str:
-    """The drawing of CSV, by the words of the program csvtable, as ["-r", "price", "-w", "60"].
+def draw_csv(data: str | bytes, arguments: Sequence[str] = ()) -> str:
+    """The drawing of CSV, by the arguments of the program csvtable, as ["-r", "price", "-w", "60"].
 
-    A text is passed as UTF-8; bytes may be in another encoding, which csvtable finds or is told by "-e". A word that names a
+    A text is passed as UTF-8; bytes may be in another encoding, which csvtable finds or is told by "-e". An argument that names a
     file opens none: messages have the name. The drawing ends with a line feed, and there is no width but that of "-w".
 
     ValueError has the message that csvtable prints, and MemoryError says that memory ran out.
     """
     given = data.encode() if isinstance(data, str) else data
-    if any("\0" in word for word in words):
-        raise ValueError("a word holds a zero byte")
-    joined = b"".join(word.encode() + b"\0" for word in words)
+    if any("\0" in argument for argument in arguments):
+        raise ValueError("an argument holds a zero byte")
+    joined = b"".join(argument.encode() + b"\0" for argument in arguments)
     return _written(_CSV_DRAW, given, joined, len(joined))
 
 

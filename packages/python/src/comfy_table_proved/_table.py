@@ -191,7 +191,7 @@ class _Columns:
 
 
 def _words(settings: Settings, columns: _Columns) -> list[str]:
-    """The words of csvtable that ask for these settings of a table with these columns."""
+    """The arguments of csvtable that ask for these settings of a table with these columns."""
     right, left = columns.positions_of(settings.get("right")), columns.positions_of(settings.get("left"))
     for position in set(right) & set(left):
         raise ValueError(f"the column at position {position} can't stand at the right and at the left")

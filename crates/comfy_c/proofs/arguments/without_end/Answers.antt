@@ -1,6 +1,6 @@
 use Rattle.std.proofs.Common.{◌∙◌, ap, lit<}
 use Rattle.std.proofs.lemmas.Str.Pattern.{strip_suffix_char}
-use Rattle.comfy_c.proofs.WordLemmas.{without_end}
+use Rattle.comfy_c.proofs.ArgumentLemmas.{without_end}
 use Rattle.comfy_c.specs.Calls.{ended}
 use Rattle.comfy_c.proofs.arguments.without_end.Goals as goal
 

@@ -23,35 +23,35 @@ valued kind.Encoding name rule no_file no_flag no_letter = refl
 pub returns-in-File : goal.returns-in-File
 unfolding rule_for
 returns-in-File c =
-    let word = c.args.word.now in
-    let begun = c.with_letter-arg.ensures ∙ ap (λ a. lettered word.letter (rule_of a)) c.help.ensures ∙ ap (lettered word.letter) c.new.ensures.rule in
+    let option = c.args.option.now in
+    let begun = c.with_letter-arg.ensures ∙ ap (λ a. lettered option.letter (rule_of a)) c.help.ensures ∙ ap (lettered option.letter) c.new.ensures.rule in
     ap (λ a. bare (rule_of a)) c.value_name.ensures ∙ ap (λ (rule : Rule). bare (record rule { value_names = 1 })) begun
-    ∙ ap (λ k. with_values k (bare (of_kind k word.name.now (lettered word.letter (new_rule word.name.now))))) (sym c.in-File.is)
+    ∙ ap (λ k. with_values k (bare (of_kind k option.name.now (lettered option.letter (new_rule option.name.now))))) (sym c.in-File.is)
 
 pub returns-in-Flag : goal.returns-in-Flag
 unfolding rule_for
 returns-in-Flag c =
-    let word = c.args.word.now in
-    let begun = c.with_letter-arg.ensures ∙ ap (λ a. lettered word.letter (rule_of a)) c.help.ensures ∙ ap (lettered word.letter) c.new.ensures.rule in
+    let option = c.args.option.now in
+    let begun = c.with_letter-arg.ensures ∙ ap (λ a. lettered option.letter (rule_of a)) c.help.ensures ∙ ap (lettered option.letter) c.new.ensures.rule in
     ap (λ a. bare (rule_of a)) c.action.ensures ∙ ap (λ a. bare (record (rule_of a) { action = Some SetTrue })) c.long.ensures
-    ∙ ap (λ (rule : Rule). bare (record rule { long = Some word.name.now; action = Some SetTrue })) begun
-    ∙ ap (λ k. with_values k (bare (of_kind k word.name.now (lettered word.letter (new_rule word.name.now))))) (sym c.in-Flag.is)
+    ∙ ap (λ (rule : Rule). bare (record rule { long = Some option.name.now; action = Some SetTrue })) begun
+    ∙ ap (λ k. with_values k (bare (of_kind k option.name.now (lettered option.letter (new_rule option.name.now))))) (sym c.in-Flag.is)
 
 pub returns-in-Letter : goal.returns-in-Letter
 unfolding rule_for
 returns-in-Letter c =
-    let word = c.args.word.now in
-    let begun = c.with_letter-arg.ensures ∙ ap (λ a. lettered word.letter (rule_of a)) c.help.ensures ∙ ap (lettered word.letter) c.new.ensures.rule in
+    let option = c.args.option.now in
+    let begun = c.with_letter-arg.ensures ∙ ap (λ a. lettered option.letter (rule_of a)) c.help.ensures ∙ ap (lettered option.letter) c.new.ensures.rule in
     ap (λ a. bare (rule_of a)) c.action-in-Letter.ensures ∙ ap (λ (rule : Rule). bare (record rule { action = Some SetTrue })) begun
-    ∙ ap (λ k. with_values k (bare (of_kind k word.name.now (lettered word.letter (new_rule word.name.now))))) (sym c.in-Letter.is)
+    ∙ ap (λ k. with_values k (bare (of_kind k option.name.now (lettered option.letter (new_rule option.name.now))))) (sym c.in-Letter.is)
 
 pub returns-in_default : goal.returns-in_default
 unfolding rule_for
 returns-in_default c =
-    let word = c.args.word.now in
-    let begun = c.with_letter-arg.ensures ∙ ap (λ a. lettered word.letter (rule_of a)) c.help.ensures ∙ ap (lettered word.letter) c.new.ensures.rule in
+    let option = c.args.option.now in
+    let begun = c.with_letter-arg.ensures ∙ ap (λ a. lettered option.letter (rule_of a)) c.help.ensures ∙ ap (lettered option.letter) c.new.ensures.rule in
     c.with_value.ensures
-    ∙ ap (λ a. with_values word.kind (bare (rule_of a))) (c.value_name-in_default.ensures)
-    ∙ ap (λ a. with_values word.kind (bare (record (rule_of a) { value_names = 1 }))) c.long-in_default.ensures
-    ∙ ap (λ (rule : Rule). with_values word.kind (bare (record rule { long = Some word.name.now; value_names = 1 }))) begun
-    ∙ ap (with_values word.kind) (valued word.kind word.name.now (lettered word.letter (new_rule word.name.now)) c.in_default.not-File c.in_default.not-Flag c.in_default.not-Letter)
+    ∙ ap (λ a. with_values option.kind (bare (rule_of a))) (c.value_name-in_default.ensures)
+    ∙ ap (λ a. with_values option.kind (bare (record (rule_of a) { value_names = 1 }))) c.long-in_default.ensures
+    ∙ ap (λ (rule : Rule). with_values option.kind (bare (record rule { long = Some option.name.now; value_names = 1 }))) begun
+    ∙ ap (with_values option.kind) (valued option.kind option.name.now (lettered option.letter (new_rule option.name.now)) c.in_default.not-File c.in_default.not-Flag c.in_default.not-Letter)

@@ -4,9 +4,9 @@ use Rattle.csv_command.specs.Program.{bare, with_rules, wordless}
 use Rattle.csv_command.specs.Rules.{rule_for}
 use Rattle.csv_command.proofs.options.command.Given as goal
 
-abbrev pub invariant-loop-word : goal.invariant-loop-word
-invariant-loop-word l =
+abbrev pub invariant-loop-option : goal.invariant-loop-option
+invariant-loop-option l =
     record {
-      rules : map bare (app_of l.command).top.rules ≡ map rule_for (take l.word-index l.word-items);
+      rules : map bare (app_of l.command).top.rules ≡ map rule_for (take l.option-index l.option-items);
       others : with_rules (app_of l.command) [] ≡ wordless;
     }

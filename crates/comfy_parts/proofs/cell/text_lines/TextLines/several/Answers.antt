@@ -14,4 +14,4 @@ uncut_lines text (Multiple lines widths) are = has_text_lines text lines.items a
 
 pub returns-clause-text_lines : goal.returns-clause-text_lines
 returns-clause-text_lines c =
-    rw c.in_ok-new.ensures.ok (uncut_lines (string_bytes c.args.text) c.in_ok-whole.whole c.in_ok-whole.ensures.texts)
+    rw c.in_ok-new.ensures.ok (uncut_lines (string_bytes c.args.text) c.in_ok-raw.raw c.in_ok-raw.ensures.texts)

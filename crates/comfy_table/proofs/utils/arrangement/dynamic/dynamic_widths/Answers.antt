@@ -3,14 +3,14 @@ use Rattle.std.proofs.lemmas.List.{length-map}
 use Rattle.std.proofs.lemmas.Result.{IfOk-weaker}
 use Rattle.comfy_table.specs.Arrangement.{is_full_width, room_beside_borders}
 use Rattle.comfy_table.specs.Deciding.{all_needs, final_widths, needs_in, undecided_among}
-use Rattle.comfy_table.specs.Dynamic.{IsDynamicLayout, settled_shares}
+use Rattle.comfy_table.specs.Dynamic.{IsDynamicLayout, settled_claims}
 use Rattle.comfy_table.specs.Widths.{ColumnNeeds, shown_needs}
 use Rattle.comfy_table.proofs.DecidedLemmas.{decided_is_dynamic, has_room_to_spread}
-use Rattle.comfy_table.proofs.UndecidedLemmas.{length-with_shares}
+use Rattle.comfy_table.proofs.UndecidedLemmas.{length-with_claims}
 use Rattle.comfy_table.proofs.utils.arrangement.dynamic.dynamic_widths.Goals as goal
 
 pub settle-requires : goal.settle-requires
-settle-requires c = grind (arith, length-with_shares, length-map)
+settle-requires c = grind (arith, length-with_claims, length-map)
 
 pub go_round-requires-2-clause-widths : goal.go_round-requires-2-clause-widths
 go_round-requires-2-clause-widths c =
@@ -20,9 +20,9 @@ go_round-requires-2-clause-widths c =
     let columns = c.as_slice-columns.result.now in
     let needs = all_needs c.args.table.now columns in
     ap length settled.2.widths
-    ∙ length-with_shares (settled_shares settled.0 (undecided_among needs lower)) lower
+    ∙ length-with_claims (settled_claims settled.0 (undecided_among needs lower)) lower
     ∙ ap length taken.2.widths
-    ∙ length-with_shares taken.0 c.in_ok-budget.budget.widths.items
+    ∙ length-with_claims taken.0 c.in_ok-budget.budget.widths.items
     ∙ ap length c.in_ok-budget.ensures.widths
     ∙ length-map needs (λ (n : ColumnNeeds). n.fixed)
     ∙ length-map columns (needs_in c.args.table.now)

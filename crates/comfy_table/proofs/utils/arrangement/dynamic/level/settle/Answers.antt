@@ -1,7 +1,7 @@
 use Rattle.std.proofs.Common.{◌/◌, ℕ, List, Some, sym, ap, ◌∙◌, arith}
 use Rattle.std.proofs.lemmas.List.{length-map}
-use Rattle.comfy_table.specs.Deciding.{all_needs, needs_in, undecided_among, with_shares}
-use Rattle.comfy_table.specs.Dynamic.{Share, total}
+use Rattle.comfy_table.specs.Deciding.{all_needs, needs_in, undecided_among, with_claims}
+use Rattle.comfy_table.specs.Dynamic.{Claim, total}
 use Rattle.comfy_table.proofs.LevelSearchLemmas.{level_without_average}
 use Rattle.comfy_table.proofs.UndecidedLemmas.{length-undecided_among}
 use Rattle.comfy_table.proofs.utils.arrangement.dynamic.level.settle.Goals as goal
@@ -19,7 +19,7 @@ returns-else-average-gt0 c table =
       found.0,
       found.1,
       record {
-        widths = ap (λ (ts : List Share). with_shares ts budget.widths.items) (sym found.2);
+        widths = ap (λ (ts : List Claim). with_claims ts budget.widths.items) (sym found.2);
         room = omega (arith, ap total found.2);
       },
     )

@@ -44,13 +44,13 @@ parts-clear (byte ∷ text) =
     let rest = parts-clear text in
     cond_both (byte == 0) _ _ (All (HasNo 0)) (λ _. All-cons (HasNo 0) [] (parts text) refl rest) (λ other. clear-onto byte (parts text) other rest)
 
--- the parts of a text, behind the program's name, are the words of a text that is closed by the same end
-pub words_in : (text front : Text) (line : List Text) → ended front ≡ closed text → line ≡ codes "csvtable" ∷ parts front → IsCommandLine text line
-words_in text front line same is = record { words = parts front; behind_name = is; hold_no_end = parts-clear front; are_all = ended-parts front ∙ same }
+-- the parts of a text, behind the program's name, are the arguments of a text that is closed by the same end
+pub arguments_in : (text front : Text) (line : List Text) → ended front ≡ closed text → line ≡ codes "csvtable" ∷ parts front → IsCommandLine text line
+arguments_in text front line same is = record { arguments = parts front; behind_name = is; hold_no_end = parts-clear front; are_all = ended-parts front ∙ same }
 
--- no bytes hold no word
-pub no_words : (text : Text) (line : List Text) → length text ≡ 0 → line ≡ codes "csvtable" ∷ [] → IsCommandLine text line
-no_words text line none is = record { words = []; behind_name = is; hold_no_end = All-nil (HasNo 0); are_all = ap closed (sym (nil_from_length text none)) }
+-- no bytes hold no argument
+pub no_arguments : (text : Text) (line : List Text) → length text ≡ 0 → line ≡ codes "csvtable" ∷ [] → IsCommandLine text line
+no_arguments text line none is = record { arguments = []; behind_name = is; hold_no_end = All-nil (HasNo 0); are_all = ap closed (sym (nil_from_length text none)) }
 
 -- a zero byte at the end is the last byte
 last-ended : (front : Text) → get_or (ended front) (length (ended front) - 1) 0 ≡ 0
