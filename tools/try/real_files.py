@@ -1,7 +1,8 @@
 #!/usr/bin/env python3
 """Makes 18 files as people have them, and some that are no text, and tries csvtable on them.
 
-    tools/try/real_files.py PROGRAM             runs PROGRAM on each file: its status, what it writes and what it says
+    tools/try/real_files.py PROGRAM             runs PROGRAM on each file: its status, what it writes and what it says; and whether numbers
+                                                and dates stand whole at each width from 20 to 200
     tools/try/real_files.py --compare PROGRAM   prints a table of what PROGRAM, csvlook, mlr and column do, file by file
 
 What is wanted stands beside each file, and comes from the rules in docs/CSVTABLE.md. The first form prints a line for each
@@ -10,6 +11,7 @@ run, and ends with status 1 where one is otherwise.
 import csv
 import gzip
 import io
+import itertools
 import os
 import re
 import subprocess
@@ -32,6 +34,10 @@ SCRIPTS = "name,city\n王小明,北京\nمحمد,القاهرة\nกมล,ก�
 LOG = 'time,level,text\n10:00:01,warn,\x1b[33mdisk at 91 %\x1b[0m\n10:00:07,error,\x1b]0;title\x07no space\n'
 TSV = 'name\tnote\nscrew 5"\t5" long\nbolt\tflat\n'
 PREAMBLE = "Bank of Nowhere\nAccount 12\n\ndate,amount\n2026-05-02,-84.50\n2026-05-13,2500.00\n"
+
+
+# a number, or what dates and times are written with
+WHOLE = re.compile(r"\(?[-+]?[$€£]?\d[\d,.]*(e[-+]?\d+)?\s?[%€$]?\)?|[-/:.TZ+ \d]*")
 
 
 class Run:
@@ -122,6 +128,31 @@ def fault_of(run, result):
     return f"no {missing[0]!r} in\n{out}" if missing or (run.drawn == [""] and out) else ""
 
 
+def rows_of(run):
+    """The records of a file, its header the first."""
+    skipped = 3 if "--skip" in run.arguments else 0
+    text = run.bytes.decode(run.encoding).removeprefix("\ufeff").removeprefix("sep=;\n")
+    quoting = csv.QUOTE_NONE if "--no-quotes" in run.arguments else csv.QUOTE_MINIMAL
+    return list(csv.reader(io.StringIO("".join(text.splitlines(True)[skipped:]), newline=""), delimiter=run.delimiter, quoting=quoting))
+
+
+def broken_in(run, width, out):
+    """The numbers and dates of columns of them that no line has whole; of a record, which shares a line with names, the short ones."""
+    columns = itertools.zip_longest(*rows_of(run)[1:], fillvalue="")
+    fields = [it for column in columns if all(len(it) <= 25 and WHOLE.fullmatch(it) for it in column) for it in column]
+    room = (width - 7) // 2 if out.startswith("record ") else width
+    return [it for it in fields if it.strip() and len(it) <= room and f" {it.strip()} " not in out]
+
+
+def tried_at_widths(program, run, folder):
+    """At how many widths a number or a date is broken."""
+    write(run, folder)
+    outs = [(width, ran([program, "-w", str(width), run.name], folder).stdout.decode()) for width in range(20, 201)]
+    broken = [(width, it[0]) for width, out in outs if (it := broken_in(run, width, out))]
+    print(f"{run.name} from 20 to 200 columns: {f'{broken[0][1]!r} is broken at {broken[0][0]}' if broken else 'as it should be'}")
+    return bool(broken)
+
+
 def tried(program, folder):
     faults = 0
     for run in RUNS + ADVISED:
@@ -130,6 +161,7 @@ def tried(program, folder):
         fault = fault_of(run, ran([program, *arguments, run.name], folder))
         print(f"{run.name} {' '.join(run.arguments)}: {fault or 'as it should be'}")
         faults += bool(fault)
+    faults += sum(tried_at_widths(program, run, folder) for run in RUNS if not run.arguments and not run.status)
     os.mkdir(os.path.join(folder, "folder"))
     for name, message in OTHERS:
         result = ran([program, name], folder)
@@ -155,13 +187,9 @@ def said_in(result):
     return textwrap.shorten(re.sub(r"^(mlr: |csvtable: )+", "", line).strip(".:"), 64, placeholder=" ...").replace("|", "/").replace("`", "'")
 
 
-def lost_in(run, text, out):
+def lost_in(run, out):
     """The fields that don't stand in a drawing as they are."""
-    skipped = 3 if "--skip" in run.arguments else 0
-    below = "".join(text.removeprefix("sep=;\n").splitlines(True)[skipped:])
-    quoting = csv.QUOTE_NONE if "--no-quotes" in run.arguments else csv.QUOTE_MINIMAL
-    rows = csv.reader(io.StringIO(below, newline=""), delimiter=run.delimiter, quoting=quoting)
-    lines = [line.strip() for row in rows for field in row for line in field.split("\n")]
+    lines = [line.strip() for row in rows_of(run) for field in row for line in field.split("\n")]
     return [it for it in lines if it.isprintable() and it not in out]
 
 
@@ -174,7 +202,6 @@ def seen_of(run, result, whole, has_frame=True):
         return "nothing"
     faults = []
     widths = [width_of(line) for line in out.rstrip("\n").split("\n") if not line.startswith("record ")]
-    text = run.bytes.decode(run.encoding).removeprefix("\ufeff")
     if max(widths) > 80:
         faults.append(f"{max(widths)} columns wide")
     if has_frame and len(set(widths)) > 1:
@@ -183,7 +210,7 @@ def seen_of(run, result, whole, has_frame=True):
         faults.append("sends its escapes")
     if run.delimiter != "," and run.delimiter in whole:
         faults.append("columns not parted")
-    lost = lost_in(run, text, whole)
+    lost = lost_in(run, whole)
     if lost and "columns not parted" not in faults:
         faults.append(f"no `{lost[0][:20]}`")
     return ", ".join(faults) or "right"

@@ -1,18 +1,17 @@
 -- Choices of columns, one after another.
-use Rattle.std.proofs.Common.{◌≡◌, ◌<◌, ◌+◌, ◌-◌, ◌&&◌, ◌||◌, not, ℕ, Bool, true, false, zero, suc, List, [], ◌∷◌, Option, Some, Result, Ok, Err, String, drop, get_or, length, map, string_bytes, take, refl, sym, ap, arith}
+use Rattle.std.proofs.Common.{◌≡◌, ◌<◌, ◌+◌, ◌-◌, ℕ, Bool, true, false, zero, suc, List, [], ◌∷◌, Option, Some, Result, Ok, Err, String, drop, get_or, length, string_bytes, take, refl, sym, arith}
 use Rattle.std.proofs.lemmas.List.Folds.{fold_stuck}
-use Rattle.std.specs.List.{list_any, position_from, range_with_len}
+use Rattle.std.specs.List.{position_from, range_with_len}
 use Rattle.std.specs.Option.{option_or}
 use Rattle.std.specs.Str.{chars}
 use Rattle.comfy_parts.specs.Text.{Text}
 use Rattle.csv.specs.Records.{field_at}
 use Rattle.csv_tables.specs.Cells.{field_or_blank}
 use Rattle.csv_records.specs.Cleaning.{visible_of}
-use Rattle.csv_tables.specs.Columns.{ColumnFault, IsColumnsRefusal, first_answer, is_number_column, is_number_kind, is_other_kind, joined, kind_at, kind_of, positions_of, positions_of_word, seen}
+use Rattle.csv_tables.specs.Columns.{ColumnFault, IsColumnsRefusal, first_answer, joined, kind_of, positions_of, positions_of_word, seen}
 use Rattle.csv_tables.specs.Columns.ColumnFault.{missing, none_left, two_sided}
 use Rattle.csv_tables.specs.Hints.{passes}
-use Rattle.csv_tables.specs.declared.columns.FieldKind.{FieldKind}
-use Rattle.csv_tables.specs.declared.columns.FieldKind.TheVariants.{Neutral, Other}
+use Rattle.csv_tables.specs.declared.columns.FieldKind.TheVariants.{Neutral}
 use Rattle.csv_tables.specs.declared.error.ColumnsError.{ColumnsError}
 use Rattle.csv_tables.specs.declared.error.ColumnsError.TheVariants.{NoColumn, NoneLeft, OutOfMemory, TwoSides}
 

@@ -1,27 +1,31 @@
 -- Columns that are as wide as their contents are drawn no narrower.
-use Rattle.std.proofs.Common.{◌≡◌, ◌==◌, ◌≤◌, ◌<◌, ◌&&◌, ℕ, zero, suc, ◌+◌, Bool, true, false, cond, List, [], ◌∷◌, ◌++◌, Option, Some, None, find, length, map, max, option_map, slice_index, unwrap_or, refl, sym, ap, ◌∙◌, subst, arith}
-use Rattle.std.specs.List.{AllByRecursion, cons_option, enumerate_from, slice_get}
+use Rattle.std.proofs.Common.{◌≡◌, ◌==◌, ◌≤◌, ◌<◌, ◌&&◌, ℕ, zero, suc, ◌+◌, Bool, true, false, not, cond, List, [], ◌∷◌, ◌++◌, Option, Some, None, find, length, map, max, option_map, slice_index, unwrap_or, refl, sym, ap, ◌∙◌, subst, arith}
+use Rattle.std.specs.List.{All, AllByRecursion, cons_option, enumerate_from, slice_get}
 use Rattle.std.specs.Prelude.{if◌then◌else◌}
 use Rattle.std.proofs.lemmas.Bool.{eq-eqb, le-leb, ne_eqb}
 use Rattle.std.proofs.lemmas.List.FromFn.{length-map-range_with_len}
-use Rattle.std.proofs.lemmas.List.Elements.{recursion_from_All}
+use Rattle.std.proofs.lemmas.List.Elements.{All-from_recursion, All-weaker, recursion_from_All}
 use Rattle.comfy_parts.proofs.CallerLemmas.{index-places}
-use Rattle.comfy_parts.specs.CellValue.{ColumnValue}
+use Rattle.comfy_parts.specs.CellValue.{CellValue, ColumnValue}
+use Rattle.comfy_parts.specs.Text.{Text, greatest, measure}
+use Rattle.comfy_parts.specs.Wrapping.{lines_of_text, wrapped}
 use Rattle.comfy_table.proofs.BudgetLemmas.{length-contents_after}
 use Rattle.comfy_table.proofs.BuiltTableLemmas.{IsNewColumn}
 use Rattle.comfy_table.proofs.DrawnWidthLemmas.{dynamic_widths}
+use Rattle.comfy_table.proofs.ThreePlacesLemmas.{every-le-greatest}
 use Rattle.comfy_table.specs.Arrangement.{IsArranged, is_full_width, room_beside_borders, width_kept, widths_at}
 use Rattle.comfy_table.specs.Dynamic.{Claim, Steps, added, all_claims, contents_after, even_columns, fixed_claims, room_left, claim_at, widened}
-use Rattle.comfy_table.specs.TableValue.{TableValue, column_content_width, shown_columns, table_width}
+use Rattle.comfy_table.specs.TableValue.{TableValue, cell_content_width, column_cells, column_content_width, shown_columns, table_width}
 use Rattle.comfy_table.specs.Widths.{ColumnNeeds, even_spread, needs_of, part_of, shown_needs}
 use Rattle.csv_tables.proofs.LineLemmas.{Any, any_built, any_drawn, kept_setting}
 use Rattle.csv_tables.proofs.SeparatorLemmas.{restyled, separated}
 use Rattle.csv_tables.proofs.UnbrokenLemmas.{kept-test}
 use Rattle.csv_tables.proofs.WholeColumnLemmas.{all_shown}
 use Rattle.csv_tables.proofs.WholeTableLemmas.{drawn-is, whole_separated}
-use Rattle.csv_tables.specs.Drawn.{ContentValue, arrangement_for, empty_table, output_table, rows_table, separated_table}
-use Rattle.csv_tables.specs.Laws.{UnbrokenColumnIsWhole}
-use Rattle.csv_tables.specs.Unbroken.{kept_unbroken, unbroken_columns, constrained_columns, with_constrained}
+use Rattle.csv_tables.specs.Drawn.{ContentValue, arrangement_for, empty_table, is_expanded_for, is_expanded_in, is_table_expanded, output_table, rows_table, separated_table}
+use Rattle.csv_tables.specs.Laws.{AutoKeepsWhole, IsWholeColumn, NeverKeepsWhole, UnbrokenColumnsAreWhole}
+use Rattle.csv_tables.specs.Unbroken.{has_room, kept_unbroken, unbroken_columns, constrained_columns, with_constrained}
+use Rattle.csv_tables.specs.declared.options.Expansion.TheVariants.{Auto}
 use Rattle.csv_tables.specs.declared.options.Look.{Look}
 
 -- the column at a place has this fixed width
@@ -127,12 +131,36 @@ kept_arrangement : (w : ℕ) (fills : Bool) → width_kept (arrangement_for (Som
 kept_arrangement w true = refl
 kept_arrangement w false = refl
 
--- so are numbers and dates
-pub unbroken_is_whole : (w : ℕ) (look : Look) (content : ContentValue) (has : Bool) (widths : List ℕ) (i : ℕ) → UnbrokenColumnIsWhole w look content has widths i
-unbroken_is_whole w look content has widths i wide fits is below arranged =
-    subst (λ n. n ≤ slice_index widths i) (by_content has)
-    (whole_is_kept (separated_table has rows) new whole w widths i (subst (λ (t : TableValue). width_kept t.arrangement (Some w) ≡ Some w) same kept) (subst (λ (t : TableValue). table_width t ≡ Some w) same known) is (by_length has) (subst (λ (t : TableValue). IsArranged t widths) same arranged))
+-- ---- columns of numbers and dates
+
+-- a text line of a column that is as wide as its content stands on one line
+pub stands_whole : (table : TableValue) (i width : ℕ) → column_content_width table i ≤ width → IsWholeColumn table i width
+stands_whole table i width content =
+    record {
+      content = content;
+      lines =
+          All-weaker (λ (cell : CellValue). cell_content_width cell ≤ column_content_width table i) (λ (cell : CellValue). All StandsWhole cell.text_lines) each_cell (column_cells table i)
+          (All-from_recursion (λ (cell : CellValue). cell_content_width cell ≤ column_content_width table i) (column_cells table i) (every-le-greatest cell_content_width (column_cells table i)));
+    }
   where
+    StandsWhole : Text → Type 0
+    StandsWhole line = measure line ≤ 65535 → (delimiter : ℕ) → lines_of_text width delimiter line ≡ line ∷ []
+
+    each_line : (cell : CellValue) → cell_content_width cell ≤ column_content_width table i → (line : Text) → measure line ≤ greatest (map measure cell.text_lines) → StandsWhole line
+    each_line cell within line most short delimiter = ap (λ (b : Bool). if b then line ∷ [] else wrapped width delimiter line) (le-leb (measure line) width (omega (arith, content, within, most, short)))
+
+    each_cell : (cell : CellValue) → cell_content_width cell ≤ column_content_width table i → All StandsWhole cell.text_lines
+    each_cell cell within =
+        All-weaker (λ (line : Text). measure line ≤ greatest (map measure cell.text_lines)) StandsWhole (each_line cell within) cell.text_lines
+        (All-from_recursion (λ (line : Text). measure line ≤ greatest (map measure cell.text_lines)) cell.text_lines (every-le-greatest measure cell.text_lines))
+
+-- where there is room for them, they are whole
+room_keeps_whole : (w : ℕ) (look : Look) (content : ContentValue) → look.width ≡ Some w → has_room (Some w) (unbroken_columns look.has_sequences content.columns content.rows) (rows_table look content) ≡ true → is_expanded_for look content ≡ false → UnbrokenColumnsAreWhole look content
+room_keeps_whole w look content wide room none table widths i is_drawn arranged below is = stands_whole table i (slice_index widths i) (subst (λ (t : TableValue). column_content_width t i ≤ slice_index widths i) (sym same) kept)
+  where
+    has : Bool
+    has = is_drawn.0
+
     rows : TableValue
     rows = rows_table look content
 
@@ -142,8 +170,11 @@ unbroken_is_whole w look content has widths i wide fits is below arranged =
     drawn : TableValue
     drawn = separated_table has (output_table false look content)
 
-    same : drawn ≡ with_constrained whole (separated_table has rows)
-    same = ap (separated_table has) (ap (λ o. kept_unbroken o whole rows) wide ∙ kept-test w whole rows true (le-leb _ _ fits)) ∙ whole_separated has whole rows
+    own : table ≡ drawn
+    own = is_drawn.1 ∙ ap (λ (e : Bool). separated_table has (output_table e look content)) none
+
+    same : table ≡ with_constrained whole (separated_table has rows)
+    same = own ∙ ap (separated_table has) (ap (λ o. kept_unbroken o whole rows) wide ∙ kept-test w whole rows true room) ∙ whole_separated has whole rows
 
     looks : drawn ≡ record (empty_table (separated has look)) { columns = drawn.columns; header = drawn.header; rows = drawn.rows }
     looks = drawn-is (separated has look) Any content drawn (any_drawn look content false has)
@@ -151,8 +182,8 @@ unbroken_is_whole w look content has widths i wide fits is below arranged =
     wide_look : (separated has look).width ≡ Some w
     wide_look = kept_setting (λ l. l.width) look refl has (Some w) wide
 
-    kept : width_kept drawn.arrangement (Some w) ≡ Some w
-    kept = ap (λ (t : TableValue). width_kept t.arrangement (Some w)) looks ∙ ap (λ o. width_kept (arrangement_for o (separated has look).fills_width) (Some w)) wide_look ∙ kept_arrangement w (separated has look).fills_width
+    keeps : width_kept drawn.arrangement (Some w) ≡ Some w
+    keeps = ap (λ (t : TableValue). width_kept t.arrangement (Some w)) looks ∙ ap (λ o. width_kept (arrangement_for o (separated has look).fills_width) (Some w)) wide_look ∙ kept_arrangement w (separated has look).fills_width
 
     known : table_width drawn ≡ Some w
     known = ap table_width looks ∙ rw wide_look refl
@@ -160,10 +191,44 @@ unbroken_is_whole w look content has widths i wide fits is below arranged =
     new : AllByRecursion IsNewColumn (separated_table has rows).columns
     new = subst (λ (t : TableValue). AllByRecursion IsNewColumn t.columns) (restyled look content false has) (recursion_from_All IsNewColumn _ (any_built false (separated has look) content).columns)
 
-    by_content : (b : Bool) → column_content_width (separated_table b rows) i ≡ column_content_width rows i
-    by_content true = refl
-    by_content false = refl
+    with : drawn ≡ with_constrained whole (separated_table has rows)
+    with = sym own ∙ same
 
-    by_length : (b : Bool) → i < length (separated_table b rows).columns
-    by_length true = below
-    by_length false = below
+    count : length table.columns ≡ length (separated_table has rows).columns
+    count = ap (λ (t : TableValue). length t.columns) same ∙ same_length whole (separated_table has rows).columns
+
+    kept : column_content_width (separated_table has rows) i ≤ slice_index widths i
+    kept =
+        whole_is_kept (separated_table has rows) new whole w widths i (subst (λ (t : TableValue). width_kept t.arrangement (Some w) ≡ Some w) with keeps) (subst (λ (t : TableValue). table_width t ≡ Some w) with known) is
+        (omega (arith, below, count)) (subst (λ (t : TableValue). IsArranged t widths) same arranged)
+
+held : (b : Bool) → not b ≡ false → b ≡ true
+held true is = refl
+held false is = absurd (cc is)
+
+pub auto_keeps_whole : (w : ℕ) (look : Look) (content : ContentValue) → AutoKeepsWhole w look content
+auto_keeps_whole w look content table wide auto none = room_keeps_whole w look content wide (held (has_room (Some w) whole rows) (sym test ∙ none)) none
+  where
+    rows : TableValue
+    rows = rows_table look content
+
+    whole : List Bool
+    whole = unbroken_columns look.has_sequences content.columns content.rows
+
+    test : is_expanded_for look content ≡ not (has_room (Some w) whole rows)
+    test = ap (λ m. not m && is_table_expanded look content) table ∙ ap (λ e. is_expanded_in e (has_room look.width whole rows)) auto ∙ ap (λ o. not (has_room o whole rows)) wide
+
+pub never_keeps_whole : (w : ℕ) (look : Look) (content : ContentValue) → NeverKeepsWhole w look content
+never_keeps_whole w look content table wide never none = room_keeps_whole w look content wide (held (has_room (Some w) whole rows) (sym test ∙ none)) own
+  where
+    rows : TableValue
+    rows = rows_table look content
+
+    whole : List Bool
+    whole = unbroken_columns look.has_sequences content.columns content.rows
+
+    test : is_expanded_for (record look { expansion = Auto }) content ≡ not (has_room (Some w) whole rows)
+    test = ap (λ m. not m && is_expanded_in Auto (has_room look.width whole rows)) table ∙ ap (λ o. not (has_room o whole rows)) wide
+
+    own : is_expanded_for look content ≡ false
+    own = ap (λ m. not m && is_table_expanded look content) table ∙ ap (λ e. is_expanded_in e (has_room look.width whole rows)) never

@@ -1,13 +1,12 @@
 -- What the fields of columns say, record by record.
-use Rattle.std.proofs.Common.{◌≡◌, ◌<◌, ◌≤◌, ℕ, Bool, true, false, ◌&&◌, ◌||◌, not, zero, suc, ◌+◌, List, [], ◌∷◌, ◌++◌, length, map, max, nat_lt, take, arith, refl, sym, ap, ap₂, ◌∙◌}
+use Rattle.std.proofs.Common.{◌≡◌, ◌<◌, ℕ, Bool, true, false, ◌&&◌, ◌||◌, not, zero, suc, List, [], ◌∷◌, ◌++◌, length, map, nat_lt, take, arith, refl, sym, ap, ◌∙◌}
 use Rattle.std.specs.List.{list_any, slice_index_or, slice_set}
 use Rattle.std.specs.Prelude.{if◌then◌else◌}
-use Rattle.std.proofs.lemmas.List.{set-get_or}
 use Rattle.comfy_parts.specs.Text.{Text}
 use Rattle.csv.specs.Records.{field_at}
 use Rattle.csv_tables.proofs.ColumnLemmas.{kind-empty}
 use Rattle.csv_tables.specs.Cells.{field_or_blank}
-use Rattle.csv_tables.specs.Columns.{AreKindsOf, is_number_column, is_number_kind, is_other_kind, joined_kind, joined_kinds, kind_at, kind_of, seen}
+use Rattle.csv_tables.specs.Columns.{AreKindsOf, is_number_column, is_number_kind, is_other_kind, joined_kind, joined_kinds, kind_at, kind_of}
 use Rattle.csv_tables.specs.declared.columns.FieldKind.{FieldKind}
 use Rattle.csv_tables.specs.declared.columns.FieldKind.TheVariants.{Neutral, Number, Other}
 

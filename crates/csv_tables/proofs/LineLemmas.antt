@@ -16,7 +16,7 @@ use Rattle.comfy_table.proofs.PartLemmas.{all_rows_are_the_table, part_has_lines
 use Rattle.comfy_table.specs.Drawing.{drawing, drawing_of_infos, terminated_text_of}
 use Rattle.comfy_table.specs.Headline.{LineWidthsSatisfy, IsTableDrawing}
 use Rattle.comfy_table.specs.Laws.{HasNoBreak, IsStyleWithout, count, least_total, unstyled}
-use Rattle.comfy_table.specs.Parts.{ArrangedValue, part_lines}
+use Rattle.comfy_table.specs.Parts.{ArrangedValue}
 use Rattle.comfy_table.specs.TableLaws.{shown_contents, wider_total}
 use Rattle.comfy_table.specs.TableValue.{TableValue, table_width}
 use Rattle.comfy_table.specs.Widths.{shown_count}
@@ -24,7 +24,7 @@ use Rattle.csv_tables.proofs.BuiltLemmas.{Built, built, plain_table}
 use Rattle.csv_tables.proofs.SeparatorLemmas.{condensed-all, separated}
 use Rattle.csv_tables.proofs.WholeTableLemmas.{HasRoom, IsDrawn, drawn-is, drawn_table-is, least-fits, unconstrained-drawn, wider-fits}
 use Rattle.csv_tables.specs.Cells.{row_for}
-use Rattle.csv_tables.specs.Drawn.{ContentValue, RendersRecords, RendersAsTable, RendersContent, condensed_style, drawn_fields, empty_table, is_expanded_for, is_expanded_in, output_table, pairs_of, rows_table, separated_table, some_lines, table_text}
+use Rattle.csv_tables.specs.Drawn.{ContentValue, RendersRecords, RendersAsTable, RendersContent, condensed_style, drawn_fields, empty_table, is_expanded_for, is_table_expanded, output_table, pairs_of, separated_table, some_lines, table_text}
 use Rattle.csv_tables.specs.Laws.{EachLineHas, HasLines, IsFilling, IsOutputWith, IsWithin, OutputFillsWidth, OutputKeepsToWidth}
 use Rattle.csv_tables.specs.declared.options.Look.{Look}
 use Rattle.csv_tables.specs.declared.options.Options.{Options}
@@ -95,7 +95,7 @@ is_table_text options records output made none = subst (λ b. RendersContent b o
 
 -- records for Markdown are never expanded
 pub never_expanded : (look : Look) (content : ContentValue) → look.is_markdown ≡ true → false ≡ is_expanded_for look content
-never_expanded look content is = ap (λ b. not b && is_expanded_in look.expansion look.width (rows_table look content)) (sym is)
+never_expanded look content is = ap (λ b. not b && is_table_expanded look content) (sym is)
 
 module _ (options : Options) (records : List (List Text)) (output : Text) (made : RendersRecords options records output) (text : RendersAsTable options.look made.content made.text) (none : options.look.is_markdown ≡ false) where
   abbrev pub drawn_table : TableValue
@@ -106,7 +106,7 @@ module _ (options : Options) (records : List (List Text)) (output : Text) (made 
 
   -- it is expanded where its look asks for it
   pub expansion : text.is_expanded ≡ is_expanded_for options.look made.content
-  expansion = text.expansion ∙ ap (λ b. not b && is_expanded_in options.look.expansion options.look.width (rows_table options.look made.content)) (sym none)
+  expansion = text.expansion ∙ ap (λ b. not b && is_table_expanded options.look made.content) (sym none)
 
   module _ (style : IsStyleWithout 0x0A options.look.style) where
     pub unbroken : All HasNoBreak drawn

@@ -1,6 +1,6 @@
 -- Each row of a drawing has a line: a text that isn't blank has one at every width, and a blank one is drawn as the empty text.
-use Rattle.std.proofs.Common.{◌≡◌, ◌==◌, ◌<◌, ◌≤◌, ◌&&◌, ◌||◌, ◌+◌, ◌-◌, ℕ, zero, suc, Bool, true, false, not, List, [], ◌∷◌, ◌++◌, Option, Some, None, chars, cond, drop, encode_utf8_all, flat_map, length, length-append, map, max, min, nat_le, replicate, slice_get, take, arith, refl, sym, ap, ap₂, ◌∙◌, subst, option_map, unwrap_or}
-use Rattle.std.specs.List.{All, list_all, list_any, onto_first, slice_split}
+use Rattle.std.proofs.Common.{◌≡◌, ◌==◌, ◌<◌, ◌≤◌, ◌&&◌, ◌||◌, ◌+◌, ◌-◌, ℕ, zero, suc, Bool, true, false, not, List, [], ◌∷◌, ◌++◌, Option, Some, None, cond, drop, encode_utf8_all, flat_map, length, length-append, map, max, nat_le, replicate, slice_get, take, arith, refl, sym, ap, ◌∙◌, subst, option_map, unwrap_or}
+use Rattle.std.specs.List.{All, list_all, list_any, onto_first}
 use Rattle.std.specs.Prelude.{if◌then◌else◌}
 use Rattle.std.specs.Str.{IsUtf8}
 use lib.Utf8.{encode}
@@ -8,12 +8,11 @@ use Rattle.std.proofs.lemmas.List.{length-map, length-take, length-drop}
 use Rattle.std.proofs.lemmas.List.Elements.{All-cons, All-head, All-map, All-nil, All-tail}
 use Rattle.std.proofs.lemmas.Str.{IsUtf8-nil}
 use Rattle.comfy_parts.proofs.CallerLemmas.{All-at, All-every, measure-nil, wrapped_is_wrapped}
-use Rattle.comfy_parts.specs.CellValue.{CellValue, ColumnInfo, RowValue, plain_cell}
+use Rattle.comfy_parts.specs.CellValue.{CellValue, ColumnInfo, RowValue}
 use Rattle.comfy_parts.specs.Text.{Text, greatest, measure}
-use Rattle.comfy_parts.specs.VisibleLines.{CellLine}
 use Rattle.comfy_parts.specs.Wrapping.{IsWrapped, lines_of_text, wrapped}
-use Rattle.comfy_table.specs.Lines.{as_measured, cell_delimiter, cell_lines, cut_line, cut_to_height, cut_to_limit, uncut_lines}
-use Rattle.comfy_table.specs.Pieces.{cell_pieces, piece, pieces_at, pieces_of_optional, row_cell_lines}
+use Rattle.comfy_table.specs.Lines.{as_measured, cell_delimiter, cell_lines, cut_line, cut_to_limit, uncut_lines}
+use Rattle.comfy_table.specs.Pieces.{piece, pieces_at, pieces_of_optional, row_cell_lines}
 use Rattle.comfy_table.specs.TableValue.{TableValue}
 use Rattle.csv_tables.proofs.TextLineLemmas.{lines_of, text_lines}
 use Rattle.comfy_parts.specs.CellValue.{ColumnValue}

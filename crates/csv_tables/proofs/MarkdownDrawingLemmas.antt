@@ -2,7 +2,7 @@
 use Rattle.std.proofs.Common.{◌≡◌, ◌<◌, ◌≤◌, ℕ, ◌+◌, Bool, false, List, [], ◌∷◌, ◌++◌, Some, arith, flat_map, length, map, max, append-nil, refl, slice_get, ap, ap₂, sym, ◌∙◌, subst, unwrap_or, true, None, ◌⊎◌, inl, inr}
 use Rattle.std.specs.List.{All, AllZip, enumerate_from, range_with_len}
 use Rattle.std.specs.Str.{IsUtf8}
-use Rattle.std.proofs.lemmas.List.Elements.{All-cons, All-head, All-nil, All-tail, All-weaker}
+use Rattle.std.proofs.lemmas.List.Elements.{All-head, All-nil, All-tail, All-weaker}
 use Rattle.std.proofs.lemmas.Str.{IsUtf8-nil}
 use Rattle.comfy_parts.proofs.CallerLemmas.{All-of_map}
 use Rattle.comfy_parts.specs.CellValue.{ColumnInfo, RowValue, CellValue}

@@ -1,10 +1,10 @@
 -- Lists of columns and of what they need, one column after another.
-use Rattle.std.proofs.Common.{◌≡◌, ◌<◌, ◌≤◌, ◌+◌, ℕ, zero, suc, Bool, true, false, List, [], ◌∷◌, ◌++◌, Some, get_or, length, nat_le, set, take, unwrap_or, refl, ap, add-one, arith}
+use Rattle.std.proofs.Common.{◌≡◌, ◌<◌, ◌≤◌, ◌+◌, ℕ, zero, suc, Bool, true, false, List, [], ◌∷◌, ◌++◌, Some, get_or, length, set, take, unwrap_or, refl, ap, add-one, arith}
 use Rattle.std.specs.List.{slice_get}
 use Rattle.std.specs.Prelude.{if◌then◌else◌}
 use Rattle.comfy_parts.specs.CellValue.{ColumnValue}
-use Rattle.comfy_table.specs.TableValue.{TableValue, max_content_widths}
-use Rattle.csv_tables.specs.Unbroken.{framed_width, kept_unbroken, needed_content, needed_contents, constrained_column, constrained_columns, with_constrained}
+use Rattle.comfy_table.specs.TableValue.{TableValue}
+use Rattle.csv_tables.specs.Unbroken.{has_room, kept_unbroken, needed_content, needed_contents, constrained_column, constrained_columns, with_constrained}
 use Rattle.csv_tables.specs.ConstrainedAt.{constrained_at}
 
 -- one content more
@@ -66,6 +66,6 @@ broken-next unbroken i columns below is = rw add-one (broken-more unbroken i col
 -- ---- tables
 
 -- whether there is room
-pub kept-test : (width : ℕ) (unbroken : List Bool) (table : TableValue) (b : Bool) → nat_le (framed_width table.style (needed_contents unbroken (max_content_widths table))) width ≡ b
+pub kept-test : (width : ℕ) (unbroken : List Bool) (table : TableValue) (b : Bool) → has_room (Some width) unbroken table ≡ b
     → kept_unbroken (Some width) unbroken table ≡ (if b then with_constrained unbroken table else table)
 kept-test width unbroken table b is = ap (λ b. if b then with_constrained unbroken table else table) is

@@ -1,5 +1,5 @@
 -- Tables that are drawn: some of their columns are as wide as their contents, where there is room for them.
-use Rattle.std.proofs.Common.{◌≡◌, ◌≤◌, ◌⊎◌, ◌||◌, ℕ, ◌+◌, ◌-◌, inl, inr, Bool, true, false, not, List, [], Option, Some, None, is_some, length, map, nat_le, sum_by, refl, sym, ap, ◌∙◌, subst, arith}
+use Rattle.std.proofs.Common.{◌≡◌, ◌≤◌, ◌⊎◌, ◌||◌, ℕ, ◌+◌, ◌-◌, inl, inr, Bool, true, false, not, List, [], Option, Some, None, is_some, length, map, sum_by, refl, sym, ap, ◌∙◌, subst, arith}
 use Rattle.std.specs.Prelude.{if◌then◌else◌}
 use Rattle.std.specs.List.{All, AllByRecursion}
 use Rattle.std.proofs.lemmas.Bool.{leb-true}
@@ -22,7 +22,7 @@ use Rattle.csv_tables.proofs.BuiltLemmas.{Built, plain_table}
 use Rattle.csv_tables.proofs.SeparatorLemmas.{restyled, separated}
 use Rattle.csv_tables.proofs.WholeColumnLemmas.{AreNeeds, IsPaddedColumn, all_shown, are_fixed, fixed_or_one, lower-none, needs, padded_columns}
 use Rattle.csv_tables.specs.Drawn.{ContentValue, condensed_style, empty_table, output_table, rows_table, separated_table}
-use Rattle.csv_tables.specs.Unbroken.{framed_width, kept_unbroken, needed_contents, unbroken_columns, constrained_columns, with_constrained}
+use Rattle.csv_tables.specs.Unbroken.{framed_width, has_room, kept_unbroken, needed_contents, unbroken_columns, constrained_columns, with_constrained}
 use Rattle.csv_tables.specs.declared.options.Look.{Look}
 
 -- ---- room
@@ -166,9 +166,9 @@ drawn_table-is look Q content false has known = by_width look.width refl
 
     by_width : (o : Option ℕ) → look.width ≡ o → IsDrawn (separated has look) Q content (separated_table has (kept_unbroken o whole rows))
     by_width None is = own
-    by_width (Some w) is = by_test (nat_le (framed_width rows.style (needed_contents whole (max_content_widths rows))) w) refl
+    by_width (Some w) is = by_test (has_room (Some w) whole rows) refl
       where
-        by_test : (b : Bool) → nat_le (framed_width rows.style (needed_contents whole (max_content_widths rows))) w ≡ b → IsDrawn (separated has look) Q content (separated_table has (if b then with_constrained whole rows else rows))
+        by_test : (b : Bool) → has_room (Some w) whole rows ≡ b → IsDrawn (separated has look) Q content (separated_table has (if b then with_constrained whole rows else rows))
         by_test false test = own
         by_test true test =
             record {

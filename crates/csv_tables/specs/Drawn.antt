@@ -1,5 +1,5 @@
 -- What is drawn of some records, and what is written of it.
-use Rattle.std.specs.Prelude.{ℕ, zero, suc, ◌+◌, Bool, true, false, not, ◌&&◌, ◌≡◌, nat_lt, min, List, [], ◌∷◌, ◌++◌, Option, Some, None, Result, Ok, Err, codes, decimal, drop, flat_map, length, map, slice_get, slice_index_or, sum_by, take, unwrap_or, if◌then◌else◌, ◌⊎◌, ◌*◌}
+use Rattle.std.specs.Prelude.{ℕ, zero, suc, ◌+◌, Bool, true, false, not, ◌&&◌, ◌≡◌, nat_lt, List, [], ◌∷◌, ◌++◌, Option, Some, None, Result, Ok, Err, codes, decimal, drop, flat_map, length, map, slice_get, slice_index_or, sum_by, take, unwrap_or, if◌then◌else◌, ◌⊎◌}
 use Rattle.std.specs.List.{list_any, range_with_len}
 use Rattle.comfy_parts.specs.CellValue.{RowValue}
 use Rattle.comfy_parts.specs.Presets.{ascii_markdown}
@@ -26,7 +26,7 @@ use Rattle.csv_tables.specs.declared.options.Options.{Options}
 use Rattle.csv_tables.specs.declared.options.RowSeparators.{RowSeparators}
 use Rattle.csv_tables.specs.declared.options.RowSeparators.TheVariants.{Styled, Needed, Never}
 use Rattle.csv_tables.specs.declared.options.DrawnColumn.{DrawnColumn}
-use Rattle.csv_tables.specs.Unbroken.{framed_width, kept_unbroken, unbroken_columns}
+use Rattle.csv_tables.specs.Unbroken.{has_room, kept_unbroken, unbroken_columns}
 
 -- ---- records
 
@@ -188,23 +188,22 @@ separators_in true Never = Never
 
 -- ---- expanded records
 
--- borders, paddings, and for each column its content, of which four terminal columns count at most
-abbrev pub least_width : TableValue → ℕ
-least_width table =
-    framed_width table.style (map (λ content. min content 4) (max_content_widths table))
+-- whether records are expanded: always, never, or where there is no room for the table of rows
+abbrev pub is_expanded_in : Expansion → Bool → Bool
+is_expanded_in Always has_room = true
+is_expanded_in NeverExpanded has_room = false
+is_expanded_in Auto has_room = not has_room
 
--- whether records are expanded: always, never, or where the width of a table of rows is less than
--- that
-abbrev pub is_expanded_in : Expansion → Option ℕ → TableValue → Bool
-is_expanded_in Always width table = true
-is_expanded_in NeverExpanded width table = false
-is_expanded_in Auto None table = false
-is_expanded_in Auto (Some width) table = nat_lt width (least_width table)
+-- whether those of a table are
+abbrev pub is_table_expanded : Look → ContentValue → Bool
+is_table_expanded look content =
+    is_expanded_in look.expansion
+    (has_room look.width (unbroken_columns look.has_sequences content.columns content.rows)
+    (rows_table look content))
 
--- whether an output has expanded records: none for Markdown
+-- whether those of an output are: none for Markdown
 abbrev pub is_expanded_for : Look → ContentValue → Bool
-is_expanded_for look content =
-    not look.is_markdown && is_expanded_in look.expansion look.width (rows_table look content)
+is_expanded_for look content = not look.is_markdown && is_table_expanded look content
 
 -- how many records there are, in words: `more` where that isn't known
 abbrev pub count_text : Option ℕ → Text
@@ -264,7 +263,7 @@ markdown_style =
 -- the text of a table of rows, or of expanded records
 pub record RendersAsTable (look : Look) (content : ContentValue) (text : Text) : Type 0 where
   pub is_expanded : Bool
-  pub expansion : is_expanded ≡ is_expanded_in look.expansion look.width (rows_table look content)
+  pub expansion : is_expanded ≡ is_table_expanded look content
   pub drawn : RendersTable is_expanded look content text
 
 -- for Markdown a record is one line, whatever else is wanted

@@ -1,10 +1,11 @@
 -- What is so of every output.
-use Rattle.std.specs.Prelude.{◌≡◌, ◌⊎◌, ℕ, ◌+◌, ◌<◌, ◌≤◌, Bool, true, false, List, [], ◌++◌, Option, Some, None, Ok, All, Contains, flat_map, length, map, max, slice_get, slice_index, unwrap_or}
+use Rattle.std.specs.Prelude.{◌≡◌, ◌⊎◌, ℕ, ◌+◌, ◌<◌, ◌≤◌, Bool, true, false, List, [], ◌∷◌, ◌++◌, Option, Some, None, Ok, All, Contains, flat_map, length, map, max, slice_get, slice_index, unwrap_or}
 use Rattle.std.specs.List.{range_with_len}
-use Rattle.comfy_parts.specs.CellValue.{plain_cell}
+use Rattle.comfy_parts.specs.CellValue.{CellValue, plain_cell}
 use Rattle.comfy_parts.specs.Columns.{CharactersFit, IsOneColumnStyle, SelectorsAgree}
 use Rattle.comfy_parts.specs.Text.{Text, is_printable_ascii, measure}
 use Rattle.comfy_parts.specs.VisibleText.{visible_text}
+use Rattle.comfy_parts.specs.Wrapping.{lines_of_text}
 use Rattle.comfy_table.specs.Arrangement.{IsArranged}
 use Rattle.comfy_table.specs.Drawing.{infos_of, terminated_text_of}
 use Rattle.comfy_table.specs.Pieces.{row_height, shown_infos}
@@ -13,15 +14,16 @@ use Rattle.comfy_table.specs.Headline.{LineWidthsSatisfy, IsTableDrawing}
 use Rattle.comfy_table.specs.Laws.{AreLinesOf, HasNoBreak, HasNoControl, IsPrintableTable, IsStyleWithout, count, least_total}
 use Rattle.comfy_table.specs.NewTables.{AreEquallyWide}
 use Rattle.comfy_table.specs.Straight.{EachCell}
-use Rattle.comfy_table.specs.TableValue.{TableValue, column_content_width, max_content_widths}
+use Rattle.comfy_table.specs.TableValue.{TableValue, column_cells, column_content_width}
 use Rattle.comfy_table.specs.Widths.{shown_count}
 use Rattle.csv_tables.specs.Cells.{field_text, row_for}
 use Rattle.csv_records.specs.Cleaning.{visible_of}
 use Rattle.csv_tables.specs.Columns.{count_of, kept_columns}
 use Rattle.csv_tables.specs.Controls.{HasNoStrayControl, IsStyleWithoutControls}
-use Rattle.csv_tables.specs.Drawn.{ContentValue, RendersBeginning, RendersInput, RendersRecords, content_of, drawn_rows, is_expanded_for, names_of, note_for, output_table, record_line, rows_table, separated_table, table_for}
-use Rattle.csv_tables.specs.Unbroken.{framed_width, needed_contents, unbroken_columns}
+use Rattle.csv_tables.specs.Drawn.{ContentValue, RendersBeginning, RendersInput, RendersRecords, content_of, drawn_rows, is_expanded_for, names_of, note_for, output_table, record_line, separated_table, table_for}
+use Rattle.csv_tables.specs.Unbroken.{unbroken_columns}
 use Rattle.csv.specs.Records.{AllText}
+use Rattle.csv_tables.specs.declared.options.Expansion.TheVariants.{Auto, Never}
 use Rattle.csv_tables.specs.declared.options.Look.{Look}
 use Rattle.csv_tables.specs.declared.options.Options.{Options}
 use Rattle.csv_tables.specs.declared.options.DrawnColumn.{DrawnColumn}
@@ -164,18 +166,35 @@ PrintableLinesHave P visible options records output =
 
 -- ---- numbers and dates
 
--- where a width has room for the columns that aren't broken, none of them is drawn narrower than
--- its content
-abbrev pub UnbrokenColumnIsWhole : ℕ → Look → ContentValue → Bool → List ℕ → ℕ → Type 0
-UnbrokenColumnIsWhole w look content has_separators widths i =
-    look.width ≡ Some w
-    → framed_width (rows_table look content).style
-    (needed_contents (unbroken_columns look.has_sequences content.columns content.rows)
-    (max_content_widths (rows_table look content))) ≤ w
+-- a column is drawn at least as wide as its content, so that each text line of its cells, as it is
+-- measured, stands on one line as it is, where that takes no more than 65535 terminal columns
+pub record IsWholeColumn (table : TableValue) (i width : ℕ) : Type 0 where
+  pub content : column_content_width table i ≤ width
+  pub lines :
+      All (λ (cell : CellValue). All (λ (line : Text). measure line ≤ 65535 → (delimiter : ℕ)
+      → lines_of_text width delimiter line ≡ line ∷ []) cell.text_lines)
+      (column_cells table i)
+
+-- so are the columns of numbers and dates of the table that is drawn
+abbrev pub UnbrokenColumnsAreWhole : Look → ContentValue → Type 0
+UnbrokenColumnsAreWhole look content =
+    (table : TableValue) (widths : List ℕ) (i : ℕ) → IsDrawnTable look content table
+    → IsArranged table widths → i < length table.columns
     → slice_get (unbroken_columns look.has_sequences content.columns content.rows) i ≡ Some true
-    → i < length (rows_table look content).columns
-    → IsArranged (separated_table has_separators (output_table false look content)) widths
-    → column_content_width (rows_table look content) i ≤ slice_index widths i
+    → IsWholeColumn table i (slice_index widths i)
+
+-- under `auto` they are where records aren't expanded
+abbrev pub AutoKeepsWhole : ℕ → Look → ContentValue → Type 0
+AutoKeepsWhole w look content =
+    look.is_markdown ≡ false → look.width ≡ Some w → look.expansion ≡ Auto
+    → is_expanded_for look content ≡ false → UnbrokenColumnsAreWhole look content
+
+-- under `never` they are where there is room, so where `auto` wouldn't expand them
+abbrev pub NeverKeepsWhole : ℕ → Look → ContentValue → Type 0
+NeverKeepsWhole w look content =
+    look.is_markdown ≡ false → look.width ≡ Some w → look.expansion ≡ Never
+    → is_expanded_for (record look { expansion = Auto }) content ≡ false
+    → UnbrokenColumnsAreWhole look content
 
 -- ---- straight edges
 

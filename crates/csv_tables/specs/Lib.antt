@@ -5,7 +5,6 @@ pub mod Controls
 pub mod Drawn
 pub mod Errors
 pub mod Hints
-pub mod KeptContents
 pub mod Laws
 pub mod Markdown
 pub mod MarkdownLines

@@ -1,6 +1,5 @@
--- Columns that aren't broken over lines: which they are, and that all of them are as wide as their
--- contents, or none.
-use Rattle.std.specs.Prelude.{ℕ, ◌+◌, Bool, ◌==◌, ◌&&◌, ◌||◌, false, List, [], ◌∷◌, Option, Some, None, chars, codes, length, map, max, min, nat_le, sum_by, if◌then◌else◌}
+-- Columns that aren't broken over lines: which they are, and where a width has room for them.
+use Rattle.std.specs.Prelude.{ℕ, ◌+◌, Bool, ◌==◌, ◌&&◌, ◌||◌, true, false, List, [], ◌∷◌, Option, Some, None, chars, codes, length, map, max, min, nat_le, sum_by, if◌then◌else◌}
 use Rattle.std.specs.Char.{is_ascii_digit}
 use Rattle.std.specs.List.{list_all, list_any}
 use Rattle.comfy_parts.specs.CellValue.{ColumnValue}
@@ -43,10 +42,10 @@ unbroken_columns keeps_sequences columns rows =
     map (λ (column : DrawnColumn). is_unbroken_column
     (map (seen keeps_sequences) rows) column.position) columns
 
--- what a column needs of its content: all, or at most eight terminal columns where it may be
+-- what a column needs of its content: all, or at most four terminal columns where it may be
 -- broken; at least one
 abbrev pub needed_content : Bool → ℕ → ℕ
-needed_content is_unbroken content = max 1 (if is_unbroken then content else min content 8)
+needed_content is_unbroken content = max 1 (if is_unbroken then content else min content 4)
 
 -- so each column; columns past the list may be broken
 abbrev pub needed_contents : List Bool → List ℕ → List ℕ
@@ -54,6 +53,16 @@ needed_contents [] contents = map (needed_content false) contents
 needed_contents (is_unbroken ∷ more) [] = []
 needed_contents (is_unbroken ∷ more) (content ∷ contents) =
     needed_content is_unbroken content ∷ needed_contents more contents
+
+-- the least width of a table of rows: its borders, its paddings, and what its columns need
+abbrev pub least_width : List Bool → TableValue → ℕ
+least_width unbroken table =
+    framed_width table.style (needed_contents unbroken (max_content_widths table))
+
+-- whether a width that is kept has room for that
+abbrev pub has_room : Option ℕ → List Bool → TableValue → Bool
+has_room None unbroken table = true
+has_room (Some width) unbroken table = nat_le (least_width unbroken table) width
 
 -- a column that is as wide as its content
 abbrev pub constrained_column : Bool → ColumnValue → ColumnValue
@@ -71,11 +80,8 @@ abbrev pub with_constrained : List Bool → TableValue → TableValue
 with_constrained unbroken table =
     record table { columns = constrained_columns unbroken table.columns }
 
--- so is a table where a width is kept that has room for all these columns, and for what the others
--- need; else it stays
+-- so is a table where a width is kept that has room for all of them; else it stays
 abbrev pub kept_unbroken : Option ℕ → List Bool → TableValue → TableValue
 kept_unbroken None unbroken table = table
 kept_unbroken (Some width) unbroken table =
-    if nat_le (framed_width table.style (needed_contents unbroken (max_content_widths table))) width
-    then with_constrained unbroken table
-    else table
+    if has_room (Some width) unbroken table then with_constrained unbroken table else table

@@ -1,60 +1,24 @@
 //! Records that are expanded: each is drawn as a table of its own, of names and fields.
 
-ghost use Rattle.std.specs.Prelude.{◌≡◌, ◌+◌, ◌++◌, ◌-◌, ◌^◌, IfOk, OnOk, map, min, string_bytes, true};
+ghost use Rattle.std.specs.Prelude.{◌≡◌, ◌+◌, ◌++◌, IfOk, OnOk, string_bytes, true};
 ghost use Rattle.comfy_table.specs.Drawing.{terminated_text_of};
-ghost use Rattle.comfy_table.specs.TableValue.{max_content_widths};
-ghost use Rattle.csv_tables.specs.KeptContents.{AreKeptContents};
-ghost use Rattle.csv_tables.specs.Drawn.{is_expanded_in, least_width, record_line, separators_in, some_lines, table_text};
+ghost use Rattle.csv_tables.specs.Drawn.{is_expanded_in, record_line, separators_in, some_lines, table_text};
 
 use crate::content::Content;
-use crate::options::{Expansion, Look, RowSeparators};
+use crate::options::{Expansion, RowSeparators};
 use crate::output::push_count;
-use crate::unbroken::framed_width;
-use comfy_table::{ArrangedTable, Result, Table, TableError};
-use std::alloc::{AllocError, Global};
+use comfy_table::{ArrangedTable, Result, TableError};
 use std::fmt::Write;
 
-// How many terminal columns of its content a column has at least where records aren't expanded.
-const LEAST_CONTENT: u16 = 4;
-
-/// Whether records are expanded, this being the table of their rows, and these its contents.
-pub(crate) fn is_expanded(
-    alloc: Global,
-    table: &Table,
-    contents: &[u16],
-    look: &Look,
-) -> Result<bool>
-    requires { AreKeptContents look.now.width table.now contents.now }
-    ensures { IfOk result (λ is. is ≡ is_expanded_in look.now.expansion look.now.width table.now) }
+/// Whether records are expanded, where a width has room for the table of their rows, or hasn't.
+pub(crate) fn is_expanded(expansion: Expansion, has_room: bool) -> bool
+    ensures { result ≡ is_expanded_in expansion has_room }
 {
-    match (look.expansion, look.width) {
-        (Expansion::Always, _) => Ok(true),
-        (Expansion::Auto, Some(width)) => {
-            let least = least_width(alloc, table, contents)?;
-            Ok(usize::from(width) < least)
-        }
-        _ => Ok(false),
+    match expansion {
+        Expansion::Always => true,
+        Expansion::Never => false,
+        Expansion::Auto => !has_room,
     }
-}
-
-// Borders, paddings, and for each column its content, of which four terminal columns count at most.
-fn least_width(alloc: Global, table: &Table, contents: &[u16]) -> Result<usize>
-    requires { contents.now ≡ max_content_widths table.now }
-    ensures { IfOk result (λ width. width ≡ min (2 ^ 64 - 1) (least_width table.now)) }
-{
-    let least = least_contents(alloc, contents)?;
-    Ok(framed_width(table, least.as_slice()))
-}
-
-// Of these contents, what each column has at least.
-fn least_contents(alloc: Global, contents: &[u16]) -> std::result::Result<Vec<u16>, AllocError>
-    ensures { IfOk result (λ least. least.items ≡ map (λ content. min content 4) contents.now) }
-{
-    let mut least = Vec::with_capacity(alloc, contents.len())?;
-    for content in contents {
-        least.push((*content).min(LEAST_CONTENT))?;
-    }
-    Ok(least)
 }
 
 /// Where lines between the fields of a record are drawn: none that only tall rows would need, since

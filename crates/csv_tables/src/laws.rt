@@ -6,7 +6,7 @@ ghost use Rattle.comfy_parts.specs.Text.{Text};
 ghost use Rattle.comfy_table.specs.TableValue.{TableValue};
 ghost use Rattle.csv_tables.specs.ColumnLaws.{KeepsChosenColumns};
 ghost use Rattle.csv_tables.specs.Drawn.{ContentValue};
-ghost use Rattle.csv_tables.specs.Laws.{BeginningIsDrawnWithoutControls, FittingOutputIsStraight, InputIsDrawnWithoutControls, IsFilling, IsWithin, MarkdownOutputIsStraight, NarrowLinesHave, NarrowOutputIsStraight, OutputFillsWidth, OutputHoldsNoControls, OutputKeepsToWidth, PrintableFieldsStay, PrintableLinesHave, PrintableTextsMakePrintableTable, RecordsHaveLines, TableKeepsRows, UnbrokenColumnIsWhole, WholeOutputIsStraight};
+ghost use Rattle.csv_tables.specs.Laws.{AutoKeepsWhole, BeginningIsDrawnWithoutControls, FittingOutputIsStraight, InputIsDrawnWithoutControls, IsFilling, IsWithin, MarkdownOutputIsStraight, NarrowLinesHave, NarrowOutputIsStraight, NeverKeepsWhole, OutputFillsWidth, OutputHoldsNoControls, OutputKeepsToWidth, PrintableFieldsStay, PrintableLinesHave, PrintableTextsMakePrintableTable, RecordsHaveLines, TableKeepsRows, WholeOutputIsStraight};
 ghost use Rattle.csv_tables.specs.Markdown.{IsReadBack};
 ghost use Rattle.csv_tables.specs.MarkdownLines.{MarkdownGivesRecordsBack};
 ghost use Rattle.csv_tables.specs.OneOutput.{OutputIsOne, OutputOfIsOne};
@@ -56,11 +56,14 @@ pub fn outputs_keep_to_a_width()
         → NarrowLinesHave (IsFilling w) visible options records output }
 {}
 
-/// Where a width has room for the columns of numbers and dates, and for what the others need, none
-/// of them is drawn narrower than its content, with lines between rows or without.
-pub fn numbers_and_dates_are_whole()
-    ensures { (w : ℕ) (look : Look) (content : ContentValue) (has_separators : Bool)
-        (widths : List ℕ) (i : ℕ) → UnbrokenColumnIsWhole w look content has_separators widths i }
+/// Under `auto` with a width no number and no date of a column of them is broken over lines, where
+/// records aren't expanded: the column is at least as wide as its content, its name in the header
+/// included, and each line of its texts stands on one line as it is. So it is under `never` at each
+/// width at which `auto` wouldn't expand the records.
+pub fn auto_keeps_numbers_and_dates_whole()
+    ensures auto { (w : ℕ) (look : Look) (content : ContentValue) → AutoKeepsWhole w look content }
+    ensures never { (w : ℕ) (look : Look) (content : ContentValue)
+        → NeverKeepsWhole w look content }
 {}
 
 /// Fields of printable ASCII are drawn as such texts. These make a table of printable ASCII, where

@@ -3,8 +3,7 @@
 ghost use Rattle.std.specs.Prelude.{◌≡◌, ◌∷◌, ◌++◌, IfOk, IfErr, OnOk, false, map, string_bytes, true};
 ghost use Rattle.csv_tables.specs.Columns.{IsColumnsRefusal};
 ghost use Rattle.csv_tables.specs.Markdown.{rule_line};
-ghost use Rattle.csv_tables.specs.KeptContents.{AreKeptContents};
-ghost use Rattle.csv_tables.specs.Drawn.{RendersAsMarkdown, RendersAsTable, RendersContent, RendersFound, RendersTable, are_more, content_counted, content_of, count_text, note_for, rows_table};
+ghost use Rattle.csv_tables.specs.Drawn.{RendersAsMarkdown, RendersAsTable, RendersContent, RendersFound, RendersTable, are_more, content_counted, content_of, count_text, note_for, output_table};
 
 use crate::content::Content;
 use crate::error::ColumnsError;
@@ -61,33 +60,20 @@ fn table_text(content: Content, look: &Look) -> Result<String>
     if look.expansion == Expansion::Always {
         return expanded_text(content, look);
     }
-    let table = content.rows_table(look)?;
-    let contents = kept_contents(content.alloc, &table, look)?;
-    if is_expanded(content.alloc, &table, contents.as_slice(), look)? {
+    let mut table = content.rows_table(look)?;
+    let has_room = keep_unbroken(&mut table, &content, look)?;
+    if is_expanded(look.expansion, has_room) {
         drop(table);
-        expanded_text(content, look)
-    } else {
-        rows_text(content, table, contents.as_slice(), look)
+        return expanded_text(content, look);
     }
+    rows_text(content, table, look)
 }
 
-// How wide the contents of the columns are, where a width is kept. Elsewhere nothing asks for it.
-fn kept_contents(alloc: Global, table: &Table, look: &Look) -> Result<Vec<u16>>
-    ensures { IfOk result (λ contents. AreKeptContents look.now.width table.now contents.items) }
-{
-    match look.width {
-        Some(_) => table.column_max_content_widths(),
-        None => Ok(Vec::new(alloc)),
-    }
-}
-
-// The text of this table of rows, whose columns have these contents.
-fn rows_text(content: Content, mut table: Table, contents: &[u16], look: &Look) -> Result<String>
-    requires rows { table ≡ rows_table look.now content }
-    requires contents { AreKeptContents look.now.width table contents.now }
+// The text of this table of rows.
+fn rows_text(content: Content, mut table: Table, look: &Look) -> Result<String>
+    requires { table ≡ output_table false look.now content }
     ensures { IfOk result (λ text. RendersTable false look.now content (string_bytes text)) }
 {
-    keep_unbroken(&mut table, contents, &content, look)?;
     separate_rows(&mut table, look.separators)?;
     let mut text = String::new(content.alloc);
     // The table has all that is drawn, and the text needs as much memory as the records gave.

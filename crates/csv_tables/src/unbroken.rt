@@ -3,8 +3,7 @@
 ghost use Rattle.std.specs.Prelude.{◌≡◌, ◌-◌, ◌^◌, IfOk, OnOk, Some, chars, false, length, map, min, nat_le, slice_get, true, unwrap_or};
 ghost use Rattle.std.specs.List.{list_all};
 ghost use Rattle.csv_tables.specs.Columns.{seen};
-ghost use Rattle.csv_tables.specs.KeptContents.{AreKeptContents};
-ghost use Rattle.csv_tables.specs.Unbroken.{framed_width, is_of_dates, is_unbroken, is_unbroken_column, kept_unbroken, needed_content, needed_contents, unbroken_columns, constrained_column, with_constrained};
+ghost use Rattle.csv_tables.specs.Unbroken.{framed_width, has_room, is_of_dates, is_unbroken, is_unbroken_column, kept_unbroken, needed_content, needed_contents, unbroken_columns, constrained_column, with_constrained};
 ghost use Rattle.csv_tables.specs.ConstrainedAt.{constrained_at};
 
 use crate::columns::seen_field;
@@ -19,30 +18,28 @@ use std::alloc::{AllocError, Global};
 const LONGEST: usize = 25;
 
 // How many terminal columns of its content another column needs at most.
-const NEEDED_CONTENT: u16 = 8;
+const NEEDED_CONTENT: u16 = 4;
 
 /// Lets the columns of numbers and dates be as wide as their contents, where a width is kept that
-/// has room for all of them and for what the other columns need. The contents are the table's.
-pub(crate) fn keep_unbroken(
-    table: &mut Table,
-    contents: &[u16],
-    content: &Content,
-    look: &Look,
-) -> Result<()>
-    requires { AreKeptContents look.now.width table.old contents.now }
-    ensures { OnOk result (table.new
+/// has room for all of them and for what the other columns need. Returns whether it has, as no
+/// width has.
+pub(crate) fn keep_unbroken(table: &mut Table, content: &Content, look: &Look) -> Result<bool>
+    ensures table { OnOk result (table.new
         ≡ kept_unbroken look.now.width
+        (unbroken_columns look.now.has_sequences content.now.columns content.now.rows) table.old) }
+    ensures has_room { IfOk result (λ has. has
+        ≡ has_room look.now.width
         (unbroken_columns look.now.has_sequences content.now.columns content.now.rows) table.old) }
 {
     let Some(width) = look.width else {
-        return Ok(());
+        return Ok(true);
     };
     let unbroken = unbroken_columns(content, look.has_sequences)?;
-    let needed = needed_contents(content.alloc, unbroken.as_slice(), contents)?;
-    if has_room(table, needed.as_slice(), width) {
+    let has_room = has_room(content.alloc, table, unbroken.as_slice(), width)?;
+    if has_room {
         constrain_columns(table, unbroken.as_slice());
     }
-    Ok(())
+    Ok(has_room)
 }
 
 // Of each drawn column, whether it holds numbers and dates alone.
@@ -64,6 +61,15 @@ fn unbroken_columns(
         unbroken.push(is_unbroken)?;
     }
     Ok(unbroken)
+}
+
+// Whether a width has room for a table of rows, whose columns these are.
+fn has_room(alloc: Global, table: &Table, unbroken: &[bool], width: u16) -> Result<bool>
+    ensures { IfOk result (λ has. has ≡ has_room (Some width) unbroken.now table.now) }
+{
+    let contents = table.column_max_content_widths()?;
+    let needed = needed_contents(alloc, unbroken, contents.as_slice())?;
+    Ok(framed_width(table, needed.as_slice()) <= usize::from(width))
 }
 
 // What the columns need of these contents.
@@ -100,15 +106,8 @@ fn needed_content(is_unbroken: bool, content: u16) -> u16
     }
 }
 
-// Whether a width has room for columns of these contents.
-fn has_room(table: &Table, contents: &[u16], width: u16) -> bool
-    ensures { result ≡ nat_le (framed_width table.now.style contents.now) width }
-{
-    framed_width(table, contents) <= usize::from(width)
-}
-
-/// The width of a line of a table over columns of these contents: borders, contents and paddings.
-pub(crate) fn framed_width(table: &Table, contents: &[u16]) -> usize
+// The width of a line of a table over columns of these contents: borders, contents and paddings.
+fn framed_width(table: &Table, contents: &[u16]) -> usize
     ensures { result ≡ min (2 ^ 64 - 1) (framed_width table.now.style contents.now) }
 {
     let mut width = count_border_columns(table, contents.len());

@@ -17,12 +17,8 @@ use Rattle.csv_records.specs.Input.{line_breaks as line_breaks_of, line_number}
 use Rattle.csv_records.specs.declared.cleaning.CleanOptions.{CleanOptions}
 use Rattle.csv_tables.specs.Columns.{alignment_for, columns_with, position_named, positions_of_word, seen, is_number_column}
 use Rattle.csv_tables.specs.Columns.ColumnFault.{missing, none_left, two_sided}
-use Rattle.csv_tables.specs.Drawn.{condensed_style, is_expanded_in, least_width, limited, note_for, record_line}
+use Rattle.csv_tables.specs.Drawn.{condensed_style, limited, note_for, record_line}
 use Rattle.csv_tables.specs.Markdown.{rule_line}
-use Rattle.csv_tables.specs.declared.options.Expansion.TheVariants.{Always, Auto, Never}
-use Rattle.comfy_parts.specs.CellValue.{plain_cell, plain_row}
-use Rattle.comfy_parts.specs.Presets.{ascii_full}
-use Rattle.comfy_table.specs.TableValue.{TableValue, new_table, with_rows}
 use Rattle.csv_tables.specs.Markdown.{escaped, unescaped}
 use Rattle.csv_tables.specs.References.{begins_reference}
 use Rattle.csv_records.specs.Number.{is_neutral, is_number}
@@ -279,21 +275,6 @@ third_record = refl
 third_of_more : record_line 3 None ≡ codes "record 3 of more\n"
 unfolding digits
 third_of_more = refl
-
--- a column with a header and a field of seven letters, drawn with a border at each side: its least width is 8
-abbrev seven : TableValue
-seven = with_rows (plain_row (plain_cell (codes "letters") ∷ []) ∷ []) (new_table ascii_full)
-
-least : least_width seven ≡ 8
-unfolding wrapping
-least = refl
-
-narrow : map (λ width. is_expanded_in Auto width seven) (Some 7 ∷ Some 8 ∷ None ∷ []) ≡ true ∷ false ∷ false ∷ []
-unfolding wrapping
-narrow = refl
-
-by_word : map (λ expansion. is_expanded_in expansion (Some 8) seven) (Always ∷ Never ∷ []) ≡ true ∷ false ∷ []
-by_word = refl
 
 first_rows : limited {A = ℕ} (Some 2) (1 ∷ 2 ∷ 3 ∷ []) ≡ 1 ∷ 2 ∷ []
 first_rows = refl

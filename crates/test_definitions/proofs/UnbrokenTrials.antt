@@ -11,8 +11,12 @@ use Rattle.comfy_parts.specs.Presets.{ascii_full}
 use Rattle.comfy_parts.specs.Text.{Text}
 use Rattle.comfy_parts.specs.declared.style.column.ColumnConstraint.{ColumnConstraint}
 use Rattle.comfy_parts.specs.declared.style.column.ColumnConstraint.TheVariants.{ContentWidth}
-use Rattle.comfy_table.specs.TableValue.{TableValue, column_content_width, new_table, with_rows}
-use Rattle.csv_tables.specs.Unbroken.{framed_width, is_unbroken, is_unbroken_column, kept_unbroken, needed_contents}
+use Rattle.comfy_table.specs.TableValue.{TableValue, new_table, with_rows}
+use Rattle.comfy_parts.specs.Wrapping.{lines_of_text}
+use Rattle.csv_tables.specs.Drawn.{is_expanded_in}
+use Rattle.csv_tables.specs.Laws.{IsWholeColumn}
+use Rattle.csv_tables.specs.Unbroken.{framed_width, is_unbroken, is_unbroken_column, kept_unbroken, least_width, needed_contents}
+use Rattle.csv_tables.specs.declared.options.Expansion.TheVariants.{Always, Auto, Never}
 
 abbrev texts : List String → List Text
 texts words = map (λ (word : String). codes word) words
@@ -32,17 +36,22 @@ columns : map (is_unbroken_column (texts ("1" ∷ "a" ∷ []) ∷ texts ("2" ∷
 unfolding chars lib.Utf8.encode ucd_category field_at
 columns = refl
 
--- all of the first content, eight of the second, and columns past the list
-needed : needed_contents (true ∷ false ∷ []) (10 ∷ 14 ∷ 3 ∷ 0 ∷ []) ≡ 10 ∷ 8 ∷ 3 ∷ 1 ∷ []
+-- all of the first content, four of the second, and columns past the list
+needed : needed_contents (true ∷ false ∷ []) (10 ∷ 14 ∷ 3 ∷ 0 ∷ []) ≡ 10 ∷ 4 ∷ 3 ∷ 1 ∷ []
 needed = refl
 
 -- four borders, and two paddings each
 framed : framed_width ascii_full (10 ∷ 9 ∷ 8 ∷ []) ≡ 37
 framed = refl
 
--- a column of seven letters has a width of eleven with its frame
+-- a column of seven letters, with two borders and two paddings
 abbrev seven : TableValue
 seven = with_rows (plain_row (plain_cell (codes "letters") ∷ []) ∷ []) (new_table ascii_full)
+
+-- it is needed whole, or four of it
+least : map (λ unbroken. least_width (unbroken ∷ []) seven) (true ∷ false ∷ []) ≡ 11 ∷ 8 ∷ []
+unfolding wrapping
+least = refl
 
 abbrev constraints : Option ℕ → List (Option ColumnConstraint)
 constraints width = map (λ (column : ColumnValue). column.constraint) (kept_unbroken width (true ∷ []) seven).columns
@@ -58,8 +67,24 @@ no_room = refl
 no_width : constraints None ≡ None ∷ []
 no_width = refl
 
--- a column of six for its seven letters
--- false: csv_tables::laws::numbers_and_dates_are_whole
-narrower_than_its_content : ¬ (column_content_width seven 0 ≤ slice_index (6 ∷ []) 0)
+-- records are expanded below that width: where the column isn't broken, and where it may be
+narrow : map (λ width. is_expanded_in Auto width (true ∷ []) seven) (Some 10 ∷ Some 11 ∷ None ∷ []) ≡ true ∷ false ∷ false ∷ []
 unfolding wrapping
-narrower_than_its_content fits = let is : 7 ≤ 6 = fits in omega (arith, is)
+narrow = refl
+
+narrower : map (λ width. is_expanded_in Auto width (false ∷ []) seven) (Some 7 ∷ Some 8 ∷ None ∷ []) ≡ true ∷ false ∷ false ∷ []
+unfolding wrapping
+narrower = refl
+
+by_word : map (λ expansion. is_expanded_in expansion (Some 8) (true ∷ []) seven) (Always ∷ Never ∷ []) ≡ true ∷ false ∷ []
+by_word = refl
+
+-- a column of six for its seven letters is narrower than its content, and breaks them
+-- false: csv_tables::laws::auto_keeps_numbers_and_dates_whole
+narrower_than_its_content : ¬ (IsWholeColumn seven 0 (slice_index (6 ∷ []) 0))
+unfolding wrapping
+narrower_than_its_content whole = let is : 7 ≤ 6 = whole.content in omega (arith, is)
+
+broken_over_lines : ¬ (lines_of_text 6 0x20 (codes "letters") ≡ codes "letters" ∷ [])
+unfolding wrapping
+broken_over_lines same = cc same

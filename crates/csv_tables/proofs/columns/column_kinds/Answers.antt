@@ -1,6 +1,6 @@
 use Rattle.std.proofs.Common.{List, map, subst, sym}
 use Rattle.comfy_parts.specs.Text.{Text}
-use Rattle.csv_tables.specs.Columns.{joined_kinds, seen}
+use Rattle.csv_tables.specs.Columns.{seen}
 use Rattle.csv_tables.specs.declared.columns.FieldKind.{FieldKind}
 use Rattle.csv_tables.proofs.KindLemmas.{AreKindsWith, all_records, one_record_more}
 use Rattle.csv_tables.proofs.columns.column_kinds.Goals as goal

@@ -6,7 +6,7 @@ use Rattle.csv_records.specs.Cleaning.{visible_of}
 use Rattle.csv_tables.specs.Cells.{field_or_blank}
 use Rattle.csv_tables.specs.Columns.{joined_kind, joined_kinds, kind_of, seen}
 use Rattle.csv_tables.specs.declared.columns.FieldKind.{FieldKind}
-use Rattle.csv_tables.specs.declared.columns.FieldKind.TheVariants.{Neutral, Other}
+use Rattle.csv_tables.specs.declared.columns.FieldKind.TheVariants.{Neutral}
 use Rattle.csv_tables.proofs.KindLemmas.{joined-more, other-stays, with_kind}
 use Rattle.csv_tables.proofs.columns.join_kinds.Goals as goal
 use Rattle.csv_tables.proofs.columns.join_kinds.Goals.{in-Other, in_default+in_ok-kind_at-in_default+in_ok-put_kind-in_default}

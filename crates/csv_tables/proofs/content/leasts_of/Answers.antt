@@ -1,4 +1,4 @@
-use Rattle.std.proofs.Common.{◌≡◌, ◌≤◌, ◌<◌, ◌+◌, ◌-◌, ◌∷◌, [], ◌++◌, ℕ, List, None, ap, ap₂, arith, drop, length, min, reverse, sym, ◌∙◌}
+use Rattle.std.proofs.Common.{◌≡◌, ◌<◌, ◌+◌, ◌-◌, ◌∷◌, [], ℕ, List, None, ap, ap₂, arith, drop, length, min, reverse, sym, ◌∙◌}
 use Rattle.std.specs.List.{slice_index_or}
 use Rattle.std.proofs.lemmas.List.{drop_all, drop_more, reverse-append}
 use Rattle.csv_tables.specs.Leasts.{least_position, least_positions}

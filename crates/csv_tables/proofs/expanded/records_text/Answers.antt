@@ -1,4 +1,4 @@
-use Rattle.std.proofs.Common.{◌≡◌, ◌≤◌, ◌<◌, ◌+◌, ◌++◌, ◌∷◌, [], ℕ, List, Option, suc, ap, ap₂, arith, drop, flat_map, length, string_bytes, subst, sym, take, ◌∙◌}
+use Rattle.std.proofs.Common.{◌≡◌, ◌≤◌, ◌+◌, ◌++◌, [], ℕ, List, Option, suc, ap, ap₂, arith, drop, flat_map, length, string_bytes, sym, take, ◌∙◌}
 use Rattle.std.specs.Iterator.Adapters.{enumerate_count, enumerate_source}
 use Rattle.std.specs.List.{range_with_len, slice_index_or}
 use Rattle.std.specs.Prelude.{sum_by}

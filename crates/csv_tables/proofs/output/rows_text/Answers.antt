@@ -1,7 +1,6 @@
 use Rattle.std.proofs.Common.{◌++◌, ap, ap₂, false, length, string_bytes, subst, sym, ◌∙◌}
 use Rattle.csv_tables.proofs.OutputLemmas.{text_of_table}
 use Rattle.csv_tables.specs.Separators.{AreRowsSeparated}
-use Rattle.csv_tables.specs.Unbroken.{kept_unbroken, unbroken_columns}
 use Rattle.comfy_table.specs.Parts.{part_text}
 use Rattle.comfy_table.specs.TableValue.{TableValue}
 use Rattle.csv_tables.proofs.output.rows_text.Goals as goal
@@ -12,7 +11,6 @@ returns c =
     let content = c.args.content in
     let arranged = c.in_ok-arranged.arranged in
     let found = c.in_ok-arranged.ensures in
-    let kept = c.in_ok-keep_unbroken.ensures ∙ ap (kept_unbroken look.width (unbroken_columns look.has_sequences content.columns content.rows)) c.requires.rows in
     text_of_table look content false c.separate_rows.new.table arranged (string_bytes c.push_rows.new.text)
-    (subst (λ t. AreRowsSeparated look.separators t c.separate_rows.new.table) kept c.in_ok-separate_rows.ensures) found
+    (subst (λ t. AreRowsSeparated look.separators t c.separate_rows.new.table) c.requires c.in_ok-separate_rows.ensures) found
     (c.in_ok-push_rows.ensures.ok ∙ ap₂ (λ had n. had ++ part_text arranged 0 n) c.new-text.ensures.bytes (c.row_count.ensures ∙ sym (ap (λ (t : TableValue). length t.rows) found.of_table)))

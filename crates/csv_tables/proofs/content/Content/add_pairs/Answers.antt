@@ -1,11 +1,11 @@
-use Rattle.std.proofs.Common.{◌≡◌, ◌<◌, ◌≤◌, ◌+◌, ◌∷◌, [], ◌++◌, Bool, true, false, ℕ, List, Some, None, ap, ap₂, append-nil, arith, cond, length, map, sym, take, ◌∙◌}
+use Rattle.std.proofs.Common.{◌≡◌, ◌<◌, ◌≤◌, ◌+◌, ◌∷◌, [], ◌++◌, Bool, true, false, ℕ, List, None, ap, ap₂, append-nil, arith, cond, length, map, sym, take, ◌∙◌}
 use Rattle.std.specs.List.{slice_index_or}
 use Rattle.std.specs.Prelude.{option_map}
 use Rattle.std.proofs.lemmas.List.{take_all}
 use Rattle.comfy_parts.specs.CellValue.{RowValue}
 use Rattle.comfy_parts.specs.Text.{Text}
 use Rattle.comfy_table.specs.TableValue.{TableValue, with_row, with_rows}
-use Rattle.csv_tables.specs.Cells.{field_or_blank, has_field, held, pair_for, reached}
+use Rattle.csv_tables.specs.Cells.{field_or_blank, has_field, pair_for, reached}
 use Rattle.csv_tables.specs.Columns.{name_at}
 use Rattle.csv_tables.specs.Drawn.{pairs_of}
 use Rattle.csv_tables.specs.declared.options.DrawnColumn.{DrawnColumn}

@@ -1,6 +1,6 @@
-use Rattle.std.proofs.Common.{◌≡◌, ◌<◌, ◌≤◌, List, length, take, ap, sym, ◌∙◌, arith}
+use Rattle.std.proofs.Common.{◌≤◌, List, length, ap, ◌∙◌, arith}
 use Rattle.std.proofs.lemmas.List.{take_all}
-use Rattle.csv_tables.specs.Cells.{has_field, held, reached}
+use Rattle.csv_tables.specs.Cells.{held, reached}
 use Rattle.csv_tables.specs.declared.options.DrawnColumn.{DrawnColumn}
 use Rattle.csv_tables.proofs.ReachedLemmas.{held-reached}
 use Rattle.csv_tables.proofs.content.Content.drawn_fields.Goals as goal
