@@ -5,6 +5,7 @@ pub mod DelimiterLemmas
 pub mod EncodingLawLemmas
 pub mod EncodingLemmas
 pub mod EvenLemmas
+pub mod FigureLemmas
 pub mod FirstLemmas
 pub mod ForeignLemmas
 pub mod LineLemmas

@@ -1,18 +1,20 @@
 -- What the characters of a number are.
-use Rattle.std.proofs.Common.{◌≡◌, ◌⊎◌, inl, inr, ◌<◌, ◌+◌, ◌-◌, ◌==◌, ◌&&◌, ◌||◌, not, ℕ, zero, suc, Bool, true, false, nat_lt, option_map, List, [], ◌∷◌, ◌++◌, Option, Some, None, IsUtf8, chars, drop, take, encode_utf8, encode_utf8_all, length, get_or, refl, sym, ap, ap₂, ◌∙◌, subst, arith, rules, tests}
+use Rattle.std.proofs.Common.{◌≡◌, ◌⊎◌, inl, inr, ◌<◌, ◌+◌, ◌-◌, ◌==◌, ◌&&◌, ◌||◌, not, ℕ, suc, Bool, true, false, nat_lt, option_map, List, [], ◌∷◌, ◌++◌, Option, Some, None, IsUtf8, codes, drop, take, encode_utf8, encode_utf8_all, length, get_or, refl, sym, ap, ap₂, ◌∙◌, subst, arith, rules, tests}
 use Rattle.std.proofs.lemmas.Bool.{and_from, and_parts, cond-true, cond_both, eqb-true, ltb-true, or_cases, or_left, or_right}
-use Rattle.std.proofs.lemmas.List.{drop_more, take-append-drop}
+use Rattle.std.proofs.lemmas.List.{drop_more, length-take-le, take-append-drop}
 use Rattle.std.proofs.lemmas.List.Elements.{All-cons, All-head, All-nil, All-tail}
 use Rattle.std.proofs.lemmas.List.Quantifiers.{position-Some}
+use Rattle.std.proofs.lemmas.Slice.Eq.{bytes_eq-Decides}
 use Rattle.std.proofs.lemmas.Str.{IsCharBoundary-after_ascii, IsCharBoundary-before_ascii, IsUtf8-append, IsUtf8-drop, IsUtf8-encode, IsUtf8-past_char, IsUtf8-take, chars-IsAscii, chars-append, chars-encodes, chars_past_char, encode_ascii, encodes-chars, scalars-chars}
 use Rattle.std.proofs.lemmas.Str.Ascii.{IsAscii-cons, IsAscii-nil}
 use Rattle.std.specs.Char.{IsScalar, is_ascii_digit}
-use Rattle.std.specs.List.{All, list_all, list_any, onto_first, position, slice_split}
-use Rattle.std.specs.Str.{IsAscii, IsCharBoundary, all_scalars}
-use Rattle.ucd_category.proofs.Computing.{ucd_category}
+use Rattle.std.specs.List.{All, list_all, list_any, onto_first, position, prefix_len, slice_split, suffix_len}
+use Rattle.std.specs.Str.{IsAscii, IsCharBoundary, all_scalars, bytes_eq, chars}
 use Rattle.comfy_parts.specs.Text.{Text}
-use Rattle.csv_records.specs.Number.{are_groups, are_parted_digits, before, begins, behind, ends, group_marks, halves, has_groups, is_address, is_amount, is_blank, is_currency, is_decimal, is_digits, is_enclosed, is_exponent, is_figure, is_fraction, is_group, is_grouped, is_name, is_number, is_scientific, is_sign, is_signed, is_unit, without_currency, without_first, without_last, without_unit}
-use Rattle.csv_records.specs.NumberLaws.{AreOfNumber, IsOfDigits, SignsAreAlike, is_around, is_listed, is_mark}
+use Rattle.csv_records.proofs.FigureLemmas.{among-all, by_end, end_boundary, scalars-drop, scalars-take, start_boundary, to_other-first, to_other-passes, to_other-stops, utf8-before}
+use Rattle.csv_records.proofs.NumberLemmas.{chars-none}
+use Rattle.csv_records.specs.Number.{are_groups, are_parted_digits, back_of, before, begins, behind, currency_codes, ends, figure_of, from_other, front_of, group_marks, halves, has_groups, is_address, is_among, is_amount, is_bare_number, is_blank, is_code, is_currency, is_decimal, is_digits, is_enclosed, is_end, is_exponent, is_figure, is_fraction, is_group, is_grouped, is_money, is_name, is_number, is_one, is_outer, is_scientific, is_sign, is_signed, is_size, is_space, is_time, is_unit, times, to_other, trimmed, without_first, without_last, without_spaces_before, without_spaces_behind}
+use Rattle.csv_records.specs.NumberLaws.{AreOfNumber, IsOfDigits, SignsAreAlike, is_letter, is_listed, is_mark}
 
 -- ---- lists of characters
 
@@ -256,11 +258,6 @@ last_of p (c ∷ d ∷ cs) is =
       ap (λ (xs : List ℕ). c ∷ xs) later.2 ∙ sym (ap (λ (n : ℕ). take n (c ∷ d ∷ cs) ++ later.0 ∷ []) one),
     )
 
-scalars-take : (n : ℕ) (cs : List ℕ) → all_scalars cs ≡ true → all_scalars (take n cs) ≡ true
-scalars-take zero cs is = refl
-scalars-take (suc n) [] is = refl
-scalars-take (suc n) (c ∷ cs) is = let parts = and_parts _ (all_scalars cs) is in and_from _ _ parts.0 (scalars-take n cs parts.1)
-
 ended : (p : ℕ → Bool) (text : Text) → IsUtf8 text → ends p (chars text) ≡ true → IsEnded p text
 ended p text utf8 is =
     let last = last_of p (chars text) is in
@@ -268,46 +265,60 @@ ended p text utf8 is =
     let known : all_scalars front ≡ true = scalars-take (length (chars text) - 1) (chars text) (scalars-chars text utf8) in
     record { last = last.0; passes = last.1; rest_utf8 = (front, (known, refl)); characters = last.2 ∙ ap (λ (cs : List ℕ). cs ++ last.0 ∷ []) (sym (chars-encodes front known)) }
 
-module _ (p : ℕ → Bool) (listed : (c : ℕ) → p c ≡ true → is_listed c ≡ true) (Q : Text → Bool) (gives : Gives Q) where
-  past_first : (text : Text) → IsUtf8 text → begins p (chars text) ≡ true → Q (without_first text) ≡ true → AreOfNumber (chars text)
+-- each character of a text may stand in a number; so it is where Q holds
+abbrev IsListed : Text → Type 0
+IsListed text = list_all is_listed (chars text) ≡ true
+
+abbrev Lists : (Text → Bool) → Type 0
+Lists Q = (text : Text) → IsUtf8 text → Q text ≡ true → IsListed text
+
+module _ (p : ℕ → Bool) (listed : (c : ℕ) → p c ≡ true → is_listed c ≡ true) (Q : Text → Bool) (lists : Lists Q) where
+  past_first : (text : Text) → IsUtf8 text → begins p (chars text) ≡ true → Q (without_first text) ≡ true → IsListed text
   past_first text utf8 is rest =
       let own = begun p text utf8 is in
-      subst AreOfNumber (sym own.characters) (more_before own.first (chars (without_first text)) (listed own.first own.passes) (gives (without_first text) own.rest_utf8 rest))
+      subst (λ cs. list_all is_listed cs ≡ true) (sym own.characters) (and_from (is_listed own.first) _ (listed own.first own.passes) (lists (without_first text) own.rest_utf8 rest))
 
-  before_last : (text : Text) → IsUtf8 text → ends p (chars text) ≡ true → Q (without_last text) ≡ true → AreOfNumber (chars text)
+  before_last : (text : Text) → IsUtf8 text → ends p (chars text) ≡ true → Q (without_last text) ≡ true → IsListed text
   before_last text utf8 is rest =
       let own = ended p text utf8 is in
-      subst AreOfNumber (sym own.characters) (more_behind (chars (without_last text)) own.last (listed own.last own.passes) (gives (without_last text) own.rest_utf8 rest))
+      let last : list_all is_listed (own.last ∷ []) ≡ true = and_from (is_listed own.last) true (listed own.last own.passes) refl in
+      subst (λ cs. list_all is_listed cs ≡ true) (sym own.characters) (all-append is_listed (chars (without_last text)) (own.last ∷ []) (lists (without_last text) own.rest_utf8 rest) last)
 
-  of_behind : Gives (λ text. Q (behind p text))
+  of_behind : Lists (λ text. Q (behind p text))
   of_behind text utf8 is =
-      cond_both (begins p (chars text)) (without_first text) text (λ (t : Text). Q t ≡ true → AreOfNumber (chars text)) (past_first text utf8) (λ none. gives text utf8) is
+      cond_both (begins p (chars text)) (without_first text) text (λ (t : Text). Q t ≡ true → IsListed text) (past_first text utf8) (λ none. lists text utf8) is
 
-  of_before : Gives (λ text. Q (before p text))
+  of_before : Lists (λ text. Q (before p text))
   of_before text utf8 is =
-      cond_both (ends p (chars text)) (without_last text) text (λ (t : Text). Q t ≡ true → AreOfNumber (chars text)) (before_last text utf8) (λ none. gives text utf8) is
+      cond_both (ends p (chars text)) (without_last text) text (λ (t : Text). Q t ≡ true → IsListed text) (before_last text utf8) (λ none. lists text utf8) is
 
 -- ---- what is listed
 
 listed_sign : (c : ℕ) → is_sign c ≡ true → is_listed c ≡ true
 listed_sign c is = or_right (is_ascii_digit c) _ (or_left (is_sign c) _ is)
 
-listed_blank : (c : ℕ) → is_blank c ≡ true → is_listed c ≡ true
-listed_blank c is = or_right (is_ascii_digit c) _ (or_right (is_sign c) _ (or_right (is_mark c) _ (or_right (is_around c) _ (or_left (is_blank c) _ is))))
+listed_mark : (c : ℕ) → is_mark c ≡ true → is_listed c ≡ true
+listed_mark c is = or_right (is_ascii_digit c) _ (or_right (is_sign c) _ (or_left (is_mark c) _ is))
 
-listed_unit : (c : ℕ) → is_unit c ≡ true → is_listed c ≡ true
-listed_unit c is = or_right (is_ascii_digit c) _ (or_right (is_sign c) _ (or_right (is_mark c) _ (or_right (is_around c) _ (or_right (is_blank c) _ is))))
+listed_letter : (c : ℕ) → is_letter c ≡ true → is_listed c ≡ true
+listed_letter c is = or_right (is_ascii_digit c) _ (or_right (is_sign c) _ (or_right (is_mark c) _ (or_left (is_letter c) _ is)))
+
+listed_space : (c : ℕ) → is_space c ≡ true → is_listed c ≡ true
+listed_space c is = or_right (is_ascii_digit c) _ (or_right (is_sign c) _ (or_right (is_mark c) _ (or_right (is_letter c) _ (or_left (is_space c) _ is))))
+
+listed_blank : (c : ℕ) → is_blank c ≡ true → is_listed c ≡ true
+listed_blank c is = listed_space c (or_left (is_blank c) _ is)
 
 listed_currency : (c : ℕ) → is_currency c ≡ true → is_listed c ≡ true
-listed_currency c is = listed_unit c (or_right (c == 0x25) _ is)
+listed_currency c is = or_right (is_ascii_digit c) _ (or_right (is_sign c) _ (or_right (is_mark c) _ (or_right (is_letter c) _ (or_right (is_space c) _ is))))
 
 listed_as : (mark : ℕ) → is_listed mark ≡ true → (c : ℕ) → (c == mark) ≡ true → is_listed c ≡ true
 listed_as mark one c same = subst (λ x. is_listed x ≡ true) (sym (eqb-true c mark same)) one
 
--- ---- a number
+-- ---- a figure
 
-of_exponent : Gives is_exponent
-of_exponent = of_behind is_sign listed_sign is_digits (λ text utf8 is. of_digits text is)
+of_exponent : Lists is_exponent
+of_exponent = of_behind is_sign listed_sign is_digits (λ text utf8 is. (of_digits text is).listed)
 
 of_scientific : (mark : ℕ) (text : Text) → mark < 128 → is_listed mark ≡ true → IsUtf8 text → is_scientific (halves mark text) ≡ true → AreOfNumber (chars text)
 of_scientific mark text small one utf8 = by_halves mark text small utf8 is_scientific refl by_sides
@@ -317,10 +328,10 @@ of_scientific mark text small one utf8 = by_halves mark text small utf8 is_scien
         let parts = and_parts (is_decimal whole) (is_exponent rest) is in
         let front = of_decimal whole parted.whole_utf8 parts.0 in
         let back = of_exponent rest parted.rest_utf8 parts.1 in
-        subst AreOfNumber (sym parted.characters) (join mark (chars whole) (chars rest) one front.listed back.listed (inl front.digit))
+        subst AreOfNumber (sym parted.characters) (join mark (chars whole) (chars rest) one front.listed back (inl front.digit))
 
 of_figure : Gives is_figure
-of_figure text utf8 is = by_kind (or_cases (is_decimal text) _ is)
+of_figure text utf8 is = by_kind (or_cases (is_decimal text) _ (and_parts (not (is_name text)) _ is).1)
   where
     by_letter : (is_scientific (halves 0x65 text) ≡ true) ⊎ (is_scientific (halves 0x45 text) ≡ true) → AreOfNumber (chars text)
     by_letter (inl small) = of_scientific 0x65 text (omega arith) refl utf8 small
@@ -330,50 +341,221 @@ of_figure text utf8 is = by_kind (or_cases (is_decimal text) _ is)
     by_kind (inl decimal) = of_decimal text utf8 decimal
     by_kind (inr scientific) = by_letter (or_cases (is_scientific (halves 0x65 text)) (is_scientific (halves 0x45 text)) scientific)
 
--- a figure before a unit
-of_unit : Gives (λ text. is_figure (without_unit text))
-of_unit text utf8 is =
-    cond_both (ends is_unit (chars text)) (before is_blank (without_last text)) text (λ (t : Text). is_figure t ≡ true → AreOfNumber (chars text))
-    (before_last is_unit listed_unit (λ t. is_figure (before is_blank t)) (of_before is_blank listed_blank is_figure of_figure) text utf8) (λ none. of_figure text utf8) is
+-- ---- currencies and units
 
-of_amount : Gives is_amount
-of_amount text utf8 is =
-    cond_both (begins is_currency (chars text)) (is_figure (without_currency text)) (is_figure (without_unit text)) (λ (b : Bool). b ≡ true → AreOfNumber (chars text))
-    (past_first is_currency listed_currency (λ t. is_figure (behind is_blank t)) (of_behind is_blank listed_blank is_figure of_figure) text utf8) (λ none. of_unit text utf8) is
+listed_empty : (text : Text) → (length text == 0) ≡ true → IsListed text
+listed_empty text is = subst (λ cs. list_all is_listed cs ≡ true) (sym (chars-none text (eqb-true (length text) 0 is))) refl
 
-of_signed : Gives is_signed
-of_signed text utf8 is = by_kind (or_cases (is_amount (behind is_sign text)) _ is)
+lists_one : Lists (λ text. is_one is_currency (chars text))
+lists_one text utf8 is = by_characters (chars text) is
   where
-    figure : Gives (λ t. is_figure (behind is_sign (behind is_blank t)))
-    figure = of_behind is_blank listed_blank (λ t. is_figure (behind is_sign t)) (of_behind is_sign listed_sign is_figure of_figure)
+    by_characters : (cs : List ℕ) → is_one is_currency cs ≡ true → list_all is_listed cs ≡ true
+    by_characters [] one = absurd (cc one)
+    by_characters (c ∷ []) one = and_from (is_listed c) true (listed_currency c one) refl
+    by_characters (c ∷ d ∷ cs) one = absurd (cc one)
 
-    by_kind : (is_amount (behind is_sign text) ≡ true) ⊎ ((begins is_currency (chars text) && is_figure (behind is_sign (without_currency text))) ≡ true) → AreOfNumber (chars text)
-    by_kind (inl amount) = of_behind is_sign listed_sign is_amount of_amount text utf8 amount
-    by_kind (inr currency) =
-        let parts = and_parts (begins is_currency (chars text)) _ currency in past_first is_currency listed_currency (λ t. is_figure (behind is_sign (behind is_blank t))) figure text utf8 parts.0 parts.1
+codes_listed : list_all (λ code. list_all is_listed (chars code)) currency_codes ≡ true
+unfolding chars
+codes_listed = refl
 
--- behind another first character the last one is the same
-ends-tail : (p : ℕ → Bool) (c : ℕ) (cs : List ℕ) → p c ≡ false → ends p (c ∷ cs) ≡ true → ends p cs ≡ true
-ends-tail p c [] other is = absurd (cc (other, is))
-ends-tail p c (d ∷ cs) other is = is
+times_listed : list_all (λ time. list_all is_listed (chars time)) times ≡ true
+unfolding chars lib.Utf8.encode
+times_listed = refl
 
-of_enclosed : Gives is_enclosed
-of_enclosed text utf8 is =
-    let parts = and_parts (begins (λ c. c == 0x28) (chars text) && ends (λ c. c == 0x29) (chars text)) (is_amount (without_last (without_first text))) is in
-    let edges = and_parts (begins (λ c. c == 0x28) (chars text)) (ends (λ c. c == 0x29) (chars text)) parts.0 in
-    let own = begun (λ c. c == 0x28) text utf8 edges.0 in
-    let other : (own.first == 0x29) ≡ false = rw (eqb-true own.first 0x28 own.passes) refl in
-    let last : ends (λ c. c == 0x29) (chars (without_first text)) ≡ true = ends-tail (λ c. c == 0x29) own.first (chars (without_first text)) other (subst (λ (cs : List ℕ). ends (λ c. c == 0x29) cs ≡ true) own.characters edges.1) in
+lists_money : Lists is_money
+lists_money text utf8 is =
+    either (or_cases (is_one is_currency (chars text)) (is_code text) is) (lists_one text utf8)
+    (among-all (λ code. list_all is_listed (chars code)) currency_codes text codes_listed)
+
+-- letters of ASCII
+abbrev is_plain_letter : ℕ → Bool
+is_plain_letter c = nat_lt c 128 && is_letter c
+
+plain_ascii : (text : Text) → list_all is_plain_letter text ≡ true → IsAscii text
+plain_ascii [] all = IsAscii-nil
+plain_ascii (b ∷ bs) all =
+    let parts = and_parts (is_plain_letter b) (list_all is_plain_letter bs) all in
+    IsAscii-cons b bs (ltb-true b 128 (and_parts (nat_lt b 128) (is_letter b) parts.0).0) (plain_ascii bs parts.1)
+
+listed_plain : (text : Text) → list_all is_plain_letter text ≡ true → IsListed text
+listed_plain text all =
+    subst (λ cs. list_all is_listed cs ≡ true) (sym (chars-IsAscii text (plain_ascii text all)))
+    (all-weaker is_plain_letter is_listed (λ c is. listed_letter c (and_parts (nat_lt c 128) (is_letter c) is).1) text all)
+
+any_plain : (letters : List ℕ) (c : ℕ) → list_all is_plain_letter letters ≡ true → list_any (λ letter. c == letter) letters ≡ true → is_plain_letter c ≡ true
+any_plain [] c all is = absurd (cc is)
+any_plain (letter ∷ letters) c all is =
+    let parts = and_parts (is_plain_letter letter) (list_all is_plain_letter letters) all in
+    either (or_cases (c == letter) (list_any (λ l. c == l) letters) is) (λ same. subst (λ x. is_plain_letter x ≡ true) (sym (eqb-true c letter same)) parts.0)
+    (any_plain letters c parts.1)
+
+plain_size : (text : Text) → is_size text ≡ true → list_all is_plain_letter text ≡ true
+plain_size [] is = absurd (cc is)
+plain_size (c ∷ rest) is = either (or_cases ((c == 0x42) && (length rest == 0)) _ is) byte multiple
+  where
+    none_left : (bs : Text) → (length bs == 0) ≡ true → list_all is_plain_letter bs ≡ true
+    none_left [] none = refl
+    none_left (b ∷ bs) none = absurd (omega (arith, eqb-true (length (b ∷ bs)) 0 none))
+
+    byte : ((c == 0x42) && (length rest == 0)) ≡ true → list_all is_plain_letter (c ∷ rest) ≡ true
+    byte one =
+        let parts = and_parts (c == 0x42) (length rest == 0) one in
+        and_from (is_plain_letter c) _ (subst (λ x. is_plain_letter x ≡ true) (sym (eqb-true c 0x42 parts.0)) refl) (none_left rest parts.1)
+
+    multiple : (list_any (λ letter. c == letter) (codes "kKMGTPE") && is_among ([] ∷ codes "B" ∷ codes "i" ∷ codes "iB" ∷ []) rest) ≡ true → list_all is_plain_letter (c ∷ rest) ≡ true
+    multiple one =
+        let parts = and_parts (list_any (λ letter. c == letter) (codes "kKMGTPE")) _ one in
+        and_from (is_plain_letter c) _ (any_plain (codes "kKMGTPE") c refl parts.0)
+        (among-all (list_all is_plain_letter) ([] ∷ codes "B" ∷ codes "i" ∷ codes "iB" ∷ []) rest refl parts.1)
+
+percent_listed : IsListed (codes "%")
+unfolding chars
+percent_listed = refl
+
+lists_unit : Lists is_unit
+lists_unit text utf8 is = by_kind (or_cases (bytes_eq text (codes "%")) _ is)
+  where
+    by_time : (is_time text ≡ true) ⊎ (is_money text ≡ true) → IsListed text
+    by_time (inl time) = among-all (λ time. list_all is_listed (chars time)) times text times_listed time
+    by_time (inr money) = lists_money text utf8 money
+
+    by_size : (is_size text ≡ true) ⊎ ((is_time text || is_money text) ≡ true) → IsListed text
+    by_size (inl size) = listed_plain text (plain_size text size)
+    by_size (inr other) = by_time (or_cases (is_time text) (is_money text) other)
+
+    by_kind : (bytes_eq text (codes "%") ≡ true) ⊎ ((is_size text || (is_time text || is_money text)) ≡ true) → IsListed text
+    by_kind (inl is) = subst IsListed (sym ((bytes_eq-Decides text (codes "%")).0 is)) percent_listed
+    by_kind (inr other) = by_size (or_cases (is_size text) (is_time text || is_money text) other)
+
+-- ---- around a figure
+
+abbrev AreListed : Text → Text → Type 0
+AreListed front back = IsListed front × IsListed back
+
+lists_end : Lists is_end
+lists_end back utf8 is =
+    either (or_cases (length back == 0) (is_unit (behind is_blank back)) is) (listed_empty back) (of_behind is_blank listed_blank is_unit lists_unit back utf8)
+
+-- where Q holds of a front and a back, both are listed
+abbrev ListsBoth : (Text → Text → Bool) → Type 0
+ListsBoth Q = (front back : Text) → IsUtf8 front → IsUtf8 back → Q front back ≡ true → AreListed front back
+
+of_amount : ListsBoth is_amount
+of_amount front back front_utf8 back_utf8 is =
+    cond_both (length front == 0) (is_end back) ((length back == 0) && is_money (before is_blank front)) (λ (b : Bool). b ≡ true → AreListed front back)
+    (λ none at_end. (listed_empty front none, lists_end back back_utf8 at_end))
+    (λ some money. let parts = and_parts (length back == 0) (is_money (before is_blank front)) money in
+    (of_before is_blank listed_blank is_money lists_money front front_utf8 parts.1, listed_empty back parts.0))
+    is
+
+module _ (back : Text) (back_utf8 : IsUtf8 back) where
+  front_listed : Lists (λ front. is_amount front back)
+  front_listed front utf8 is = (of_amount front back utf8 back_utf8 is).0
+
+of_signed : ListsBoth is_signed
+of_signed front back front_utf8 back_utf8 is =
+    cond_both (begins is_sign (chars front)) (is_amount (without_first front) back) (is_amount (before is_sign front) back) (λ (b : Bool). b ≡ true → AreListed front back)
+    (λ sign amount.
+    let own = begun is_sign front front_utf8 sign in
+    (past_first is_sign listed_sign (λ t. is_amount t back) (front_listed back back_utf8) front front_utf8 sign amount, (of_amount (without_first front) back own.rest_utf8 back_utf8 amount).1))
+    (λ none amount. (of_before is_sign listed_sign (λ t. is_amount t back) (front_listed back back_utf8) front front_utf8 amount, (of_amount (before is_sign front) back (utf8-before is_sign front front_utf8) back_utf8 amount).1))
+    is
+
+of_enclosed : ListsBoth is_enclosed
+of_enclosed front back front_utf8 back_utf8 is =
+    let parts = and_parts (begins (λ c. c == 0x28) (chars front) && ends (λ c. c == 0x29) (chars back)) (is_amount (without_first front) (without_last back)) is in
+    let edges = and_parts (begins (λ c. c == 0x28) (chars front)) (ends (λ c. c == 0x29) (chars back)) parts.0 in
+    let first = begun (λ c. c == 0x28) front front_utf8 edges.0 in
+    let last = ended (λ c. c == 0x29) back back_utf8 edges.1 in (
+      past_first (λ c. c == 0x28) (listed_as 0x28 refl) (λ t. is_amount t (without_last back)) (front_listed (without_last back) last.rest_utf8) front front_utf8 edges.0 parts.1,
+      before_last (λ c. c == 0x29) (listed_as 0x29 refl) (λ t. is_amount (without_first front) t)
+          (λ t utf8 amount. (of_amount (without_first front) t first.rest_utf8 utf8 amount).1) back back_utf8 edges.1 parts.1,
+    )
+
+-- ---- a number
+
+-- a text is what stands before its figure, the figure, and what stands behind
+record IsInParts (text : Text) : Type 0 where
+  front_utf8 : IsUtf8 (front_of text)
+  figure_utf8 : IsUtf8 (figure_of text)
+  back_utf8 : IsUtf8 (back_of text)
+  characters : chars text ≡ chars (front_of text) ++ (chars (figure_of text) ++ chars (back_of text))
+
+in_parts : (text : Text) → IsUtf8 text → IsInParts text
+in_parts text utf8 =
+    let start = prefix_len is_outer text in
+    let rest = from_other is_outer text in
+    let end = length rest - suffix_len is_outer rest in
+    let front_utf8 = IsUtf8-take text start utf8 (start_boundary text utf8) in
+    let rest_utf8 = IsUtf8-drop text start utf8 (start_boundary text utf8) in
+    let figure_utf8 = IsUtf8-take rest end rest_utf8 (end_boundary rest rest_utf8) in
+    let same : length (figure_of text) ≡ end = length-take-le end rest (omega arith) in
+    let back : back_of text ≡ drop end rest = ap (λ (n : ℕ). drop n rest) same in
+    record {
+      front_utf8 = front_utf8;
+      figure_utf8 = figure_utf8;
+      back_utf8 = subst IsUtf8 (sym back) (IsUtf8-drop rest end rest_utf8 (end_boundary rest rest_utf8));
+      characters = ap chars (sym (take-append-drop start text)) ∙ chars-append (front_of text) rest front_utf8
+          ∙ ap (λ (cs : List ℕ). chars (front_of text) ++ cs) (ap chars (sym (take-append-drop end rest)) ∙ chars-append (figure_of text) (drop end rest) figure_utf8 ∙ ap (λ (t : Text). chars (figure_of text) ++ chars t) (sym back));
+    }
+
+between : (front figure back : List ℕ) → list_all is_listed front ≡ true → AreOfNumber figure → list_all is_listed back ≡ true → AreOfNumber (front ++ (figure ++ back))
+between front figure back first is last =
+    record {
+      digit = any-append is_ascii_digit front (figure ++ back) (inr (any-append is_ascii_digit figure back (inl is.digit)));
+      listed = all-append is_listed front (figure ++ back) first (all-append is_listed figure back is.listed last);
+    }
+
+of_bare : Gives is_bare_number
+of_bare text utf8 is =
+    let own = in_parts text utf8 in
+    let parts = and_parts (is_signed (front_of text) (back_of text) || is_enclosed (front_of text) (back_of text)) (is_figure (figure_of text)) is in
+    let around = either (or_cases (is_signed (front_of text) (back_of text)) (is_enclosed (front_of text) (back_of text)) parts.0)
+    (of_signed (front_of text) (back_of text) own.front_utf8 own.back_utf8) (of_enclosed (front_of text) (back_of text) own.front_utf8 own.back_utf8) in
     subst AreOfNumber (sym own.characters)
-    (more_before own.first (chars (without_first text)) (listed_as 0x28 refl own.first own.passes)
-    (before_last (λ c. c == 0x29) (listed_as 0x29 refl) is_amount of_amount (without_first text) own.rest_utf8 last parts.1))
+    (between (chars (front_of text)) (chars (figure_of text)) (chars (back_of text)) around.0 (of_figure (figure_of text) own.figure_utf8 parts.1) around.1)
+
+-- ---- spaces around it
+
+-- what is taken off in front passes
+dropped_pass : (p : ℕ → Bool) (xs : List ℕ) → list_all p (take (prefix_len p xs) xs) ≡ true
+dropped_pass p [] = refl
+dropped_pass p (x ∷ xs) = by_first (p x) refl (dropped_pass p xs)
+  where
+    by_first : (b : Bool) → p x ≡ b → list_all p (take (prefix_len p xs) xs) ≡ true → list_all p (take (prefix_len p (x ∷ xs)) (x ∷ xs)) ≡ true
+    by_first true is others = let more : prefix_len p (x ∷ xs) ≡ suc (prefix_len p xs) = rw is (omega arith) in rw more (and_from (p x) _ is others)
+    by_first false is others = let none : prefix_len p (x ∷ xs) ≡ 0 = rw is refl in rw none refl
+
+of_spaces_before : (cs : List ℕ) → AreOfNumber (from_other is_space cs) → AreOfNumber cs
+of_spaces_before cs is =
+    let front = take (prefix_len is_space cs) cs in
+    subst AreOfNumber (take-append-drop (prefix_len is_space cs) cs)
+    (record {
+      digit = any-append is_ascii_digit front (from_other is_space cs) (inr is.digit);
+      listed = all-append is_listed front (from_other is_space cs) (all-weaker is_space is_listed listed_space front (dropped_pass is_space cs)) is.listed;
+    })
+
+of_spaces_behind : (cs : List ℕ) → AreOfNumber (to_other is_space cs) → AreOfNumber cs
+of_spaces_behind = by_end (λ cs. AreOfNumber (to_other is_space cs) → AreOfNumber cs) (λ is. is) one_more
+  where
+    one_more : (cs : List ℕ) (c : ℕ) → (AreOfNumber (to_other is_space cs) → AreOfNumber cs) → AreOfNumber (to_other is_space (cs ++ c ∷ [])) → AreOfNumber (cs ++ c ∷ [])
+    one_more cs c others is = by_last (is_space c) refl
+      where
+        by_last : (b : Bool) → is_space c ≡ b → AreOfNumber (cs ++ c ∷ [])
+        by_last true space = more_behind cs c (listed_space c space) (others (subst AreOfNumber (to_other-passes is_space cs c space) is))
+        by_last false other = subst AreOfNumber (to_other-stops is_space cs c other) is
 
 pub numbers_are_of_digits : (text : Text) → IsOfDigits text
-numbers_are_of_digits text utf8 is = by_kind (or_cases (is_signed text) (is_enclosed text) (and_parts (not (is_name text)) (is_signed text || is_enclosed text) is).1)
-  where
-    by_kind : (is_signed text ≡ true) ⊎ (is_enclosed text ≡ true) → AreOfNumber (chars text)
-    by_kind (inl signed) = of_signed text utf8 signed
-    by_kind (inr enclosed) = of_enclosed text utf8 enclosed
+numbers_are_of_digits text utf8 is =
+    let before = from_other is_space (chars text) in
+    let behind = to_other is_space before in
+    let before_known : all_scalars before ≡ true = scalars-drop (prefix_len is_space (chars text)) (chars text) (scalars-chars text utf8) in
+    let behind_known : all_scalars behind ≡ true = scalars-take (length before - suffix_len is_space before) before before_known in
+    let same : chars (without_spaces_before text) ≡ before = chars-encodes before before_known in
+    let field : trimmed text ≡ encode_utf8_all behind = ap (λ (cs : List ℕ). encode_utf8_all (to_other is_space cs)) same in
+    let number : is_bare_number (encode_utf8_all behind) ≡ true = ap is_bare_number (sym field) ∙ is in
+    let bare : AreOfNumber (chars (encode_utf8_all behind)) = of_bare (encode_utf8_all behind) (behind, (behind_known, refl)) number in
+    of_spaces_before (chars text) (of_spaces_behind before (subst AreOfNumber (chars-encodes behind behind_known) bare))
 
 -- ---- signs
 
@@ -392,51 +574,77 @@ sign_cases P minus plus true_minus sign is = by_first (or_cases (sign == 0x2D) _
 -- what is so of each sign
 record IsOwnSign (sign : ℕ) : Type 0 where
   scalar : IsScalar sign
-  no_currency : is_currency sign ≡ false
+  no_space : is_space sign ≡ false
   no_parenthesis : (sign == 0x28) ≡ false
-  no_name : (text : Text) → is_name (encode_utf8 sign ++ text) ≡ false
+  outer : list_all is_outer (encode_utf8 sign) ≡ true
 
 own_sign : (sign : ℕ) → is_sign sign ≡ true → IsOwnSign sign
-unfolding ucd_category lib.Utf8.encode
+unfolding lib.Utf8.encode
 own_sign =
-    sign_cases IsOwnSign (record { scalar = search (rules, tests); no_currency = refl; no_parenthesis = refl; no_name = behind_minus })
-    (record { scalar = search (rules, tests); no_currency = refl; no_parenthesis = refl; no_name = behind_plus })
-    (record { scalar = search (rules, tests); no_currency = refl; no_parenthesis = refl; no_name = λ text. refl })
-  where
-    behind_minus : (text : Text) → is_name (0x2D ∷ text) ≡ false
-    behind_minus [] = refl
-    behind_minus (b ∷ bs) = refl
+    sign_cases IsOwnSign (record { scalar = search (rules, tests); no_space = refl; no_parenthesis = refl; outer = refl })
+    (record { scalar = search (rules, tests); no_space = refl; no_parenthesis = refl; outer = refl })
+    (record { scalar = search (rules, tests); no_space = refl; no_parenthesis = refl; outer = refl })
 
-    behind_plus : (text : Text) → is_name (0x2B ∷ text) ≡ false
-    behind_plus [] = refl
-    behind_plus (b ∷ bs) = refl
+-- before a figure such bytes belong to what stands in front
+front_more : (bs t : Text) → list_all is_outer bs ≡ true → front_of (bs ++ t) ≡ bs ++ front_of t
+front_more [] t all = refl
+front_more (b ∷ bs) t all =
+    let parts = and_parts (is_outer b) (list_all is_outer bs) all in
+    let more : prefix_len is_outer (b ∷ (bs ++ t)) ≡ suc (prefix_len is_outer (bs ++ t)) = rw parts.0 (omega arith) in
+    ap (λ (n : ℕ). take n (b ∷ (bs ++ t))) more ∙ ap (λ (xs : Text). b ∷ xs) (front_more bs t parts.1)
 
--- behind a sign an amount is a number, and nothing else is
-behind_sign : (sign : ℕ) (text : Text) → is_sign sign ≡ true → IsUtf8 text → is_number (encode_utf8 sign ++ text) ≡ is_amount text
-behind_sign sign text is utf8 =
-    ap (λ b. not b && (is_signed whole || is_enclosed whole)) (own.no_name text) ∙ ap₂ (λ (b c : Bool). b || c) signed enclosed ∙ by_amount (is_amount text)
-  where
-    own : IsOwnSign sign
-    own = own_sign sign is
+rest_more : (bs t : Text) → list_all is_outer bs ≡ true → from_other is_outer (bs ++ t) ≡ from_other is_outer t
+rest_more [] t all = refl
+rest_more (b ∷ bs) t all =
+    let parts = and_parts (is_outer b) (list_all is_outer bs) all in
+    let more : prefix_len is_outer (b ∷ (bs ++ t)) ≡ suc (prefix_len is_outer (bs ++ t)) = rw parts.0 (omega arith) in
+    ap (λ (n : ℕ). drop n (b ∷ (bs ++ t))) more ∙ rest_more bs t parts.1
 
-    whole : Text
-    whole = encode_utf8 sign ++ text
+module _ (sign : ℕ) (is : is_sign sign ≡ true) where
+  own : IsOwnSign sign
+  own = own_sign sign is
 
-    characters : chars whole ≡ sign ∷ chars text
-    characters = chars_past_char whole text sign (IsUtf8-append (encode_utf8 sign) text (IsUtf8-encode sign own.scalar) utf8) refl
+  characters : (t : Text) → IsUtf8 t → chars (encode_utf8 sign ++ t) ≡ sign ∷ chars t
+  characters t utf8 = chars_past_char (encode_utf8 sign ++ t) t sign (IsUtf8-append (encode_utf8 sign) t (IsUtf8-encode sign own.scalar) utf8) refl
 
-    rest : behind is_sign whole ≡ text
-    rest = cond-true (begins is_sign (chars whole)) (without_first whole) whole (ap (begins is_sign) characters ∙ is) ∙ ap (λ (cs : List ℕ). encode_utf8_all (drop 1 cs)) characters ∙ encodes-chars text utf8
+  -- a sign stays at the front, and spaces behind are taken off as without it
+  trimmed_behind_sign : (t : Text) → IsUtf8 t → trimmed (encode_utf8 sign ++ t) ≡ encode_utf8 sign ++ without_spaces_behind t
+  trimmed_behind_sign t utf8 =
+      let whole = encode_utf8 sign ++ t in
+      let whole_utf8 = IsUtf8-append (encode_utf8 sign) t (IsUtf8-encode sign own.scalar) utf8 in
+      let none : prefix_len is_space (sign ∷ chars t) ≡ 0 = rw own.no_space refl in
+      let before : from_other is_space (chars whole) ≡ chars whole = ap (from_other is_space) (characters t utf8) ∙ ap (λ (n : ℕ). drop n (sign ∷ chars t)) none ∙ sym (characters t utf8) in
+      ap without_spaces_behind (ap encode_utf8_all before ∙ encodes-chars whole whole_utf8)
+      ∙ ap encode_utf8_all (ap (to_other is_space) (characters t utf8) ∙ to_other-first is_space sign (chars t) own.no_space)
 
-    signed : is_signed whole ≡ is_amount text || false
-    signed = ap₂ (λ (t : Text) (b : Bool). is_amount t || (b && is_figure (behind is_sign (without_currency whole)))) rest (ap (begins is_currency) characters ∙ own.no_currency)
+  -- behind a sign an amount is a number, and nothing else is
+  signed : (front back : Text) → IsUtf8 front → is_signed (encode_utf8 sign ++ front) back || is_enclosed (encode_utf8 sign ++ front) back ≡ is_amount front back
+  signed front back utf8 =
+      let whole = encode_utf8 sign ++ front in
+      let rest : without_first whole ≡ front = ap (λ (cs : List ℕ). encode_utf8_all (drop 1 cs)) (characters front utf8) ∙ encodes-chars front utf8 in
+      let amount : is_signed whole back ≡ is_amount front back =
+      cond-true (begins is_sign (chars whole)) (is_amount (without_first whole) back) (is_amount (before is_sign whole) back) (ap (begins is_sign) (characters front utf8) ∙ is) ∙ ap (λ (t : Text). is_amount t back) rest in
+      let enclosed : is_enclosed whole back ≡ false =
+      ap (λ b. (b && ends (λ c. c == 0x29) (chars back)) && is_amount (without_first whole) (without_last back)) (ap (begins (λ c. c == 0x28)) (characters front utf8) ∙ own.no_parenthesis) in
+      ap₂ (λ (b c : Bool). b || c) amount enclosed ∙ or_nothing (is_amount front back)
+    where
+      or_nothing : (b : Bool) → (b || false) ≡ b
+      or_nothing true = refl
+      or_nothing false = refl
 
-    enclosed : is_enclosed whole ≡ false
-    enclosed = ap (λ b. (b && ends (λ c. c == 0x29) (chars whole)) && is_amount (without_last (without_first whole))) (ap (begins (λ c. c == 0x28)) characters ∙ own.no_parenthesis)
-
-    by_amount : (b : Bool) → ((b || false) || false) ≡ b
-    by_amount true = refl
-    by_amount false = refl
+  behind_sign : (text : Text) → IsUtf8 text
+      → is_number (encode_utf8 sign ++ text) ≡ is_amount (front_of (without_spaces_behind text)) (back_of (without_spaces_behind text)) && is_figure (figure_of (without_spaces_behind text))
+  behind_sign text utf8 =
+      let t = without_spaces_behind text in
+      let all = chars text in
+      let t_utf8 : IsUtf8 t = (to_other is_space all, (scalars-take (length all - suffix_len is_space all) all (scalars-chars text utf8), refl)) in
+      let front = front_more (encode_utf8 sign) t own.outer in
+      let rest = rest_more (encode_utf8 sign) t own.outer in
+      let figure : figure_of (encode_utf8 sign ++ t) ≡ figure_of t = ap (to_other is_outer) rest in
+      let back : back_of (encode_utf8 sign ++ t) ≡ back_of t = ap (λ (r : Text). drop (length (to_other is_outer r)) r) rest in
+      ap is_bare_number (trimmed_behind_sign text utf8)
+      ∙ ap₂ (λ (f b : Text). (is_signed f b || is_enclosed f b) && is_figure (figure_of (encode_utf8 sign ++ t))) front back
+      ∙ ap₂ (λ (b : Bool) (f : Text). b && is_figure f) (signed (front_of t) (back_of t) (in_parts t t_utf8).front_utf8) figure
 
 pub signs_are_alike : (sign other : ℕ) (text : Text) → SignsAreAlike sign other text
-signs_are_alike sign other text one two utf8 = behind_sign sign text one utf8 ∙ sym (behind_sign other text two utf8)
+signs_are_alike sign other text one two utf8 = behind_sign sign one text utf8 ∙ sym (behind_sign other two text utf8)

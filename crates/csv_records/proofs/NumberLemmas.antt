@@ -45,7 +45,7 @@ module _ (text rest : Text) (c : ℕ) (utf8 : IsUtf8 text) (rest_utf8 : IsUtf8 r
       let long = ap length splits ∙ length-append rest (encode_utf8 c) in
       subst IsUtf8 back (IsUtf8-drop text (length rest) utf8 (IsCharBoundary-from_take text (length rest) utf8 (omega (arith, long)) (subst IsUtf8 (sym front) rest_utf8)))
 
-  chars-last : text ≡ rest ++ encode_utf8 c → chars text ≡ chars rest ++ c ∷ []
+  pub chars-last : text ≡ rest ++ encode_utf8 c → chars text ≡ chars rest ++ c ∷ []
   chars-last splits =
       ap chars splits ∙ chars-append rest (encode_utf8 c) rest_utf8
       ∙ ap (λ (cs : List ℕ). chars rest ++ cs) (chars_past_char (encode_utf8 c) [] c (last_utf8 splits) (sym (append-nil (encode_utf8 c))) ∙ ap (λ (cs : List ℕ). c ∷ cs) chars-nil)

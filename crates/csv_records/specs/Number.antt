@@ -1,7 +1,8 @@
 -- Which fields are numbers.
+use Prim.Native.String.{String}
 use Rattle.std.specs.Prelude.{ℕ, Bool, true, false, ◌+◌, ◌-◌, ◌==◌, ◌&&◌, ◌||◌, not, nat_lt, List, [], ◌∷◌, length, map, take, drop, Option, Some, None, option_map, bytes_eq, chars, codes, is_some, if◌then◌else◌}
 use Rattle.std.specs.Char.{is_ascii_digit, to_ascii_lowercase}
-use Rattle.std.specs.List.{list_all, list_any, position, slice_split}
+use Rattle.std.specs.List.{list_all, list_any, position, prefix_len, slice_split, suffix_len}
 use Rattle.std.specs.Str.{encode_utf8_all}
 use Rattle.ucd_category.specs.GeneralCategory.{general_category, general_category_number}
 use Rattle.comfy_parts.specs.Text.{Text}
@@ -21,9 +22,18 @@ is_blank c = (c == 0x20) || ((c == 0xA0) || (c == 0x202F))
 abbrev pub is_currency : ℕ → Bool
 is_currency c = general_category_number (general_category c) == 19
 
--- a currency or `%`
-abbrev pub is_unit : ℕ → Bool
-is_unit c = (c == 0x25) || is_currency c
+-- a space that may stand around a field: one of these, TAB, line feed or carriage return
+abbrev pub is_space : ℕ → Bool
+is_space c = is_blank c || ((c == 0x09) || ((c == 0x0A) || (c == 0x0D)))
+
+-- ---- the ends of a list
+
+-- from the first element on that doesn't pass, and up to the last
+abbrev pub from_other : (ℕ → Bool) → List ℕ → List ℕ
+from_other p xs = drop (prefix_len p xs) xs
+
+abbrev pub to_other : (ℕ → Bool) → List ℕ → List ℕ
+to_other p xs = take (length xs - suffix_len p xs) xs
 
 -- ---- the ends of a text
 
@@ -51,6 +61,16 @@ behind p text = if begins p (chars text) then without_first text else text
 
 abbrev pub before : (ℕ → Bool) → Text → Text
 before p text = if ends p (chars text) then without_last text else text
+
+-- a field without spaces in front, behind, and on both ends
+abbrev pub without_spaces_before : Text → Text
+without_spaces_before text = encode_utf8_all (from_other is_space (chars text))
+
+abbrev pub without_spaces_behind : Text → Text
+without_spaces_behind text = encode_utf8_all (to_other is_space (chars text))
+
+abbrev pub trimmed : Text → Text
+trimmed field = without_spaces_behind (without_spaces_before field)
 
 -- what stands on both sides of the first place of an ASCII character
 abbrev pub halves : ℕ → Text → Option (Text × Text)
@@ -127,46 +147,131 @@ abbrev pub is_scientific : Option (Text × Text) → Bool
 is_scientific None = false
 is_scientific (Some (decimal, exponent)) = is_decimal decimal && is_exponent exponent
 
--- a number without sign and unit
-abbrev pub is_figure : Text → Bool
-is_figure text =
-    is_decimal text || (is_scientific (halves 0x65 text) || is_scientific (halves 0x45 text))
-
--- what stands before a unit at the end, and before a space there
-abbrev pub without_unit : Text → Text
-without_unit text = if ends is_unit (chars text) then before is_blank (without_last text) else text
-
--- what follows a currency at the front, and a space there
-abbrev pub without_currency : Text → Text
-without_currency text = behind is_blank (without_first text)
-
--- a number without sign: a currency stands before it, or a unit behind it, or neither
-abbrev pub is_amount : Text → Bool
-is_amount text =
-    if begins is_currency (chars text)
-    then is_figure (without_currency text)
-    else is_figure (without_unit text)
-
--- an amount behind a sign or without one; the sign may also follow the currency
-abbrev pub is_signed : Text → Bool
-is_signed text =
-    is_amount (behind is_sign text)
-    || (begins is_currency (chars text) && is_figure (behind is_sign (without_currency text)))
-
--- an amount in parentheses
-abbrev pub is_enclosed : Text → Bool
-is_enclosed text =
-    (begins (λ c. c == 0x28) (chars text) && ends (λ c. c == 0x29) (chars text))
-    && is_amount (without_last (without_first text))
-
 -- `0` and a digit are in front: a name, as `0042`
 abbrev pub is_name : Text → Bool
 is_name [] = false
 is_name (a ∷ []) = false
 is_name (a ∷ b ∷ rest) = (a == 0x30) && is_ascii_digit b
 
+-- a number without sign and unit
+abbrev pub is_figure : Text → Bool
+is_figure text =
+    not (is_name text)
+    && (is_decimal text || (is_scientific (halves 0x65 text) || is_scientific (halves 0x45 text)))
+
+-- ---- currencies and units
+
+-- one of these words
+abbrev pub is_among : List Text → Text → Bool
+is_among words text = list_any (λ word. bytes_eq text word) words
+
+-- the codes of ISO 4217 of currencies in use
+abbrev pub currency_codes : List Text
+currency_codes =
+    map (λ (code : String). codes code)
+    (
+    "AED" ∷ "AFN" ∷ "ALL" ∷ "AMD" ∷ "ANG" ∷ "AOA" ∷ "ARS" ∷ "AUD" ∷ "AWG" ∷ "AZN" ∷ "BAM" ∷ "BBD" ∷
+    "BDT" ∷ "BGN" ∷ "BHD" ∷ "BIF" ∷ "BMD" ∷ "BND" ∷ "BOB" ∷ "BRL" ∷ "BSD" ∷ "BTN" ∷ "BWP" ∷ "BYN" ∷
+    "BZD" ∷ "CAD" ∷ "CDF" ∷ "CHF" ∷ "CLP" ∷ "CNY" ∷ "COP" ∷ "CRC" ∷ "CUC" ∷ "CUP" ∷ "CVE" ∷ "CZK" ∷
+    "DJF" ∷ "DKK" ∷ "DOP" ∷ "DZD" ∷ "EGP" ∷ "ERN" ∷ "ETB" ∷ "EUR" ∷ "FJD" ∷ "FKP" ∷ "GBP" ∷ "GEL" ∷
+    "GHS" ∷ "GIP" ∷ "GMD" ∷ "GNF" ∷ "GTQ" ∷ "GYD" ∷ "HKD" ∷ "HNL" ∷ "HRK" ∷ "HTG" ∷ "HUF" ∷ "IDR" ∷
+    "ILS" ∷ "INR" ∷ "IQD" ∷ "IRR" ∷ "ISK" ∷ "JMD" ∷ "JOD" ∷ "JPY" ∷ "KES" ∷ "KGS" ∷ "KHR" ∷ "KMF" ∷
+    "KPW" ∷ "KRW" ∷ "KWD" ∷ "KYD" ∷ "KZT" ∷ "LAK" ∷ "LBP" ∷ "LKR" ∷ "LRD" ∷ "LSL" ∷ "LYD" ∷ "MAD" ∷
+    "MDL" ∷ "MGA" ∷ "MKD" ∷ "MMK" ∷ "MNT" ∷ "MOP" ∷ "MRU" ∷ "MUR" ∷ "MVR" ∷ "MWK" ∷ "MXN" ∷ "MYR" ∷
+    "MZN" ∷ "NAD" ∷ "NGN" ∷ "NIO" ∷ "NOK" ∷ "NPR" ∷ "NZD" ∷ "OMR" ∷ "PAB" ∷ "PEN" ∷ "PGK" ∷ "PHP" ∷
+    "PKR" ∷ "PLN" ∷ "PYG" ∷ "QAR" ∷ "RON" ∷ "RSD" ∷ "RUB" ∷ "RWF" ∷ "SAR" ∷ "SBD" ∷ "SCR" ∷ "SDG" ∷
+    "SEK" ∷ "SGD" ∷ "SHP" ∷ "SLE" ∷ "SLL" ∷ "SOS" ∷ "SRD" ∷ "SSP" ∷ "STN" ∷ "SVC" ∷ "SYP" ∷ "SZL" ∷
+    "THB" ∷ "TJS" ∷ "TMT" ∷ "TND" ∷ "TOP" ∷ "TRY" ∷ "TTD" ∷ "TWD" ∷ "TZS" ∷ "UAH" ∷ "UGX" ∷ "USD" ∷
+    "UYU" ∷ "UZS" ∷ "VED" ∷ "VES" ∷ "VND" ∷ "VUV" ∷ "WST" ∷ "XAF" ∷ "XCD" ∷ "XCG" ∷ "XOF" ∷ "XPF" ∷
+    "YER" ∷ "ZAR" ∷ "ZMW" ∷ "ZWG" ∷ "ZWL" ∷ []
+    )
+
+abbrev pub is_code : Text → Bool
+is_code text = is_among currency_codes text
+
+-- a single character, and it passes
+abbrev pub is_one : (ℕ → Bool) → List ℕ → Bool
+is_one p [] = false
+is_one p (c ∷ []) = p c
+is_one p (c ∷ d ∷ cs) = false
+
+-- a currency: its character or its code
+abbrev pub is_money : Text → Bool
+is_money text = is_one is_currency (chars text) || is_code text
+
+-- a unit of sizes: a byte, or a multiple of it
+abbrev pub is_size : Text → Bool
+is_size [] = false
+is_size (c ∷ rest) =
+    ((c == 0x42) && (length rest == 0))
+    || (list_any (λ letter. c == letter) (codes "kKMGTPE")
+    && is_among ([] ∷ codes "B" ∷ codes "i" ∷ codes "iB" ∷ []) rest)
+
+-- a unit of times; U+00B5 and U+03BC are letters for millionths
+abbrev pub times : List Text
+times =
+    codes "ns" ∷ codes "us" ∷ encode_utf8_all (0xB5 ∷ 0x73 ∷ [])
+    ∷ encode_utf8_all (0x03BC ∷ 0x73 ∷ []) ∷ codes "ms" ∷ codes "s" ∷ codes "min" ∷ codes "h"
+    ∷ codes "d" ∷ []
+
+abbrev pub is_time : Text → Bool
+is_time text = is_among times text
+
+-- what a number is counted in
+abbrev pub is_unit : Text → Bool
+is_unit text = bytes_eq text (codes "%") || (is_size text || (is_time text || is_money text))
+
+-- ---- a figure in its field
+
+-- a digit or a decimal mark
+abbrev pub is_inner : ℕ → Bool
+is_inner b = is_ascii_digit b || ((b == 0x2E) || (b == 0x2C))
+
+abbrev pub is_outer : ℕ → Bool
+is_outer b = not (is_inner b)
+
+-- what stands before the first of them, from there to the last, and behind it
+abbrev pub front_of : Text → Text
+front_of text = take (prefix_len is_outer text) text
+
+abbrev pub figure_of : Text → Text
+figure_of text = to_other is_outer (from_other is_outer text)
+
+abbrev pub back_of : Text → Text
+back_of text = drop (length (figure_of text)) (from_other is_outer text)
+
+-- behind a figure: nothing, or a unit, also behind a blank
+abbrev pub is_end : Text → Bool
+is_end back = (length back == 0) || is_unit (behind is_blank back)
+
+-- around a number without sign: a currency in front, or a unit behind, or neither
+abbrev pub is_amount : Text → Text → Bool
+is_amount front back =
+    if length front == 0
+    then is_end back
+    else (length back == 0) && is_money (before is_blank front)
+
+-- around one with a sign or without: it stands in front, or behind the currency
+abbrev pub is_signed : Text → Text → Bool
+is_signed front back =
+    if begins is_sign (chars front)
+    then is_amount (without_first front) back
+    else is_amount (before is_sign front) back
+
+-- around one in parentheses
+abbrev pub is_enclosed : Text → Text → Bool
+is_enclosed front back =
+    (begins (λ c. c == 0x28) (chars front) && ends (λ c. c == 0x29) (chars back))
+    && is_amount (without_first front) (without_last back)
+
+-- a figure between these, without spaces around it all
+abbrev pub is_bare_number : Text → Bool
+is_bare_number text =
+    (is_signed (front_of text) (back_of text) || is_enclosed (front_of text) (back_of text))
+    && is_figure (figure_of text)
+
 abbrev pub is_number : Text → Bool
-is_number text = not (is_name text) && (is_signed text || is_enclosed text)
+is_number field = is_bare_number (trimmed field)
 
 -- ---- fields that say nothing
 
@@ -181,6 +286,9 @@ is_missing text =
     (codes "n/a" ∷ codes "na" ∷ codes "null" ∷ codes "nan" ∷ codes "inf" ∷ [])
 
 -- nothing, a hyphen, or a word for a missing value behind a sign or without one
-abbrev pub is_neutral : Text → Bool
-is_neutral text =
+abbrev pub is_bare_neutral : Text → Bool
+is_bare_neutral text =
     ((length text == 0) || bytes_eq text (codes "-")) || is_missing (behind is_sign text)
+
+abbrev pub is_neutral : Text → Bool
+is_neutral field = is_bare_neutral (trimmed field)

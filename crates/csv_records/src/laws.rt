@@ -66,9 +66,9 @@ pub fn cleaned_fields_hold_no_controls()
     ensures once { (kept : CleanOptions) (field : List ℕ) → IsCleanedOnce kept field }
 {}
 
-/// A number has a digit, and no characters but digits, signs, marks, spaces, `e` or `E`,
-/// parentheses, a currency and `%`. With one sign at its front a text is a number exactly if it is
-/// one with another.
+/// A number has a digit, and no characters but digits, signs, marks, spaces, parentheses,
+/// currencies, `%` and the letters of exponents, units and codes of currencies. With one sign at
+/// its front a text is a number exactly if it is one with another.
 pub fn numbers_are_made_of_digits()
     ensures characters { (text : Text) → IsOfDigits text }
     ensures signs { (sign other : ℕ) (text : Text) → SignsAreAlike sign other text }

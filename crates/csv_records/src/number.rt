@@ -1,9 +1,10 @@
 //! Which fields are numbers.
 
-ghost use Rattle.std.specs.Prelude.{◌≡◌, ◌∷◌, ◌<◌, ◌==◌, ℕ, Bool, [], IfNone, IfSome, chars, length};
-ghost use Rattle.std.specs.List.{list_all, position};
-ghost use Rattle.std.specs.Char.{is_ascii_digit};
-ghost use Rattle.csv_records.specs.Number.{are_parted_digits, before, begins, behind, ends, halves, has_groups, has_groups_before, is_address, is_amount, is_blank, is_currency, is_decimal, is_digits, is_enclosed, is_exponent, is_figure, is_fraction, is_group_len, is_grouped, is_missing, is_name, is_neutral, is_number, is_octet, is_scientific, is_sign, is_signed, is_unit, is_word, without_currency, without_first, without_last, without_unit};
+ghost use Rattle.std.specs.Prelude.{◌≡◌, ◌∷◌, ◌++◌, ◌-◌, ◌<◌, ◌==◌, ℕ, Bool, [], IfNone, IfSome, bytes_eq, chars, encode_utf8, length};
+ghost use Rattle.std.specs.List.{list_any, position, prefix_len, suffix_len};
+ghost use Rattle.std.specs.Char.{is_ascii_digit, is_ascii_uppercase};
+ghost use Rattle.std.specs.Str.{IsCharBoundary};
+ghost use Rattle.csv_records.specs.Number.{are_parted_digits, back_of, before, begins, behind, ends, figure_of, from_other, front_of, halves, has_groups, has_groups_before, is_address, is_amount, is_bare_neutral, is_bare_number, is_blank, is_code, is_currency, is_decimal, is_digits, is_enclosed, is_end, is_exponent, is_figure, is_fraction, is_group_len, is_grouped, is_inner, is_missing, is_money, is_name, is_neutral, is_number, is_octet, is_one, is_outer, is_scientific, is_sign, is_signed, is_size, is_space, is_time, is_unit, is_word, to_other, trimmed, without_first, without_last, without_spaces_before, without_spaces_behind};
 
 use crate::characters::split_first;
 use crate::numerals::number_of;
@@ -13,46 +14,150 @@ use ucd_category::GeneralCategory;
 // The characters that part groups of digits.
 const GROUP_MARKS: [char; 7] = [',', '.', '_', '\'', ' ', '\u{a0}', '\u{202f}'];
 
+// The units of times.
+const TIMES: [&str; 9] = [
+    "ns", "us", "\u{b5}s", "\u{3bc}s", "ms", "s", "min", "h", "d",
+];
+
+// The codes of ISO 4217 of currencies in use.
+const CURRENCY_CODES: [&str; 161] = [
+    "AED", "AFN", "ALL", "AMD", "ANG", "AOA", "ARS", "AUD", "AWG", "AZN", "BAM", "BBD", "BDT",
+    "BGN", "BHD", "BIF", "BMD", "BND", "BOB", "BRL", "BSD", "BTN", "BWP", "BYN", "BZD", "CAD",
+    "CDF", "CHF", "CLP", "CNY", "COP", "CRC", "CUC", "CUP", "CVE", "CZK", "DJF", "DKK", "DOP",
+    "DZD", "EGP", "ERN", "ETB", "EUR", "FJD", "FKP", "GBP", "GEL", "GHS", "GIP", "GMD", "GNF",
+    "GTQ", "GYD", "HKD", "HNL", "HRK", "HTG", "HUF", "IDR", "ILS", "INR", "IQD", "IRR", "ISK",
+    "JMD", "JOD", "JPY", "KES", "KGS", "KHR", "KMF", "KPW", "KRW", "KWD", "KYD", "KZT", "LAK",
+    "LBP", "LKR", "LRD", "LSL", "LYD", "MAD", "MDL", "MGA", "MKD", "MMK", "MNT", "MOP", "MRU",
+    "MUR", "MVR", "MWK", "MXN", "MYR", "MZN", "NAD", "NGN", "NIO", "NOK", "NPR", "NZD", "OMR",
+    "PAB", "PEN", "PGK", "PHP", "PKR", "PLN", "PYG", "QAR", "RON", "RSD", "RUB", "RWF", "SAR",
+    "SBD", "SCR", "SDG", "SEK", "SGD", "SHP", "SLE", "SLL", "SOS", "SRD", "SSP", "STN", "SVC",
+    "SYP", "SZL", "THB", "TJS", "TMT", "TND", "TOP", "TRY", "TTD", "TWD", "TZS", "UAH", "UGX",
+    "USD", "UYU", "UZS", "VED", "VES", "VND", "VUV", "WST", "XAF", "XCD", "XCG", "XOF", "XPF",
+    "YER", "ZAR", "ZMW", "ZWG", "ZWL",
+];
+
 /// Whether a field is a number: digits, with a sign, a decimal mark, an exponent and groups of
-/// three where it has them, and with one currency or `%`; or such a number without sign in
-/// parentheses. Names such as `0042` are none, nor are dates, addresses and versions.
+/// three where it has them, and with one currency, or `%` or a unit of sizes or times; or such a
+/// number without sign in parentheses. Spaces around it don't count. Names such as `0042` are none,
+/// nor are dates, addresses and versions.
 ///
 /// ```
 /// is_number("-1_000.5e3")
 /// is_number("($12,50)")
 /// is_number("1.234,56 €")
+/// is_number("EUR -5")
+/// is_number("4 GiB")
 /// ```
 pub fn is_number(field: &str) -> bool
     ensures { result ≡ is_number field.now }
 {
-    !is_name(field.as_bytes()) && (is_signed(field) || is_enclosed(field))
+    is_bare_number(trimmed(field))
 }
 
-// Whether `0` and a digit are in front.
-fn is_name(bytes: &[u8]) -> bool
-    ensures { result ≡ is_name bytes.now }
+// A number without spaces around it.
+fn is_bare_number(text: &str) -> bool
+    ensures { result ≡ is_bare_number text.now }
 {
-    match bytes {
-        [b'0', second, ..] => second.is_ascii_digit(),
-        _ => false,
+    let (front, figure, back) = parts_of(text);
+    (is_signed(front, back) || is_enclosed(front, back)) && is_figure(figure)
+}
+
+// A field without spaces around it.
+fn trimmed(field: &str) -> &str
+    ensures { result.now ≡ trimmed field.now }
+{
+    without_spaces_behind(without_spaces_before(field))
+}
+
+fn without_spaces_before(text: &str) -> &str
+    ensures { result.now ≡ without_spaces_before text.now }
+{
+    let mut rest = text;
+    'spaces: while let Some((c, behind)) = split_first(rest) {
+        if !is_space(c) {
+            return rest;
+        }
+        rest = behind;
+    }
+    rest
+}
+
+fn without_spaces_behind(text: &str) -> &str
+    ensures { result.now ≡ without_spaces_behind text.now }
+{
+    let mut rest = text;
+    'spaces: while let Some((before, c)) = split_last(rest) {
+        if !is_space(c) {
+            return rest;
+        }
+        rest = before;
+    }
+    rest
+}
+
+// What stands before the first digit or decimal mark, from there to the last, and behind it.
+fn parts_of(text: &str) -> (&str, &str, &str)
+    ensures front { result.0.now ≡ front_of text.now }
+    ensures figure { result.1.now ≡ figure_of text.now }
+    ensures back { result.2.now ≡ back_of text.now }
+{
+    let (front, rest) = text.split_at(figure_start(text));
+    let (figure, back) = rest.split_at(figure_end(rest));
+    (front, figure, back)
+}
+
+// Where the first digit or decimal mark stands, or the end.
+fn figure_start(text: &str) -> usize
+    ensures value { result ≡ prefix_len is_outer text.now }
+    ensures boundary { IsCharBoundary text.now result }
+{
+    first_inner(text.as_bytes()).unwrap_or(text.len())
+}
+
+fn first_inner(bytes: &[u8]) -> Option<usize>
+    ensures value { result ≡ position is_inner bytes.now }
+    ensures inside { IfSome result (λ at. at < length bytes.now) }
+{
+    bytes.iter().position(|byte| is_inner(*byte))
+}
+
+// Where the last digit or decimal mark ends, or the start.
+fn figure_end(text: &str) -> usize
+    ensures value { result ≡ length text.now - suffix_len is_outer text.now }
+    ensures boundary { IsCharBoundary text.now result }
+{
+    let bytes = text.as_bytes();
+    let mut end = bytes.len();
+    while end > 0 && !is_inner(bytes[end - 1]) {
+        end -= 1;
+    }
+    end
+}
+
+// A digit or a decimal mark.
+fn is_inner(byte: u8) -> bool
+    ensures { result ≡ is_inner byte }
+{
+    byte.is_ascii_digit() || byte == b'.' || byte == b','
+}
+
+// What may stand around a figure, with a sign or without.
+fn is_signed(front: &str, back: &str) -> bool
+    ensures { result ≡ is_signed front.now back.now }
+{
+    match split_first(front) {
+        Some((c, rest)) if is_sign(c) => is_amount(rest, back),
+        _ => is_amount(before_sign(front), back),
     }
 }
 
-// An amount behind a sign or without one; the sign may also follow the currency.
-fn is_signed(text: &str) -> bool
-    ensures { result ≡ is_signed text.now }
+// What may stand around a figure in parentheses.
+fn is_enclosed(front: &str, back: &str) -> bool
+    ensures { result ≡ is_enclosed front.now back.now }
 {
-    is_amount(behind_sign(text))
-        || begins_with_currency(text) && is_figure(behind_sign(without_currency(text)))
-}
-
-// An amount in parentheses.
-fn is_enclosed(text: &str) -> bool
-    ensures { result ≡ is_enclosed text.now }
-{
-    begins_with_parenthesis(text)
-        && ends_with_parenthesis(text)
-        && is_amount(without_last(without_first(text)))
+    begins_with_parenthesis(front)
+        && ends_with_parenthesis(back)
+        && is_amount(without_first(front), without_last(back))
 }
 
 fn begins_with_parenthesis(text: &str) -> bool
@@ -67,39 +172,79 @@ fn ends_with_parenthesis(text: &str) -> bool
     matches!(split_last(text), Some((_, ')')))
 }
 
-// A number without sign: a currency stands before it, or a currency or `%` behind it, or neither.
-fn is_amount(text: &str) -> bool
-    ensures { result ≡ is_amount text.now }
+// A currency before the figure, or a unit behind it, or neither.
+fn is_amount(front: &str, back: &str) -> bool
+    ensures { result ≡ is_amount front.now back.now }
 {
-    if begins_with_currency(text) {
-        is_figure(without_currency(text))
+    if front.is_empty() {
+        is_end(back)
     } else {
-        is_figure(without_unit(text))
+        back.is_empty() && is_money(before_blank(front))
     }
 }
 
-fn begins_with_currency(text: &str) -> bool
-    ensures { result ≡ begins is_currency (chars text.now) }
+// Behind a figure: nothing, or a unit, also behind a blank.
+fn is_end(back: &str) -> bool
+    ensures { result ≡ is_end back.now }
+{
+    back.is_empty() || is_unit(behind_blank(back))
+}
+
+// What a number is counted in.
+fn is_unit(text: &str) -> bool
+    ensures { result ≡ is_unit text.now }
+{
+    text == "%" || is_size(text.as_bytes()) || is_time(text) || is_money(text)
+}
+
+// A byte, or a multiple of it.
+fn is_size(bytes: &[u8]) -> bool
+    ensures { result ≡ is_size bytes.now }
+{
+    match bytes {
+        [b'B'] => true,
+        [b'k' | b'K' | b'M' | b'G' | b'T' | b'P' | b'E', rest @ ..] => {
+            matches!(rest, [] | [b'B'] | [b'i'] | [b'i', b'B'])
+        }
+        _ => false,
+    }
+}
+
+// U+00B5 and U+03BC are letters for millionths.
+fn is_time(text: &str) -> bool
+    ensures { result ≡ is_time text.now }
+{
+    is_among(&TIMES, text)
+}
+
+// A currency: its character or its code.
+fn is_money(text: &str) -> bool
+    ensures { result ≡ is_money text.now }
+{
+    is_currency_character(text) || is_code(text)
+}
+
+fn is_currency_character(text: &str) -> bool
+    ensures { result ≡ is_one is_currency (chars text.now) }
 {
     match split_first(text) {
-        Some((c, _)) => is_currency(c),
-        None => false,
+        Some((c, "")) => is_currency(c),
+        _ => false,
     }
 }
 
-// What follows the currency in front, and a space.
-fn without_currency(text: &str) -> &str
-    ensures { result.now ≡ without_currency text.now }
+// Codes begin with capitals, and other texts are seen to be none faster so.
+fn is_code(text: &str) -> bool
+    ensures { result ≡ is_code text.now }
 {
-    behind_blank(without_first(text))
+    begins_with_capital(text.as_bytes()) && is_among(&CURRENCY_CODES, text)
 }
 
-// What stands before a currency or `%` at the end, and before a space.
-fn without_unit(text: &str) -> &str
-    ensures { result.now ≡ without_unit text.now }
+fn before_sign(text: &str) -> &str
+    ensures { result.now ≡ before is_sign text.now }
 {
     match split_last(text) {
-        Some((rest, c)) if is_unit(c) => before_blank(rest),
+        Some((rest, c)) if is_sign(c) => rest,
         _ => text,
     }
 }
@@ -151,8 +296,12 @@ fn without_last(text: &str) -> &str
 
 // The last character, and what stands before it.
 fn split_last(text: &str) -> Option<(&str, char)>
+    ensures some { IfSome result (λ parts. text.now ≡ parts.0.now ++ encode_utf8 parts.1) }
+    ensures characters { IfSome result (λ parts.
+        chars text.now ≡ chars parts.0.now ++ parts.1 ∷ []) }
     ensures last { IfSome result (λ parts. (p : ℕ → Bool) → ends p (chars text.now) ≡ p parts.1) }
     ensures rest { IfSome result (λ parts. parts.0.now ≡ without_last text.now) }
+    ensures shorter { IfSome result (λ parts. length parts.0.now < length text.now) }
     ensures none { IfNone result (chars text.now ≡ []) }
     ensures empty { IfNone result (text.now ≡ []) }
 {
@@ -173,10 +322,11 @@ fn is_blank(c: char) -> bool
     matches!(c, ' ' | '\u{a0}' | '\u{202f}')
 }
 
-fn is_unit(c: char) -> bool
-    ensures { result ≡ is_unit c }
+// A space that may stand around a field.
+fn is_space(c: char) -> bool
+    ensures { result ≡ is_space c }
 {
-    c == '%' || is_currency(c)
+    is_blank(c) || matches!(c, '\t' | '\n' | '\r')
 }
 
 // A currency. Of ASCII the dollar alone is one, and is seen faster so.
@@ -194,7 +344,18 @@ fn is_currency(c: char) -> bool
 fn is_figure(text: &str) -> bool
     ensures { result ≡ is_figure text.now }
 {
-    is_decimal(text) || is_scientific(text, 'e') || is_scientific(text, 'E')
+    !is_name(text.as_bytes())
+        && (is_decimal(text) || is_scientific(text, 'e') || is_scientific(text, 'E'))
+}
+
+// Whether `0` and a digit are in front.
+fn is_name(bytes: &[u8]) -> bool
+    ensures { result ≡ is_name bytes.now }
+{
+    match bytes {
+        [b'0', second, ..] => second.is_ascii_digit(),
+        _ => false,
+    }
 }
 
 // A decimal, and its exponent behind a letter.
@@ -321,6 +482,23 @@ fn is_group_len(is_first: bool, count: usize) -> bool
     }
 }
 
+// Whether a text is one of these words.
+fn is_among(words: &[&str], text: &str) -> bool
+    ensures { result ≡ list_any (λ word. bytes_eq text.now word.now) words.now }
+{
+    words.iter().any(|word| text == *word)
+}
+
+// Whether a capital letter of ASCII is in front.
+fn begins_with_capital(bytes: &[u8]) -> bool
+    ensures { result ≡ begins is_ascii_uppercase bytes.now }
+{
+    match bytes {
+        [first, ..] => first.is_ascii_uppercase(),
+        _ => false,
+    }
+}
+
 // Digits, at least one.
 fn is_digits(bytes: &[u8]) -> bool
     ensures { result ≡ is_digits bytes.now }
@@ -329,11 +507,17 @@ fn is_digits(bytes: &[u8]) -> bool
 }
 
 /// Whether a field says nothing of its column: it is empty, a hyphen, or a word for a missing
-/// value.
+/// value. Spaces around it don't count.
 pub fn is_neutral(field: &str) -> bool
     ensures { result ≡ is_neutral field.now }
 {
-    field.is_empty() || field == "-" || is_missing(behind_sign(field))
+    is_bare_neutral(trimmed(field))
+}
+
+fn is_bare_neutral(text: &str) -> bool
+    ensures { result ≡ is_bare_neutral text.now }
+{
+    text.is_empty() || text == "-" || is_missing(behind_sign(text))
 }
 
 // A word for a missing value.

@@ -23,14 +23,14 @@ no_sign : ¬ (is_number (codes "-5") ≡ is_number (codes "x5"))
 unfolding chars lib.Utf8.encode ucd_category
 no_sign same = let is : true ≡ false = same in cc is
 
--- behind a sign digits are one that are none without it
-a_name : is_number (codes "0042") ≡ false
+-- without a sign a text may be a number that is none behind one
+enclosed : is_number (codes "(5)") ≡ true
 unfolding chars lib.Utf8.encode ucd_category
-a_name = refl
+enclosed = refl
 
-a_name_behind_a_sign : is_number (codes "-0042") ≡ true
+enclosed_behind_a_sign : is_number (codes "-(5)") ≡ false
 unfolding chars lib.Utf8.encode ucd_category
-a_name_behind_a_sign = refl
+enclosed_behind_a_sign = refl
 
 -- ---- columns
 

@@ -21,7 +21,7 @@ use Rattle.csv_tables.specs.Drawn.{condensed_style, limited, note_for, record_li
 use Rattle.csv_tables.specs.Markdown.{rule_line}
 use Rattle.csv_tables.specs.Markdown.{escaped, unescaped}
 use Rattle.csv_tables.specs.References.{begins_reference}
-use Rattle.csv_records.specs.Number.{is_neutral, is_number}
+use Rattle.csv_records.specs.Number.{back_of, figure_of, front_of, is_neutral, is_number}
 use Rattle.clap.proofs.OnLiterals.{clap_on_literals}
 use Rattle.clap.specs.Words.{first_of, matches_of}
 use Rattle.csv_command.specs.Program.{csvtable_rules, with_rules, wordless}
@@ -55,9 +55,37 @@ numbers_beyond_ascii : list_all is_number (map encode_utf8_all ((0x2212 ∷ 0x33
 unfolding chars lib.Utf8.encode ucd_category
 numbers_beyond_ascii = refl
 
-no_numbers : list_any is_number (texts ("" ∷ "-" ∷ "." ∷ "$" ∷ "%" ∷ "()" ∷ "e5" ∷ "1e" ∷ "1e+" ∷ "1e2.5" ∷ "1 e5" ∷ "1-2" ∷ "--1" ∷ "-$-1" ∷ "$12%" ∷ "%5" ∷ "(-5)" ∷ "-(5)" ∷ " 1" ∷ "12a" ∷ [])) ≡ false
+no_numbers : list_any is_number (texts ("" ∷ "-" ∷ "." ∷ "$" ∷ "%" ∷ "()" ∷ "e5" ∷ "1e" ∷ "1e+" ∷ "1e2.5" ∷ "1 e5" ∷ "1-2" ∷ "--1" ∷ "-$-1" ∷ "$12%" ∷ "%5" ∷ "(-5)" ∷ "-(5)" ∷ "( 5)" ∷ "- 1" ∷ "12a" ∷ [])) ≡ false
 unfolding chars lib.Utf8.encode ucd_category
 no_numbers = refl
+
+-- currencies by their codes, and units of sizes and times
+coded_numbers : list_all is_number (texts ("USD 12.50" ∷ "12.50 EUR" ∷ "EUR12" ∷ "-5 CHF" ∷ "USD -5" ∷ "USD-5" ∷ "-USD 5" ∷ "(JPY 100)" ∷ "(100 JPY)" ∷ [])) ≡ true
+unfolding chars lib.Utf8.encode ucd_category
+coded_numbers = refl
+
+measured_numbers : list_all is_number (texts ("1.5K" ∷ "23M" ∷ "4 GiB" ∷ "512 kB" ∷ "100Mi" ∷ "7B" ∷ "1E" ∷ "1e3E" ∷ "12 ms" ∷ "3min" ∷ "-5d" ∷ "1,000 us" ∷ "(2 h)" ∷ [])) ≡ true
+unfolding chars lib.Utf8.encode ucd_category
+measured_numbers = refl
+
+-- millionths of a second with either letter, behind a narrow space at which no line breaks
+millionths : list_all is_number (map encode_utf8_all ((0x33 ∷ 0xB5 ∷ 0x73 ∷ []) ∷ (0x33 ∷ 0x202F ∷ 0x03BC ∷ 0x73 ∷ []) ∷ [])) ≡ true
+unfolding chars lib.Utf8.encode ucd_category
+millionths = refl
+
+-- no code or unit of these rules, or more than one, or two spaces
+no_units : list_any is_number (texts ("usd 5" ∷ "5 XXX" ∷ "5 XAU" ∷ "5 ABC" ∷ "EURO 5" ∷ "EUR5EUR" ∷ "5 m" ∷ "5kb" ∷ "5 KIB" ∷ "5iB" ∷ "5 kBB" ∷ "kB 5" ∷ "5 hr" ∷ "5 D" ∷ "$5K" ∷ "5K%" ∷ "EUR 5 kB" ∷ "USD  5" ∷ "5  kB" ∷ "1e" ∷ [])) ≡ false
+unfolding chars lib.Utf8.encode ucd_category
+no_units = refl
+
+-- spaces around a number don't count: a space, TAB, a line feed, a carriage return, U+00A0 and U+202F
+spaced_numbers : list_all is_number (map encode_utf8_all ((0x20 ∷ 0x20 ∷ 0x35 ∷ []) ∷ (0x35 ∷ 0x0D ∷ 0x0A ∷ []) ∷ (0x09 ∷ 0x24 ∷ 0x35 ∷ 0xA0 ∷ []) ∷ (0x202F ∷ 0x35 ∷ 0x25 ∷ 0x20 ∷ []) ∷ [])) ≡ true
+unfolding chars lib.Utf8.encode ucd_category
+spaced_numbers = refl
+
+-- a figure stands between what is before its first digit or mark and what is behind its last one
+figure_parts : map (λ part. part (codes "-$ 1,234.5 kB")) (front_of ∷ figure_of ∷ back_of ∷ []) ≡ texts ("-$ " ∷ "1,234.5" ∷ " kB" ∷ [])
+figure_parts = refl
 
 -- groups of another length, and of two marks
 ungrouped_digits : list_any is_number (texts ("1 2" ∷ "1,2,3" ∷ "1_00" ∷ "12,34,567" ∷ "1234,567,890" ∷ "1,234.567,890" ∷ "1.234,567.8" ∷ [])) ≡ false
@@ -65,15 +93,20 @@ unfolding chars lib.Utf8.encode ucd_category
 ungrouped_digits = refl
 
 -- names, dates, times, versions and addresses
-other_digits : list_any is_number (texts ("0042" ∷ "2026-05-02" ∷ "02.05.2026" ∷ "12:30" ∷ "1.2.3" ∷ "192.168.1.10" ∷ "192.168.100.200" ∷ "1.000.000.000" ∷ [])) ≡ false
+other_digits : list_any is_number (texts ("0042" ∷ "-007" ∷ "$0042" ∷ "USD 0042" ∷ "(0042)" ∷ "0042 s" ∷ " 0042" ∷ "2026-05-02" ∷ "02.05.2026" ∷ "12:30" ∷ "1.2.3" ∷ "192.168.1.10" ∷ "192.168.100.200" ∷ "1.000.000.000" ∷ [])) ≡ false
 unfolding chars lib.Utf8.encode ucd_category
 other_digits = refl
 
-neutral_fields : list_all is_neutral (texts ("" ∷ "-" ∷ "n/a" ∷ "N/A" ∷ "na" ∷ "Null" ∷ "NaN" ∷ "-inf" ∷ "+INF" ∷ [])) ≡ true
+neutral_fields : list_all is_neutral (texts ("" ∷ "-" ∷ "n/a" ∷ "N/A" ∷ "na" ∷ "Null" ∷ "NaN" ∷ "-inf" ∷ "+INF" ∷ " " ∷ " - " ∷ " n/a " ∷ [])) ≡ true
 unfolding chars lib.Utf8.encode
 neutral_fields = refl
 
-telling_fields : list_any is_neutral (texts ("0" ∷ "--" ∷ "+" ∷ "none" ∷ "n / a" ∷ "infinity" ∷ " " ∷ [])) ≡ false
+-- so are spaces and line breaks alone
+blank_fields : list_all is_neutral (map encode_utf8_all ((0x20 ∷ 0x0A ∷ []) ∷ (0x0D ∷ 0x0A ∷ 0x09 ∷ []) ∷ (0xA0 ∷ 0x202F ∷ []) ∷ [])) ≡ true
+unfolding chars lib.Utf8.encode
+blank_fields = refl
+
+telling_fields : list_any is_neutral (texts ("0" ∷ "--" ∷ "+" ∷ "none" ∷ "n / a" ∷ "infinity" ∷ "- -" ∷ [])) ≡ false
 unfolding chars lib.Utf8.encode
 telling_fields = refl
 
