@@ -6,9 +6,9 @@ use Rattle.std.proofs.lemmas.Bool.Decides.{nat_tests}
 use Rattle.std.proofs.lemmas.Bool.{and_parts, or_parts}
 use Rattle.std.specs.List.{list_all}
 use Rattle.std.specs.Str.{encode_utf8_all}
-use Rattle.std.proofs.lemmas.List.{map-append}
+use Rattle.std.proofs.lemmas.List.{length-map, map-append}
 use Rattle.std.proofs.lemmas.List.Sums.{fold-append}
-use Rattle.comfy_parts.specs.Text.{Text}
+use Rattle.comfy_parts.specs.Text.{Text, greatest}
 use Rattle.csv.specs.Machine.{Read, ends_at_end, field_after, fields_after, in_field, is_end, next_record, start_record, step}
 use Rattle.csv.specs.Reading.{AreRecords, Reached, is_bom, records_from, records_next, strip_bom}
 use Rattle.csv.specs.declared.parser.Action.{Action}
@@ -18,7 +18,7 @@ use Rattle.csv.specs.declared.parser.State.{State}
 use Rattle.csv.specs.declared.parser.State.TheVariants as st
 use Rattle.csv_records.specs.Beginning.{EndsWithLine, FirstRecordsStay}
 use Rattle.csv_records.proofs.DelimiterLemmas.{EndsIn-trans, line-EndsIn}
-use Rattle.csv_records.specs.Delimiter.{EndsIn, are_even, below_line, below_lines, delimited, delimiter_in, only_ascii, end_len, ends_line, first_line, found_delimiter, has_first_records, line_len, named_delimiter, parts_evenly, shows_delimiter, tried_delimiters}
+use Rattle.csv_records.specs.Delimiter.{EndsIn, agreement, agreement_by, below_line, below_lines, delimited, delimiter_in, only_ascii, end_len, ends_line, first_line, found_delimiter, has_first_records, line_len, named_delimiter, shows_delimiter, tried_delimiters}
 use Rattle.csv_records.specs.Encoding.{IsDecoded, cp1252_character, cp1252_text, encoding_of}
 use Rattle.csv_records.specs.Input.{config_for}
 use Rattle.csv_records.specs.Quotes.{state_after}
@@ -369,11 +369,13 @@ module _ (rest : Text) where
             rw (own, whole) (record { same = refl; ends = line.ends })
 
     module _ (q : Bool) where
-      same_parts : (d : ℕ) → has_first_records q text d ≡ true → parts_evenly q (text ++ rest) d ≡ parts_evenly q text d
-      same_parts d has =
+      same_agreement : (d : ℕ) → has_first_records q text d ≡ true → agreement_by q (text ++ rest) d ≡ agreement_by q text d
+      same_agreement d has =
           let cfg = config_for d q in
-          let enough : length (records_from cfg 11 st.StartRecord (strip_bom text)) ≡ 11 = eqb-true _ 11 has in
-          ap are_even (ap (records_from cfg 10 st.StartRecord) mark.rest_of ∙ same_first cfg rest 10 st.StartRecord (strip_bom text) enough)
+          let records = records_from cfg 11 st.StartRecord (strip_bom text) in
+          let enough : length records ≡ 11 = sym (length-map records (λ (fields : List Text). length fields)) ∙ eqb-true _ 11 has in
+          ap (λ (records : List (List Text)). agreement (map (λ (fields : List Text). length fields) records))
+          (ap (records_from cfg 10 st.StartRecord) mark.rest_of ∙ same_first cfg rest 10 st.StartRecord (strip_bom text) enough)
 
       same_found : list_all (has_first_records q text) tried_delimiters ≡ true → found_delimiter q (text ++ rest) ≡ found_delimiter q text
       same_found all =
@@ -381,7 +383,7 @@ module _ (rest : Text) where
           let second = and_parts (has_first_records q text 0x3B) (list_all (has_first_records q text) (0x2C ∷ 0x7C ∷ [])) first.1 in
           let third = and_parts (has_first_records q text 0x2C) (list_all (has_first_records q text) (0x7C ∷ [])) second.1 in
           let fourth = and_parts (has_first_records q text 0x7C) true third.1 in
-          rw (same_parts 0x09 first.0, same_parts 0x3B second.0, same_parts 0x2C third.0, same_parts 0x7C fourth.0) refl
+          rw (same_agreement 0x09 first.0, same_agreement 0x3B second.0, same_agreement 0x2C third.0, same_agreement 0x7C fourth.0) refl
 
     parts_stay : (d : Delimiter) (q : Bool) → shows_delimiter d q text ≡ true → PartsStay (delimited d q (text ++ rest)) (delimited d q text)
     parts_stay (Byte b) q shows = record { same = refl; ends = inr ends }
@@ -488,8 +490,11 @@ line_other line b is = by_test (bytes_eq (map to_ascii_lowercase (take 4 line)) 
     by_test false is = absurd (cc is)
 
 found_other : (q : Bool) (text : Text) → (0x0A == found_delimiter q text) ≡ false
-found_other q text = by_tests (parts_evenly q text 0x09) (parts_evenly q text 0x3B) (parts_evenly q text 0x2C) (parts_evenly q text 0x7C)
+found_other q text = by_tests (is_best 0x09) (is_best 0x3B) (is_best 0x2C) (is_best 0x7C)
   where
+    is_best : ℕ → Bool
+    is_best d = nat_lt 0 (agreement_by q text d) && (agreement_by q text d == greatest (map (agreement_by q text) tried_delimiters))
+
     by_tests : (w x y z : Bool) → (0x0A == unwrap_or (if w then Some 0x09 else if x then Some 0x3B else if y then Some 0x2C else if z then Some 0x7C else None) 0x2C) ≡ false
     by_tests true x y z = refl
     by_tests false true y z = refl

@@ -1,10 +1,10 @@
 pub mod BeginningLemmas
+pub mod BestLemmas
 pub mod CleaningLemmas
 pub mod ControlLemmas
 pub mod DelimiterLemmas
 pub mod EncodingLawLemmas
 pub mod EncodingLemmas
-pub mod EvenLemmas
 pub mod FigureLemmas
 pub mod FirstLemmas
 pub mod ForeignLemmas

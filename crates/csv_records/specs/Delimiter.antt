@@ -1,8 +1,8 @@
 -- What stands between the fields of a text, and where its records begin.
-use Rattle.std.specs.Prelude.{ℕ, zero, suc, ◌≡◌, ◌≢◌, ◌<◌, ◌==◌, ◌&&◌, ◌||◌, nat_lt, not, Bool, true, false, List, [], ◌∷◌, ◌++◌, Option, Some, None, bytes_eq, codes, drop, is_some, length, map, option_and_then, option_map, take, unwrap_or, if◌then◌else◌}
+use Rattle.std.specs.Prelude.{ℕ, zero, suc, ◌≡◌, ◌≢◌, ◌<◌, ◌==◌, ◌&&◌, ◌||◌, nat_lt, not, Bool, true, List, [], ◌∷◌, ◌++◌, Option, Some, None, bytes_eq, codes, drop, is_some, length, map, option_and_then, option_map, take, unwrap_or, if◌then◌else◌}
 use Rattle.std.specs.Char.{to_ascii_lowercase}
-use Rattle.std.specs.List.{find, list_all, position_or_len}
-use Rattle.comfy_parts.specs.Text.{Text}
+use Rattle.std.specs.List.{count_by, filter, find, list_all, position_or_len}
+use Rattle.comfy_parts.specs.Text.{Text, greatest}
 use Rattle.csv.specs.Reading.{records_from, strip_bom}
 use Rattle.csv.specs.declared.parser.State.TheVariants as st
 use Rattle.csv_records.specs.Input.{config_for, line_breaks}
@@ -75,38 +75,40 @@ named_delimiter text =
 
 -- ---- a delimiter that is found
 
--- the records that are looked at
-abbrev pub first_records : ℕ → Bool → Text → List (List Text)
-first_records delimiter has_quotes text =
-    records_from (config_for delimiter has_quotes) 10 st.StartRecord (strip_bom text)
+-- how many fields the first records have, at most so many records
+abbrev pub field_counts : Bool → Text → ℕ → ℕ → List ℕ
+field_counts has_quotes text delimiter most =
+    map (λ fields. length fields)
+    (records_from (config_for delimiter has_quotes) most st.StartRecord (strip_bom text))
 
--- each record has this number of fields
-abbrev pub have_fields : ℕ → List (List Text) → Bool
-have_fields count records = list_all (λ fields. length fields == count) records
+-- how many records have the commonest number of fields, of those above 1
+abbrev pub agreement : List ℕ → ℕ
+agreement counts =
+    greatest (map (λ n. count_by (λ m. m == n) counts) (filter (λ n. nat_lt 1 n) counts))
 
--- there are records, and all have one same number of fields, above 1
-abbrev pub are_even : List (List Text) → Bool
-are_even [] = false
-are_even (first ∷ others) = nat_lt 1 (length first) && have_fields (length first) others
-
--- a delimiter parts the first records into one same number of fields
-abbrev pub parts_evenly : Bool → Text → ℕ → Bool
-parts_evenly has_quotes text delimiter = are_even (first_records delimiter has_quotes text)
+-- how many of the first ten records of a text agree so, by a delimiter
+abbrev pub agreement_by : Bool → Text → ℕ → ℕ
+agreement_by has_quotes text delimiter = agreement (field_counts has_quotes text delimiter 10)
 
 -- TAB, `;`, `,` and `|`, in the order in which they are tried
 abbrev pub tried_delimiters : List ℕ
 tried_delimiters = 0x09 ∷ 0x3B ∷ 0x2C ∷ 0x7C ∷ []
 
--- the first of them that parts evenly, else a comma
+-- the first of some delimiters by which the most records agree, a comma where none do
+abbrev pub best_delimiter : (ℕ → ℕ) → List ℕ → ℕ
+best_delimiter agree delimiters =
+    let most = greatest (map agree delimiters) in
+    unwrap_or (find (λ d. nat_lt 0 (agree d) && (agree d == most)) delimiters) 0x2C
+
+-- that of those that are tried
 abbrev pub found_delimiter : Bool → Text → ℕ
-found_delimiter has_quotes text =
-    unwrap_or (find (parts_evenly has_quotes text) tried_delimiters) 0x2C
+found_delimiter has_quotes text = best_delimiter (agreement_by has_quotes text) tried_delimiters
 
 -- a delimiter gives a text more records than the ten that are looked at, so that these are whole,
 -- however the text goes on
 abbrev pub has_first_records : Bool → Text → ℕ → Bool
 has_first_records has_quotes text delimiter =
-    length (records_from (config_for delimiter has_quotes) 11 st.StartRecord (strip_bom text)) == 11
+    length (field_counts has_quotes text delimiter 11) == 11
 
 -- ---- the delimiter of a text
 

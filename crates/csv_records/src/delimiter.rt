@@ -1,9 +1,9 @@
 //! What stands between the fields of a text, and what stands below first lines.
 
-ghost use Rattle.std.specs.Prelude.{◌≡◌, ◌==◌, IfOk, nat_lt, option_map, if◌then◌else◌};
-ghost use Rattle.std.specs.List.{list_all, position};
+ghost use Rattle.std.specs.Prelude.{◌≡◌, ◌==◌, IfOk, option_map};
+ghost use Rattle.std.specs.List.{count_by, list_all, position};
 ghost use Rattle.csv.specs.Reading.{strip_bom};
-ghost use Rattle.csv_records.specs.Delimiter.{EndsIn, IsAsciiUnlessAsked, below_line, below_lines, delimited, delimiter_in, end_len, ends_line, first_line, found_delimiter, has_first_records, line_len, named_delimiter, only_ascii, parts_evenly, shows_delimiter, tried_delimiters};
+ghost use Rattle.csv_records.specs.Delimiter.{EndsIn, IsAsciiUnlessAsked, agreement, below_line, below_lines, delimited, delimiter_in, end_len, ends_line, field_counts, first_line, found_delimiter, has_first_records, line_len, named_delimiter, only_ascii, shows_delimiter, tried_delimiters};
 
 use crate::records::reader_of;
 use crate::text::without_mark;
@@ -15,7 +15,7 @@ use std::alloc::{AllocError, Global};
 pub enum Delimiter {
     /// This byte.
     Byte(u8),
-    /// What a first line `sep=X` names, else what parts the first records evenly, else a comma.
+    /// What a first line `sep=X` names, else what most of the first records agree on, else a comma.
     Auto,
     /// What a first line `sep=X` names, else TAB.
     NamedOrTab,
@@ -27,8 +27,8 @@ pub enum Delimiter {
 /// Such a line is looked for unless a byte is asked for, also behind a byte-order mark. X is one
 /// ASCII character that is no quote. The letters may be capitals.
 ///
-/// `Auto` takes the first of TAB, `;`, `,` and `|` that gives each of the first ten records one
-/// same number of fields, above 1.
+/// `Auto` takes that of TAB, `;`, `,` and `|` by which the most of the first ten records have one
+/// same number of fields, above 1; of several the first.
 pub(crate) fn delimited<'a>(
     alloc: Global,
     text: &'a str,
@@ -171,55 +171,41 @@ const TRIED: [u8; 4] = [b'\t', b';', b',', b'|'];
 // How many records are looked at.
 const FIRST_RECORDS: usize = 10;
 
-// The first of them that parts the records evenly, else a comma.
+// The first of them by which the most records agree, a comma where none do.
 fn found_delimiter(alloc: Global, text: &str, has_quotes: bool) -> Result<u8, AllocError>
     ensures { IfOk result (λ delimiter. delimiter ≡ found_delimiter has_quotes text.now) }
 {
+    let mut found = b',';
+    let mut most = 0;
     for delimiter in TRIED {
-        if parts_evenly(alloc, text, has_quotes, delimiter)? {
-            return Ok(delimiter);
+        let counts = field_counts(alloc, text, has_quotes, delimiter, FIRST_RECORDS)?;
+        let agreement = agreement(counts.as_slice());
+        if agreement > most {
+            found = delimiter;
+            most = agreement;
         }
     }
-    Ok(b',')
+    Ok(found)
 }
 
-// The first records have one same number of fields, above 1. Nothing is read behind the first that
-// differs.
-fn parts_evenly(
-    alloc: Global,
-    text: &str,
-    has_quotes: bool,
-    delimiter: u8,
-) -> Result<bool, AllocError>
-    ensures { IfOk result (λ is_so. is_so ≡ parts_evenly has_quotes text.now delimiter) }
+// How many records have the commonest number of fields, of those above 1.
+fn agreement(counts: &[usize]) -> usize
+    ensures { result ≡ agreement counts.now }
 {
-    let mut reader = reader_of(alloc, text, delimiter, has_quotes);
-    let mut record = ByteRecord::new(alloc);
-    let mut fields = 0;
-    for _ in 0..FIRST_RECORDS {
-        let Ok(is_found) = reader.read_byte_record(&mut record) else {
-            return Err(AllocError);
-        };
-        if !is_found {
-            break;
+    let mut most_alike = 0;
+    for count in counts {
+        if *count > 1 {
+            most_alike = most_alike.max(alike(counts, *count));
         }
-        if !may_follow(fields, record.len()) {
-            return Ok(false);
-        }
-        fields = record.len();
     }
-    Ok(fields > 0)
+    most_alike
 }
 
-// A record of so many fields may follow records of `before` fields each; 0 stands for no record.
-fn may_follow(before: usize, fields: usize) -> bool
-    ensures { result ≡ (if before == 0 then nat_lt 1 fields else (fields == before)) }
+// How many of some numbers are this one.
+fn alike(counts: &[usize], wanted: usize) -> usize
+    ensures { result ≡ count_by (λ n. n == wanted) counts.now }
 {
-    if before == 0 {
-        fields > 1
-    } else {
-        fields == before
-    }
+    counts.iter().filter(|count| **count == wanted).count()
 }
 
 // Each delimiter that is tried gives more records than are looked at.
@@ -228,31 +214,36 @@ fn each_has_first_records(alloc: Global, text: &str, has_quotes: bool) -> Result
         ≡ list_all (has_first_records has_quotes text.now) tried_delimiters) }
 {
     for delimiter in TRIED {
-        if !has_first_records(alloc, text, has_quotes, delimiter)? {
+        let counts = field_counts(alloc, text, has_quotes, delimiter, FIRST_RECORDS + 1)?;
+        if counts.len() != FIRST_RECORDS + 1 {
             return Ok(false);
         }
     }
     Ok(true)
 }
 
-// This delimiter does.
-fn has_first_records(
+// How many fields the first records have, at most so many records.
+fn field_counts(
     alloc: Global,
     text: &str,
     has_quotes: bool,
     delimiter: u8,
-) -> Result<bool, AllocError>
-    ensures { IfOk result (λ is. is ≡ has_first_records has_quotes text.now delimiter) }
+    most: usize,
+) -> Result<Vec<usize>, AllocError>
+    ensures { IfOk result (λ counts. counts.items
+        ≡ field_counts has_quotes text.now delimiter most) }
 {
     let mut reader = reader_of(alloc, text, delimiter, has_quotes);
     let mut record = ByteRecord::new(alloc);
-    for _ in 0..FIRST_RECORDS + 1 {
+    let mut counts = Vec::with_capacity(alloc, most)?;
+    for _ in 0..most {
         let Ok(is_found) = reader.read_byte_record(&mut record) else {
             return Err(AllocError);
         };
         if !is_found {
-            return Ok(false);
+            break;
         }
+        counts.push(record.len())?;
     }
-    Ok(true)
+    Ok(counts)
 }

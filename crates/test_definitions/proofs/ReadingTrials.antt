@@ -10,7 +10,7 @@ use Rattle.csv.specs.Reading.{records_from, strip_bom}
 use Rattle.ucd_category.proofs.Computing.{ucd_category}
 use Rattle.comfy_parts.specs.Text.{Text}
 use Rattle.csv_command.specs.Ending.{input_name, reading_reason, reason_for}
-use Rattle.csv_records.specs.Delimiter.{below_lines, delimited, delimiter_in}
+use Rattle.csv_records.specs.Delimiter.{agreement, below_lines, delimited, delimiter_in}
 use Rattle.csv_tables.specs.Unbroken.{is_unbroken}
 use Rattle.csv_command.specs.Arguments.{delimiter_for, encoding_for}
 use Rattle.csv_records.specs.Foreign.{foreign_for}
@@ -33,25 +33,39 @@ lines_below = refl
 
 -- ---- what stands between fields
 
--- by the first records: the first in the order TAB, `;`, `,`, `|` that parts evenly, else a comma
-even_ones : map (λ (input : String). (delimited Auto true (codes input)).0) ("a\tb\n1\t2\n" ∷ "a;b\n1;2,5\n" ∷ "a,b\n1,2;3\n" ∷ "a|b,c\n1|2\n" ∷ []) ≡ 0x09 ∷ 0x3B ∷ 0x2C ∷ 0x7C ∷ []
-unfolding strip_bom records_from next_record
-even_ones = refl
+-- how many records have the commonest number of fields above 1
+agreements : map agreement ([] ∷ (1 ∷ 1 ∷ 1 ∷ []) ∷ (3 ∷ 3 ∷ 2 ∷ []) ∷ (1 ∷ 1 ∷ 1 ∷ 4 ∷ []) ∷ (2 ∷ 5 ∷ 2 ∷ 5 ∷ 3 ∷ 5 ∷ []) ∷ []) ≡ 0 ∷ 0 ∷ 2 ∷ 1 ∷ 3 ∷ []
+agreements = refl
 
-ties : map (λ (input : String). (delimited Auto true (codes input)).0) ("a,b;c\n1,2;3\n" ∷ "a\tb;c\n" ∷ "a|b,c\n" ∷ []) ≡ 0x3B ∷ 0x09 ∷ 0x2C ∷ []
+-- the delimiter by which the most records agree
+found_ones : map (λ (input : String). (delimited Auto true (codes input)).0) ("a\tb\n1\t2\n" ∷ "a;b\n1;2,5\n" ∷ "a,b\n1,2;3\n" ∷ "a|b,c\n1|2\n" ∷ []) ≡ 0x09 ∷ 0x3B ∷ 0x2C ∷ 0x7C ∷ []
+unfolding strip_bom records_from next_record
+found_ones = refl
+
+-- where some records lack a field or have one more, and below lines of another form
+ragged :
+    map (λ (input : String). (delimited Auto true (codes input)).0)
+    ("a\tb\tc\n1\t2,5\t3,5\n4\t5\n" ∷ "Datum;Betrag\n1.2.;3,5\nSumme\n" ∷ "a,b\n1,2\n3\n4,5;6\n" ∷ "Konto|1\nStand\na,b\n1,2\n3,4,5\n" ∷ [])
+    ≡ 0x09 ∷ 0x3B ∷ 0x2C ∷ 0x2C ∷ []
+unfolding strip_bom records_from next_record
+ragged = refl
+
+-- of several the first in the order TAB, `;`, `,`, `|`
+ties : map (λ (input : String). (delimited Auto true (codes input)).0) ("a,b;c\n1,2;3\n" ∷ "a\tb;c\n" ∷ "a|b,c\n" ∷ "a;b\n1,2\n" ∷ []) ≡ 0x3B ∷ 0x09 ∷ 0x2C ∷ 0x3B ∷ []
 unfolding strip_bom records_from next_record
 ties = refl
 
-no_even_ones : map (λ (input : String). (delimited Auto true (codes input)).0) ("" ∷ "a b\n" ∷ "a;b\n1\n" ∷ "a;b\n1;2;3\n" ∷ []) ≡ 0x2C ∷ 0x2C ∷ 0x2C ∷ 0x2C ∷ []
+-- a comma where none parts a record
+none_found : map (λ (input : String). (delimited Auto true (codes input)).0) ("" ∷ "a b\n" ∷ "a\n1\n" ∷ []) ≡ 0x2C ∷ 0x2C ∷ 0x2C ∷ []
 unfolding strip_bom records_from next_record
-no_even_ones = refl
+none_found = refl
 
 -- quotes as csv reads them, and as characters
 with_quotes : map (λ (has_quotes : Bool). (delimited Auto has_quotes (codes "\"a;b\",c\n1,2\n")).0) (true ∷ false ∷ []) ≡ 0x2C ∷ 0x2C ∷ []
 unfolding strip_bom records_from next_record
 with_quotes = refl
 
-without_quotes : map (λ (has_quotes : Bool). (delimited Auto has_quotes (codes "\"a;b\"\n1;2\n")).0) (true ∷ false ∷ []) ≡ 0x2C ∷ 0x3B ∷ []
+without_quotes : map (λ (has_quotes : Bool). (delimited Auto has_quotes (codes "\"a;b\"\n\"1;2\"\n3,4\n")).0) (true ∷ false ∷ []) ≡ 0x2C ∷ 0x3B ∷ []
 unfolding strip_bom records_from next_record
 without_quotes = refl
 

@@ -1,7 +1,8 @@
-use Rattle.std.proofs.Common.{◌≡◌, drop}
-use Rattle.std.specs.List.{find}
-use Rattle.csv_records.specs.Delimiter.{parts_evenly, tried_delimiters}
+use Rattle.std.proofs.Common.{◌≡◌, map, take}
+use Rattle.comfy_parts.specs.Text.{greatest}
+use Rattle.csv_records.specs.Delimiter.{agreement_by, best_delimiter, tried_delimiters}
 use Rattle.csv_records.proofs.delimiter.found_delimiter.Given as goal
 
 abbrev pub invariant-loop-delimiter : goal.invariant-loop-delimiter
-invariant-loop-delimiter l = find (parts_evenly l.fn.has_quotes l.fn.text) (drop l.delimiter-index tried_delimiters) ≡ find (parts_evenly l.fn.has_quotes l.fn.text) tried_delimiters
+invariant-loop-delimiter l = (l.most ≡ greatest (map (agreement_by l.fn.has_quotes l.fn.text) (take l.delimiter-index tried_delimiters)))
+    × (l.found ≡ best_delimiter (agreement_by l.fn.has_quotes l.fn.text) (take l.delimiter-index tried_delimiters))
