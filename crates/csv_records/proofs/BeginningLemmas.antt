@@ -23,7 +23,9 @@ use Rattle.csv_records.specs.Encoding.{IsDecoded, cp1252_character, cp1252_text,
 use Rattle.csv_records.specs.Input.{config_for}
 use Rattle.csv_records.specs.Quotes.{state_after}
 use Rattle.csv_records.specs.declared.delimiter.Delimiter.{Delimiter}
-use Rattle.csv_records.specs.declared.delimiter.Delimiter.TheVariants.{Auto, Byte, NamedOrTab}
+use Rattle.csv_records.specs.declared.delimiter.Delimiter.TheVariants.{Auto, Byte, NamedOrTab, Spaces}
+use Rattle.csv_records.specs.Reading.{counts_quotes, parted, read_text, reads_quotes}
+use Rattle.csv_records.proofs.ReadTextLemmas.{no_spaces, plain_quotes, plain_text}
 use Rattle.csv_records.specs.declared.encoding.Encoding.{Encoding}
 use Rattle.csv_records.specs.declared.encoding.Encoding.TheVariants.{Cp1252, Utf16, Utf8}
 use Rattle.csv_records.specs.declared.options.InputOptions.{InputOptions}
@@ -388,6 +390,7 @@ module _ (rest : Text) where
     parts_stay : (d : Delimiter) (q : Bool) → shows_delimiter d q text ≡ true → PartsStay (delimited d q (text ++ rest)) (delimited d q text)
     parts_stay (Byte b) q shows = record { same = refl; ends = inr ends }
     parts_stay NamedOrTab q shows = by_name 0x09 0x09 (λ none. refl)
+    parts_stay Spaces q shows = absurd (cc shows)
     parts_stay Auto q shows = by_name (found_delimiter q text) (found_delimiter q (text ++ rest)) (λ none. same_found q (ap (λ (o : Option (ℕ × Text)). is_some o || list_all (has_first_records q text) tried_delimiters) (sym none) ∙ shows))
 
 -- ---- the text of an input
@@ -520,6 +523,7 @@ other_delimiter (Byte b) q text shows = turned b (by_test (b == 0x0A) shows)
     by_test true is = absurd (cc is)
     by_test false is = refl
 other_delimiter NamedOrTab q text shows = chosen_other text 0x09 refl
+other_delimiter Spaces q text shows = absurd (cc shows)
 other_delimiter Auto q text shows = chosen_other text (found_delimiter q text) (found_other q text)
 
 -- ---- all together
@@ -576,4 +580,19 @@ first_records_stay options most beginning behind records all enough known =
         let own : ℕ × Text = delimited d q enough.text in
         let whole : delimited d q known.text ≡ delimited d q (enough.text ++ rest) = ap (delimited d q) is in
         by_parts own (delimited d q known.text) rest (other_delimiter d q enough.text enough.shows) (subst (λ (w : ℕ × Text). PartsStay rest w own) (sym whole) (parts_stay rest enough.text ends d q enough.shows))
-        enough.are_records.are_records.all enough.are_records.is_closed known.are_records.are_records.all
+        (plain records enough.text enough.are_records.are_records.all) closed (plain all known.text known.are_records.are_records.all)
+
+    other : d ≢ Spaces
+    other = no_spaces d q enough.text enough.shows
+
+    -- since spaces don't stand between fields, the records are those of the text itself
+    plain : (rows : List (List Text)) (text : Text) → AreRecords (config_for (parted options text).0 (reads_quotes options)) st.StartRecord (strip_bom (parted options text).1) rows
+        → AreRecords (config_for (delimited d q text).0 q) st.StartRecord (strip_bom (delimited d q text).1) rows
+    plain rows text are =
+        subst (λ (t : Text). AreRecords (config_for (delimited d q t).0 q) st.StartRecord (strip_bom (delimited d q t).1) rows) (plain_text d text other)
+        (subst (λ (b : Bool). AreRecords (config_for (delimited d b (read_text d text)).0 b) st.StartRecord (strip_bom (delimited d b (read_text d text)).1) rows) (plain_quotes d q other) are)
+
+    closed : q ≡ true → state_after (delimited d q enough.text).0 (strip_bom (delimited d q enough.text).1) ≢ st.InQuoted
+    closed =
+        subst (λ (t : Text). q ≡ true → state_after (delimited d q t).0 (strip_bom (delimited d q t).1) ≢ st.InQuoted) (plain_text d enough.text other)
+        (subst (λ (b : Bool). b ≡ true → state_after (delimited d b (read_text d enough.text)).0 (strip_bom (delimited d b (read_text d enough.text)).1) ≢ st.InQuoted) (plain_quotes d q other) enough.are_records.is_closed)

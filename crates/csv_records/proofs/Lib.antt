@@ -16,6 +16,8 @@ pub mod OneRecordLemmas
 pub mod PieceLemmas
 pub mod PlaceLemmas
 pub mod QuoteLemmas
+pub mod ReadTextLemmas
 pub mod RecordLemmas
 pub mod ShownLemmas
+pub mod SpacesLemmas
 pub mod TextLemmas

@@ -9,7 +9,7 @@ use Rattle.csv.specs.declared.parser.State.{State}
 use Rattle.csv.specs.declared.parser.State.TheVariants as st
 use Rattle.csv_records.specs.Encoding.{IsDecoded, encoding_of}
 use Rattle.csv_records.specs.Input.{config_for}
-use Rattle.csv_records.specs.Reading.{RecordsAreOne, parted}
+use Rattle.csv_records.specs.Reading.{RecordsAreOne, parted, reads_quotes}
 use Rattle.csv_records.specs.declared.encoding.Encoding.{Encoding}
 use Rattle.csv_records.specs.declared.encoding.Encoding.TheVariants.{Cp1252, Utf16, Utf8}
 use Rattle.csv_records.specs.declared.options.InputOptions.{InputOptions}
@@ -53,8 +53,8 @@ text_is_one Utf16 skip input text other first second =
 
 pub read_is_one : (options : InputOptions) (input : Text) (records others : List (List Text)) → RecordsAreOne options input records others
 read_is_one options input records others first second =
-    records_are_one (config_for (parted options first.text).0 options.has_quotes) st.StartRecord (strip_bom (parted options first.text).1) records others first.are_records.are_records.all
-    (subst (λ (t : Text). AreRecords (config_for (parted options t).0 options.has_quotes) st.StartRecord (strip_bom (parted options t).1) others) (sym same) second.are_records.are_records.all)
+    records_are_one (config_for (parted options first.text).0 (reads_quotes options)) st.StartRecord (strip_bom (parted options first.text).1) records others first.are_records.are_records.all
+    (subst (λ (t : Text). AreRecords (config_for (parted options t).0 (reads_quotes options)) st.StartRecord (strip_bom (parted options t).1) others) (sym same) second.are_records.are_records.all)
   where
     same : first.text ≡ second.text
     same = text_is_one (encoding_of options.encoding input) options.skip input first.text second.text first.is_text.is_decoded second.is_text.is_decoded

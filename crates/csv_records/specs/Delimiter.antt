@@ -7,7 +7,7 @@ use Rattle.csv.specs.Reading.{records_from, strip_bom}
 use Rattle.csv.specs.declared.parser.State.TheVariants as st
 use Rattle.csv_records.specs.Input.{config_for, line_breaks}
 use Rattle.csv_records.specs.declared.delimiter.Delimiter.{Delimiter}
-use Rattle.csv_records.specs.declared.delimiter.Delimiter.TheVariants.{Auto, Byte, NamedOrTab}
+use Rattle.csv_records.specs.declared.delimiter.Delimiter.TheVariants.{Auto, Byte, NamedOrTab, Spaces}
 
 -- ---- lines
 
@@ -118,17 +118,21 @@ delimited (Byte b) has_quotes text = (b, text)
 delimited Auto has_quotes text =
     unwrap_or (named_delimiter text) (found_delimiter has_quotes text, text)
 delimited NamedOrTab has_quotes text = unwrap_or (named_delimiter text) (0x09, text)
+delimited Spaces has_quotes text = (0x09, text)
 
 -- a byte that wasn't asked for is ASCII
 abbrev pub IsAsciiUnlessAsked : Delimiter → ℕ → Type 0
 IsAsciiUnlessAsked (Byte b) delimiter = Unit {0}
 IsAsciiUnlessAsked Auto delimiter = delimiter < 128
 IsAsciiUnlessAsked NamedOrTab delimiter = delimiter < 128
+IsAsciiUnlessAsked Spaces delimiter = delimiter < 128
 
 -- a text shows what stands between fields, however it goes on: a byte is asked for, which is no
--- line feed, or its first line names one, or each that is tried gives it so many records
+-- line feed, or its first line names one, or each that is tried gives it so many records. Where
+-- spaces part fields, no beginning is enough
 abbrev pub shows_delimiter : Delimiter → Bool → Text → Bool
 shows_delimiter (Byte b) has_quotes text = not (b == 0x0A)
 shows_delimiter Auto has_quotes text =
     is_some (named_delimiter text) || list_all (has_first_records has_quotes text) tried_delimiters
 shows_delimiter NamedOrTab has_quotes text = true
+shows_delimiter Spaces has_quotes text = false

@@ -14,4 +14,5 @@ pub mod QuoteWalk
 pub mod Quotes
 pub mod Reading
 pub mod Shown
+pub mod Spaces
 pub mod Started

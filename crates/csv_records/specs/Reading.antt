@@ -1,5 +1,5 @@
 -- The records of an input, by what is asked for, and why there are none.
-use Rattle.std.specs.Prelude.{ℕ, ◌≡◌, ◌≢◌, true, List, ◌++◌, MatchOption, None}
+use Rattle.std.specs.Prelude.{ℕ, ◌≡◌, ◌≢◌, Bool, true, false, List, ◌++◌, MatchOption, None}
 use Rattle.comfy_parts.specs.Text.{Text}
 use Rattle.csv.specs.Reading.{strip_bom}
 use Rattle.csv.specs.declared.parser.State.TheVariants as st
@@ -8,6 +8,9 @@ use Rattle.csv_records.specs.Encoding.{IsDecoded, IsRefusedIn, encoding_of}
 use Rattle.csv_records.specs.Foreign.{foreign_for}
 use Rattle.csv_records.specs.Input.{AreRecordsOf, SplitsCharacter, line_number}
 use Rattle.csv_records.specs.Quotes.{IsUnclosed, state_after}
+use Rattle.csv_records.specs.Spaces.{tabbed_text}
+use Rattle.csv_records.specs.declared.delimiter.Delimiter.{Delimiter}
+use Rattle.csv_records.specs.declared.delimiter.Delimiter.TheVariants.{Auto, Byte, NamedOrTab, Spaces}
 use Rattle.csv_records.specs.declared.error.DecodeError.{DecodeError}
 use Rattle.csv_records.specs.declared.error.DecodeError.TheVariants as decode
 use Rattle.csv_records.specs.declared.error.RecordsError.{RecordsError}
@@ -27,22 +30,40 @@ IsWithoutText options input e =
     (IsRefusedIn (encoding_of options.encoding input) options.skip input e)
     (λ foreign. e ≡ decode.Foreign foreign)
 
+-- what is read of a text: with TABs between fields, where spaces stand there
+abbrev pub read_text : Delimiter → Text → Text
+read_text (Byte b) text = text
+read_text Auto text = text
+read_text NamedOrTab text = text
+read_text Spaces text = tabbed_text text
+
+-- whether quotes count: not where spaces stand between fields
+abbrev pub counts_quotes : Delimiter → Bool → Bool
+counts_quotes (Byte b) has_quotes = has_quotes
+counts_quotes Auto has_quotes = has_quotes
+counts_quotes NamedOrTab has_quotes = has_quotes
+counts_quotes Spaces has_quotes = false
+
+abbrev pub reads_quotes : InputOptions → Bool
+reads_quotes options = counts_quotes options.delimiter options.has_quotes
+
 -- the byte between the fields of a text, and what holds its records: not a line that names the byte
 abbrev pub parted : InputOptions → Text → ℕ × Text
-parted options text = delimited options.delimiter options.has_quotes text
+parted options text =
+    delimited options.delimiter (reads_quotes options) (read_text options.delimiter text)
 
 -- these are the records of a text, and where quotes count, it doesn't end within them
 pub record AreRecordsIn (options : InputOptions) (text : Text) (records : List
     (List Text)) : Type 0 where
   pub are_records :
-      AreRecordsOf (parted options text).0 options.has_quotes (parted options text).1 records
-  pub is_closed : options.has_quotes ≡ true
+      AreRecordsOf (parted options text).0 (reads_quotes options) (parted options text).1 records
+  pub is_closed : reads_quotes options ≡ true
       → state_after (parted options text).0 (strip_bom (parted options text).1) ≢ st.InQuoted
 
 -- a quote that opens a field in this line is never closed, a text standing below the lines that are
 -- left out
 pub record HasUnclosedQuote (options : InputOptions) (text : Text) (line : ℕ) : Type 0 where
-  pub has_quotes : options.has_quotes ≡ true
+  pub has_quotes : reads_quotes options ≡ true
   pub before : Text
   pub from_quote : Text
   pub parts : text ≡ before ++ from_quote
@@ -53,7 +74,7 @@ pub record HasUnclosedQuote (options : InputOptions) (text : Text) (line : ℕ) 
 -- the delimiter isn't ASCII, and splits a character of a record
 abbrev pub HasSplitCharacter : InputOptions → Text → Type 0
 HasSplitCharacter options text =
-    SplitsCharacter (parted options text).0 options.has_quotes (parted options text).1
+    SplitsCharacter (parted options text).0 (reads_quotes options) (parted options text).1
 
 -- why a text has no records
 abbrev pub IsTextWithoutRecords : InputOptions → Text → RecordsError → Type 0

@@ -19,6 +19,10 @@ pub enum Delimiter {
     Auto,
     /// What a first line `sep=X` names, else TAB.
     NamedOrTab,
+    /// Runs of spaces and TABs, as in what `df -h` and `ls -l` write. White space at the ends of a line
+    /// doesn't count. The last field that the first line has takes all that is left of a line. Quotes
+    /// are characters like others.
+    Spaces,
 }
 
 /// The byte between the fields of a text, and the text of its records: all of it, or what follows a
@@ -51,12 +55,14 @@ pub(crate) fn delimited<'a>(
             Some(parts) => Ok(parts),
             None => Ok((b'\t', text)),
         },
+        // Its text has TABs between fields by then.
+        Delimiter::Spaces => Ok((b'\t', text)),
     }
 }
 
 /// Whether a text whose lines are whole shows what stands between fields, however it goes on: a
 /// byte is asked for, which is no line feed, or its first line names one, or each that is tried
-/// gives it more records than are looked at.
+/// gives it more records than are looked at. Where spaces part fields, a text is read whole.
 pub(crate) fn shows_delimiter(
     alloc: Global,
     text: &str,
@@ -71,6 +77,7 @@ pub(crate) fn shows_delimiter(
         }
         Delimiter::Byte(byte) => Ok(byte != b'\n'),
         Delimiter::Auto | Delimiter::NamedOrTab => Ok(true),
+        Delimiter::Spaces => Ok(false),
     }
 }
 

@@ -17,6 +17,7 @@ mod quotes;
 mod reading;
 mod records;
 mod shown;
+mod spaces;
 mod text;
 
 pub use beginning::read_beginning;

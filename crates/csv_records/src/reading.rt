@@ -5,11 +5,12 @@ ghost use Rattle.csv_records.specs.First.{AreFirst};
 ghost use Rattle.csv_records.specs.Input.{line_number};
 ghost use Rattle.csv_records.specs.Reading.{AreRecordsIn, IsTextWithoutRecords};
 
-use crate::delimiter::delimited;
+use crate::delimiter::{Delimiter, delimited};
 use crate::error::RecordsError;
 use crate::options::InputOptions;
 use crate::quotes::unclosed_quote;
 use crate::records::{FirstRecords, Records, first_records_of};
+use crate::spaces::tabbed_text;
 use crate::text::line_number;
 use std::alloc::Global;
 
@@ -41,6 +42,10 @@ pub fn read_first_records(
     ensures count { IfOk result (λ first. first.count < 2 ^ 64) }
     ensures refused { IfErr result (λ e. IsTextWithoutRecords options.now text.now e) }
 {
+    if let Delimiter::Spaces = options.delimiter {
+        let tabbed = tabbed_text(alloc, text)?;
+        return first_records_of(alloc, tabbed.as_str(), b'\t', false, most);
+    }
     let (delimiter, rest) = delimited(alloc, text, options.delimiter, options.has_quotes)?;
     if options.has_quotes {
         if let Some(at) = unclosed_quote(rest, delimiter) {

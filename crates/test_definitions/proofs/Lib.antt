@@ -21,6 +21,7 @@ mod PresetTrials
 mod PromiseTrials
 mod QuoteTrials
 mod ReadingTrials
+mod SpacesTrials
 mod RecordTrials
 mod StraightTrials
 mod StyleModifierTrials

@@ -1,10 +1,13 @@
-use Rattle.std.proofs.Common.{◌≡◌, ◌+◌, ◌-◌, ◌≤◌, ◌++◌, ◌∙◌, ℕ, ap, append_assoc, arith, drop, length, length-append, subst, sym, take}
+use Rattle.std.proofs.Common.{◌≡◌, ◌≢◌, Bool, ◌+◌, ◌-◌, ◌≤◌, ◌++◌, ◌∙◌, ℕ, ap, append_assoc, arith, drop, length, length-append, subst, sym, take}
 use Rattle.std.proofs.Math.Seq.{take-append-add}
 use Rattle.std.proofs.lemmas.List.{length-drop, take-append-drop}
 use Rattle.csv.specs.Reading.{strip_bom}
 use Rattle.comfy_parts.specs.Text.{Text}
 use Rattle.csv_records.specs.Delimiter.{EndsIn, delimited}
 use Rattle.csv_records.specs.Quotes.{IsUnclosed}
+use Rattle.csv_records.specs.Reading.{parted, read_text}
+use Rattle.csv_records.specs.declared.delimiter.Delimiter.TheVariants.{Spaces}
+use Rattle.csv_records.proofs.ReadTextLemmas.{plain_quotes, plain_text}
 use Rattle.csv_records.proofs.reading.read_first_records.Goals as goal
 
 -- the bytes before the last ones, and these
@@ -24,14 +27,19 @@ pub returns-in-Some-clause-refused : goal.returns-in-Some-clause-refused
 returns-in-Some-clause-refused c =
     let rest = c.in_ok-delimiter.rest.now in
     let at = c.in-Some.at in
+    let d = c.args.options.now.delimiter in
+    let q = c.args.options.now.has_quotes in
+    let other : d ≢ Spaces = c.in_default.not-Spaces in
+    let same : parted c.args.options.now c.args.text.now ≡ delimited d q c.args.text.now =
+    ap (λ (b : Bool). delimited d b (read_text d c.args.text.now)) (plain_quotes d q other) ∙ ap (λ (t : Text). delimited d q t) (plain_text d c.args.text.now other) in
     let is : IsUnclosed c.in_ok-delimiter.delimiter (strip_bom rest) (drop at rest) = c.in-Some.ensures.some in
-    let byte : c.in_ok-delimiter.delimiter ≡ (delimited c.args.options.now.delimiter c.args.options.now.has_quotes c.args.text.now).0 = c.in_ok-delimiter.ensures.byte in
-    let records : rest ≡ (delimited c.args.options.now.delimiter c.args.options.now.has_quotes c.args.text.now).1 = c.in_ok-delimiter.ensures.records in
+    let byte : c.in_ok-delimiter.delimiter ≡ (parted c.args.options.now c.args.text.now).0 = c.in_ok-delimiter.ensures.byte ∙ ap (λ (p : ℕ × Text). p.0) (sym same) in
+    let records : rest ≡ (parted c.args.options.now c.args.text.now).1 = c.in_ok-delimiter.ensures.records ∙ ap (λ (p : ℕ × Text). p.1) (sym same) in
     record {
-      has_quotes = c.if-options.true;
+      has_quotes = plain_quotes d q other ∙ c.if-options.true;
       before = take (length c.args.text.now - (length rest - at)) c.args.text.now;
       from_quote = drop at rest;
       parts = cut_end c.args.text.now rest at (within _ _ rest at is) c.in_ok-delimiter.ensures.end;
-      is_unclosed = subst (λ (d : ℕ). IsUnclosed d (strip_bom (delimited c.args.options.now.delimiter c.args.options.now.has_quotes c.args.text.now).1) (drop at rest)) byte (subst (λ (t : Text). IsUnclosed c.in_ok-delimiter.delimiter (strip_bom t) (drop at rest)) records is);
+      is_unclosed = subst (λ (d : ℕ). IsUnclosed d (strip_bom (parted c.args.options.now c.args.text.now).1) (drop at rest)) byte (subst (λ (t : Text). IsUnclosed c.in_ok-delimiter.delimiter (strip_bom t) (drop at rest)) records is);
       numbered = c.line_before-line.ensures;
     }

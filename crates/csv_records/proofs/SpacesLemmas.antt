@@ -1,0 +1,111 @@
+-- Lines whose fields stand between spaces, and where they are cut.
+use Rattle.std.proofs.Common.{◌≡◌, ◌∙◌, ◌⊎◌, Bor, List, Option, append_assoc, eqb-true, sym, inl, inr, ◌<◌, ◌≤◌, ◌==◌, ◌+◌, ◌-◌, ℕ, zero, suc, Bool, true, false, [], ◌∷◌, ◌++◌, Some, None, arith, drop, get_or, length, map, nat_lt, refl, subst, take, tests, ap}
+use Rattle.std.proofs.Math.Seq.{take-length}
+use Rattle.std.proofs.lemmas.Bool.{cases_lt}
+use Rattle.std.proofs.lemmas.List.{drop_more, length-drop, map-append, take-append-drop}
+use Rattle.std.proofs.lemmas.List.Quantifiers.{position-Some}
+use Rattle.std.proofs.lemmas.List.Sums.{fails_before_first, passes_at_first, prefix_len-le-length}
+use Rattle.std.proofs.lemmas.Str.{IsCharBoundary-after_ascii, IsCharBoundary-before_ascii, IsCharBoundary-end, IsCharBoundary-start}
+use Rattle.std.specs.List.{position, position_or_len}
+use Rattle.std.specs.Option.{option_map, unwrap_or}
+use Rattle.std.specs.Prelude.{if◌then◌else◌, not}
+use Rattle.std.specs.Str.{IsCharBoundary, IsUtf8}
+use Rattle.comfy_parts.specs.Text.{Text}
+use Rattle.csv_records.specs.Number.{halves}
+use Rattle.csv_records.specs.Spaces.{behind_field, first_field, is_gap, spaced, tabbed_line}
+
+pub position-le : (p : ℕ → Bool) (text : Text) → position_or_len p text ≤ length text
+position-le p text = prefix_len-le-length (λ b. not (p b)) text
+
+-- where none passes, the place is the end
+pub position_or_end : (p : ℕ → Bool) (text : Text) → unwrap_or (position p text) (length text) ≡ position_or_len p text
+position_or_end p text = by_place (nat_lt (position_or_len p text) (length text)) refl
+  where
+    by_place : (v : Bool) → nat_lt (position_or_len p text) (length text) ≡ v → unwrap_or (if v then Some (position_or_len p text) else None) (length text) ≡ position_or_len p text
+    by_place true is = refl
+    by_place false is = let le = position-le p text in grind (arith, is, le, tests)
+
+gap_is_ascii : (b : ℕ) → is_gap b ≡ true → b < 128
+gap_is_ascii b is = grind (arith, is, tests)
+
+-- a text may be cut before its first gap
+pub boundary_before_gap : (text : Text) → IsCharBoundary text (position_or_len is_gap text)
+boundary_before_gap text = by_place (cases_lt (position_or_len is_gap text) (length text))
+  where
+    by_place : (position_or_len is_gap text < length text) ⊎ (length text ≤ position_or_len is_gap text) → IsCharBoundary text (position_or_len is_gap text)
+    by_place (inl inside) = IsCharBoundary-before_ascii text (position_or_len is_gap text) inside (gap_is_ascii (get_or text (position_or_len is_gap text) 0) (passes_at_first is_gap text 0 inside))
+    by_place (inr outside) =
+        let le = position-le is_gap text in
+        let whole : length text ≡ position_or_len is_gap text = omega arith in
+        subst (λ (n : ℕ). IsCharBoundary text n) whole (IsCharBoundary-end text)
+
+gap_where_none_fails : (b : ℕ) → not (is_gap b) ≡ false → is_gap b ≡ true
+gap_where_none_fails b is = by_value (is_gap b) is
+  where
+    by_value : (v : Bool) → not v ≡ false → v ≡ true
+    by_value true is = refl
+    by_value false is = absurd (cc is)
+
+-- and behind the gap in front of it
+pub boundary_behind_gap : (text : Text) → IsUtf8 text → IsCharBoundary text (position_or_len (λ b. not (is_gap b)) text)
+boundary_behind_gap text utf8 = by_len (position_or_len (λ b. not (is_gap b)) text) refl
+  where
+    by_len : (n : ℕ) → position_or_len (λ b. not (is_gap b)) text ≡ n → IsCharBoundary text n
+    by_len zero is = IsCharBoundary-start text utf8
+    by_len (suc n) is =
+        let le = position-le (λ b. not (is_gap b)) text in
+        let gap = gap_where_none_fails (get_or text n 0) (fails_before_first (λ b. not (is_gap b)) text n 0 (omega (arith, is))) in
+        subst (λ (k : ℕ). IsCharBoundary text k) (omega arith) (IsCharBoundary-after_ascii text n utf8 (omega (arith, is, le)) (gap_is_ascii (get_or text n 0) gap))
+
+-- ---- TABs
+
+-- a front without TABs stays
+spaced_front : (line : Text) (at : ℕ) → ((k : ℕ) → k < at → (get_or line k 0 == 0x09) ≡ false) → spaced (take at line) ≡ take at line
+spaced_front line zero none = refl
+spaced_front [] (suc at) none = refl
+spaced_front (b ∷ bs) (suc at) none = rw (none 0 (omega arith)) (ap (λ (t : Text). b ∷ t) (spaced_front bs at (λ k less. none (suc k) (omega (arith, less)))))
+
+pub spaced_halves : (line before behind : Text) → halves 0x09 line ≡ Some (before, behind) → (spaced line ≡ before ++ 0x20 ∷ spaced behind) × (length behind < length line)
+spaced_halves line before behind is = by_place (position (λ b. b == 0x09) line) refl is
+  where
+    at_place : (at : ℕ) → position (λ b. b == 0x09) line ≡ Some at → (spaced line ≡ take at line ++ 0x20 ∷ spaced (drop (at + 1) line)) × (length (drop (at + 1) line) < length line)
+    at_place at found =
+        let known = position-Some (λ b. b == 0x09) line at 0 found in
+        let byte = eqb-true (get_or line at 0) 0x09 known.1 in
+        let back : drop at line ≡ 0x09 ∷ drop (at + 1) line = drop_more line at 0 known.0 ∙ ap (λ b. b ∷ drop (at + 1) line) byte in
+        let parts : spaced line ≡ spaced (take at line) ++ spaced (drop at line) = ap spaced (sym (take-append-drop at line)) ∙ map-append (λ b. if b == 0x09 then 0x20 else b) (take at line) (drop at line) in
+        let shorter = length-drop (at + 1) line in
+        (parts ∙ ap (λ (t : Text). t ++ spaced (drop at line)) (spaced_front line at known.2) ∙ ap (λ (t : Text). take at line ++ spaced t) back, omega (arith, shorter, known.0))
+
+    by_place : (o : Option ℕ) → position (λ b. b == 0x09) line ≡ o → option_map {U = Text × Text} (λ at. (take at line, drop (at + 1) line)) o ≡ Some (before, behind) → (spaced line ≡ before ++ 0x20 ∷ spaced behind) × (length behind < length line)
+    by_place None found is = absurd (cc is)
+    by_place (Some at) found is =
+        subst (λ (p : Text × Text). (spaced line ≡ p.0 ++ 0x20 ∷ spaced p.1) × (length p.1 < length line))
+        (ap (λ (o : Option (Text × Text)). unwrap_or o ([], [])) is) (at_place at found)
+
+pub spaced_whole : (line : Text) → halves 0x09 line ≡ None → spaced line ≡ line
+spaced_whole line is = by_place (nat_lt (position_or_len (λ b. b == 0x09) line) (length line)) refl is
+  where
+    by_place : (v : Bool) → nat_lt (position_or_len (λ b. b == 0x09) line) (length line) ≡ v
+        → option_map {U = Text × Text} (λ at. (take at line, drop (at + 1) line)) (if v then Some (position_or_len (λ b. b == 0x09) line) else None) ≡ None → spaced line ≡ line
+    by_place true less is = absurd (cc is)
+    by_place false more is = subst (λ (t : Text). spaced t ≡ t) (take-length line) (spaced_front line (length line) (λ k less. fails_before_first (λ b. b == 0x09) line k 0 (grind (arith, more, less, tests))))
+
+pub one_more : (had field more whole : Text) (d : ℕ) → had ++ (field ++ d ∷ more) ≡ whole → ((had ++ field) ++ d ∷ []) ++ more ≡ whole
+one_more had field more whole d is = append_assoc (had ++ field) (d ∷ []) more ∙ append_assoc had field (d ∷ more) ∙ is
+
+-- ---- lines
+
+pub nothing_behind : (gaps : ℕ) (line : Text) → (length (behind_field line) == 0) ≡ true → tabbed_line gaps line ≡ spaced line
+nothing_behind zero line none = refl
+nothing_behind (suc gaps) line none = rw none refl
+
+pub one_gap_less : (gaps at : ℕ) (line : Text) → at < gaps → (length (behind_field line) == 0) ≡ false
+    → tabbed_line (gaps - at) line ≡ first_field line ++ 0x09 ∷ tabbed_line (gaps - (at + 1)) (behind_field line)
+one_gap_less gaps at line less some =
+    let step : gaps - at ≡ suc (gaps - (at + 1)) = omega arith in
+    rw (step, some) refl
+
+pub map_then : (f : Text → Text) (texts : List (Bor (List ℕ))) → map (λ (t : Bor (List ℕ)). f t.now) texts ≡ map f (map (λ (t : Bor (List ℕ)). t.now) texts)
+map_then f [] = refl
+map_then f (t ∷ texts) = ap (λ (more : List Text). f t.now ∷ more) (map_then f texts)

@@ -1,0 +1,22 @@
+-- Texts whose fields stand between spaces, as other programs write them.
+use Rattle.std.proofs.Common.{◌≡◌, ◌∷◌, ◌++◌, [], codes, refl}
+use Rattle.csv_records.specs.Spaces.{tabbed_text}
+
+-- the header has a word more than any record, so its last name is both words
+sizes : tabbed_text (codes "Filesystem  Size Mounted on\n/dev/sda1    20G /\ntmpfs       1.6G /run/user/0\n") ≡ codes "Filesystem\tSize\tMounted on\n/dev/sda1\t20G\t/\ntmpfs\t1.6G\t/run/user/0\n"
+sizes = refl
+
+-- the last column takes the rest of a line, with its blanks; white space at a line's ends doesn't count
+processes : tabbed_text (codes "  PID COMMAND\r\n    1 sh  -c \"a b\"\tc \r\n\r\n   20 ps\r\n") ≡ codes "PID\tCOMMAND\n1\tsh  -c \"a b\" c\n20\tps\n"
+processes = refl
+
+-- a line may have fewer fields; where some line fills it, a column stays
+mounts : tabbed_text (codes "NAME SIZE MOUNT\nsda   20G\n\nsda1  19G /\n") ≡ codes "NAME\tSIZE\tMOUNT\nsda\t20G\nsda1\t19G\t/\n"
+mounts = refl
+
+-- a header alone has its own columns, and blank lines have none
+header : tabbed_text (codes " a  b c\n \n") ≡ codes "a\tb\tc\n"
+header = refl
+
+blank : tabbed_text (codes " \n\t\n") ≡ []
+blank = refl
