@@ -21,8 +21,8 @@ const LONGEST: usize = 25;
 const NEEDED_CONTENT: u16 = 4;
 
 /// Lets the columns of numbers and dates be as wide as their contents, where a width is kept that
-/// has room for all of them and for what the other columns need. Returns whether it has, as no
-/// width has.
+/// has room for all of them and for what the other columns need. Returns whether there is room, as
+/// there is where no width is kept.
 pub(crate) fn keep_unbroken(table: &mut Table, content: &Content, look: &Look) -> Result<bool>
     ensures table { OnOk result (table.new
         ≡ kept_unbroken look.now.width

@@ -15,7 +15,7 @@ use Rattle.comfy_table.specs.TableValue.{TableValue, new_table, with_rows}
 use Rattle.comfy_parts.specs.Wrapping.{lines_of_text}
 use Rattle.csv_tables.specs.Drawn.{is_expanded_in}
 use Rattle.csv_tables.specs.Laws.{IsWholeColumn}
-use Rattle.csv_tables.specs.Unbroken.{framed_width, is_unbroken, is_unbroken_column, kept_unbroken, least_width, needed_contents}
+use Rattle.csv_tables.specs.Unbroken.{framed_width, has_room, is_unbroken, is_unbroken_column, kept_unbroken, least_width, needed_contents}
 use Rattle.csv_tables.specs.declared.options.Expansion.TheVariants.{Always, Auto, Never}
 
 abbrev texts : List String → List Text
@@ -68,15 +68,15 @@ no_width : constraints None ≡ None ∷ []
 no_width = refl
 
 -- records are expanded below that width: where the column isn't broken, and where it may be
-narrow : map (λ width. is_expanded_in Auto width (true ∷ []) seven) (Some 10 ∷ Some 11 ∷ None ∷ []) ≡ true ∷ false ∷ false ∷ []
+narrow : map (λ width. is_expanded_in Auto (has_room width (true ∷ []) seven)) (Some 10 ∷ Some 11 ∷ None ∷ []) ≡ true ∷ false ∷ false ∷ []
 unfolding wrapping
 narrow = refl
 
-narrower : map (λ width. is_expanded_in Auto width (false ∷ []) seven) (Some 7 ∷ Some 8 ∷ None ∷ []) ≡ true ∷ false ∷ false ∷ []
+narrower : map (λ width. is_expanded_in Auto (has_room width (false ∷ []) seven)) (Some 7 ∷ Some 8 ∷ None ∷ []) ≡ true ∷ false ∷ false ∷ []
 unfolding wrapping
 narrower = refl
 
-by_word : map (λ expansion. is_expanded_in expansion (Some 8) (true ∷ []) seven) (Always ∷ Never ∷ []) ≡ true ∷ false ∷ []
+by_word : map (λ expansion. map (is_expanded_in expansion) (true ∷ false ∷ [])) (Always ∷ Never ∷ Auto ∷ []) ≡ (true ∷ true ∷ []) ∷ (false ∷ false ∷ []) ∷ (false ∷ true ∷ []) ∷ []
 by_word = refl
 
 -- a column of six for its seven letters is narrower than its content, and breaks them
