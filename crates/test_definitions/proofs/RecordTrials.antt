@@ -19,6 +19,8 @@ use Rattle.csv_tables.specs.Columns.{alignment_for, columns_with, position_named
 use Rattle.csv_tables.specs.Columns.ColumnFault.{missing, none_left, two_sided}
 use Rattle.csv_tables.specs.Drawn.{condensed_style, limited, note_for, record_line}
 use Rattle.csv_tables.specs.Markdown.{rule_line}
+use Rattle.comfy_parts.specs.CellValue.{plain_cell, plain_row}
+use Rattle.comfy_table.specs.TableValue.{TableValue, new_table, with_rows}
 use Rattle.csv_tables.specs.Markdown.{escaped, unescaped}
 use Rattle.csv_tables.specs.References.{begins_reference}
 use Rattle.csv_records.specs.Number.{back_of, figure_of, front_of, is_neutral, is_number}
@@ -382,10 +384,13 @@ said_in_lines = refl
 
 -- ---- what laws refuse
 
+abbrev one_row : TableValue
+one_row = with_rows (plain_row (plain_cell (codes "a") ∷ []) ∷ []) (new_table utf8_full)
+
 -- two records, and a table of one row
 -- false: csv_tables::laws::tables_keep_their_rows
 row_is_missing :
-    ¬ (length seven.rows ≡ length (limited {A = List Text} None ((codes "a" ∷ []) ∷ (codes "b" ∷ []) ∷ [])))
+    ¬ (length one_row.rows ≡ length (limited {A = List Text} None ((codes "a" ∷ []) ∷ (codes "b" ∷ []) ∷ [])))
 row_is_missing same = let is : ◌≡◌ {A = ℕ} 1 2 = same in omega (arith, is)
 
 -- false: csv_records::laws::records_are_one
