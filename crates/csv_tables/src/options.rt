@@ -104,8 +104,8 @@ pub enum RowSeparators {
 /// When a record is drawn as a table of its own.
 #[derive(Clone, Copy, Debug, PartialEq, Eq)]
 pub enum Expansion {
-    /// Where a width is kept that leaves some columns fewer than four terminal columns and than
-    /// their contents.
+    /// Where a width is kept that has no room for a table of rows: for its columns of numbers and
+    /// dates whole, and of each other column for its content, or for four terminal columns of it.
     Auto,
     /// Always.
     Always,
