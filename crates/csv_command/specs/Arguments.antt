@@ -17,7 +17,7 @@ use Rattle.csv_command.specs.Styles.{is_compact, is_named, style_for}
 use Rattle.csv_command.specs.declared.arguments.Invocation.{Invocation}
 use Rattle.csv_command.specs.declared.arguments.OutputContext.{OutputContext}
 use Rattle.csv_records.specs.declared.delimiter.Delimiter.{Delimiter}
-use Rattle.csv_records.specs.declared.delimiter.Delimiter.TheVariants.{Auto as AutoDelimiter, NamedOrTab, Byte}
+use Rattle.csv_records.specs.declared.delimiter.Delimiter.TheVariants.{Auto as AutoDelimiter, NamedOrTab, Byte, Spaces}
 use Rattle.csv_records.specs.declared.encoding.Encoding.{Encoding}
 use Rattle.csv_records.specs.declared.encoding.Encoding.TheVariants.{Cp1252, Utf16, Utf8}
 use Rattle.csv_tables.specs.declared.options.Expansion.{Expansion}
@@ -40,12 +40,14 @@ delimiter_by None = AutoDelimiter
 delimiter_by (Some path) =
     if has_end (codes ".tsv") path || has_end (codes ".tab") path then NamedOrTab else AutoDelimiter
 
--- what an argument asks for: TAB for `tab` and `\t`, else the argument's only character
+-- what an argument asks for: TAB for `tab` and `\t`, spaces for `spaces`, else the argument's only
+-- character
 abbrev pub delimiter_for : Option Text → Option Text → Option Delimiter
 delimiter_for None file = Some (delimiter_by file)
 delimiter_for (Some word) file =
     if is_named (codes "auto") word then Some (delimiter_by file)
     else if is_named (codes "tab") word || is_named (0x5C ∷ codes "t") word then Some (Byte 0x09)
+    else if is_named (codes "spaces") word then Some Spaces
     else option_map Byte (only_ascii word)
 
 -- the encoding of a name; `latin1` is Windows-1252

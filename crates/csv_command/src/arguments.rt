@@ -91,7 +91,7 @@ fn parse_by<'a>(
         None => Err(refusal(
             command,
             ErrorKind::InvalidValue,
-            "the delimiter is one ASCII character, `tab` or `auto`; it's no quote and no line end",
+            "the delimiter is one ASCII character that is no quote and no line end, `tab`, `spaces` or `auto`",
         )),
     }
 }
@@ -202,6 +202,7 @@ fn delimiter_of(word: Option<&str>, file: Option<&str>) -> Option<Delimiter>
         Some(word) if is_named("tab", word) || is_named("\\t", word) => {
             Some(Delimiter::Byte(b'\t'))
         }
+        Some(word) if is_named("spaces", word) => Some(Delimiter::Spaces),
         Some(word) => only_ascii(word.as_bytes()).map(Delimiter::Byte),
     }
 }

@@ -50,8 +50,8 @@ static OPTIONS: [OptionSpec; 26] = [
         letter: Some('d'),
         kind: Kind::Text,
         value: "CHAR",
-        help: "What stands between fields: a character, `tab`, or\n\
-            `auto`, which finds it [default: auto]",
+        help: "What stands between fields: a character, `tab`,\n\
+            `spaces`, or `auto`, which finds it [default: auto]",
     },
     OptionSpec {
         name: "tabs",

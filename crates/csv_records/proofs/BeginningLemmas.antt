@@ -575,13 +575,6 @@ first_records_stay options most beginning behind records all enough known =
             let same : AreRecords cfg st.StartRecord (strip_bom own.1 ++ rest) all = rw (parts.same, mark.rest_of) at also in
             all_records cfg rest st.StartRecord (strip_bom own.1) records all end are same
 
-    by_text : (more : Text) × (known.text ≡ enough.text ++ more) → EndsWithLine enough.text → Goal
-    by_text (rest, is) ends =
-        let own : ℕ × Text = delimited d q enough.text in
-        let whole : delimited d q known.text ≡ delimited d q (enough.text ++ rest) = ap (delimited d q) is in
-        by_parts own (delimited d q known.text) rest (other_delimiter d q enough.text enough.shows) (subst (λ (w : ℕ × Text). PartsStay rest w own) (sym whole) (parts_stay rest enough.text ends d q enough.shows))
-        (plain records enough.text enough.are_records.are_records.all) closed (plain all known.text known.are_records.are_records.all)
-
     other : d ≢ Spaces
     other = no_spaces d q enough.text enough.shows
 
@@ -596,3 +589,10 @@ first_records_stay options most beginning behind records all enough known =
     closed =
         subst (λ (t : Text). q ≡ true → state_after (delimited d q t).0 (strip_bom (delimited d q t).1) ≢ st.InQuoted) (plain_text d enough.text other)
         (subst (λ (b : Bool). b ≡ true → state_after (delimited d b (read_text d enough.text)).0 (strip_bom (delimited d b (read_text d enough.text)).1) ≢ st.InQuoted) (plain_quotes d q other) enough.are_records.is_closed)
+
+    by_text : (more : Text) × (known.text ≡ enough.text ++ more) → EndsWithLine enough.text → Goal
+    by_text (rest, is) ends =
+        let own : ℕ × Text = delimited d q enough.text in
+        let whole : delimited d q known.text ≡ delimited d q (enough.text ++ rest) = ap (delimited d q) is in
+        by_parts own (delimited d q known.text) rest (other_delimiter d q enough.text enough.shows) (subst (λ (w : ℕ × Text). PartsStay rest w own) (sym whole) (parts_stay rest enough.text ends d q enough.shows))
+        (plain records enough.text enough.are_records.are_records.all) closed (plain all known.text known.are_records.are_records.all)
