@@ -19,5 +19,6 @@ pub mod QuoteLemmas
 pub mod ReadTextLemmas
 pub mod RecordLemmas
 pub mod ShownLemmas
+pub mod SpacesLawLemmas
 pub mod SpacesLemmas
 pub mod TextLemmas

@@ -11,6 +11,7 @@ ghost use Rattle.csv_records.specs.Input.{RecordsAreText};
 ghost use Rattle.csv_records.specs.NumberLaws.{IsOfDigits, SignsAreAlike};
 ghost use Rattle.csv_records.specs.Quotes.{IsUnclosed};
 ghost use Rattle.csv_records.specs.Reading.{RecordsAreOne};
+ghost use Rattle.csv_records.specs.Spaces.{KeepsAllButBlanks};
 ghost use Rattle.csv_records.specs.declared.cleaning.CleanOptions.{CleanOptions};
 ghost use Rattle.csv_records.specs.declared.encoding.ByteOrder.{ByteOrder};
 ghost use Rattle.csv_records.specs.declared.options.InputOptions.{InputOptions};
@@ -32,6 +33,11 @@ pub fn first_records_stay()
     ensures { (options : InputOptions) (most : ℕ) (beginning behind : Text)
         (records all : List (List Text))
         → FirstRecordsStay options most beginning behind records all }
+{}
+
+/// Where spaces stand between fields, all of a text is read but its blanks, in order.
+pub fn spaces_part_all_fields()
+    ensures { (text : Text) → KeepsAllButBlanks text }
 {}
 
 /// At most one quote of a text opens a field that the text's end doesn't close.
