@@ -1,5 +1,6 @@
 -- How the program ends: its status, and what it says.
-use Rattle.std.specs.Prelude.{◌≡◌, ℕ, Bool, true, false, ◌++◌, [], MatchResult, Option, Some, None, chars, codes, decimal, if◌then◌else◌, option_map, string_bytes}
+use Rattle.std.specs.Prelude.{◌≡◌, ℕ, ◌==◌, Bool, true, false, ◌++◌, [], MatchResult, Option, Some, None, chars, codes, decimal, if◌then◌else◌, option_map, string_bytes}
+use Rattle.std.specs.Char.{encode_utf8}
 use Rattle.std.specs.List.{list_any}
 use Rattle.std.specs.declared.io.ErrorKind.{ErrorKind as IoErrorKind}
 use Rattle.std.specs.declared.io.ErrorKind.TheVariants as io
@@ -111,6 +112,19 @@ message_for invocation fault e =
     (about (is_of_input e) (option_map string_bytes invocation.file)
     ++ reason_for invocation.options.input.encoding fault e) ++ codes "\n"
 
+-- what a delimiter is called
+abbrev pub delimiter_name : ℕ → Text
+delimiter_name delimiter =
+    if delimiter == 0x09
+    then codes "TAB"
+    else (codes "\"" ++ encode_utf8 delimiter) ++ codes "\""
+
+-- the line on a delimiter that is doubtful
+abbrev pub doubt_line : Option Text → ℕ → Text
+doubt_line file delimiter =
+    ((about true file ++ codes "took ") ++ delimiter_name delimiter)
+    ++ codes " for the delimiter; -d names another\n"
+
 -- what is said before the input is read: that it's waited for, where a terminal is to give it
 abbrev pub said_before : Option Text → Bool → Text
 said_before None true = codes "csvtable: reading from the terminal; end with Ctrl-D\n"
@@ -181,10 +195,19 @@ IsEndOfError drawing err.OutOfMemory ending = IsLine 1 said.OutOfMemory ending
 IsEndOfError drawing e ending =
     IsMessage 1 (λ text. text ≡ message_for drawing.invocation.now drawing.fault e) ending
 
+-- the end where a drawing was written: nothing is said but of a delimiter that is doubtful
+abbrev pub IsEndOfDrawing : Outcome → Option ℕ → Ending → Type 0
+IsEndOfDrawing drawing None ending = IsSilent 0 ending
+IsEndOfDrawing drawing (Some delimiter) ending =
+    IsMessage 0
+    (λ text. text ≡ doubt_line (option_map string_bytes drawing.invocation.now.file) delimiter)
+    ending
+
 -- the end of a drawing, by its result
 abbrev pub IsEndOfOutcome : Outcome → Ending → Type 0
 IsEndOfOutcome drawing ending =
-    MatchResult drawing.result (λ _. IsSilent 0 ending) (λ e. IsEndOfError drawing e ending)
+    MatchResult drawing.result (λ doubt. IsEndOfDrawing drawing doubt ending)
+    (λ e. IsEndOfError drawing e ending)
 
 -- no control character but line feeds, and none that turns the direction of text
 abbrev pub IsHarmless : Text → Type 0

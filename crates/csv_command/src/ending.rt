@@ -1,9 +1,9 @@
 //! How the program ends: its status, and what it says. `process` does what stands here.
 
-ghost use Rattle.std.specs.Prelude.{◌≡◌, IfErr, IfOk, option_map, string_bytes, true};
+ghost use Rattle.std.specs.Prelude.{◌≡◌, ◌++◌, IfErr, IfOk, OnOk, option_map, string_bytes, true};
 ghost use Rattle.clap.specs.Words.{kind_of};
 ghost use Rattle.csv_command.specs.declared.ending.Said.TheVariants.{OutOfMemory, Text};
-ghost use Rattle.csv_command.specs.Ending.{IsEndOfOutcome, IsEndOfRefusal, IsEndOfUnwritten, IsEndWithoutArguments, IsHarmless, IsSilent, about, columns_reason, decoding_reason, encoding_hint, is_of_input, message_for, reading_reason, reason_for, records_reason, text_of, foreign_reason, said_before};
+ghost use Rattle.csv_command.specs.Ending.{IsEndOfOutcome, IsEndOfRefusal, IsEndOfUnwritten, IsEndWithoutArguments, IsHarmless, IsSilent, about, columns_reason, decoding_reason, delimiter_name, doubt_line, encoding_hint, is_of_input, message_for, reading_reason, reason_for, records_reason, text_of, foreign_reason, said_before};
 
 use crate::arguments::Invocation;
 use clap::error::{Error, ErrorKind};
@@ -74,8 +74,8 @@ impl Said {
 pub(crate) struct Outcome<'a> {
     /// What arguments asked for.
     pub invocation: &'a Invocation,
-    /// Whether it was written.
-    pub result: Result<(), CsvError>,
+    /// Whether it was written, and then the delimiter that is doubtful.
+    pub result: Result<Option<u8>, CsvError>,
     /// With which error the input couldn't be opened or read.
     pub fault: Option<io::ErrorKind>,
     /// With which error the output couldn't be written.
@@ -87,7 +87,11 @@ pub(crate) fn ending_of_outcome(alloc: Global, drawing: &Outcome<'_>) -> Ending
     ensures { IsEndOfOutcome drawing.now result }
 {
     match &drawing.result {
-        Ok(()) => silent(0),
+        Ok(None) => silent(0),
+        Ok(Some(delimiter)) => {
+            let text = doubt_line(alloc, &drawing.invocation.file, *delimiter);
+            message(0, said_of(text))
+        }
         Err(CsvError::Write) => ending_of_unwritten(drawing.output_fault),
         Err(CsvError::OutOfMemory) => message(FAILED, Said::OutOfMemory),
         Err(error) => {
@@ -165,6 +169,31 @@ fn said_of(text: Result<String, AllocError>) -> Said
         Ok(text) => Said::Text(text),
         Err(_) => Said::OutOfMemory,
     }
+}
+
+// The line on a delimiter that is doubtful.
+fn doubt_line(alloc: Global, file: &Option<String>, delimiter: u8) -> Result<String, AllocError>
+    ensures { IfOk result (λ text. string_bytes text
+        ≡ doubt_line (option_map string_bytes file.now) delimiter) }
+{
+    let mut text = about(alloc, true, file)?;
+    text.push_str("took ")?;
+    push_delimiter(&mut text, delimiter)?;
+    text.push_str(" for the delimiter; -d names another\n")?;
+    Ok(text)
+}
+
+// Appends what a delimiter is called.
+fn push_delimiter(text: &mut String, delimiter: u8) -> Result<(), AllocError>
+    ensures { OnOk result (string_bytes text.new
+        ≡ string_bytes text.old ++ delimiter_name delimiter) }
+{
+    if delimiter == b'\t' {
+        return text.push_str("TAB");
+    }
+    text.push('"')?;
+    text.push(char::from(delimiter))?;
+    text.push('"')
 }
 
 /// The line on an error. The fault is that of the input where it can't be opened or read.

@@ -104,7 +104,7 @@ fn run(rt: &HostRuntime, invocation: &Invocation) -> Ending {
 }
 
 // What came of it, and with which error the input couldn't be opened or read.
-type Drawn = (Result<(), CsvError>, Option<io::ErrorKind>);
+type Drawn = (Result<Option<u8>, CsvError>, Option<io::ErrorKind>);
 
 fn drawn(rt: &HostRuntime, sink: &mut WriterTo<io::Stdout>, invocation: &Invocation) -> Drawn {
     let Some(path) = &invocation.file else {

@@ -217,13 +217,35 @@ fn a_drawing_that_ends(rt: HostRuntime) {
     let text = "csvtable: the output takes no more for now; is it nonblocking?\n";
     assert_unwritten(&rt, &invocation, ErrorKind::WouldBlock, text);
     assert_unwritten(&rt, &invocation, ErrorKind::BrokenPipe, "");
+}
+
+// What is said where these arguments' drawing was written, and this delimiter is doubtful.
+fn assert_drawn<'a>(
+    rt: &(impl Abort + Alloc<A = Global>),
+    arguments: &'a [&'a str],
+    doubt: Option<u8>,
+    text: &str,
+) {
+    let invocation = parse_by(rt, arguments);
     let drawing = Outcome {
         invocation: &invocation,
-        result: Ok(()),
+        result: Ok(doubt),
         fault: None,
         output_fault: None,
     };
-    assert_says(&rt, &ending_of_outcome(rt.alloc(), &drawing), 0, true, "");
+    assert_says(rt, &ending_of_outcome(rt.alloc(), &drawing), 0, true, text);
+}
+
+// Nothing is said of a drawing that was written, but of a delimiter that few records agree on.
+#[test]
+fn a_drawing_that_was_written(rt: HostRuntime) {
+    assert_drawn(&rt, &["csvtable", "a.csv"], None, "");
+    let text = "csvtable: a.csv: took \";\" for the delimiter; -d names another\n";
+    assert_drawn(&rt, &["csvtable", "a.csv"], Some(b';'), text);
+    let text = "csvtable: standard input: took TAB for the delimiter; -d names another\n";
+    assert_drawn(&rt, &["csvtable", "-"], Some(b'\t'), text);
+    let text = "csvtable: \u{fffd}[2J: took \"|\" for the delimiter; -d names another\n";
+    assert_drawn(&rt, &["csvtable", "\u{1b}[2J"], Some(b'|'), text);
 }
 
 // How the program ends where clap has something to say of these arguments.

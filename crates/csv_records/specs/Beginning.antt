@@ -1,9 +1,10 @@
 -- A beginning of an input that is enough for its first records.
 use Rattle.std.specs.Prelude.{ℕ, ◌≡◌, ◌≢◌, ◌<◌, true, List, [], ◌∷◌, ◌++◌, length, take}
 use Rattle.comfy_parts.specs.Text.{Text}
-use Rattle.csv_records.specs.Delimiter.{below_lines, shows_delimiter}
+use Rattle.csv_records.specs.Delimiter.{below_lines, doubtful_delimiter, shows_delimiter}
 use Rattle.csv_records.specs.Encoding.{encoding_of}
 use Rattle.csv_records.specs.Reading.{AreRecordsFor, AreRecordsIn, IsDecodedBy}
+use Rattle.csv_records.specs.declared.beginning.BeginningRecords.{BeginningRecords}
 use Rattle.csv_records.specs.declared.encoding.Encoding.TheVariants.{Utf16}
 use Rattle.csv_records.specs.declared.options.InputOptions.{InputOptions}
 
@@ -33,6 +34,15 @@ pub record AreFirstByBeginning (options : InputOptions) (most : ℕ) (read : Tex
   pub records : List (List Text)
   pub is_enough : IsEnough options most beginning records
   pub are_first : first ≡ take most records
+
+-- these are found of a beginning that is enough, of these bytes: its first records, and the
+-- delimiter that is doubtful
+pub record IsFoundInBeginning (options : InputOptions) (most : ℕ) (read : Text)
+    (found : BeginningRecords) : Type 0 where
+  pub are_first : AreFirstByBeginning options most read found.records
+  pub doubt :
+      found.doubt
+      ≡ doubtful_delimiter options.delimiter options.has_quotes are_first.is_enough.text
 
 -- the records of a beginning that is enough are the first ones of the whole input
 abbrev pub FirstRecordsStay : InputOptions → ℕ → Text → Text → List (List Text)

@@ -2,9 +2,9 @@
 
 ghost use Rattle.std.specs.Prelude.{◌≡◌, ◌++◌, IfOk, IfSome, IsTrue};
 ghost use Rattle.comfy_parts.specs.Text.{Text};
-ghost use Rattle.csv_records.specs.Beginning.{AreFirstByBeginning, EndsWithLine};
+ghost use Rattle.csv_records.specs.Beginning.{EndsWithLine, IsFoundInBeginning};
 
-use crate::delimiter::{below_lines, shows_delimiter};
+use crate::delimiter::{below_lines, doubtful_delimiter, shows_delimiter};
 use crate::encoding::{Encoding, decoded, encoding_of};
 use crate::error::{DecodeError, RecordsError};
 use crate::options::InputOptions;
@@ -15,6 +15,15 @@ use std::alloc::{AllocError, Global};
 
 const LINE_FEED: u8 = b'\n';
 
+/// The first records of an input of which a beginning was read.
+#[derive(Drop)]
+pub struct BeginningRecords {
+    /// Its first records.
+    pub records: Records,
+    /// The delimiter that was taken of it, where it's doubtful: see `doubtful_delimiter`.
+    pub doubt: Option<u8>,
+}
+
 /// The first `most` records of an input of which these bytes were read, where a beginning of them
 /// is enough: its text ends with a line feed and outside quotes, it has more records, and it shows
 /// what stands between fields. None where more has to be read, be it since no text ends there. An
@@ -24,8 +33,8 @@ pub fn read_beginning(
     read: &[u8],
     options: &InputOptions,
     most: usize,
-) -> Result<Option<Records>, AllocError>
-    ensures { IfOk result (λ found. IfSome found (AreFirstByBeginning options.now most read.now)) }
+) -> Result<Option<BeginningRecords>, AllocError>
+    ensures { IfOk result (λ found. IfSome found (IsFoundInBeginning options.now most read.now)) }
 {
     let lines = whole_lines(read);
     if encoding_of(options.encoding, lines) == Encoding::Utf16 {
@@ -46,7 +55,11 @@ pub fn read_beginning(
         return Ok(None);
     }
     match read_first_records(alloc, text.as_str(), options, most) {
-        Ok(first) if first.count > most => Ok(Some(first.records)),
+        Ok(first) if first.count > most => {
+            let doubt = doubtful_delimiter(alloc, text.as_str(), options)?;
+            let records = first.records;
+            Ok(Some(BeginningRecords { records, doubt }))
+        }
         Err(RecordsError::OutOfMemory) => Err(AllocError),
         _ => Ok(None),
     }

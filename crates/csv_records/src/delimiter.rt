@@ -3,8 +3,9 @@
 ghost use Rattle.std.specs.Prelude.{◌≡◌, ◌==◌, IfOk, option_map};
 ghost use Rattle.std.specs.List.{count_by, list_all, position};
 ghost use Rattle.csv.specs.Reading.{strip_bom};
-ghost use Rattle.csv_records.specs.Delimiter.{EndsIn, IsAsciiUnlessAsked, agreement, below_line, below_lines, delimited, delimiter_in, end_len, ends_line, field_counts, first_line, found_delimiter, has_first_records, line_len, named_delimiter, only_ascii, shows_delimiter, tried_delimiters};
+ghost use Rattle.csv_records.specs.Delimiter.{EndsIn, IsAsciiUnlessAsked, agreement, below_line, below_lines, delimited, delimiter_in, doubtful_delimiter, end_len, ends_line, field_counts, first_line, found_delimiter, has_first_records, is_poor, line_len, named_delimiter, only_ascii, poor_delimiter, shows_delimiter, tried_delimiters};
 
+use crate::options::InputOptions;
 use crate::records::reader_of;
 use crate::text::without_mark;
 use csv::ByteRecord;
@@ -58,6 +59,22 @@ pub(crate) fn delimited<'a>(
         // Its text has TABs between fields by then.
         Delimiter::Spaces => Ok((b'\t', text)),
     }
+}
+
+/// The delimiter of a text that is taken although fewer than half of its first ten records have one
+/// same number of fields; none where it is asked for or named, or where no record is parted.
+pub fn doubtful_delimiter(
+    alloc: Global,
+    text: &str,
+    options: &InputOptions,
+) -> Result<Option<u8>, AllocError>
+    ensures { IfOk result (λ doubt. doubt
+        ≡ doubtful_delimiter options.now.delimiter options.now.has_quotes text.now) }
+{
+    if !matches!(options.delimiter, Delimiter::Auto) || named_delimiter(text).is_some() {
+        return Ok(None);
+    }
+    poor_delimiter(alloc, text, options.has_quotes)
 }
 
 /// Whether a text whose lines are whole shows what stands between fields, however it goes on: a
@@ -193,6 +210,28 @@ fn found_delimiter(alloc: Global, text: &str, has_quotes: bool) -> Result<u8, Al
         }
     }
     Ok(found)
+}
+
+// The delimiter that is found, where fewer than half of the first records agree.
+fn poor_delimiter(alloc: Global, text: &str, has_quotes: bool) -> Result<Option<u8>, AllocError>
+    ensures { IfOk result (λ poor. poor ≡ poor_delimiter has_quotes text.now) }
+{
+    let found = found_delimiter(alloc, text, has_quotes)?;
+    let counts = field_counts(alloc, text, has_quotes, found, FIRST_RECORDS)?;
+    if is_poor(counts.as_slice()) {
+        Ok(Some(found))
+    } else {
+        Ok(None)
+    }
+}
+
+// Some records agree, but fewer than half.
+fn is_poor(counts: &[usize]) -> bool
+    ensures { result ≡ is_poor counts.now }
+{
+    let agreement = agreement(counts);
+    let others = counts.len().saturating_sub(agreement);
+    agreement > 0 && agreement < others
 }
 
 // How many records have the commonest number of fields, of those above 1.

@@ -20,10 +20,10 @@ mod shown;
 mod spaces;
 mod text;
 
-pub use beginning::read_beginning;
+pub use beginning::{BeginningRecords, read_beginning};
 pub use characters::split_first;
 pub use cleaning::{CleanOptions, cleaned};
-pub use delimiter::{Delimiter, only_ascii};
+pub use delimiter::{Delimiter, doubtful_delimiter, only_ascii};
 pub use encoding::{Encoding, decoded};
 pub use error::{DecodeError, RecordsError};
 pub use foreign::Foreign;

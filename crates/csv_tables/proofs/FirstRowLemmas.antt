@@ -11,6 +11,7 @@ use Rattle.csv_records.specs.Encoding.{IsDecoded}
 use Rattle.csv_records.specs.Reading.{AreRecordsFor, AreRecordsIn, IsDecodedBy}
 use Rattle.csv_records.specs.declared.encoding.Encoding.{Encoding}
 use Rattle.csv_tables.specs.Columns.{ColumnFault, IsColumnsRefusal, columns_for}
+use Rattle.csv_tables.specs.Doubt.{IsDoubtOfBeginning, doubt_for}
 use Rattle.csv_tables.specs.Drawn.{AreEnough, ContentValue, HasLimit, RendersAnyRecords, RendersBeginning, RendersFound, content_counted, content_of, content_with, counting, drawn_rows, limited, most_drawn, names_of, ok_map, records_below, with_count}
 use Rattle.csv_tables.specs.Errors.{of_columns}
 use Rattle.csv_tables.specs.Run.{IsInputRefusal, IsRefusal}
@@ -132,8 +133,16 @@ module _ (options : Options) where
     alike : AreDrawnAlike options first found.records
     alike = limited_alike options first found.records most enough found.are_first
 
-    are_enough : AreEnough options found.beginning found.records
-    are_enough = record { has_limit = own_limit.0; are = subst (λ (n : ℕ). IsEnough options.input n found.beginning found.records) (sym own_limit.1) found.is_enough }
+    more : most_drawn options.selection.has_header own_limit.0.limit < length found.records
+    more = subst (λ (n : ℕ). n < length found.records) (sym own_limit.1) found.is_enough.more
+
+    abbrev are_enough : AreEnough options found.beginning found.records
+    are_enough =
+        let enough = found.is_enough in
+        record {
+          has_limit = own_limit.0;
+          are = record { no_utf16 = enough.no_utf16; text = enough.text; is_text = enough.is_text; ends = enough.ends; shows = enough.shows; are_records = enough.are_records; more = more };
+        }
 
     pub beginning_output : (output : Text) → Renders (content_counted None options first) output → RendersBeginning options found.beginning output
     beginning_output output made =
@@ -143,11 +152,18 @@ module _ (options : Options) where
           is_output = subst (λ (c : Result ContentValue ColumnFault). Renders c output) (same_counted options first found.records alike None ∙ uncounted_content options found.records uncounted) made;
         }
 
+    pub beginning_doubt : (doubt : Option ℕ) → doubt ≡ doubt_for options.input found.is_enough.text → IsDoubtOfBeginning options found.beginning doubt
+    beginning_doubt doubt is = record { records = found.records; are_enough = are_enough; is = is }
+
     pub beginning_refused : (e : ColumnsError) → IsColumnsRefusal e (content_of options first) → IsRefusal options Beginning found.beginning (of_columns e)
     beginning_refused (NoColumn word hint) why = ((λ is. cc is), found.records, are_enough, same_refusal options first found.records alike (NoColumn word hint) why)
     beginning_refused NoneLeft why = ((λ is. cc is), found.records, are_enough, same_refusal options first found.records alike NoneLeft why)
     beginning_refused (TwoSides name) why = ((λ is. cc is), found.records, are_enough, same_refusal options first found.records alike (TwoSides name) why)
     beginning_refused OutOfMemory why = λ wanted. (subst (λ (encoding : Encoding). IsDecoded encoding options.input.skip found.beginning found.is_enough.text) wanted found.is_enough.is_text.is_decoded).0
+
+  -- there is no memory where an input is read as text
+  pub whole_no_memory : (input text : Text) → IsDecodedBy options.input input text → IsInputRefusal options input err.OutOfMemory
+  whole_no_memory input text is_text = λ wanted. (subst (λ (encoding : Encoding). IsDecoded encoding options.input.skip input text) wanted is_text.is_decoded).0
 
   -- columns of an input's records can't be drawn so
   pub whole_refused : (input text : Text) (first all : List (List Text)) → AreDrawnAlike options first all → IsDecodedBy options.input input text → AreRecordsIn options.input text all → (length all ≡ 0 → ⊥)
@@ -164,7 +180,7 @@ module _ (options : Options) where
       by_error (NoColumn word hint) why = ((λ is. cc is), all, known, not_none, why)
       by_error NoneLeft why = ((λ is. cc is), all, known, not_none, why)
       by_error (TwoSides name) why = ((λ is. cc is), all, known, not_none, why)
-      by_error OutOfMemory why = λ wanted. (subst (λ (encoding : Encoding). IsDecoded encoding options.input.skip input text) wanted is_text.is_decoded).0
+      by_error OutOfMemory why = whole_no_memory input text is_text
 
 -- no memory, before a beginning was looked at
 pub no_memory : (options : Options) → IsRefusal options Beginning [] err.OutOfMemory

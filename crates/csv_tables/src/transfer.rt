@@ -1,15 +1,19 @@
 //! Reads an input, draws the table of its records, and writes the drawing.
 
 ghost use Rattle.std.specs.Prelude.{◌≡◌, ◌≤◌, ◌^◌, ◌⊎◌, OnOk, IfErr, IfNone, IfOk, IfSome, Some, false, option_map, string_bytes, true};
+ghost use Rattle.csv_tables.specs.Doubt.{IsDoubtOf, IsDoubtOfInput};
 ghost use Rattle.csv_tables.specs.Drawn.{HasLimit, RendersExtent, RendersInput, most_drawn};
 ghost use Rattle.csv_tables.specs.Run.{IsAfter, IsInputRefusal, IsRefusal, is_read_fault, is_write_fault};
 ghost use Rattle.devices.specs.Outcome.{Between};
+ghost use Rattle.devices.specs.Run.{IsNoted};
 
 use crate::error::CsvError;
 use crate::options::{Options, Selection};
 use crate::output::output_of;
-use csv_records::{decoded, read_beginning, read_first_records};
-use devices::{Render, Sink, Source};
+use csv_records::{
+    BeginningRecords, decoded, doubtful_delimiter, read_beginning, read_first_records,
+};
+use devices::{Render, Rendered, Sink, Source};
 use std::alloc::Global;
 
 /// Reads the source, and writes the drawing of the table of its records to the sink, each line
@@ -20,6 +24,9 @@ use std::alloc::Global;
 /// then that there are more. What was read behind these isn't judged.
 ///
 /// An input without records has an empty output.
+///
+/// Returns the delimiter that was taken although fewer than half of the first records agree on it,
+/// where there is one to doubt.
 ///
 /// All memory is asked for before the first write. Where the input can't be read, is no text, isn't
 /// in its encoding or has a quote that is never closed, columns can't be chosen so, or memory runs
@@ -35,12 +42,14 @@ pub fn draw<R: Source, W: Sink>(
     source: &mut R,
     sink: &mut W,
     options: &Options,
-) -> Result<(), CsvError>
+) -> Result<Option<u8>, CsvError>
     ensures ended { OnOk result ((R.end_was_read source.new ≡ true) ⊎ HasLimit options.now) }
     ensures source { R.has_failed source.new ≡ is_read_fault result }
     ensures sink { W.has_failed sink.old ≡ false → W.has_failed sink.new ≡ is_write_fault result }
     ensures known { Between R.Source W.Sink (source.old, sink.old) (source.new, sink.new)
         (IsAfter options.now result) }
+    ensures doubt { Between R.Source W.Sink (source.old, sink.old) (source.new, sink.new)
+        (IsNoted (IsDoubtOf options.now) result) }
 {
     Ok(devices::run(alloc, source, sink, options)?)
 }
@@ -48,24 +57,33 @@ pub fn draw<R: Source, W: Sink>(
 impl Render for Options {
     type Error = CsvError;
 
+    type Note = Option<u8>;
+
     ghost is_output = { RendersExtent };
+
+    ghost is_note = { IsDoubtOf };
 
     ghost is_refusal = { IsRefusal };
 
-    fn render(&self, alloc: Global, input: Vec<u8>) -> Result<String, CsvError> {
-        output_of_input(alloc, input, self)
+    fn render(&self, alloc: Global, input: Vec<u8>) -> Result<Rendered<Option<u8>>, CsvError> {
+        rendered_input(alloc, input, self)
     }
 
-    fn render_beginning(&self, alloc: Global, read: &[u8]) -> Option<Result<String, CsvError>> {
+    fn render_beginning(
+        &self,
+        alloc: Global,
+        read: &[u8],
+    ) -> Option<Result<Rendered<Option<u8>>, CsvError>> {
         if self.selection.counts_all {
             return None;
         }
         let most = most_drawn(&self.selection)?;
-        let Ok(first) = read_beginning(alloc, read, &self.input, most) else {
+        let Ok(found) = read_beginning(alloc, read, &self.input, most) else {
             return Some(Err(CsvError::OutOfMemory));
         };
-        match output_of(alloc, first?, None, self) {
-            Ok(output) => Some(Ok(output)),
+        let BeginningRecords { records, doubt } = found?;
+        match output_of(alloc, records, None, self) {
+            Ok(text) => Some(Ok(Rendered { text, note: doubt })),
             Err(error) => Some(Err(CsvError::from(error))),
         }
     }
@@ -92,13 +110,31 @@ pub fn output_of_input(alloc: Global, input: Vec<u8>, options: &Options) -> Resu
         RendersInput options.now input.items (string_bytes output)) }
     ensures refused { IfErr result (λ e. IsInputRefusal options.now input.items e) }
 {
+    Ok(rendered_input(alloc, input, options)?.text)
+}
+
+// The same, with the delimiter that is doubtful.
+fn rendered_input(
+    alloc: Global,
+    input: Vec<u8>,
+    options: &Options,
+) -> Result<Rendered<Option<u8>>, CsvError>
+    ensures output { IfOk result (λ rendered.
+        RendersInput options.now input.items (string_bytes rendered.text)) }
+    ensures doubt { IfOk result (λ rendered.
+        IsDoubtOfInput options.now input.items rendered.note) }
+    ensures refused { IfErr result (λ e. IsInputRefusal options.now input.items e) }
+{
     let text = decoded(alloc, input, &options.input)?;
     // The other records are only counted.
     let most = most_drawn(&options.selection).unwrap_or(usize::MAX);
     let first = read_first_records(alloc, text.as_str(), &options.input, most)?;
+    let note = doubtful_delimiter(alloc, text.as_str(), &options.input)?;
     if first.count == 0 {
-        return Ok(String::new(alloc));
+        let output = String::new(alloc);
+        return Ok(Rendered { text: output, note });
     }
     let below = first.count - usize::from(options.selection.has_header);
-    Ok(output_of(alloc, first.records, Some(below), options)?)
+    let output = output_of(alloc, first.records, Some(below), options)?;
+    Ok(Rendered { text: output, note })
 }

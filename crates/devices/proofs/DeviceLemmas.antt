@@ -1,5 +1,5 @@
 -- What a call of a source over memory does, in the words that every source has.
-use Rattle.std.proofs.Common.{zero, suc, ◌≡◌, ◌<◌, ◌≤◌, ℕ, Bool, true, false, ◌||◌, ◌&&◌, nat_lt, ◌==◌, [], ◌∷◌, ◌++◌, Option, Some, None, append_assoc, is_none, Result, Ok, Err, is_err, IfOk, OnOk, OnErr, unwrap_or, refl, sym, ap, ◌∙◌, String, length, take, drop, min, arith}
+use Rattle.std.proofs.Common.{zero, suc, ◌≡◌, ◌<◌, ◌≤◌, ℕ, Bool, true, false, ◌||◌, ◌&&◌, nat_lt, ◌==◌, [], ◌∷◌, ◌++◌, Option, Some, None, append_assoc, is_none, Result, Ok, Err, is_err, IfOk, OnOk, OnErr, unwrap_or, refl, sym, ap, ◌∙◌, length, take, drop, min, arith}
 use Rattle.std.proofs.Math.Bool.{or-false}
 use Rattle.std.proofs.lemmas.Bool.{or_parts}
 use Rattle.std.proofs.lemmas.Bool.Decides.{nat_tests}
@@ -106,7 +106,7 @@ module _ (a b c : Option Bytes) (had has : Bytes) (moved : Moves a b had has) wh
       let then = more was.0 was.1 in (then.0, then.1, was.2 ∙ then.2)
 
 -- what was made of a beginning of what was read is made of a beginning of the input
-pub answered_by_beginning : {A E : Type 0} (IsOutput : Extent → Bytes → Bytes → Type 0) (IsRefusal : Extent → Bytes → E → Type 0) (a b : Option Bytes) (ended : Bool) (read : Bytes) (answer : Result (String A) E) → Moves a b [] read
+pub answered_by_beginning : {A E : Type 0} (IsOutput : Extent → Bytes → A → Type 0) (IsRefusal : Extent → Bytes → E → Type 0) (a b : Option Bytes) (ended : Bool) (read : Bytes) (answer : Result A E) → Moves a b [] read
     → IsForBeginning IsOutput IsRefusal read answer → IsAnswered IsOutput IsRefusal a ended answer
 answered_by_beginning IsOutput IsRefusal a b ended read answer moved made = (
   Beginning,

@@ -1,5 +1,5 @@
 -- What a run ensures, by its result.
-use Rattle.std.specs.Prelude.{◌≡◌, ⊤, Bool, true, false, [], Result, Ok, Err}
+use Rattle.std.specs.Prelude.{◌≡◌, ⊤, Bool, true, false, [], Result, Ok, Err, IfOk}
 use Rattle.devices.specs.Device.{Bytes}
 use Rattle.devices.specs.Outcome.{Extent, Beginning, IsByExtent, OfWhole, IsAfterFault, IsAfterOk, IsAfterOutOfMemory, IsAfterRead, IsAfterWrite, RunFacts}
 use Rattle.devices.specs.declared.transfer.ReadError.{ReadError}
@@ -46,3 +46,9 @@ module _ {E : Type 0} (IsOutput : Extent → Bytes → Bytes → Type 0)
 
   abbrev pub IsAfter : {T : Type 0} → Result T (Stop E) → RunFacts → Type 0
   IsAfter result facts = IsByExtent (IsAfterIn result) facts
+
+-- a note is one for the whole input, or for a beginning of it that was enough
+abbrev pub IsNoted : {N E : Type 0} → (Extent → Bytes → N → Type 0) → Result N E → RunFacts
+    → Type 0
+IsNoted IsNote result facts =
+    IfOk result (λ note. IsByExtent (λ extent facts. IsNote extent facts.input note) facts)

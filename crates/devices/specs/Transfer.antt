@@ -1,7 +1,8 @@
 -- What reading a source returns, to its end or up to a place.
-use Rattle.std.specs.Prelude.{◌≡◌, Bool, true, false, ◌++◌, Option, Some, Result, Err, MatchResult, String, string_bytes}
+use Rattle.std.specs.Prelude.{◌≡◌, Bool, true, false, ◌++◌, Option, Some, Result, Err, MatchResult, string_bytes}
 use Rattle.devices.specs.Device.{Bytes}
 use Rattle.devices.specs.Outcome.{Beginning, Extent, Whole}
+use Rattle.devices.specs.declared.transfer.Rendered.{Rendered}
 use Rattle.devices.specs.declared.transfer.ReadError.{ReadError}
 use Rattle.devices.specs.declared.transfer.ReadError.TheVariants.{Source}
 
@@ -16,24 +17,28 @@ Moves old new had has =
     (input : Bytes) → old ≡ Some input → (left : Bytes) × (new ≡ Some left)
     × (had ++ input ≡ has ++ left)
 
-module _ {E : Type 0} (IsOutput : Extent → Bytes → Bytes → Type 0)
+-- a text is an output for an input, and the note with it is one too
+abbrev pub IsRenderedBy : {N : Type 0} → (Extent → Bytes → Bytes → Type 0)
+    → (Extent → Bytes → N → Type 0) → Extent → Bytes → Rendered N → Type 0
+IsRenderedBy IsOutput IsNote extent input rendered =
+    IsOutput extent input (string_bytes rendered.text) × IsNote extent input rendered.note
+
+module _ {A E : Type 0} (IsOutput : Extent → Bytes → A → Type 0)
     (IsRefusal : Extent → Bytes → E → Type 0) where
   -- an answer is an output for an input, or why there is none
-  abbrev pub IsAnswer : {A : Type 0} → Extent → Bytes → Result (String A) E → Type 0
+  abbrev pub IsAnswer : Extent → Bytes → Result A E → Type 0
   IsAnswer extent input answer =
-      MatchResult answer (λ output. IsOutput extent input (string_bytes output))
-      (λ e. IsRefusal extent input e)
+      MatchResult answer (λ output. IsOutput extent input output) (λ e. IsRefusal extent input e)
 
   -- it is one for a beginning of these bytes
-  abbrev pub IsForBeginning : {A : Type 0} → Bytes → Result (String A) E → Type 0
+  abbrev pub IsForBeginning : Bytes → Result A E → Type 0
   IsForBeginning read answer =
       (beginning : Bytes) × (behind : Bytes) × (read ≡ beginning ++ behind)
       × IsAnswer Beginning beginning answer
 
   -- it is one for what was looked at of a source's bytes, which are all of them where its end was
   -- read
-  abbrev pub IsAnsweredIn : {A : Type 0}
-      → Extent → Option Bytes → Bool → Result (String A) E → Type 0
+  abbrev pub IsAnsweredIn : Extent → Option Bytes → Bool → Result A E → Type 0
   IsAnsweredIn Whole known ended answer =
       (input : Bytes) × IsAnswer Whole input answer × (ended ≡ true)
       × ((all : Bytes) → known ≡ Some all → all ≡ input)
@@ -41,5 +46,5 @@ module _ {E : Type 0} (IsOutput : Extent → Bytes → Bytes → Type 0)
       (beginning : Bytes) × IsAnswer Beginning beginning answer
       × ((all : Bytes) → known ≡ Some all → (behind : Bytes) × (all ≡ beginning ++ behind))
 
-  abbrev pub IsAnswered : {A : Type 0} → Option Bytes → Bool → Result (String A) E → Type 0
+  abbrev pub IsAnswered : Option Bytes → Bool → Result A E → Type 0
   IsAnswered known ended answer = (extent : Extent) × IsAnsweredIn extent known ended answer

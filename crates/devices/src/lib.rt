@@ -13,5 +13,5 @@ pub use device::{DeviceFault, Sink, Source};
 pub use memory::{MemorySink, MemorySource};
 pub use process::arguments_of_process;
 pub use stream::{FromReader, ToWriter};
-pub use transfer::{ReadError, Render, Stop, read_all, run, write_all};
+pub use transfer::{ReadError, Render, Rendered, Stop, read_all, run, write_all};
 pub use uninterrupted::Uninterrupted;

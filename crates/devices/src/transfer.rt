@@ -1,10 +1,10 @@
 //! Whole inputs and outputs: all that a source has left, all of a piece for a sink, and a run that
 //! reads the one and writes the other.
 
-ghost use Rattle.std.specs.Prelude.{◌≡◌, ◌≤◌, ◌++◌, ◌⊎◌, List, ℕ, [], true, false, Ok, Some, OnOk, OnErr, IfOk, IfErr, IfSome, string_bytes, vec_len};
+ghost use Rattle.std.specs.Prelude.{◌≡◌, ◌≤◌, ◌++◌, ◌⊎◌, List, ℕ, [], true, false, Ok, Some, OnOk, OnErr, IfOk, IfErr, IfSome, vec_len};
 ghost use Rattle.devices.specs.Outcome.{Between, Extent, IsBeginningOnly};
-ghost use Rattle.devices.specs.Run.{IsAfter, IsRefusalOfSome, IsSomeEnough, is_read_fault, is_write_fault, stop_of};
-ghost use Rattle.devices.specs.Transfer.{IsAnswer, IsAnswered, IsForBeginning, Moves, is_source_fault};
+ghost use Rattle.devices.specs.Run.{IsAfter, IsNoted, IsRefusalOfSome, IsSomeEnough, is_read_fault, is_write_fault, stop_of};
+ghost use Rattle.devices.specs.Transfer.{IsAnswer, IsAnswered, IsForBeginning, IsRenderedBy, Moves, is_source_fault};
 ghost use Rattle.devices.specs.declared.transfer.ReadError.TheVariants.{OutOfMemory};
 
 use crate::device::{DeviceFault, Sink, Source};
@@ -54,27 +54,46 @@ impl<E> From<ReadError> for Stop<E> {
     }
 }
 
+/// An output, and what there is to say of its input.
+#[derive(Drop)]
+pub struct Rendered<N> {
+    /// What is written.
+    pub text: String,
+    /// What there is to say.
+    pub note: N,
+}
+
 /// What makes a drawing, or any other text, of an input.
 pub trait Render {
     /// Why an input has no output.
     type Error: Drop;
+    /// What there is to say of an input that has one.
+    type Note: Drop;
 
     // which bytes are an output for a whole input, or for a beginning of one that is enough
     ghost is_output: { Self → Extent → List ℕ → List ℕ → Type 0 };
+
+    // whether this is what there is to say of it
+    ghost is_note: { Self → Extent → List ℕ → Self.Note → Type 0 };
 
     // whether this is why such an input has no output
     ghost is_refusal: { Self → Extent → List ℕ → Self.Error → Type 0 };
 
     /// The output for an input that was read whole.
-    fn render(&self, alloc: Global, input: Vec<u8>) -> Result<String, Self::Error>
-        ensures { IsAnswer (is_output self.now) (is_refusal self.now) Extent.Whole input.items
-            result };
+    fn render(&self, alloc: Global, input: Vec<u8>) -> Result<Rendered<Self::Note>, Self::Error>
+        ensures { IsAnswer (IsRenderedBy (is_output self.now) (is_note self.now))
+            (is_refusal self.now) Extent.Whole input.items result };
 
     /// The output for a beginning of these bytes, behind which more follow, where that is enough;
     /// none where more have to be read.
-    fn render_beginning(&self, alloc: Global, read: &[u8]) -> Option<Result<String, Self::Error>>
+    fn render_beginning(
+        &self,
+        alloc: Global,
+        read: &[u8],
+    ) -> Option<Result<Rendered<Self::Note>, Self::Error>>
         ensures { IfSome result
-            (IsForBeginning (is_output self.now) (is_refusal self.now) read.now) };
+            (IsForBeginning (IsRenderedBy (is_output self.now) (is_note self.now))
+            (is_refusal self.now) read.now) };
 }
 
 /// All that the source has left. After an error its end was read only if it was before.
@@ -146,7 +165,7 @@ pub fn write_all<W: Sink>(sink: &mut W, piece: &[u8]) -> Result<(), DeviceFault>
     Ok(())
 }
 
-/// Reads the source, and writes the output for it to the sink.
+/// Reads the source, and writes the output for it to the sink. Returns what there is to say of it.
 ///
 /// It is read whole, or until what was read is enough: this is asked where a block is full, then
 /// where twice as much was read, and so on, so that it depends on the input alone, however the
@@ -160,7 +179,7 @@ pub fn run<R: Source, W: Sink, D: Render>(
     source: &mut R,
     sink: &mut W,
     drawing: &D,
-) -> Result<(), Stop<D::Error>>
+) -> Result<D::Note, Stop<D::Error>>
     ensures ended { OnOk result ((R.end_was_read source.new ≡ true)
         ⊎ IsSomeEnough (D.is_output drawing.now)) }
     ensures source { R.has_failed source.new ≡ is_read_fault result }
@@ -168,13 +187,15 @@ pub fn run<R: Source, W: Sink, D: Render>(
     ensures refused { IfErr result (IsRefusalOfSome (D.is_refusal drawing.now)) }
     ensures known { Between R.Source W.Sink (source.old, sink.old) (source.new, sink.new)
         (IsAfter (D.is_output drawing.now) (D.is_refusal drawing.now) result) }
+    ensures noted { Between R.Source W.Sink (source.old, sink.old) (source.new, sink.new)
+        (IsNoted (D.is_note drawing.now) result) }
 {
-    let output = match read_answer(alloc, source, drawing)? {
-        Ok(output) => output,
+    let Rendered { text, note } = match read_answer(alloc, source, drawing)? {
+        Ok(rendered) => rendered,
         Err(error) => return Err(Stop::Refused(error)),
     };
-    match write_all(sink, output.as_bytes()) {
-        Ok(()) => Ok(()),
+    match write_all(sink, text.as_bytes()) {
+        Ok(()) => Ok(note),
         Err(DeviceFault) => Err(Stop::Write),
     }
 }
@@ -184,11 +205,11 @@ fn read_answer<R: Source, D: Render>(
     alloc: Global,
     source: &mut R,
     drawing: &D,
-) -> Result<Result<String, D::Error>, ReadError>
+) -> Result<Result<Rendered<D::Note>, D::Error>, ReadError>
     ensures fault { R.has_failed source.new ≡ is_source_fault result }
     ensures answer { IfOk result
-        (IsAnswered (D.is_output drawing.now) (D.is_refusal drawing.now) (R.remaining source.old)
-        (R.end_was_read source.new)) }
+        (IsAnswered (IsRenderedBy (D.is_output drawing.now) (D.is_note drawing.now))
+        (D.is_refusal drawing.now) (R.remaining source.old) (R.end_was_read source.new)) }
     ensures unread { OnErr result (R.end_was_read source.new ≡ R.end_was_read source.old) }
 {
     let mut input = Vec::new(alloc);

@@ -10,7 +10,7 @@ use Rattle.csv.specs.Reading.{records_from, strip_bom}
 use Rattle.ucd_category.proofs.Computing.{ucd_category}
 use Rattle.comfy_parts.specs.Text.{Text}
 use Rattle.csv_command.specs.Ending.{input_name, reading_reason, reason_for}
-use Rattle.csv_records.specs.Delimiter.{agreement, below_lines, delimited, delimiter_in}
+use Rattle.csv_records.specs.Delimiter.{agreement, below_lines, delimited, delimiter_in, doubtful_delimiter, is_poor}
 use Rattle.csv_tables.specs.Unbroken.{is_unbroken}
 use Rattle.csv_command.specs.Arguments.{delimiter_for, encoding_for}
 use Rattle.csv_records.specs.Foreign.{foreign_for}
@@ -59,6 +59,19 @@ ties = refl
 none_found : map (λ (input : String). (delimited Auto true (codes input)).0) ("" ∷ "a b\n" ∷ "a\n1\n" ∷ []) ≡ 0x2C ∷ 0x2C ∷ 0x2C ∷ []
 unfolding strip_bom records_from next_record
 none_found = refl
+
+-- some agree, but fewer than half
+poor_ones : map is_poor ([] ∷ (1 ∷ 1 ∷ []) ∷ (2 ∷ []) ∷ (2 ∷ 2 ∷ 1 ∷ 1 ∷ []) ∷ (2 ∷ 1 ∷ 1 ∷ []) ∷ (2 ∷ 3 ∷ 4 ∷ []) ∷ []) ≡ false ∷ false ∷ false ∷ false ∷ true ∷ true ∷ []
+poor_ones = refl
+
+-- a delimiter is doubtful where it was found so, and neither asked for nor named
+doubtful_ones : map (λ (input : String). doubtful_delimiter Auto true (codes input)) ("a\nb\nc;d\n" ∷ "a\nb;c\n" ∷ "a\nb\n" ∷ "sep=;\na\nb\nc;d\n" ∷ "" ∷ []) ≡ Some 0x3B ∷ None ∷ None ∷ None ∷ None ∷ []
+unfolding strip_bom records_from next_record
+doubtful_ones = refl
+
+asked_ones : map (λ (delimiter : Delimiter). doubtful_delimiter delimiter true (codes "a\nb\nc\td\n")) (Auto ∷ NamedOrTab ∷ Byte 0x09 ∷ []) ≡ Some 0x09 ∷ None ∷ None ∷ []
+unfolding strip_bom records_from next_record
+asked_ones = refl
 
 -- quotes as csv reads them, and as characters
 with_quotes : map (λ (has_quotes : Bool). (delimited Auto has_quotes (codes "\"a;b\",c\n1,2\n")).0) (true ∷ false ∷ []) ≡ 0x2C ∷ 0x2C ∷ []

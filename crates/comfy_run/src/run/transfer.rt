@@ -1,6 +1,6 @@
 //! Reads a whole input, draws its table, and writes the drawing.
 
-ghost use Rattle.std.specs.Prelude.{◌≡◌, true, false, OnOk, IfOk, string_bytes};
+ghost use Rattle.std.specs.Prelude.{◌≡◌, ⊤, true, false, OnOk, IfOk, string_bytes};
 ghost use Rattle.comfy_run.specs.Input.{RendersInput};
 ghost use Rattle.comfy_run.specs.Run.{IsAfter, IsDrawnIn, IsRefusalIn, is_read_fault, is_write_fault};
 ghost use Rattle.devices.specs.Outcome.{Between};
@@ -8,7 +8,7 @@ ghost use Rattle.devices.specs.Outcome.{Between};
 use crate::error::RunError;
 use crate::run::input::table_of;
 use crate::settings::Settings;
-use devices::{Render, Sink, Source};
+use devices::{Render, Rendered, Sink, Source};
 use std::alloc::Global;
 
 /// Reads the whole source, and writes the drawing of its table to the sink, each line followed by a
@@ -45,20 +45,29 @@ pub fn run<R: Source, W: Sink>(
 
 impl Render for Settings {
     type Error = RunError;
+    // There is nothing to say.
+    type Note = ();
 
     ghost is_output = { IsDrawnIn };
 
+    ghost is_note = { λ _ _ _ _. ⊤ };
+
     ghost is_refusal = { λ _. IsRefusalIn };
 
-    fn render(&self, alloc: Global, input: Vec<u8>) -> Result<String, RunError> {
+    fn render(&self, alloc: Global, input: Vec<u8>) -> Result<Rendered<()>, RunError> {
         let Ok(text) = simdutf8::compat::from_utf8(input.as_slice()) else {
             return Err(RunError::NotUtf8);
         };
-        Ok(render_tsv(alloc, text, *self)?)
+        let text = render_tsv(alloc, text, *self)?;
+        Ok(Rendered { text, note: () })
     }
 
     // Each line is a row, so that the input is read whole.
-    fn render_beginning(&self, _alloc: Global, _read: &[u8]) -> Option<Result<String, RunError>> {
+    fn render_beginning(
+        &self,
+        _alloc: Global,
+        _read: &[u8],
+    ) -> Option<Result<Rendered<()>, RunError>> {
         None
     }
 }
