@@ -10,7 +10,7 @@ use Rattle.std.specs.Char.{is_ascii_whitespace}
 use Rattle.std.specs.List.{filter, onto_first, position_or_len, prefix_len, slice_split, suffix_len}
 use Rattle.std.specs.Prelude.{if◌then◌else◌, not}
 use Rattle.comfy_parts.specs.Text.{Text}
-use Rattle.csv_records.specs.Spaces.{KeepsAllButBlanks, behind_field, behind_gap, column_gaps, filled_lines, first_field, is_gap, spaced, tabbed_line, tabbed_text, trimmed, without_blanks}
+use Rattle.csv_records.specs.Spaces.{KeepsAllButBlanks, behind_field, behind_gap, column_gaps, filled_lines, first_field, is_gap, spaced, tabbed_line, tabbed_text, trimmed_line, without_blanks}
 
 -- a blank in front counts nothing, and any byte in front is kept or isn't
 blank_first : (b : ℕ) (bs : Text) → is_ascii_whitespace b ≡ true → without_blanks (b ∷ bs) ≡ without_blanks bs
@@ -106,7 +106,7 @@ of_take text (suc n) within = by_blank (of_take text n (omega (arith, within))) 
         let all : suc n - suffix_len white (take (suc n) text) ≡ suc n = omega (arith, none) in
         ap (λ (k : ℕ). without_blanks (take k text)) all
 
-of_trimmed : (line : Text) → without_blanks (trimmed line) ≡ without_blanks line
+of_trimmed : (line : Text) → without_blanks (trimmed_line line) ≡ without_blanks line
 of_trimmed line =
     subst (λ (t : Text). without_blanks (take (length rest - suffix_len is_ascii_whitespace t) rest) ≡ without_blanks t) (take-length rest) (of_take rest (length rest) (omega arith))
     ∙ of_drop (prefix_len is_ascii_whitespace line) line (λ k less. prefix_len_passes is_ascii_whitespace line k 0 less)
@@ -130,7 +130,7 @@ of_parts (b ∷ bs) = by_end (of_parts bs) (b == 0x0A) refl
     by_end all true is = ap (flat_map without_blanks) (slice_split-cons_yes (λ b. b == 0x0A) b bs is) ∙ all ∙ sym (blank_first b bs (rw (eqb-true b 0x0A is) refl))
     by_end all false is = ap (flat_map without_blanks) (slice_split-cons_no (λ b. b == 0x0A) b bs is) ∙ by_parts parts all
 
-of_trimmed_lines : (lines : List Text) → flat_map without_blanks (map trimmed lines) ≡ flat_map without_blanks lines
+of_trimmed_lines : (lines : List Text) → flat_map without_blanks (map trimmed_line lines) ≡ flat_map without_blanks lines
 of_trimmed_lines [] = refl
 of_trimmed_lines (line ∷ lines) = rw (of_trimmed line, of_trimmed_lines lines) refl
 
@@ -150,5 +150,5 @@ of_lines gaps (line ∷ lines) =
 
 pub keeps_all_but_blanks : (text : Text) → KeepsAllButBlanks text
 keeps_all_but_blanks text =
-    of_lines (column_gaps (filled_lines text)) (filled_lines text) ∙ of_filled (map trimmed (slice_split (λ b. b == 0x0A) text))
+    of_lines (column_gaps (filled_lines text)) (filled_lines text) ∙ of_filled (map trimmed_line (slice_split (λ b. b == 0x0A) text))
     ∙ of_trimmed_lines (slice_split (λ b. b == 0x0A) text) ∙ of_parts text

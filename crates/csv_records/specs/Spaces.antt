@@ -24,15 +24,15 @@ gaps_from begun [] = 0
 gaps_from begun (b ∷ bs) = (if is_gap b && not begun then 1 else 0) + gaps_from (is_gap b) bs
 
 -- a line without the white space of ASCII at its ends
-abbrev pub trimmed : Text → Text
-trimmed line =
+abbrev pub trimmed_line : Text → Text
+trimmed_line line =
     let rest = drop (prefix_len is_ascii_whitespace line) line in
     take (length rest - suffix_len is_ascii_whitespace rest) rest
 
 -- the lines of a text that aren't blank, without such white space
 abbrev pub filled_lines : Text → List Text
 filled_lines text =
-    filter (λ line. not (length line == 0)) (map trimmed (slice_split (λ b. b == 0x0A) text))
+    filter (λ line. not (length line == 0)) (map trimmed_line (slice_split (λ b. b == 0x0A) text))
 
 -- how many gaps the fullest of some lines has
 abbrev pub most_gaps : List Text → ℕ

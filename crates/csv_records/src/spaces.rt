@@ -3,7 +3,7 @@
 ghost use Rattle.std.specs.Prelude.{◌≡◌, ◌++◌, IfOk, OnOk, false, length, map, max, not, option_map, string_bytes};
 ghost use Rattle.std.specs.List.{position, position_or_len};
 ghost use Rattle.csv_records.specs.Number.{halves};
-ghost use Rattle.csv_records.specs.Spaces.{column_gaps, filled_lines, behind_field, first_field, gaps_from, is_gap, most_gaps, spaced, tabbed_line, tabbed_text, trimmed};
+ghost use Rattle.csv_records.specs.Spaces.{column_gaps, filled_lines, behind_field, first_field, gaps_from, is_gap, most_gaps, spaced, tabbed_line, tabbed_text, trimmed_line};
 
 use std::alloc::{AllocError, Global};
 
@@ -30,7 +30,7 @@ fn filled_lines(alloc: Global, text: &str) -> Result<Vec<&str>, AllocError>
 {
     let mut lines = Vec::new(alloc);
     for line in text.split('\n') {
-        let line = trimmed(line);
+        let line = trimmed_line(line);
         if !line.is_empty() {
             lines.push(line)?;
         }
@@ -38,8 +38,8 @@ fn filled_lines(alloc: Global, text: &str) -> Result<Vec<&str>, AllocError>
     Ok(lines)
 }
 
-fn trimmed(line: &str) -> &str
-    ensures { result.now ≡ trimmed line.now }
+fn trimmed_line(line: &str) -> &str
+    ensures { result.now ≡ trimmed_line line.now }
 {
     line.trim_ascii()
 }

@@ -1,7 +1,7 @@
 use Rattle.std.proofs.Common.{◌≡◌, ◌==◌, length, map, not}
 use Rattle.std.specs.List.{filter}
-use Rattle.csv_records.specs.Spaces.{trimmed}
+use Rattle.csv_records.specs.Spaces.{trimmed_line}
 use Rattle.csv_records.proofs.spaces.filled_lines.Given as goal
 
 abbrev pub invariant-loop-line : goal.invariant-loop-line
-invariant-loop-line l = map (λ s. s.now) l.lines.items ≡ filter (λ line. not (length line == 0)) (map (λ p. trimmed p.now) l.yielded)
+invariant-loop-line l = map (λ s. s.now) l.lines.items ≡ filter (λ line. not (length line == 0)) (map (λ p. trimmed_line p.now) l.yielded)

@@ -1,6 +1,6 @@
 use Rattle.std.proofs.Common.{refl}
 use Rattle.std.proofs.lemmas.Str.Ascii.{trim_ascii_is}
-use Rattle.csv_records.proofs.spaces.trimmed.Goals as goal
+use Rattle.csv_records.proofs.spaces.trimmed_line.Goals as goal
 
 pub returns : goal.returns
 returns c = trim_ascii_is _ _ _ refl c.trim_ascii.ensures.value
