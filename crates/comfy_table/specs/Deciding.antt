@@ -32,7 +32,8 @@ is_undecided widths position = is_none (slice_index_or widths position (Some 0))
 
 -- the columns without a width, each with its position
 abbrev pub undecided_among : List ColumnNeeds → List (Option ℕ) → List Positioned
-undecided_among needs widths = filter (λ (p : Positioned). is_undecided widths p.0) (places_of needs)
+undecided_among needs widths =
+    filter (λ (p : Positioned). is_undecided widths p.0) (places_of needs)
 
 -- how many they are
 abbrev pub undecided_count : List (Option ℕ) → ℕ

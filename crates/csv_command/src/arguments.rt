@@ -17,6 +17,10 @@ use csv_records::{Delimiter, Encoding, InputOptions, number_of, only_ascii};
 use csv_tables::{Expansion, Look, Options, RowSeparators, Selection};
 use std::alloc::{AllocError, Global};
 
+// Why a delimiter is none.
+const NO_DELIMITER: &str = "the delimiter is one ASCII character, `tab`, `spaces` or `auto`; it's no \
+    quote and no line end";
+
 // The width of a terminal that doesn't say its own.
 const TERMINAL_WIDTH: u16 = 80;
 
@@ -91,7 +95,7 @@ fn parse_by<'a>(
         None => Err(refusal(
             command,
             ErrorKind::InvalidValue,
-            "the delimiter is one ASCII character that is no quote and no line end, `tab`, `spaces` or `auto`",
+            NO_DELIMITER,
         )),
     }
 }

@@ -96,10 +96,6 @@ one_more had field more whole d is = append_assoc (had ++ field) (d ∷ []) more
 
 -- ---- lines
 
-pub nothing_behind : (gaps : ℕ) (line : Text) → (length (behind_field line) == 0) ≡ true → tabbed_line gaps line ≡ spaced line
-nothing_behind zero line none = refl
-nothing_behind (suc gaps) line none = rw none refl
-
 pub one_gap_less : (gaps at : ℕ) (line : Text) → at < gaps → (length (behind_field line) == 0) ≡ false
     → tabbed_line (gaps - at) line ≡ first_field line ++ 0x09 ∷ tabbed_line (gaps - (at + 1)) (behind_field line)
 one_gap_less gaps at line less some =

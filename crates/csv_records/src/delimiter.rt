@@ -20,9 +20,9 @@ pub enum Delimiter {
     Auto,
     /// What a first line `sep=X` names, else TAB.
     NamedOrTab,
-    /// Runs of spaces and TABs, as in what `df -h` and `ls -l` write. White space at the ends of a line
-    /// doesn't count. The last field that the first line has takes all that is left of a line. Quotes
-    /// are characters like others.
+    /// Runs of spaces and TABs, as in what `df -h` and `ps aux` write. White space at the ends of a
+    /// line doesn't count, the last column takes all that is left of it, and quotes are characters
+    /// like others.
     Spaces,
 }
 

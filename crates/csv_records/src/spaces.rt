@@ -8,9 +8,9 @@ ghost use Rattle.csv_records.specs.Spaces.{column_gaps, filled_lines, behind_fie
 use std::alloc::{AllocError, Global};
 
 /// The text with TABs between its fields. In a line these stand between runs of spaces and TABs;
-/// white space of ASCII at its ends doesn't count, and a blank line is left out. The first line has
-/// as many fields as others fill, and no line has more: its last field holds all that is left of it,
-/// with a space for each TAB.
+/// white space of ASCII at its ends doesn't count, and a blank line is left out. There are as many
+/// columns as the first line has fields, and no more than the fullest line below it. The last one
+/// takes all that is left of a line, with a space for each TAB.
 pub(crate) fn tabbed_text(alloc: Global, text: &str) -> Result<String, AllocError>
     ensures { IfOk result (λ tabbed. string_bytes tabbed ≡ tabbed_text text.now) }
 {

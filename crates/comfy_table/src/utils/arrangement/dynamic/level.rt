@@ -2,7 +2,7 @@
 
 ghost use Rattle.std.specs.Prelude.{◌≡◌, ◌≤◌, ◌<◌, Some, length};
 ghost use Rattle.comfy_table.specs.Deciding.{HasSettled, HasTaken, all_needs, average_room, needs_in, undecided_among};
-ghost use Rattle.comfy_table.specs.Dynamic.{IsLevel, average, settled_at, settled_shares};
+ghost use Rattle.comfy_table.specs.Dynamic.{IsLevel, average, settled_at, settled_claims};
 ghost use Rattle.comfy_table.specs.TableValue.{TableValue};
 
 use super::budget::Budget;
@@ -47,7 +47,7 @@ fn average_beside(columns: &[WidthNeeds<'_>], budget: &Budget, level: usize) -> 
     ensures average { (table : TableValue)
         → result ≡ average budget.now.room
         (undecided_among (all_needs table columns.now) budget.now.widths.items)
-        (settled_shares (Some level)
+        (settled_claims (Some level)
         (undecided_among (all_needs table columns.now) budget.now.widths.items)) }
 {
     let mut room = budget.room;
@@ -66,7 +66,7 @@ fn average_beside(columns: &[WidthNeeds<'_>], budget: &Budget, level: usize) -> 
 // Settles the undecided columns at a level.
 fn settle_at(columns: &[WidthNeeds<'_>], budget: &mut Budget, level: usize)
     ensures { (table : TableValue)
-        → HasTaken (settled_shares (Some level)
+        → HasTaken (settled_claims (Some level)
         (undecided_among (all_needs table columns.now) budget.old.widths.items)) budget.old
         budget.new }
 {
