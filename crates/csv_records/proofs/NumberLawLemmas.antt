@@ -26,10 +26,6 @@ either (inr b) first second = second b
 digit_listed : (c : ℕ) → is_ascii_digit c ≡ true → is_listed c ≡ true
 digit_listed c is = or_left (is_ascii_digit c) _ is
 
--- one more character in front, or behind
-more_before : (c : ℕ) (cs : List ℕ) → is_listed c ≡ true → AreOfNumber cs → AreOfNumber (c ∷ cs)
-more_before c cs one is = record { digit = or_right (is_ascii_digit c) _ is.digit; listed = and_from (is_listed c) _ one is.listed }
-
 any-append : (f : ℕ → Bool) (xs ys : List ℕ) → (list_any f xs ≡ true) ⊎ (list_any f ys ≡ true) → list_any f (xs ++ ys) ≡ true
 any-append f [] ys (inl is) = absurd (cc is)
 any-append f [] ys (inr is) = is
@@ -44,6 +40,7 @@ all-weaker : (f g : ℕ → Bool) → ((c : ℕ) → f c ≡ true → g c ≡ tr
 all-weaker f g weaker [] is = refl
 all-weaker f g weaker (c ∷ cs) is = let parts = and_parts (f c) (list_all f cs) is in and_from (g c) _ (weaker c parts.0) (all-weaker f g weaker cs parts.1)
 
+-- one more character behind
 more_behind : (cs : List ℕ) (c : ℕ) → is_listed c ≡ true → AreOfNumber cs → AreOfNumber (cs ++ c ∷ [])
 more_behind cs c one is = record { digit = any-append is_ascii_digit cs (c ∷ []) (inl is.digit); listed = all-append is_listed cs (c ∷ []) is.listed (and_from (is_listed c) true one refl) }
 
@@ -296,9 +293,6 @@ module _ (p : ℕ → Bool) (listed : (c : ℕ) → p c ≡ true → is_listed c
 
 listed_sign : (c : ℕ) → is_sign c ≡ true → is_listed c ≡ true
 listed_sign c is = or_right (is_ascii_digit c) _ (or_left (is_sign c) _ is)
-
-listed_mark : (c : ℕ) → is_mark c ≡ true → is_listed c ≡ true
-listed_mark c is = or_right (is_ascii_digit c) _ (or_right (is_sign c) _ (or_left (is_mark c) _ is))
 
 listed_letter : (c : ℕ) → is_letter c ≡ true → is_listed c ≡ true
 listed_letter c is = or_right (is_ascii_digit c) _ (or_right (is_sign c) _ (or_right (is_mark c) _ (or_left (is_letter c) _ is)))
