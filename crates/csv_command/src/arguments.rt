@@ -18,8 +18,8 @@ use csv_tables::{Expansion, Look, Options, RowSeparators, Selection};
 use std::alloc::{AllocError, Global};
 
 // Why a delimiter is none.
-const NO_DELIMITER: &str = "the delimiter is one ASCII character, `tab`, `spaces` or `auto`; it's no \
-    quote and no line end";
+const NO_DELIMITER: &str = "the delimiter is one ASCII character, `tab`, `spaces` or `auto`; it's \
+    no quote and no line end";
 
 // The width of a terminal that doesn't say its own.
 const TERMINAL_WIDTH: u16 = 80;
