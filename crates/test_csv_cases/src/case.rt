@@ -1,4 +1,4 @@
-//! One case: words, an input, and the output that is wanted.
+//! One case: arguments, an input, and the output that is wanted.
 
 use crate::text::push_text;
 use crate::uses::output_for;
@@ -13,7 +13,7 @@ const ROOM: usize = 65536;
 pub struct Case {
     alloc: Global,
     name: String,
-    words: Vec<String>,
+    arguments: Vec<String>,
     input: Vec<u8>,
     wanted: String,
     is_terminal: bool,
@@ -27,7 +27,7 @@ impl Case {
         Case {
             alloc,
             name: String::new(alloc),
-            words: Vec::new(alloc),
+            arguments: Vec::new(alloc),
             input: Vec::new(alloc),
             wanted: String::new(alloc),
             is_terminal: false,
@@ -56,7 +56,7 @@ impl Case {
     fn set(&mut self, kind: &str, rest: &str) -> Result<(), AllocError> {
         match kind {
             "case" => self.name.push_str(rest),
-            "words" => self.add_words(rest),
+            "arguments" => self.add_arguments(rest),
             "input" => self.add_line(rest),
             "byte" => match rest.parse::<u8>() {
                 Ok(byte) => Ok(self.input.push(byte)?),
@@ -85,35 +85,35 @@ impl Case {
         Ok(self.input.extend_from_slice(text.as_bytes())?)
     }
 
-    fn add_words(&mut self, words: &str) -> Result<(), AllocError> {
-        for word in words.split(' ') {
-            self.words.push(String::from_str(self.alloc, word)?)?;
+    fn add_arguments(&mut self, arguments: &str) -> Result<(), AllocError> {
+        for argument in arguments.split(' ') {
+            self.arguments.push(String::from_str(self.alloc, argument)?)?;
         }
         Ok(())
     }
 
     /// The output for the input, or what is said where there is none.
     pub fn drawn(&self) -> Result<String, AllocError> {
-        let words = self.all_words()?;
+        let arguments = self.all_arguments()?;
         let context = OutputContext {
             is_terminal: self.is_terminal,
             columns: self.columns.as_ref().map(|text| text.as_str()),
             no_color: self.no_color.as_ref().map(|text| text.as_str()),
         };
-        match parse(self.alloc, words.as_slice(), context) {
+        match parse(self.alloc, arguments.as_slice(), context) {
             Ok(invocation) => self.drawn_as(&invocation),
             Err(error) => format!(in self.alloc; "{error}"),
         }
     }
 
-    // The words, with the program's name before them.
-    fn all_words(&self) -> Result<Vec<&str>, AllocError> {
-        let mut words = Vec::new(self.alloc);
-        words.push("csvtable")?;
-        for word in &self.words {
-            words.push(word.as_str())?;
+    // The arguments, with the program's name before them.
+    fn all_arguments(&self) -> Result<Vec<&str>, AllocError> {
+        let mut arguments = Vec::new(self.alloc);
+        arguments.push("csvtable")?;
+        for argument in &self.arguments {
+            arguments.push(argument.as_str())?;
         }
-        Ok(words)
+        Ok(arguments)
     }
 
     fn drawn_as(&self, invocation: &Invocation) -> Result<String, AllocError> {

@@ -1,4 +1,4 @@
-//! Reads cases from standard input, draws each one's records as its words ask for, and compares.
+//! Reads cases from standard input, draws each one's records as its arguments ask for, and compares.
 //! Status 1 where a case differs, or where there was none.
 #![tactic(auto)]
 

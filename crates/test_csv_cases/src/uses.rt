@@ -69,19 +69,19 @@ pub fn output_for_markdown(
     output_for(alloc, input, room, options)
 }
 
-/// The same for what words ask for, unless that is raw fields. Then, and after every error, there
+/// The same for what arguments ask for, unless that is raw fields. Then, and after every error, there
 /// is none.
-pub fn output_for_words(
+pub fn output_for_arguments(
     alloc: Global,
     input: &[u8],
     room: usize,
-    words: &[&str],
+    arguments: &[&str],
     context: OutputContext<'_>,
 ) -> Option<MemorySink>
     ensures { IfSome result (λ sink. HasNoStrayControl (visible_text sink.bytes)) }
 {
     drawings_hold_no_controls();
-    let invocation = parse(alloc, words, context).ok()?;
+    let invocation = parse(alloc, arguments, context).ok()?;
     if invocation.options.look.is_raw {
         return None;
     }

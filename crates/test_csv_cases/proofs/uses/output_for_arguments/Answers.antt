@@ -2,7 +2,7 @@ use Rattle.std.proofs.Common.{◌≡◌, Ok, Err, Option, Result, Some, subst, s
 use Rattle.std.proofs.lemmas.Option.{none-some, same_Some}
 use Rattle.std.specs.Prelude.{IfOk, IfSome}
 use Rattle.std.specs.Result.{result_ok}
-use Rattle.test_csv_cases.proofs.uses.output_for_words.Goals as goal
+use Rattle.test_csv_cases.proofs.uses.output_for_arguments.Goals as goal
 
 -- what holds of an `Ok` holds of its value
 of_ok : {X E : Type 0} (P : X → Type 0) (r : Result X E) (x : X) → Some x ≡ result_ok r → IfOk r P → P x
