@@ -1,5 +1,5 @@
-//! Reads cases from standard input, draws each one's records as its arguments ask for, and compares.
-//! Status 1 where a case differs, or where there was none.
+//! Reads cases from standard input, draws each one's records as its arguments ask for, and
+//! compares. Status 1 where a case differs, or where there was none.
 #![tactic(auto)]
 
 mod case;

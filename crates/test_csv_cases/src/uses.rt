@@ -69,8 +69,8 @@ pub fn output_for_markdown(
     output_for(alloc, input, room, options)
 }
 
-/// The same for what arguments ask for, unless that is raw fields. Then, and after every error, there
-/// is none.
+/// The same for what arguments ask for, unless that is raw fields. Then, and after every error,
+/// there is none.
 pub fn output_for_arguments(
     alloc: Global,
     input: &[u8],
