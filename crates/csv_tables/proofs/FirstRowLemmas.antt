@@ -6,7 +6,7 @@ use Rattle.std.proofs.lemmas.List.{length-take}
 use Rattle.std.proofs.lemmas.Str.{IsUtf8-nil}
 use Rattle.comfy_parts.specs.Text.{Text}
 use Rattle.csv_records.proofs.FirstLemmas.{all_of_few}
-use Rattle.csv_records.specs.Beginning.{AreFirstByBeginning, IsEnough}
+use Rattle.csv_records.specs.Beginning.{AreFirstByBeginning}
 use Rattle.csv_records.specs.Encoding.{IsDecoded}
 use Rattle.csv_records.specs.Reading.{AreRecordsFor, AreRecordsIn, IsDecodedBy}
 use Rattle.csv_records.specs.declared.encoding.Encoding.{Encoding}
