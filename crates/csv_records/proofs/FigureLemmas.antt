@@ -1,5 +1,5 @@
 -- Spaces around a field, and its figure: where its first digit or decimal mark stands, and where its last one ends.
-use Rattle.std.proofs.Common.{◌≡◌, ◌⊎◌, inl, inr, ◌<◌, ◌≤◌, ◌+◌, ◌-◌, ◌||◌, ℕ, zero, suc, Bool, true, false, List, [], ◌∷◌, ◌++◌, Option, IsUtf8, chars, drop, take, get_or, length, length-append, unwrap_or, refl, sym, ap, ◌∙◌, subst, arith, rules, tests}
+use Rattle.std.proofs.Common.{◌≡◌, ◌⊎◌, inl, inr, ◌<◌, ◌≤◌, ◌+◌, ◌-◌, ◌==◌, ◌||◌, ℕ, zero, suc, Bool, true, false, List, [], ◌∷◌, ◌++◌, Option, IsUtf8, chars, drop, take, get_or, length, length-append, unwrap_or, refl, sym, ap, ◌∙◌, subst, arith, rules, tests}
 use Rattle.std.proofs.lemmas.Bool.{and_from, and_parts, cases_lt, cond_both, eqb-true}
 use Rattle.std.proofs.lemmas.List.{get_or-reverse, length-reverse, reverse-append, reverse-reverse, take-append-le, take_all}
 use Rattle.std.proofs.lemmas.List.Sums.{prefix_len-le-length, prefix_len_stops, suffix_len-le-length}
@@ -134,10 +134,17 @@ among-all P (word ∷ words) text all is =
     by_first true same one others found = let equal : text ≡ word = (bytes_eq-Decides text word).0 same in subst (λ t. P t ≡ true) (sym equal) one
     by_first false same one others found = others found
 
--- codes begin with capitals
-pub no_code : (text : Text) → begins is_ascii_uppercase text ≡ false → false ≡ is_code text
-no_code text none = by_code (is_code text) refl
+-- what is so of all codes is so of a code
+no_code : (P : Text → Bool) (text : Text) → list_all P currency_codes ≡ true → P text ≡ false → false ≡ is_code text
+no_code P text all none = by_code (is_code text) refl
   where
     by_code : (b : Bool) → is_code text ≡ b → false ≡ b
     by_code false is = refl
-    by_code true is = absurd (cc (none, among-all (begins is_ascii_uppercase) currency_codes text refl is))
+    by_code true is = absurd (cc (none, among-all P currency_codes text all is))
+
+-- codes begin with capitals, and have three letters
+pub no_capital : (text : Text) → begins is_ascii_uppercase text ≡ false → false ≡ is_code text
+no_capital text none = no_code (begins is_ascii_uppercase) text refl none
+
+pub other_length : (text : Text) → (length text == 3) ≡ false → false ≡ is_code text
+other_length text none = no_code (λ word. length word == 3) text refl none

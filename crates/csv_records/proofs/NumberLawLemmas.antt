@@ -540,6 +540,7 @@ of_spaces_behind = by_end (λ cs. AreOfNumber (to_other is_space cs) → AreOfNu
         by_last false other = subst AreOfNumber (to_other-stops is_space cs c other) is
 
 pub numbers_are_of_digits : (text : Text) → IsOfDigits text
+unfolding is_number
 numbers_are_of_digits text utf8 is =
     let before = from_other is_space (chars text) in
     let behind = to_other is_space before in
@@ -628,6 +629,7 @@ module _ (sign : ℕ) (is : is_sign sign ≡ true) where
 
   behind_sign : (text : Text) → IsUtf8 text
       → is_number (encode_utf8 sign ++ text) ≡ is_amount (front_of (without_spaces_behind text)) (back_of (without_spaces_behind text)) && is_figure (figure_of (without_spaces_behind text))
+  unfolding is_number
   behind_sign text utf8 =
       let t = without_spaces_behind text in
       let all = chars text in

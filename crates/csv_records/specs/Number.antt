@@ -270,7 +270,7 @@ is_bare_number text =
     (is_signed (front_of text) (back_of text) || is_enclosed (front_of text) (back_of text))
     && is_figure (figure_of text)
 
-abbrev pub is_number : Text → Bool
+unfoldable pub is_number : Text → Bool
 is_number field = is_bare_number (trimmed field)
 
 -- ---- fields that say nothing
@@ -290,5 +290,5 @@ abbrev pub is_bare_neutral : Text → Bool
 is_bare_neutral text =
     ((length text == 0) || bytes_eq text (codes "-")) || is_missing (behind is_sign text)
 
-abbrev pub is_neutral : Text → Bool
+unfoldable pub is_neutral : Text → Bool
 is_neutral field = is_bare_neutral (trimmed field)

@@ -233,11 +233,11 @@ fn is_currency_character(text: &str) -> bool
     }
 }
 
-// Codes begin with capitals, and other texts are seen to be none faster so.
+// Codes are three letters, the first a capital, and other texts are seen to be none faster so.
 fn is_code(text: &str) -> bool
     ensures { result ≡ is_code text.now }
 {
-    begins_with_capital(text.as_bytes()) && is_among(&CURRENCY_CODES, text)
+    text.len() == 3 && begins_with_capital(text.as_bytes()) && is_among(&CURRENCY_CODES, text)
 }
 
 fn before_sign(text: &str) -> &str

@@ -8,6 +8,7 @@ use Rattle.comfy_parts.specs.Text.{Text}
 use Rattle.csv.specs.Records.{field_at}
 use Rattle.csv_tables.specs.Cells.{field_or_blank}
 use Rattle.csv_records.specs.Cleaning.{visible_of}
+use Rattle.csv_records.specs.Number.{is_neutral, is_number}
 use Rattle.csv_tables.specs.Columns.{ColumnFault, IsColumnsRefusal, first_answer, joined, kind_of, positions_of, positions_of_word, seen}
 use Rattle.csv_tables.specs.Columns.ColumnFault.{missing, none_left, two_sided}
 use Rattle.csv_tables.specs.Hints.{passes}
@@ -49,7 +50,7 @@ module _ (p : Text → Bool) (n : ℕ) where
 
 -- an empty field is no number
 pub kind-empty : (field : Text) → length field ≡ 0 → Neutral ≡ kind_of field
-unfolding chars
+unfolding chars is_neutral is_number
 kind-empty [] none = refl
 kind-empty (b ∷ bs) none = absurd (omega (arith, none))
 

@@ -20,16 +20,16 @@ a_letter is = cc is.listed
 
 -- behind another character than a sign there is no number
 no_sign : ¬ (is_number (codes "-5") ≡ is_number (codes "x5"))
-unfolding chars lib.Utf8.encode ucd_category
+unfolding chars lib.Utf8.encode ucd_category is_number
 no_sign same = let is : true ≡ false = same in cc is
 
 -- without a sign a text may be a number that is none behind one
 enclosed : is_number (codes "(5)") ≡ true
-unfolding chars lib.Utf8.encode ucd_category
+unfolding chars lib.Utf8.encode ucd_category is_number
 enclosed = refl
 
 enclosed_behind_a_sign : is_number (codes "-(5)") ≡ false
-unfolding chars lib.Utf8.encode ucd_category
+unfolding chars lib.Utf8.encode ucd_category is_number
 enclosed_behind_a_sign = refl
 
 -- ---- columns

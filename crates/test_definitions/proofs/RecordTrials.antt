@@ -44,45 +44,45 @@ texts words = map (λ (word : String). codes word) words
 -- ---- numbers
 
 numbers : list_all is_number (texts ("0" ∷ "-12" ∷ "+12.50" ∷ ".5" ∷ "5." ∷ "8.1e4" ∷ "2E-3" ∷ "7%" ∷ "12 %" ∷ "-$12" ∷ "$-12" ∷ "$ 12" ∷ "5$" ∷ "(12)" ∷ "($12.50)" ∷ [])) ≡ true
-unfolding chars lib.Utf8.encode ucd_category
+unfolding chars lib.Utf8.encode ucd_category is_number
 numbers = refl
 
 -- with groups; one mark with three digits behind it is a decimal mark or parts groups, and a number either way
 grouped_numbers : list_all is_number (texts ("1,234" ∷ "1234,567" ∷ "1_000" ∷ "1'234.5" ∷ "1 234,5" ∷ "-1,234.5" ∷ "1.234,56" ∷ "12.345.678" ∷ "1.234.567.890" ∷ "1.000.000.000,5" ∷ "1,234e5" ∷ [])) ≡ true
-unfolding chars lib.Utf8.encode ucd_category
+unfolding chars lib.Utf8.encode ucd_category is_number
 grouped_numbers = refl
 
 -- U+2212, a pound, a euro behind a space at which no line breaks, and a narrow such space between groups
 numbers_beyond_ascii : list_all is_number (map encode_utf8_all ((0x2212 ∷ 0x33 ∷ []) ∷ (0x2D ∷ 0xA3 ∷ 0x35 ∷ []) ∷ (0x31 ∷ 0x32 ∷ 0xA0 ∷ 0x20AC ∷ []) ∷ (0x31 ∷ 0x202F ∷ 0x32 ∷ 0x33 ∷ 0x34 ∷ []) ∷ [])) ≡ true
-unfolding chars lib.Utf8.encode ucd_category
+unfolding chars lib.Utf8.encode ucd_category is_number
 numbers_beyond_ascii = refl
 
 no_numbers : list_any is_number (texts ("" ∷ "-" ∷ "." ∷ "$" ∷ "%" ∷ "()" ∷ "e5" ∷ "1e" ∷ "1e+" ∷ "1e2.5" ∷ "1 e5" ∷ "1-2" ∷ "--1" ∷ "-$-1" ∷ "$12%" ∷ "%5" ∷ "(-5)" ∷ "-(5)" ∷ "( 5)" ∷ "- 1" ∷ "12a" ∷ [])) ≡ false
-unfolding chars lib.Utf8.encode ucd_category
+unfolding chars lib.Utf8.encode ucd_category is_number
 no_numbers = refl
 
 -- currencies by their codes, and units of sizes and times
 coded_numbers : list_all is_number (texts ("USD 12.50" ∷ "12.50 EUR" ∷ "EUR12" ∷ "-5 CHF" ∷ "USD -5" ∷ "USD-5" ∷ "-USD 5" ∷ "(JPY 100)" ∷ "(100 JPY)" ∷ [])) ≡ true
-unfolding chars lib.Utf8.encode ucd_category
+unfolding chars lib.Utf8.encode ucd_category is_number
 coded_numbers = refl
 
 measured_numbers : list_all is_number (texts ("1.5K" ∷ "23M" ∷ "4 GiB" ∷ "512 kB" ∷ "100Mi" ∷ "7B" ∷ "1E" ∷ "1e3E" ∷ "12 ms" ∷ "3min" ∷ "-5d" ∷ "1,000 us" ∷ "(2 h)" ∷ [])) ≡ true
-unfolding chars lib.Utf8.encode ucd_category
+unfolding chars lib.Utf8.encode ucd_category is_number
 measured_numbers = refl
 
 -- millionths of a second with either letter, behind a narrow space at which no line breaks
 millionths : list_all is_number (map encode_utf8_all ((0x33 ∷ 0xB5 ∷ 0x73 ∷ []) ∷ (0x33 ∷ 0x202F ∷ 0x03BC ∷ 0x73 ∷ []) ∷ [])) ≡ true
-unfolding chars lib.Utf8.encode ucd_category
+unfolding chars lib.Utf8.encode ucd_category is_number
 millionths = refl
 
 -- no code or unit of these rules, or more than one, or two spaces
 no_units : list_any is_number (texts ("usd 5" ∷ "5 XXX" ∷ "5 XAU" ∷ "5 ABC" ∷ "EURO 5" ∷ "EUR5EUR" ∷ "5 m" ∷ "5kb" ∷ "5 KIB" ∷ "5iB" ∷ "5 kBB" ∷ "kB 5" ∷ "5 hr" ∷ "5 D" ∷ "$5K" ∷ "5K%" ∷ "EUR 5 kB" ∷ "USD  5" ∷ "5  kB" ∷ "1e" ∷ [])) ≡ false
-unfolding chars lib.Utf8.encode ucd_category
+unfolding chars lib.Utf8.encode ucd_category is_number
 no_units = refl
 
 -- spaces around a number don't count: a space, TAB, a line feed, a carriage return, U+00A0 and U+202F
 spaced_numbers : list_all is_number (map encode_utf8_all ((0x20 ∷ 0x20 ∷ 0x35 ∷ []) ∷ (0x35 ∷ 0x0D ∷ 0x0A ∷ []) ∷ (0x09 ∷ 0x24 ∷ 0x35 ∷ 0xA0 ∷ []) ∷ (0x202F ∷ 0x35 ∷ 0x25 ∷ 0x20 ∷ []) ∷ [])) ≡ true
-unfolding chars lib.Utf8.encode ucd_category
+unfolding chars lib.Utf8.encode ucd_category is_number
 spaced_numbers = refl
 
 -- a figure stands between what is before its first digit or mark and what is behind its last one
@@ -91,25 +91,25 @@ figure_parts = refl
 
 -- groups of another length, and of two marks
 ungrouped_digits : list_any is_number (texts ("1 2" ∷ "1,2,3" ∷ "1_00" ∷ "12,34,567" ∷ "1234,567,890" ∷ "1,234.567,890" ∷ "1.234,567.8" ∷ [])) ≡ false
-unfolding chars lib.Utf8.encode ucd_category
+unfolding chars lib.Utf8.encode ucd_category is_number
 ungrouped_digits = refl
 
 -- names, dates, times, versions and addresses
 other_digits : list_any is_number (texts ("0042" ∷ "-007" ∷ "$0042" ∷ "USD 0042" ∷ "(0042)" ∷ "0042 s" ∷ " 0042" ∷ "2026-05-02" ∷ "02.05.2026" ∷ "12:30" ∷ "1.2.3" ∷ "192.168.1.10" ∷ "192.168.100.200" ∷ "1.000.000.000" ∷ [])) ≡ false
-unfolding chars lib.Utf8.encode ucd_category
+unfolding chars lib.Utf8.encode ucd_category is_number
 other_digits = refl
 
 neutral_fields : list_all is_neutral (texts ("" ∷ "-" ∷ "n/a" ∷ "N/A" ∷ "na" ∷ "Null" ∷ "NaN" ∷ "-inf" ∷ "+INF" ∷ " " ∷ " - " ∷ " n/a " ∷ [])) ≡ true
-unfolding chars lib.Utf8.encode
+unfolding chars lib.Utf8.encode is_neutral
 neutral_fields = refl
 
 -- so are spaces and line breaks alone
 blank_fields : list_all is_neutral (map encode_utf8_all ((0x20 ∷ 0x0A ∷ []) ∷ (0x0D ∷ 0x0A ∷ 0x09 ∷ []) ∷ (0xA0 ∷ 0x202F ∷ []) ∷ [])) ≡ true
-unfolding chars lib.Utf8.encode
+unfolding chars lib.Utf8.encode is_neutral
 blank_fields = refl
 
 telling_fields : list_any is_neutral (texts ("0" ∷ "--" ∷ "+" ∷ "none" ∷ "n / a" ∷ "infinity" ∷ "- -" ∷ [])) ≡ false
-unfolding chars lib.Utf8.encode
+unfolding chars lib.Utf8.encode is_neutral
 telling_fields = refl
 
 -- ---- fields as they are drawn
@@ -270,7 +270,7 @@ rows = texts ("x" ∷ "1" ∷ "2" ∷ "-" ∷ "0042" ∷ []) ∷ texts ("3" ∷ 
 
 -- a column with a word, one with neutral fields, one with a missing field, one of neutral fields alone, one with a name, and one that has no field
 alignments : map (λ p. alignment_for [] [] (is_number_column rows p) p) (0 ∷ 1 ∷ 2 ∷ 3 ∷ 4 ∷ 5 ∷ []) ≡ None ∷ Some Right ∷ Some Right ∷ None ∷ None ∷ None ∷ []
-unfolding field_at chars lib.Utf8.encode ucd_category
+unfolding field_at chars lib.Utf8.encode ucd_category is_neutral is_number
 alignments = refl
 
 -- where sequences are kept, a number in colour is one
@@ -278,12 +278,12 @@ abbrev in_red : Text
 in_red = 0x1B ∷ codes "[31m12" ++ 0x1B ∷ codes "[0m"
 
 coloured_alignments : map (λ keeps. alignment_for [] [] (is_number_column (map (seen keeps) ((in_red ∷ []) ∷ [])) 0) 0) (true ∷ false ∷ []) ≡ Some Right ∷ None ∷ []
-unfolding field_at chars lib.Utf8.encode ucd_category
+unfolding field_at chars lib.Utf8.encode ucd_category is_neutral is_number
 coloured_alignments = refl
 
 -- the right wins over the left, and both over numbers
 chosen_alignments : map (λ p. alignment_for (0 ∷ []) (0 ∷ 1 ∷ []) (is_number_column rows p) p) (0 ∷ 1 ∷ []) ≡ Some Right ∷ Some Left ∷ []
-unfolding field_at chars lib.Utf8.encode ucd_category
+unfolding field_at chars lib.Utf8.encode ucd_category is_neutral is_number
 chosen_alignments = refl
 
 -- ---- the line on records that aren't drawn
