@@ -92,11 +92,7 @@ fn parse_by<'a>(
     }
     match wanted_delimiter(&matches) {
         Some(delimiter) => Ok(invocation_of(alloc, &matches, delimiter, context)?),
-        None => Err(refusal(
-            command,
-            ErrorKind::InvalidValue,
-            NO_DELIMITER,
-        )),
+        None => Err(refusal(command, ErrorKind::InvalidValue, NO_DELIMITER)),
     }
 }
 

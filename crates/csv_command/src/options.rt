@@ -267,7 +267,10 @@ fn arg_of<'a>(
     requires { map (λ name. name.now) styles.now ≡ style_names }
     ensures { IfOk result (λ arg. bare (rule_of arg) ≡ rule_for option.now) }
 {
-    let arg = with_letter(Arg::new(alloc, option.name).help(option.help), option.letter);
+    let arg = with_letter(
+        Arg::new(alloc, option.name).help(option.help),
+        option.letter,
+    );
     match option.kind {
         Kind::File => Ok(arg.value_name(option.value)),
         Kind::Flag => Ok(arg.long(option.name).action(ArgAction::SetTrue)),

@@ -96,8 +96,8 @@ of_take text (suc n) within = by_blank (of_take text n (omega (arith, within))) 
         → without_blanks (take (suc n - suffix_len white (take (suc n) text)) text) ≡ without_blanks (take (suc n) text)
     by_blank before true is =
         let more : suffix_len white (take (suc n) text) ≡ 1 + suffix_len white (take n text) =
-            subst (λ (k : ℕ). suffix_len white (take (suc n) text) ≡ 1 + suffix_len white (take k text)) last
-            (suffix_len-take_yes white text (suc n) 0 (omega arith) within (subst (λ (k : ℕ). white (get_or text k 0) ≡ true) (sym last) is)) in
+        subst (λ (k : ℕ). suffix_len white (take (suc n) text) ≡ 1 + suffix_len white (take k text)) last
+        (suffix_len-take_yes white text (suc n) 0 (omega arith) within (subst (λ (k : ℕ). white (get_or text k 0) ≡ true) (sym last) is)) in
         let fewer : suc n - suffix_len white (take (suc n) text) ≡ n - suffix_len white (take n text) = omega (arith, more) in
         subst (λ (k : ℕ). without_blanks (take k text) ≡ without_blanks (take (suc n) text)) (sym fewer)
         (before ∙ sym (ap without_blanks longer ∙ joined (take n text) (get_or text n 0 ∷ []) ∙ ap (λ (t : Text). without_blanks (take n text) ++ t) (blank_first (get_or text n 0) [] is) ∙ nothing_behind (without_blanks (take n text))))

@@ -87,7 +87,8 @@ impl Case {
 
     fn add_arguments(&mut self, arguments: &str) -> Result<(), AllocError> {
         for argument in arguments.split(' ') {
-            self.arguments.push(String::from_str(self.alloc, argument)?)?;
+            self.arguments
+                .push(String::from_str(self.alloc, argument)?)?;
         }
         Ok(())
     }
