@@ -5,6 +5,7 @@
 mod beginning;
 mod characters;
 mod cleaning;
+mod decimals;
 mod delimiter;
 mod encoding;
 mod error;
@@ -23,6 +24,7 @@ mod text;
 pub use beginning::{BeginningRecords, read_beginning};
 pub use characters::split_first;
 pub use cleaning::{CleanOptions, cleaned};
+pub use decimals::{ColumnMarks, DecimalMark, MarkUse, Points};
 pub use delimiter::{Delimiter, doubtful_delimiter, only_ascii};
 pub use encoding::{Encoding, decoded};
 pub use error::{DecodeError, RecordsError};

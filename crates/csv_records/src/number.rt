@@ -63,7 +63,7 @@ fn is_bare_number(text: &str) -> bool
 }
 
 // A field without spaces around it.
-fn trimmed(field: &str) -> &str
+pub(crate) fn trimmed(field: &str) -> &str
     ensures { result.now ≡ trimmed field.now }
 {
     without_spaces_behind(without_spaces_before(field))
@@ -96,7 +96,7 @@ fn without_spaces_behind(text: &str) -> &str
 }
 
 // What stands before the first digit or decimal mark, from there to the last, and behind it.
-fn parts_of(text: &str) -> (&str, &str, &str)
+pub(crate) fn parts_of(text: &str) -> (&str, &str, &str)
     ensures front { result.0.now ≡ front_of text.now }
     ensures figure { result.1.now ≡ figure_of text.now }
     ensures back { result.2.now ≡ back_of text.now }
@@ -295,7 +295,7 @@ fn without_last(text: &str) -> &str
 }
 
 // The last character, and what stands before it.
-fn split_last(text: &str) -> Option<(&str, char)>
+pub(crate) fn split_last(text: &str) -> Option<(&str, char)>
     ensures some { IfSome result (λ parts. text.now ≡ parts.0.now ++ encode_utf8 parts.1) }
     ensures characters { IfSome result (λ parts.
         chars text.now ≡ chars parts.0.now ++ parts.1 ∷ []) }
@@ -377,7 +377,7 @@ fn is_exponent(text: &str) -> bool
 }
 
 // A number without sign, exponent and unit.
-fn is_decimal(text: &str) -> bool
+pub(crate) fn is_decimal(text: &str) -> bool
     ensures { result ≡ is_decimal text.now }
 {
     is_digits(text.as_bytes())
@@ -388,7 +388,7 @@ fn is_decimal(text: &str) -> bool
 
 // Digits behind a decimal mark, and digits or groups before it. Either may be missing, but not
 // both.
-fn is_fraction(text: &str, mark: u8) -> bool
+pub(crate) fn is_fraction(text: &str, mark: u8) -> bool
     requires { mark < 128 }
     ensures { result ≡ is_fraction (halves mark text.now) }
 {
@@ -403,7 +403,7 @@ fn is_fraction(text: &str, mark: u8) -> bool
 }
 
 // The first place of a byte.
-fn position_of(bytes: &[u8], mark: u8) -> Option<usize>
+pub(crate) fn position_of(bytes: &[u8], mark: u8) -> Option<usize>
     ensures value { result ≡ position (λ b. b == mark) bytes.now }
     ensures inside { IfSome result (λ at. at < length bytes.now) }
 {
@@ -443,7 +443,7 @@ fn is_octet(text: &str) -> bool
     }
 }
 
-fn has_groups(text: &str) -> bool
+pub(crate) fn has_groups(text: &str) -> bool
     ensures { result ≡ has_groups text.now }
 {
     GROUP_MARKS.iter().any(|mark| is_grouped(text, *mark))

@@ -4,6 +4,7 @@ mod ClosedLineTrials
 mod ColumnTrials
 mod ControlTrials
 mod CsvPromiseTrials
+mod DecimalTrials
 mod DrawingTrials
 mod EncodingTrials
 mod HiddenColumnTrials

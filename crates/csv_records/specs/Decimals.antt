@@ -1,0 +1,89 @@
+-- Decimal marks of a column of numbers, and what its fractions lack to stand below each other.
+use Rattle.std.specs.Prelude.{ℕ, Bool, true, false, ◌+◌, ◌-◌, ◌==◌, ◌&&◌, ◌||◌, not, List, [], ◌∷◌, length, map, max, fold, Option, Some, None, chars, if◌then◌else◌}
+use Rattle.std.specs.Char.{is_ascii_digit}
+use Rattle.std.specs.List.{list_all, list_any}
+use Rattle.comfy_parts.specs.Text.{Text}
+use Rattle.csv_records.specs.Number.{begins, ends, figure_of, halves, has_groups, is_decimal, is_fraction, is_neutral, is_number, trimmed}
+use Rattle.csv_records.specs.declared.decimals.ColumnMarks.{ColumnMarks}
+use Rattle.csv_records.specs.declared.decimals.DecimalMark.{DecimalMark}
+use Rattle.csv_records.specs.declared.decimals.DecimalMark.TheVariants.{Comma, Point}
+use Rattle.csv_records.specs.declared.decimals.MarkUse.{MarkUse}
+use Rattle.csv_records.specs.declared.decimals.Points.{Points}
+
+-- ---- one field
+
+abbrev pub byte_of : DecimalMark → ℕ
+byte_of Point = 0x2E
+byte_of Comma = 0x2C
+
+-- the digits of a field, with their marks
+abbrev pub digits_in : Text → Text
+digits_in field = figure_of (trimmed field)
+
+-- a number that ends with a digit and has no exponent, or a field that says nothing
+abbrev pub is_plain : Text → Bool
+is_plain field =
+    is_neutral field
+    || ((is_number field && ends is_ascii_digit (chars field)) && is_decimal (digits_in field))
+
+-- digits that may be groups of a whole number, as `1,234`; not `0.125`
+abbrev pub may_be_whole : Text → Bool
+may_be_whole digits = has_groups digits && not (begins (λ b. b == 0x30) digits)
+
+-- digits decide a mark where nothing but a fraction behind it can be read, as `1,5` and `1.234,56`
+abbrev pub decides : DecimalMark → Text → Bool
+decides mark digits = is_fraction (halves (byte_of mark) digits) && not (may_be_whole digits)
+
+-- with a mark digits are read that don't have it, or have a fraction behind it: with a point
+-- `1,234` and `1.5`, and not `1.234.567`
+abbrev pub is_read : Option (Text × Text) → Bool
+is_read None = true
+is_read (Some parts) = is_fraction (Some parts)
+
+-- what stands behind the whole number: the mark and the digits of the fraction
+abbrev pub fraction_len : Option (Text × Text) → ℕ
+fraction_len None = 0
+fraction_len (Some (whole, rest)) = 1 + length rest
+
+-- ---- a column
+
+-- how the digits of a column use a mark
+abbrev pub use_of : DecimalMark → List Text → MarkUse
+use_of mark fields =
+    record {
+      is_decided = list_any (λ field. decides mark (digits_in field)) fields;
+      is_read = list_all (λ field. is_read (halves (byte_of mark) (digits_in field))) fields;
+      longest =
+          fold max 0
+          (map (λ field. fraction_len (halves (byte_of mark) (digits_in field))) fields);
+    }
+
+abbrev pub marks_of : List Text → ColumnMarks
+marks_of fields =
+    record {
+      are_plain = list_all is_plain fields;
+      point = use_of Point fields;
+      comma = use_of Comma fields;
+    }
+
+-- a column has a mark that some field decides and all are read with, where none decides the other
+abbrev pub has_mark : MarkUse → MarkUse → Bool
+has_mark this other = (this.is_decided && this.is_read) && not other.is_decided
+
+abbrev pub points_for : ColumnMarks → Option Points
+points_for marks =
+    if marks.are_plain && has_mark marks.point marks.comma
+    then Some (record { mark = Point; longest = marks.point.longest })
+    else if marks.are_plain && has_mark marks.comma marks.point
+    then Some (record { mark = Comma; longest = marks.comma.longest })
+    else None
+
+abbrev pub points_of : List Text → Option Points
+points_of fields = points_for (marks_of fields)
+
+-- the spaces behind a field of such a column, so that its mark stands below those of the others
+abbrev pub spaces_behind : Points → Text → ℕ
+spaces_behind points field =
+    if is_neutral field
+    then 0
+    else points.longest - fraction_len (halves (byte_of points.mark) (digits_in field))

@@ -1,0 +1,216 @@
+//! The decimal mark of a column of numbers, so that fractions stand below each other.
+
+ghost use Rattle.std.specs.Prelude.{◌≡◌, ◌<◌, ◌==◌, ◌&&◌, ◌||◌, ◌∷◌, ◌++◌, ℕ, Bool, List, [], chars, false, max, true};
+ghost use Rattle.std.specs.Char.{is_ascii_digit};
+ghost use Rattle.csv_records.specs.Number.{begins, ends, halves};
+ghost use Rattle.csv_records.specs.Decimals.{byte_of, decides, digits_in, fraction_len, has_mark, is_plain, is_read, marks_of, may_be_whole, points_for, spaces_behind};
+
+use crate::number::{
+    has_groups, is_decimal, is_fraction, is_neutral, is_number, parts_of, position_of, split_last,
+    trimmed,
+};
+
+/// A decimal mark.
+#[derive(Clone, Copy, Debug, PartialEq, Eq)]
+pub enum DecimalMark {
+    /// `.`
+    Point,
+    /// `,`
+    Comma,
+}
+
+/// The decimal mark of a column, and what its longest fraction takes.
+#[derive(Clone, Copy, Debug, PartialEq, Eq)]
+pub struct Points {
+    /// The mark.
+    pub mark: DecimalMark,
+    /// How many characters the longest fraction has, with the mark.
+    pub longest: usize,
+}
+
+/// How the fields of a column use a mark.
+#[derive(Clone, Copy, Debug)]
+pub struct MarkUse {
+    /// Whether a field can be read in no other way than with this mark.
+    pub is_decided: bool,
+    /// Whether all fields can be read with it.
+    pub is_read: bool,
+    /// How many characters the longest fraction has, with the mark.
+    pub longest: usize,
+}
+
+/// What the fields of a column say of its decimal mark.
+#[derive(Clone, Copy, Debug)]
+pub struct ColumnMarks {
+    /// Whether all are neutral, or numbers that end with a digit and have no exponent.
+    pub are_plain: bool,
+    /// How they use a point.
+    pub point: MarkUse,
+    /// How they use a comma.
+    pub comma: MarkUse,
+}
+
+impl DecimalMark {
+    fn byte(self) -> u8
+        ensures value { result ≡ byte_of self }
+        ensures ascii { result < 128 }
+    {
+        match self {
+            DecimalMark::Point => b'.',
+            DecimalMark::Comma => b',',
+        }
+    }
+}
+
+impl Points {
+    /// How many spaces stand behind a field of the column, so that its mark stands below those of
+    /// the others.
+    pub fn spaces_behind(self, field: &str) -> usize
+        ensures { result ≡ spaces_behind self field.now }
+    {
+        if is_neutral(field) {
+            0
+        } else {
+            self.longest
+                .saturating_sub(fraction_len(digits_in(field), self.mark))
+        }
+    }
+}
+
+impl MarkUse {
+    fn new() -> MarkUse
+        ensures { result ≡ record { is_decided = false; is_read = true; longest = 0 } }
+    {
+        MarkUse {
+            is_decided: false,
+            is_read: true,
+            longest: 0,
+        }
+    }
+
+    // With the digits of one field more.
+    fn with(self, digits: &str, mark: DecimalMark) -> MarkUse
+        ensures { result ≡ record {
+          is_decided = self.is_decided || decides mark digits.now;
+          is_read = self.is_read && is_read (halves (byte_of mark) digits.now);
+          longest = max self.longest (fraction_len (halves (byte_of mark) digits.now));
+        } }
+    {
+        MarkUse {
+            is_decided: self.is_decided || decides(digits, mark),
+            is_read: self.is_read && is_read(digits, mark),
+            longest: self.longest.max(fraction_len(digits, mark)),
+        }
+    }
+
+    // Whether the mark is that of the column, beside the use of the other one.
+    fn has_mark(self, other: MarkUse) -> bool
+        ensures { result ≡ has_mark self other }
+    {
+        self.is_decided && self.is_read && !other.is_decided
+    }
+}
+
+impl ColumnMarks {
+    /// What no field says.
+    pub fn new() -> ColumnMarks
+        ensures { result ≡ marks_of [] }
+    {
+        ColumnMarks {
+            are_plain: true,
+            point: MarkUse::new(),
+            comma: MarkUse::new(),
+        }
+    }
+
+    /// What they say with one field more.
+    pub fn with(self, field: &str) -> ColumnMarks
+        ensures { (fields : List (List ℕ)) → self ≡ marks_of fields
+            → result ≡ marks_of (fields ++ field.now ∷ []) }
+    {
+        let digits = digits_in(field);
+        ColumnMarks {
+            are_plain: self.are_plain && is_plain(field),
+            point: self.point.with(digits, DecimalMark::Point),
+            comma: self.comma.with(digits, DecimalMark::Comma),
+        }
+    }
+
+    /// The decimal mark of the column, where the fields have one.
+    pub fn points(self) -> Option<Points>
+        ensures { result ≡ points_for self }
+    {
+        if !self.are_plain {
+            None
+        } else if self.point.has_mark(self.comma) {
+            Some(Points {
+                mark: DecimalMark::Point,
+                longest: self.point.longest,
+            })
+        } else if self.comma.has_mark(self.point) {
+            Some(Points {
+                mark: DecimalMark::Comma,
+                longest: self.comma.longest,
+            })
+        } else {
+            None
+        }
+    }
+}
+
+// The digits of a field, with their marks.
+fn digits_in(field: &str) -> &str
+    ensures { result.now ≡ digits_in field.now }
+{
+    parts_of(trimmed(field)).1
+}
+
+// A field that says nothing, or a number that ends with a digit and has no exponent.
+fn is_plain(field: &str) -> bool
+    ensures { result ≡ is_plain field.now }
+{
+    is_neutral(field) || is_number(field) && ends_with_digit(field) && is_decimal(digits_in(field))
+}
+
+fn ends_with_digit(field: &str) -> bool
+    ensures { result ≡ ends is_ascii_digit (chars field.now) }
+{
+    matches!(split_last(field), Some((_, c)) if c.is_ascii_digit())
+}
+
+// Whether nothing but a fraction behind this mark can be read.
+fn decides(digits: &str, mark: DecimalMark) -> bool
+    ensures { result ≡ decides mark digits.now }
+{
+    is_fraction(digits, mark.byte()) && !may_be_whole(digits)
+}
+
+// Whether digits may be groups of a whole number.
+fn may_be_whole(digits: &str) -> bool
+    ensures { result ≡ may_be_whole digits.now }
+{
+    has_groups(digits) && !begins_with_zero(digits.as_bytes())
+}
+
+fn begins_with_zero(bytes: &[u8]) -> bool
+    ensures { result ≡ begins (λ b. b == 0x30) bytes.now }
+{
+    matches!(bytes, [b'0', ..])
+}
+
+// Whether digits don't have this mark, or have a fraction behind it.
+fn is_read(digits: &str, mark: DecimalMark) -> bool
+    ensures { result ≡ is_read (halves (byte_of mark) digits.now) }
+{
+    position_of(digits.as_bytes(), mark.byte()).is_none() || is_fraction(digits, mark.byte())
+}
+
+// How many characters stand behind the whole number: the mark and the digits of the fraction.
+fn fraction_len(digits: &str, mark: DecimalMark) -> usize
+    ensures { result ≡ fraction_len (halves (byte_of mark) digits.now) }
+{
+    match position_of(digits.as_bytes(), mark.byte()) {
+        Some(at) => digits.len() - at,
+        None => 0,
+    }
+}

@@ -1,0 +1,24 @@
+-- Marks of columns, tried.
+use Rattle.std.proofs.Common.{◌≡◌, ℕ, List, [], ◌∷◌, Option, Some, None, codes, map, refl}
+use Prim.Native.String.{String}
+use Rattle.std.specs.Option.{option_map_or}
+use Rattle.std.specs.Str.{chars}
+use Rattle.comfy_parts.specs.Text.{Text}
+use Rattle.ucd_category.proofs.Computing.{ucd_category}
+use Rattle.csv_records.specs.Number.{is_neutral, is_number}
+use Rattle.csv_records.specs.Decimals.{points_of, spaces_behind}
+
+-- the spaces behind each field of a column; none where it has no mark
+abbrev spaces_in : List String → Option (List ℕ)
+spaces_in words = let fields = map (λ (word : String). codes word) words in option_map_or (λ points. Some (map (spaces_behind points) fields)) (points_of fields) None
+
+pub below_each_other : map spaces_in (("1.5" ∷ "22.25" ∷ "-3" ∷ "1000" ∷ []) ∷ ("1.234,56" ∷ "12,5" ∷ "7" ∷ []) ∷ ("0.125" ∷ "$ 1,234" ∷ "n/a" ∷ "USD -2.5" ∷ []) ∷ [])
+    ≡ Some (1 ∷ 0 ∷ 3 ∷ 3 ∷ []) ∷ Some (0 ∷ 1 ∷ 3 ∷ []) ∷ Some (0 ∷ 4 ∷ 0 ∷ 2 ∷ []) ∷ []
+unfolding chars lib.Utf8.encode ucd_category is_neutral is_number
+below_each_other = refl
+
+-- no mark is decided; both are; one field isn't read with it; a unit, a parenthesis, an exponent or a point is last
+pub as_they_stand : map spaces_in (("1,234" ∷ "12" ∷ []) ∷ ("1,5" ∷ "1.5" ∷ []) ∷ ("1.234.567" ∷ "1.5" ∷ []) ∷ ("1.5" ∷ "7%" ∷ []) ∷ ("1.5" ∷ "(2)" ∷ []) ∷ ("1.5" ∷ "1e5" ∷ []) ∷ ("1.5" ∷ "2." ∷ []) ∷ ("1.5" ∷ "2 " ∷ []) ∷ ("1.5" ∷ "x" ∷ []) ∷ [])
+    ≡ None ∷ None ∷ None ∷ None ∷ None ∷ None ∷ None ∷ None ∷ None ∷ []
+unfolding chars lib.Utf8.encode ucd_category is_neutral is_number
+as_they_stand = refl
