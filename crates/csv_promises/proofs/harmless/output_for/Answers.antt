@@ -10,4 +10,4 @@ returns c =
     let empty = c.in_ok-sink.ensures in
     let happened = c.in_ok-draw.ensures.known c.args.input.now [] (ap (λ (s : MemorySourceValue). Some (left_in s)) fresh) (ap (λ (s : MemorySinkValue). Some s.bytes) empty)
     (ap (λ (s : MemorySourceValue). s.failed) fresh) (ap (λ (s : MemorySinkValue). s.failed) empty) in
-    rw (ap (λ (taken : Option (List ℕ)). unwrap_or taken []) happened.1) (written_of (Unit {0}) c.in_ok-draw.field-0 c.args.options.now _ happened.2)
+    rw (ap (λ (taken : Option (List ℕ)). unwrap_or taken []) happened.1) (written_of (Option ℕ) c.in_ok-draw.field-0 c.args.options.now _ happened.2)
