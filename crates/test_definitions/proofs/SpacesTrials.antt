@@ -21,10 +21,7 @@ header = refl
 blank : tabbed_text (codes " \n\t\n") ≡ []
 blank = refl
 
--- a text that lost a field, or has its fields in another order, holds other bytes
+-- a text that lost a field holds other bytes
 -- false: csv_records::laws::spaces_part_all_fields
 lost : ¬ (without_blanks (codes "a\tc\n") ≡ without_blanks (codes "a b c\n"))
 lost same = let is : codes "ac" ≡ codes "abc" = same in cc is
-
-turned : ¬ (without_blanks (codes "b\ta\n") ≡ without_blanks (codes " a  b\n"))
-turned same = let is : codes "ba" ≡ codes "ab" = same in cc is
