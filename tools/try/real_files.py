@@ -137,10 +137,10 @@ def rows_of(run):
 
 
 def broken_in(run, width, out):
-    """The numbers and dates of columns of them that no line has whole; of a record, which shares a line with names, the short ones."""
+    """The numbers and dates of columns of them that no line has whole; of a record those that leave four columns for names."""
     columns = itertools.zip_longest(*rows_of(run)[1:], fillvalue="")
     fields = [it for column in columns if all(len(it) <= 25 and WHOLE.fullmatch(it) for it in column) for it in column]
-    room = (width - 7) // 2 if out.startswith("record ") else width
+    room = width - 7 - 4 if out.startswith("record ") else width
     return [it for it in fields if it.strip() and len(it) <= room and f" {it.strip()} " not in out]
 
 

@@ -61,7 +61,7 @@ fixed_claim (c ∷ cs) n (suc k) x rest at = by_fixed c.fixed refl (fixed_claim 
         ∙ ap (claim_at (others ++ rest)) place ∙ more
 
 -- what is added makes no width less
-le-added : (xs ys : List ℕ) (k : ℕ) → length xs ≤ length ys → slice_index xs k ≤ slice_index (added xs ys) k
+pub le-added : (xs ys : List ℕ) (k : ℕ) → length xs ≤ length ys → slice_index xs k ≤ slice_index (added xs ys) k
 le-added [] ys k long = omega arith
 le-added (x ∷ xs) [] k long = absurd (omega (arith, long))
 le-added (x ∷ xs) (y ∷ ys) zero long = omega arith
@@ -127,7 +127,7 @@ module _ (table : TableValue) (new : AllByRecursion IsNewColumn table.columns) (
       let content : column_content_width with (0 + i) ≡ column_content_width table i = ap (column_content_width table) place in
       omega (arith, wide, own, content)
 
-kept_arrangement : (w : ℕ) (fills : Bool) → width_kept (arrangement_for (Some w) fills) (Some w) ≡ Some w
+pub kept_arrangement : (w : ℕ) (fills : Bool) → width_kept (arrangement_for (Some w) fills) (Some w) ≡ Some w
 kept_arrangement w true = refl
 kept_arrangement w false = refl
 

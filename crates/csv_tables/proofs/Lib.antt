@@ -7,6 +7,7 @@ mod ExpandedLemmas
 pub mod FieldControlLemmas
 pub mod FieldLemmas
 pub mod FirstRowLemmas
+pub mod KeptFieldLemmas
 pub mod KeptWidthLemmas
 mod KindLemmas
 pub mod LinedLemmas

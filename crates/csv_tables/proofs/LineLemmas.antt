@@ -159,7 +159,7 @@ module _ (w : ℕ) (look : Look) (content : ContentValue) (table : TableValue) (
       width : table_width table ≡ Some w
       width = ap table_width looks ∙ rw wide refl
 
-      by_room : (known.whole ≡ []) ⊎ HasRoom w table → LineWidthsSatisfy (IsWithin w table) table drawn.widths
+      by_room : (known.columns ≡ known.plain.columns) ⊎ HasRoom w table → LineWidthsSatisfy (IsWithin w table) table drawn.widths
       by_room (inl none) = drawing_keeps_to_width table w lines drawn (unconstrained-drawn look Any content table known none) dynamic width
       by_room (inr room) =
           let found = drawn.known_width.keeps_to_wider_total w dynamic width in
@@ -175,7 +175,7 @@ module _ (w : ℕ) (look : Look) (content : ContentValue) (table : TableValue) (
       width : table_width table ≡ Some w
       width = ap table_width looks ∙ rw wide refl
 
-      by_room : (known.whole ≡ []) ⊎ HasRoom w table → 0 < shown_count table → LineWidthsSatisfy (λ n. n ≡ max w (least_total table)) table drawn.widths
+      by_room : (known.columns ≡ known.plain.columns) ⊎ HasRoom w table → 0 < shown_count table → LineWidthsSatisfy (λ n. n ≡ max w (least_total table)) table drawn.widths
       by_room (inl none) some = drawing_fills_width table w lines drawn (unconstrained-drawn look Any content table known none) full width some
       by_room (inr room) some =
           let found = drawn.known_width.fills_wider_total w full width some in

@@ -244,7 +244,7 @@ style_only false look = (refl, refl)
 pub records_have_lines : (options : Options) (records : List (List Text)) (content : ContentValue) (table : TableValue) (widths : List ℕ) → RecordsHaveLines options records content table widths
 records_have_lines options records content table widths none unkept texts is (has, made) arranged shown =
     let table_is : IsDrawn look IsLinedRow content table = drawn in
-    subst (λ (t : TableValue). All (λ (row : RowValue). 0 < row_height table (infos_of table widths) row) t.rows) (sym table_is.is_whole)
+    subst (λ (t : TableValue). All (λ (row : RowValue). 0 < row_height table (infos_of table widths) row) t.rows) (sym table_is.is_plain)
     (All-weaker IsLinedRow (λ (row : RowValue). 0 < row_height table (infos_of table widths) row)
     (λ row lined. height_some table plain spaced row lined (shown_infos (infos_of table widths)) undelimited shown) table_is.plain.rows table_is.known.rows)
   where

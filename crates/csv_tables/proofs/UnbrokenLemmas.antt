@@ -1,10 +1,13 @@
 -- Lists of columns and of what they need, one column after another.
 use Rattle.std.proofs.Common.{◌≡◌, ◌<◌, ◌≤◌, ◌+◌, ℕ, zero, suc, Bool, true, false, List, [], ◌∷◌, ◌++◌, Some, get_or, length, set, take, unwrap_or, refl, ap, add-one, arith}
 use Rattle.std.specs.List.{slice_get}
+use Rattle.std.proofs.lemmas.List.Sums.{sum_by-cons}
 use Rattle.std.specs.Prelude.{if◌then◌else◌}
 use Rattle.comfy_parts.specs.CellValue.{ColumnValue}
+use Rattle.comfy_parts.specs.declared.style.table_style.TableStyle.{TableStyle}
+use Rattle.comfy_table.specs.Frame.{border_count}
 use Rattle.comfy_table.specs.TableValue.{TableValue}
-use Rattle.csv_tables.specs.Unbroken.{has_room, kept_unbroken, needed_content, needed_contents, constrained_column, constrained_columns, with_constrained}
+use Rattle.csv_tables.specs.Unbroken.{has_room, kept_unbroken, needed_content, needed_contents, constrained_column, constrained_columns, framed_width, with_constrained, with_content, with_second}
 use Rattle.csv_tables.specs.ConstrainedAt.{constrained_at}
 
 -- one content more
@@ -69,3 +72,24 @@ broken-next unbroken i columns below is = rw add-one (broken-more unbroken i col
 pub kept-test : (width : ℕ) (unbroken : List Bool) (table : TableValue) (b : Bool) → has_room (Some width) unbroken table ≡ b
     → kept_unbroken (Some width) unbroken table ≡ (if b then with_constrained unbroken table else table)
 kept-test width unbroken table b is = ap (λ b. if b then with_constrained unbroken table else table) is
+
+-- ---- fields of expanded records
+
+-- the width of a line over two contents
+pub framed_pair : (style : TableStyle) (names field : ℕ) → framed_width style (names ∷ field ∷ []) ≡ border_count style 2 + ((2 + names) + (2 + field))
+framed_pair style names field =
+    let first = sum_by-cons (λ (content : ℕ). 2 + content) names (field ∷ []) in
+    let other = sum_by-cons (λ (content : ℕ). 2 + content) field [] in
+    omega (arith, first, other)
+
+-- the second column is replaced
+pub with_second-set : (columns : List ColumnValue) (content : ℕ) (default : ColumnValue) → 1 < length columns → set columns 1 (with_content content (get_or columns 1 default)) ≡ with_second content columns
+with_second-set [] content default below = absurd (omega (arith, below))
+with_second-set (a ∷ []) content default below = absurd (omega (arith, below))
+with_second-set (a ∷ b ∷ more) content default below = refl
+
+-- or there is none
+pub with_second-none : (columns : List ColumnValue) (content : ℕ) → length columns ≤ 1 → with_second content columns ≡ columns
+with_second-none [] content few = refl
+with_second-none (a ∷ []) content few = refl
+with_second-none (a ∷ b ∷ more) content few = absurd (omega (arith, few))

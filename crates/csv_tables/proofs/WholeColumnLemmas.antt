@@ -1,16 +1,25 @@
--- Columns that are as wide as their contents, and the room that they need.
-use Rattle.std.proofs.Common.{◌≡◌, ◌≤◌, ℕ, suc, ◌+◌, Bool, true, false, not, List, [], ◌∷◌, Option, Some, None, filter, is_none, length, map, option_map, sum_by, unwrap_or, refl, sym, ap, subst, arith}
-use Rattle.std.specs.List.{AllByRecursion, cons_option, enumerate_from, range_with_len}
+-- Columns that have a width of their own, and the room that they need.
+use Rattle.std.proofs.Common.{◌≡◌, ◌≤◌, ◌&&◌, nat_le, ℕ, suc, ◌+◌, Bool, true, false, not, List, [], ◌∷◌, Option, Some, None, filter, flat_map, is_none, length, map, option_map, sum_by, unwrap_or, refl, sym, ap, subst, arith}
+use Rattle.std.specs.List.{All, AllByRecursion, cons_option, enumerate_from, range_with_len}
+use Rattle.std.specs.Prelude.{if◌then◌else◌}
+use Rattle.std.proofs.lemmas.Bool.{leb-true}
+use Rattle.std.proofs.lemmas.List.Elements.{All-head, All-map, All-tail}
 use Rattle.std.proofs.lemmas.List.Sums.{sum_by-cons}
-use Rattle.comfy_parts.proofs.CallerLemmas.{every-filter, every-places, filter_all}
-use Rattle.comfy_parts.specs.CellValue.{ColumnValue, column_padding, is_hidden_column, is_hidden_constraint}
+use Rattle.comfy_parts.proofs.CallerLemmas.{All-every, All-flat_map, every-filter, every-places, filter_all, no_fewer_columns}
+use Rattle.comfy_parts.specs.CellValue.{CellValue, ColumnValue, RowValue, column_padding, is_hidden_column, is_hidden_constraint}
+use Rattle.comfy_parts.specs.Text.{Text, greatest, measure}
 use Rattle.comfy_table.proofs.BuiltTableLemmas.{IsNewColumn}
 use Rattle.comfy_table.proofs.ClaimLemmas.{without_claims-nil}
 use Rattle.comfy_table.proofs.TakingLemmas.{next_taken-where}
 use Rattle.comfy_table.specs.Dynamic.{IsTakenAfter, Positioned, Claim, average, content_room, fixed_claims, lower_of_boundary, lower_offer, places_of, total, undecided}
-use Rattle.comfy_table.specs.TableValue.{TableValue, column_content_width}
+use Rattle.comfy_table.specs.TableValue.{TableValue, column_cells, column_content_width, with_row, with_rows}
 use Rattle.comfy_table.specs.Widths.{ColumnNeeds, fixed_by_constraint, lower_boundary, needs_of, shown_count}
-use Rattle.csv_tables.specs.Unbroken.{needed_content, needed_contents, constrained_column, constrained_columns}
+use Rattle.csv_tables.specs.Cells.{field_or_blank, held, pair_for}
+use Rattle.csv_tables.specs.Columns.{name_at}
+use Rattle.csv_tables.specs.Drawn.{ContentValue, empty_table, pairs_of, pairs_table}
+use Rattle.csv_tables.specs.Unbroken.{cell_unbroken_width, constrained_column, constrained_columns, field_width, is_unbroken, needed_content, needed_contents, unbroken_width, with_content, with_second}
+use Rattle.csv_tables.specs.declared.options.DrawnColumn.{DrawnColumn}
+use Rattle.csv_tables.specs.declared.options.Look.{Look}
 
 -- ---- what columns need
 
@@ -135,3 +144,91 @@ padded_columns [] [] new = tt
 padded_columns [] (column ∷ columns) new = (padded_column false column new.0, padded_columns [] columns new.1)
 padded_columns (is_whole ∷ more) [] new = tt
 padded_columns (is_whole ∷ more) (column ∷ columns) new = (padded_column is_whole column new.0, padded_columns more columns new.1)
+
+-- ---- names and fields
+
+-- fields of a width are no wider than the room
+line-within : (room : ℕ) (line : Text) → unbroken_width room line ≤ room
+line-within room line = by_test (is_unbroken line) (nat_le (measure line) room) refl
+  where
+    by_test : (a b : Bool) → nat_le (measure line) room ≡ b → (if a && b then measure line else 0) ≤ room
+    by_test true true fits = leb-true (measure line) room fits
+    by_test true false fits = omega arith
+    by_test false b fits = omega arith
+
+greatest-within : {A : Type 0} (room : ℕ) (f : A → ℕ) → ((x : A) → f x ≤ room) → (xs : List A) → greatest (map f xs) ≤ room
+greatest-within room f each [] = omega arith
+greatest-within room f each (x ∷ xs) = let own = each x in let more = greatest-within room f each xs in omega (arith, own, more)
+
+pub field_width-within : (room : ℕ) (table : TableValue) → field_width room table ≤ room
+field_width-within room table =
+    greatest-within room (cell_unbroken_width room) (λ (cell : CellValue). greatest-within room (unbroken_width room) (line-within room) cell.text_lines) (column_cells table 1)
+
+-- a row of two cells
+abbrev pub HasTwo : RowValue → Type 0
+HasTwo row = length row.cells ≡ 2
+
+-- a record has two columns, of names and of fields
+two_at_most : (rows : List RowValue) (table : TableValue) → All HasTwo rows → length table.columns ≤ 2 → length (with_rows rows table).columns ≤ 2
+two_at_most [] table two below = below
+two_at_most (row ∷ rows) table two below =
+    let own : length row.cells ≡ 2 = All-head HasTwo row rows two in
+    let grown = no_fewer_columns (length row.cells) table.columns in
+    two_at_most rows (with_row row table) (All-tail HasTwo row rows two) (omega (arith, own, grown, below))
+
+two_stay : (rows : List RowValue) (table : TableValue) → All HasTwo rows → length table.columns ≡ 2 → length (with_rows rows table).columns ≡ 2
+two_stay [] table two is = is
+two_stay (row ∷ rows) table two is =
+    let own : length row.cells ≡ 2 = All-head HasTwo row rows two in
+    let grown = no_fewer_columns (length row.cells) table.columns in
+    two_stay rows (with_row row table) (All-tail HasTwo row rows two) (omega (arith, own, grown, is))
+
+-- where it has a row, it has both
+pub exactly_two : (row : RowValue) (rows : List RowValue) (table : TableValue) → All HasTwo (row ∷ rows) → length table.columns ≤ 2 → length (with_rows (row ∷ rows) table).columns ≡ 2
+exactly_two row rows table two below =
+    let own : length row.cells ≡ 2 = All-head HasTwo row rows two in
+    let grown = no_fewer_columns (length row.cells) table.columns in
+    two_stay rows (with_row row table) (All-tail HasTwo row rows two) (omega (arith, own, grown, below))
+
+pub pairs_are_two : (look : Look) (content : ContentValue) → All HasTwo (flat_map (pairs_of look content.columns (unwrap_or content.names [])) content.rows)
+pairs_are_two look content =
+    let names = unwrap_or content.names [] in
+    All-flat_map HasTwo (pairs_of look content.columns names) content.rows
+    (All-every (λ (fields : List Text). All HasTwo (pairs_of look content.columns names fields)) content.rows
+    (λ fields. All-map HasTwo (λ (column : DrawnColumn). pair_for look (name_at names column.position) (field_or_blank fields column.position)) (held fields content.columns)
+    (All-every (λ (column : DrawnColumn). HasTwo (pair_for look (name_at names column.position) (field_or_blank fields column.position))) (held fields content.columns) (λ column. refl))))
+
+pub pairs_have_two : (look : Look) (content : ContentValue) → length (pairs_table look content).columns ≤ 2
+pairs_have_two look content = two_at_most (flat_map (pairs_of look content.columns (unwrap_or content.names [])) content.rows) (empty_table look) (pairs_are_two look content) (omega arith)
+
+-- fields of a width, beside new names
+pub padded_second : (field : ℕ) (columns : List ColumnValue) → AllByRecursion IsNewColumn columns → AllByRecursion IsPaddedColumn (with_second field columns)
+padded_second field [] new = tt
+padded_second field (a ∷ []) new = (padded_column false a new.0, tt)
+padded_second field (a ∷ b ∷ more) new = (padded_column false a new.0, (record { padding = new.1.0.padding; no_delimiter = new.1.0.no_delimiter }, padded_columns [] more new.1.1))
+
+module _ (table : TableValue) (field : ℕ) (a b : ColumnValue) (new : AllByRecursion IsNewColumn (a ∷ b ∷ [])) where
+  -- both are shown
+  pub both_shown : filter (λ (p : ℕ × ColumnValue). not (is_hidden_column p.1)) (enumerate_from 0 (with_second field (a ∷ b ∷ []))) ≡ (0, a) ∷ (1, with_content field b) ∷ []
+  both_shown =
+      filter_all (λ (p : ℕ × ColumnValue). not (is_hidden_column p.1)) (enumerate_from 0 (with_second field (a ∷ b ∷ [])))
+      (every-places (λ (column : ColumnValue). not (is_hidden_column column) ≡ true) 0 (with_second field (a ∷ b ∷ [])) (shown false a new.0, (refl, tt)))
+
+  need_second : IsNeed (needs_of table (1, with_content field b)) (needed_content true field)
+  need_second =
+      let one : b.padding.0 ≡ 1 = ap (λ (x : ℕ × ℕ). x.0) new.1.0.padding in
+      let other : b.padding.1 ≡ 1 = ap (λ (x : ℕ × ℕ). x.1) new.1.0.padding in
+      record { padding = omega (arith, one, other); least = omega arith; most = omega (arith, one, other); no_lower = refl }
+
+  -- names may be broken
+  need_first : (n : ℕ) → 1 ≤ n → IsNeed (needs_of table (0, a)) n
+  need_first n some =
+      let one : a.padding.0 ≡ 1 = ap (λ (x : ℕ × ℕ). x.0) new.0.padding in
+      let other : a.padding.1 ≡ 1 = ap (λ (x : ℕ × ℕ). x.1) new.0.padding in
+      let free : fixed_or_one (needs_of table (0, a)) ≡ 1 = ap (λ c. unwrap_or (fixed_by_constraint table (shown_count table) (column_content_width table 0) (column_padding a) c) 1) new.0.no_constraint in
+      record { padding = omega (arith, one, other); least = omega (arith, free); most = omega (arith, free, some); no_lower = ap (lower_boundary table (shown_count table)) new.0.no_constraint }
+
+  pub second_needs : (n : ℕ) → 1 ≤ n → AreNeeds (map (needs_of table) (filter (λ (p : ℕ × ColumnValue). not (is_hidden_column p.1)) (enumerate_from 0 (with_second field (a ∷ b ∷ []))))) (n ∷ needed_content true field ∷ [])
+  second_needs n some =
+      subst (λ (ps : List (ℕ × ColumnValue)). AreNeeds (map (needs_of table) ps) (n ∷ needed_content true field ∷ [])) (sym both_shown)
+      (needs-cons _ _ _ _ (need_first n some) (needs-cons _ _ _ _ need_second (record { count = refl; room = omega arith; least = omega arith; no_lower = tt })))

@@ -1,8 +1,8 @@
 -- Tables that are drawn: some of their columns are as wide as their contents, where there is room for them.
-use Rattle.std.proofs.Common.{◌≡◌, ◌≤◌, ◌⊎◌, ◌||◌, ℕ, ◌+◌, ◌-◌, inl, inr, Bool, true, false, not, List, [], Option, Some, None, is_some, length, map, sum_by, refl, sym, ap, ◌∙◌, subst, arith}
-use Rattle.std.specs.Prelude.{if◌then◌else◌}
+use Rattle.std.proofs.Common.{◌≡◌, ◌≤◌, ◌<◌, ◌⊎◌, ◌||◌, ℕ, ◌+◌, ◌-◌, inl, inr, Bool, true, false, min, not, List, [], ◌∷◌, Option, Some, None, is_some, length, map, sum_by, refl, sym, ap, ◌∙◌, subst, arith}
+use Rattle.std.specs.Prelude.{if◌then◌else◌, slice_index}
 use Rattle.std.specs.List.{All, AllByRecursion}
-use Rattle.std.proofs.lemmas.Bool.{leb-true}
+use Rattle.std.proofs.lemmas.Bool.{leb-true, ltb-true}
 use Rattle.std.proofs.lemmas.List.{length-map}
 use Rattle.std.proofs.lemmas.List.Elements.{All-filter, All-from_recursion, All-weaker, recursion_from_All}
 use Rattle.comfy_parts.proofs.CallerLemmas.{every-places}
@@ -20,9 +20,10 @@ use Rattle.comfy_table.specs.TableValue.{TableValue, max_content_widths, measure
 use Rattle.comfy_table.specs.Widths.{ColumnNeeds, needs_of, shown_count, shown_needs}
 use Rattle.csv_tables.proofs.BuiltLemmas.{Built, plain_table}
 use Rattle.csv_tables.proofs.SeparatorLemmas.{restyled, separated}
-use Rattle.csv_tables.proofs.WholeColumnLemmas.{AreNeeds, IsPaddedColumn, all_shown, are_fixed, fixed_or_one, lower-none, needs, padded_columns}
-use Rattle.csv_tables.specs.Drawn.{ContentValue, condensed_style, empty_table, output_table, rows_table, separated_table}
-use Rattle.csv_tables.specs.Unbroken.{framed_width, has_room, kept_unbroken, needed_contents, unbroken_columns, constrained_columns, with_constrained}
+use Rattle.csv_tables.proofs.UnbrokenLemmas.{framed_pair}
+use Rattle.csv_tables.proofs.WholeColumnLemmas.{AreNeeds, IsPaddedColumn, all_shown, are_fixed, field_width-within, fixed_or_one, lower-none, needs, padded_columns, padded_second, pairs_have_two, second_needs}
+use Rattle.csv_tables.specs.Drawn.{ContentValue, condensed_style, empty_table, output_table, pairs_table, rows_table, separated_table}
+use Rattle.csv_tables.specs.Unbroken.{constrained_columns, field_width, framed_width, has_room, kept_unbroken, kept_unbroken_fields, may_break, needed_content, needed_contents, room_beside, room_for_two, unbroken_columns, with_constrained, with_field_width, with_second}
 use Rattle.csv_tables.specs.declared.options.Look.{Look}
 
 -- ---- room
@@ -73,7 +74,7 @@ fewer x false false false false true false = omega arith
 fewer x false false false false false f = omega arith
 
 -- without lines between rows there are no more borders
-fewer_borders : (style : TableStyle) (n : ℕ) → border_count (condensed_style style) n ≤ border_count style n
+pub fewer_borders : (style : TableStyle) (n : ℕ) → border_count (condensed_style style) n ≤ border_count style n
 fewer_borders style n =
     let left = fewer 1 (is_some style.top_border.left) (is_some style.header_lines.left) (is_some style.header_separator.left) (is_some style.content_lines.left) (is_some style.row_separator.left) (is_some style.bottom_border.left) in
     let right = fewer 1 (is_some style.top_border.right) (is_some style.header_lines.right) (is_some style.header_separator.right) (is_some style.content_lines.right) (is_some style.row_separator.right) (is_some style.bottom_border.right) in
@@ -89,58 +90,152 @@ pub whole_separated : (has : Bool) (whole : List Bool) (table : TableValue) → 
 whole_separated true whole table = refl
 whole_separated false whole table = refl
 
+pub field_separated : (has : Bool) (field : ℕ) (table : TableValue) → separated_table has (with_field_width field table) ≡ with_field_width field (separated_table has table)
+field_separated true field table = refl
+field_separated false field table = refl
+
+-- names and a field that may be broken beside them fit a width, without lines between rows too
+pair_still_fits : (w : ℕ) (has : Bool) (table : TableValue) (names field : ℕ) → field ≤ room_beside names (room_for_two w table.style) → room_for_two w table.style < min names field + field
+    → framed_width (separated_table has table).style (needed_content false names ∷ needed_content true field ∷ []) ≤ w
+pair_still_fits w has table names field below broken = by_lines has
+  where
+    own : framed_width table.style (needed_content false names ∷ needed_content true field ∷ []) ≤ w
+    own = let framed = framed_pair table.style (needed_content false names) (needed_content true field) in let both = framed_pair table.style 0 0 in omega (arith, below, broken, framed, both)
+
+    by_lines : (h : Bool) → framed_width (separated_table h table).style (needed_content false names ∷ needed_content true field ∷ []) ≤ w
+    by_lines true = own
+    by_lines false = omega (arith, own, fewer_borders table.style 2)
+
+-- a table of names and fields, whose fields have a width, needs no more than that and what the names need
+second_room : (w field names : ℕ) (table : TableValue) → AllByRecursion IsNewColumn table.columns → length table.columns ≤ 2 → framed_width table.style (needed_content false names ∷ needed_content true field ∷ []) ≤ w
+    → (with_second field table.columns ≡ table.columns) ⊎ HasRoom w (with_field_width field table)
+second_room w field names table new as_many fits = by_columns table.columns refl new as_many
+  where
+    by_columns : (columns : List ColumnValue) → table.columns ≡ columns → AllByRecursion IsNewColumn columns → length columns ≤ 2 → (with_second field columns ≡ columns) ⊎ HasRoom w (record table { columns = with_second field columns })
+    by_columns [] is new as_many = inl refl
+    by_columns (a ∷ []) is new as_many = inl refl
+    by_columns (a ∷ b ∷ []) is new as_many =
+        inr
+        (record {
+          contents = needed_content false names ∷ needed_content true field ∷ [];
+          needs = second_needs (record table { columns = with_second field (a ∷ b ∷ []) }) field a b new (needed_content false names) (omega arith);
+          fits = fits;
+        })
+    by_columns (a ∷ b ∷ c ∷ more) is new as_many = absurd (omega (arith, as_many))
+
 -- ---- tables that are drawn
 
 module _ (look : Look) (Q : RowValue → Type 0) (content : ContentValue) where
-  -- a table that is built of rows that Q holds of, some of whose columns are as wide as their contents
+  -- a table that is built of rows that Q holds of, some of whose columns have a width of their own, where there is room
   pub record IsDrawn (table : TableValue) : Type 0 where
     pub plain : TableValue
     pub known : Built look Q content plain
-    pub whole : List Bool
-    pub is_whole : table ≡ with_constrained whole plain
-    pub no_width : look.width ≡ None → whole ≡ []
-    pub room : (w : ℕ) → look.width ≡ Some w → (whole ≡ []) ⊎ HasRoom w table
+    pub columns : List ColumnValue
+    pub is_plain : table ≡ record plain { columns = columns }
+    pub padded : AllByRecursion IsPaddedColumn columns
+    pub no_width : look.width ≡ None → columns ≡ plain.columns
+    pub room : (w : ℕ) → look.width ≡ Some w → (columns ≡ plain.columns) ⊎ HasRoom w table
 
   -- one without such columns
   pub drawn_plain : (table : TableValue) → Built look Q content table → IsDrawn table
-  drawn_plain table known = record { plain = table; known = known; whole = []; is_whole = refl; no_width = λ is. refl; room = λ w is. inl refl }
+  drawn_plain table known =
+      record { plain = table; known = known; columns = table.columns; is_plain = refl; padded = padded_columns [] table.columns (recursion_from_All IsNewColumn table.columns known.columns); no_width = λ is. refl; room = λ w is. inl refl }
 
   module _ (table : TableValue) (drawn : IsDrawn table) where
     -- it looks as is wanted
     pub drawn-is : table ≡ record (empty_table look) { columns = table.columns; header = table.header; rows = table.rows }
     drawn-is =
-        subst (λ (t : TableValue). t ≡ record (empty_table look) { columns = t.columns; header = t.header; rows = t.rows }) (sym drawn.is_whole)
-        (ap (λ (t : TableValue). record t { columns = constrained_columns drawn.whole drawn.plain.columns }) drawn.known.is)
+        subst (λ (t : TableValue). t ≡ record (empty_table look) { columns = t.columns; header = t.header; rows = t.rows }) (sym drawn.is_plain)
+        (ap (λ (t : TableValue). record t { columns = drawn.columns }) drawn.known.is)
 
     -- its rows are those
     pub measured-drawn : (R : RowValue → Type 0) → ((row : RowValue) → Q row → R (row_measured look.has_sequences row)) → All R (measured_rows table)
-    measured-drawn R gives = subst (All R) (sym (ap measured_rows drawn.is_whole)) (measured_known (empty_table look) Q drawn.plain drawn.known R gives)
+    measured-drawn R gives = subst (All R) (sym (ap measured_rows drawn.is_plain)) (measured_known (empty_table look) Q drawn.plain drawn.known R gives)
 
     pub rows-drawn : look.has_sequences ≡ false → All Q (measured_rows table)
-    rows-drawn none = subst (All Q) (sym (ap measured_rows drawn.is_whole)) (rows_known (empty_table look) Q drawn.plain drawn.known none)
+    rows-drawn none = subst (All Q) (sym (ap measured_rows drawn.is_plain)) (rows_known (empty_table look) Q drawn.plain drawn.known none)
 
     -- its columns have paddings, and no delimiter
     pub columns-drawn : All (λ (p : ℕ × ColumnValue). IsPaddedColumn p.1) (shown_columns table)
     columns-drawn =
-        let each = padded_columns drawn.whole drawn.plain.columns (recursion_from_All IsNewColumn drawn.plain.columns drawn.known.columns) in
-        subst (λ (t : TableValue). All (λ (p : ℕ × ColumnValue). IsPaddedColumn p.1) (shown_columns t)) (sym drawn.is_whole)
+        subst (λ (t : TableValue). All (λ (p : ℕ × ColumnValue). IsPaddedColumn p.1) (shown_columns t)) (sym drawn.is_plain)
         (All-filter (λ (p : ℕ × ColumnValue). not (is_hidden_column p.1)) (λ (p : ℕ × ColumnValue). IsPaddedColumn p.1) _
-        (All-from_recursion (λ (p : ℕ × ColumnValue). IsPaddedColumn p.1) _ (every-places IsPaddedColumn 0 (constrained_columns drawn.whole drawn.plain.columns) each)))
+        (All-from_recursion (λ (p : ℕ × ColumnValue). IsPaddedColumn p.1) _ (every-places IsPaddedColumn 0 drawn.columns drawn.padded)))
 
     pub padded-drawn : All (λ (p : ℕ × ColumnValue). 1 ≤ p.1.padding.0) (shown_columns table)
     padded-drawn =
         All-weaker (λ (p : ℕ × ColumnValue). IsPaddedColumn p.1) (λ (p : ℕ × ColumnValue). 1 ≤ p.1.padding.0)
         (λ p own. let one : p.1.padding.0 ≡ 1 = ap (λ (x : ℕ × ℕ). x.0) own.padding in omega (arith, one)) (shown_columns table) columns-drawn
 
-    -- and no constraint, where none is as wide as its content
-    pub unconstrained-drawn : drawn.whole ≡ [] → NoConstraints table
+    -- and no constraint, where none has a width of its own
+    pub unconstrained-drawn : drawn.columns ≡ drawn.plain.columns → NoConstraints table
     unconstrained-drawn none =
-        subst NoConstraints (sym (drawn.is_whole ∙ ap (λ (whole : List Bool). with_constrained whole drawn.plain) none)) (unconstrained (empty_table look) Q drawn.plain drawn.known)
+        subst NoConstraints (sym (drawn.is_plain ∙ ap (λ (columns : List ColumnValue). record drawn.plain { columns = columns }) none)) (unconstrained (empty_table look) Q drawn.plain drawn.known)
 
 -- the table that is drawn of some records
 pub drawn_table-is : (look : Look) (Q : RowValue → Type 0) (content : ContentValue) (is_expanded has : Bool) → Built (separated has look) Q content (plain_table is_expanded (separated has look) content)
     → IsDrawn (separated has look) Q content (separated_table has (output_table is_expanded look content))
-drawn_table-is look Q content true has known = subst (IsDrawn (separated has look) Q content) (restyled look content true has) (drawn_plain (separated has look) Q content _ known)
+drawn_table-is look Q content true has known = by_width look.width refl
+  where
+    pairs : TableValue
+    pairs = pairs_table look content
+
+    plain : TableValue
+    plain = pairs_table (separated has look) content
+
+    same : plain ≡ separated_table has pairs
+    same = restyled look content true has
+
+    own : IsDrawn (separated has look) Q content (separated_table has pairs)
+    own = subst (IsDrawn (separated has look) Q content) same (drawn_plain (separated has look) Q content plain known)
+
+    new : AllByRecursion IsNewColumn plain.columns
+    new = recursion_from_All IsNewColumn plain.columns known.columns
+
+    as_many : length plain.columns ≤ 2
+    as_many = pairs_have_two (separated has look) content
+
+    by_width : (o : Option ℕ) → look.width ≡ o → IsDrawn (separated has look) Q content (separated_table has (kept_unbroken_fields o pairs))
+    by_width None is = own
+    by_width (Some w) is = by_test (may_break room names field) refl
+      where
+        room : ℕ
+        room = room_for_two w pairs.style
+
+        names : ℕ
+        names = slice_index (max_content_widths pairs) 0
+
+        field : ℕ
+        field = field_width (room_beside names room) pairs
+
+        by_test : (b : Bool) → may_break room names field ≡ b → IsDrawn (separated has look) Q content (separated_table has (if b then with_field_width field pairs else pairs))
+        by_test false test = own
+        by_test true test =
+            record {
+              plain = plain;
+              known = known;
+              columns = with_second field plain.columns;
+              is_plain = made;
+              padded = padded_second field plain.columns new;
+              no_width = λ none. absurd (cc (kept has none, is));
+              room = λ v wide. subst (λ (t : TableValue). (with_second field plain.columns ≡ plain.columns) ⊎ HasRoom v t) (sym made) (subst (λ n. (with_second field plain.columns ≡ plain.columns) ⊎ HasRoom n (with_field_width field plain)) (same_width v wide) (second_room w field names plain new as_many fits));
+            }
+          where
+            made : separated_table has (with_field_width field pairs) ≡ with_field_width field plain
+            made = field_separated has field pairs ∙ ap (with_field_width field) (sym same)
+
+            below : field ≤ room_beside names room
+            below = field_width-within (room_beside names room) pairs
+
+            fits : framed_width plain.style (needed_content false names ∷ needed_content true field ∷ []) ≤ w
+            fits = subst (λ (t : TableValue). framed_width t.style (needed_content false names ∷ needed_content true field ∷ []) ≤ w) (sym same) (pair_still_fits w has pairs names field below (ltb-true room (min names field + field) test))
+
+            kept : (b : Bool) → {o : Option ℕ} → (separated b look).width ≡ o → look.width ≡ o
+            kept true wide = wide
+            kept false wide = wide
+
+            same_width : (v : ℕ) → (separated has look).width ≡ Some v → w ≡ v
+            same_width v wide = cc (kept has wide, is)
 drawn_table-is look Q content false has known = by_width look.width refl
   where
     rows : TableValue
@@ -174,8 +269,9 @@ drawn_table-is look Q content false has known = by_width look.width refl
             record {
               plain = plain;
               known = known;
-              whole = whole;
-              is_whole = whole_separated has whole rows ∙ ap (with_constrained whole) (sym same);
+              columns = constrained_columns whole plain.columns;
+              is_plain = whole_separated has whole rows ∙ ap (with_constrained whole) (sym same);
+              padded = padded_columns whole plain.columns (recursion_from_All IsNewColumn plain.columns known.columns);
               no_width = λ none. absurd (cc (kept has none, is));
               room = λ v wide. inr (subst (λ n. HasRoom n (separated_table has (with_constrained whole rows))) (same_width v wide) (with_room w (leb-true _ w test)));
             }

@@ -26,7 +26,7 @@ use Rattle.csv_tables.specs.declared.options.Options.{Options}
 use Rattle.csv_tables.specs.declared.options.RowSeparators.{RowSeparators}
 use Rattle.csv_tables.specs.declared.options.RowSeparators.TheVariants.{Styled, Needed, Never}
 use Rattle.csv_tables.specs.declared.options.DrawnColumn.{DrawnColumn}
-use Rattle.csv_tables.specs.Unbroken.{has_room, kept_unbroken, unbroken_columns}
+use Rattle.csv_tables.specs.Unbroken.{has_room, kept_unbroken, kept_unbroken_fields, unbroken_columns}
 
 -- ---- records
 
@@ -139,10 +139,10 @@ pairs_table look content =
     with_rows (flat_map (pairs_of look content.columns (unwrap_or content.names [])) content.rows)
     (empty_table look)
 
--- the table that is drawn, with all lines of its style: of expanded records, or of rows, whose
+-- the table that is drawn, with all lines of its style: of expanded records, or of rows. Its
 -- numbers and dates aren't broken where there is room
 abbrev pub output_table : Bool → Look → ContentValue → TableValue
-output_table true look content = pairs_table look content
+output_table true look content = kept_unbroken_fields look.width (pairs_table look content)
 output_table false look content =
     kept_unbroken look.width (unbroken_columns look.has_sequences content.columns content.rows)
     (rows_table look content)

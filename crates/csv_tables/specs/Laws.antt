@@ -21,7 +21,7 @@ use Rattle.csv_records.specs.Cleaning.{visible_of}
 use Rattle.csv_tables.specs.Columns.{count_of, kept_columns}
 use Rattle.csv_tables.specs.Controls.{HasNoStrayControl, IsStyleWithoutControls}
 use Rattle.csv_tables.specs.Drawn.{ContentValue, RendersBeginning, RendersInput, RendersRecords, content_of, drawn_rows, is_expanded_for, names_of, note_for, output_table, record_line, separated_table, table_for}
-use Rattle.csv_tables.specs.Unbroken.{unbroken_columns}
+use Rattle.csv_tables.specs.Unbroken.{framed_width, is_unbroken, needed_content, unbroken_columns}
 use Rattle.csv.specs.Records.{AllText}
 use Rattle.csv_tables.specs.declared.options.Expansion.TheVariants.{Auto, Never}
 use Rattle.csv_tables.specs.declared.options.Look.{Look}
@@ -195,6 +195,28 @@ NeverKeepsWhole w look content =
     look.is_markdown ≡ false → look.width ≡ Some w → look.expansion ≡ Never
     → is_expanded_for (record look { expansion = Auto }) content ≡ false
     → UnbrokenColumnsAreWhole look content
+
+-- a text line stands on one line as it is, in a column that is at least as wide
+abbrev pub StandsWhole : ℕ → Text → Type 0
+StandsWhole width line =
+    (measure line ≤ width) × ((delimiter : ℕ) → lines_of_text width delimiter line ≡ line ∷ [])
+
+-- so does each text line of the fields of expanded records, as it is measured, that is a number or
+-- a date and fits the width beside what the names need
+abbrev pub UnbrokenFieldsAreWhole : ℕ → Look → ContentValue → Type 0
+UnbrokenFieldsAreWhole w look content =
+    (table : TableValue) (widths : List ℕ) → IsDrawnTable look content table
+    → IsArranged table widths
+    → All (λ (cell : CellValue). All (λ (line : Text). is_unbroken line ≡ true
+    → framed_width look.style
+    (needed_content false (column_content_width table 0) ∷ measure line ∷ []) ≤ w
+    → StandsWhole (slice_index widths 1) line) cell.text_lines) (column_cells table 1)
+
+-- under each width that can be set
+abbrev pub ExpandedKeepsWhole : ℕ → Look → ContentValue → Type 0
+ExpandedKeepsWhole w look content =
+    w ≤ 65535 → look.width ≡ Some w → is_expanded_for look content ≡ true
+    → UnbrokenFieldsAreWhole w look content
 
 -- ---- straight edges
 

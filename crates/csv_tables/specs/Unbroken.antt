@@ -1,13 +1,15 @@
--- Columns that aren't broken over lines: which they are, and where a width has room for them.
-use Rattle.std.specs.Prelude.{ℕ, ◌+◌, Bool, ◌==◌, ◌&&◌, ◌||◌, true, false, List, [], ◌∷◌, Option, Some, None, chars, codes, length, map, max, min, nat_le, sum_by, if◌then◌else◌}
+-- Columns and fields that aren't broken over lines: which they are, and where a width has room for
+-- them.
+use Rattle.std.specs.Prelude.{ℕ, ◌+◌, ◌-◌, Bool, ◌==◌, ◌&&◌, ◌||◌, true, false, List, [], ◌∷◌, Option, Some, None, chars, codes, length, map, max, min, nat_le, nat_lt, slice_index, sum_by, if◌then◌else◌}
 use Rattle.std.specs.Char.{is_ascii_digit}
 use Rattle.std.specs.List.{list_all, list_any}
-use Rattle.comfy_parts.specs.CellValue.{ColumnValue}
-use Rattle.comfy_parts.specs.Text.{Text}
-use Rattle.comfy_parts.specs.declared.style.column.ColumnConstraint.TheVariants.{ContentWidth}
+use Rattle.comfy_parts.specs.CellValue.{CellValue, ColumnValue}
+use Rattle.comfy_parts.specs.Text.{Text, greatest, measure}
+use Rattle.comfy_parts.specs.declared.style.column.ColumnConstraint.TheVariants.{Absolute, ContentWidth}
+use Rattle.comfy_parts.specs.declared.style.column.Width.TheVariants.{Fixed}
 use Rattle.comfy_parts.specs.declared.style.table_style.TableStyle.{TableStyle}
 use Rattle.comfy_table.specs.Frame.{border_count}
-use Rattle.comfy_table.specs.TableValue.{TableValue, max_content_widths}
+use Rattle.comfy_table.specs.TableValue.{TableValue, column_cells, max_content_widths}
 use Rattle.csv_records.specs.Number.{is_number}
 use Rattle.csv_tables.specs.Cells.{field_or_blank}
 use Rattle.csv_tables.specs.Columns.{seen}
@@ -85,3 +87,60 @@ abbrev pub kept_unbroken : Option ℕ → List Bool → TableValue → TableValu
 kept_unbroken None unbroken table = table
 kept_unbroken (Some width) unbroken table =
     if has_room (Some width) unbroken table then with_constrained unbroken table else table
+
+-- ---- fields of expanded records
+
+-- the room of a width for the contents of two columns: less borders and paddings
+abbrev pub room_for_two : ℕ → TableStyle → ℕ
+room_for_two width style = width - framed_width style (0 ∷ 0 ∷ [])
+
+-- what names of a content leave of a room where they have what they need
+abbrev pub room_beside : ℕ → ℕ → ℕ
+room_beside names room = room - needed_content false names
+
+-- the width of a text line that is a number or a date and has room; else nothing
+abbrev pub unbroken_width : ℕ → Text → ℕ
+unbroken_width room line =
+    if is_unbroken line && nat_le (measure line) room then measure line else 0
+
+-- the greatest of a cell's text lines
+abbrev pub cell_unbroken_width : ℕ → CellValue → ℕ
+cell_unbroken_width room cell = greatest (map (unbroken_width room) cell.text_lines)
+
+-- the greatest of the fields, which stand in the second column
+abbrev pub field_width : ℕ → TableValue → ℕ
+field_width room table = greatest (map (cell_unbroken_width room) (column_cells table 1))
+
+-- whether a field of this width might be broken beside names of this content: neither they nor as
+-- many terminal columns as the field has fit the room beside it
+abbrev pub may_break : ℕ → ℕ → ℕ → Bool
+may_break room names field = nat_lt room (min names field + field)
+
+-- a column of this content and its paddings
+abbrev pub with_content : ℕ → ColumnValue → ColumnValue
+with_content content column =
+    record column { constraint = Some (Absolute (Fixed (content + 2))) }
+
+-- so is the second one
+abbrev pub with_second : ℕ → List ColumnValue → List ColumnValue
+with_second content [] = []
+with_second content (names ∷ []) = names ∷ []
+with_second content (names ∷ fields ∷ more) =
+    names ∷ with_content content fields ∷ more
+
+abbrev pub with_field_width : ℕ → TableValue → TableValue
+with_field_width content table = record table { columns = with_second content table.columns }
+
+-- so it is where a field of that content might be broken; else the table stays
+abbrev pub with_room_for : ℕ → ℕ → ℕ → TableValue → TableValue
+with_room_for room names field table =
+    if may_break room names field then with_field_width field table else table
+
+-- the table of expanded records where a width is kept: no number and no date of a field is broken
+-- that has room beside what the names need
+abbrev pub kept_unbroken_fields : Option ℕ → TableValue → TableValue
+kept_unbroken_fields None table = table
+kept_unbroken_fields (Some width) table =
+    let room = room_for_two width table.style in
+    let names = slice_index (max_content_widths table) 0 in
+    with_room_for room names (field_width (room_beside names room) table) table

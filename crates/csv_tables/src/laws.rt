@@ -6,7 +6,7 @@ ghost use Rattle.comfy_parts.specs.Text.{Text};
 ghost use Rattle.comfy_table.specs.TableValue.{TableValue};
 ghost use Rattle.csv_tables.specs.ColumnLaws.{KeepsChosenColumns};
 ghost use Rattle.csv_tables.specs.Drawn.{ContentValue};
-ghost use Rattle.csv_tables.specs.Laws.{AutoKeepsWhole, BeginningIsDrawnWithoutControls, FittingOutputIsStraight, InputIsDrawnWithoutControls, IsFilling, IsWithin, MarkdownOutputIsStraight, NarrowLinesHave, NarrowOutputIsStraight, NeverKeepsWhole, OutputFillsWidth, OutputHoldsNoControls, OutputKeepsToWidth, PrintableFieldsStay, PrintableLinesHave, PrintableTextsMakePrintableTable, RecordsHaveLines, TableKeepsRows, WholeOutputIsStraight};
+ghost use Rattle.csv_tables.specs.Laws.{AutoKeepsWhole, BeginningIsDrawnWithoutControls, ExpandedKeepsWhole, FittingOutputIsStraight, InputIsDrawnWithoutControls, IsFilling, IsWithin, MarkdownOutputIsStraight, NarrowLinesHave, NarrowOutputIsStraight, NeverKeepsWhole, OutputFillsWidth, OutputHoldsNoControls, OutputKeepsToWidth, PrintableFieldsStay, PrintableLinesHave, PrintableTextsMakePrintableTable, RecordsHaveLines, TableKeepsRows, WholeOutputIsStraight};
 ghost use Rattle.csv_tables.specs.Markdown.{IsReadBack};
 ghost use Rattle.csv_tables.specs.MarkdownLines.{MarkdownGivesRecordsBack};
 ghost use Rattle.csv_tables.specs.OneOutput.{OutputIsOne, OutputOfIsOne};
@@ -60,10 +60,15 @@ pub fn outputs_keep_to_a_width()
 /// records aren't expanded: the column is at least as wide as its content, its name in the header
 /// included, and each line of its texts stands on one line as it is. So it is under `never` at each
 /// width at which `auto` wouldn't expand the records.
+///
+/// Where records are expanded, a number or a date in a field is broken only where it is wider than
+/// the width leaves beside borders, paddings and at most four terminal columns of the names.
 pub fn auto_keeps_numbers_and_dates_whole()
     ensures auto { (w : ℕ) (look : Look) (content : ContentValue) → AutoKeepsWhole w look content }
     ensures never { (w : ℕ) (look : Look) (content : ContentValue)
         → NeverKeepsWhole w look content }
+    ensures expanded { (w : ℕ) (look : Look) (content : ContentValue)
+        → ExpandedKeepsWhole w look content }
 {}
 
 /// Fields of printable ASCII are drawn as such texts. These make a table of printable ASCII, where

@@ -11,7 +11,7 @@ use crate::expanded::{between_fields, is_expanded, records_text};
 use crate::markdown::push_rule;
 use crate::options::{Expansion, Look, Options};
 use crate::separators::separate_rows;
-use crate::unbroken::keep_unbroken;
+use crate::unbroken::{keep_unbroken, keep_unbroken_fields};
 use comfy_table::{Result, Table};
 use csv_records::Records;
 use std::alloc::{AllocError, Global};
@@ -88,6 +88,7 @@ fn expanded_text(content: Content, look: &Look) -> Result<String>
     ensures { IfOk result (λ text. RendersTable true look.now content (string_bytes text)) }
 {
     let mut table = content.pairs_table(look)?;
+    keep_unbroken_fields(&mut table, look.width)?;
     separate_rows(&mut table, between_fields(look.separators))?;
     let arranged = table.arranged()?;
     Ok(records_text(&content, &arranged)?)

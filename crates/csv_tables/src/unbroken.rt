@@ -1,16 +1,19 @@
-//! Columns of numbers and dates, which aren't broken over lines where there is room.
+//! Numbers and dates, which aren't broken over lines where there is room.
 
-ghost use Rattle.std.specs.Prelude.{◌≡◌, ◌-◌, ◌^◌, IfOk, OnOk, Some, chars, false, length, map, min, nat_le, slice_get, true, unwrap_or};
+ghost use Rattle.std.specs.Prelude.{◌≡◌, ◌-◌, ◌≤◌, ◌^◌, IfOk, OnOk, Some, chars, false, length, map, min, nat_le, slice_get, slice_index, true, unwrap_or};
 ghost use Rattle.std.specs.List.{list_all};
 ghost use Rattle.csv_tables.specs.Columns.{seen};
-ghost use Rattle.csv_tables.specs.Unbroken.{framed_width, has_room, is_of_dates, is_unbroken, is_unbroken_column, kept_unbroken, needed_content, needed_contents, unbroken_columns, constrained_column, with_constrained};
+ghost use Rattle.comfy_table.specs.TableValue.{max_content_widths, measured_cell};
+ghost use Rattle.csv_tables.specs.Unbroken.{cell_unbroken_width, constrained_column, field_width, framed_width, has_room, is_of_dates, is_unbroken, is_unbroken_column, kept_unbroken, kept_unbroken_fields, may_break, needed_content, needed_contents, room_beside, room_for_two, unbroken_columns, unbroken_width, with_constrained, with_content, with_field_width};
 ghost use Rattle.csv_tables.specs.ConstrainedAt.{constrained_at};
 
 use crate::columns::seen_field;
 use crate::content::Content;
 use crate::options::Look;
+use comfy_parts::content_split::measure_text_width;
+use comfy_parts::for_tables::measured_lines;
 use comfy_table::utils::arrangement::helper::count_border_columns;
-use comfy_table::{Column, ColumnConstraint, Result, Table};
+use comfy_table::{Cell, Column, ColumnConstraint, Result, Table, Width};
 use csv_records::{Rows, is_number};
 use std::alloc::{AllocError, Global};
 
@@ -115,6 +118,117 @@ fn framed_width(table: &Table, contents: &[u16]) -> usize
         width = width.saturating_add(2 + usize::from(*content));
     }
     width
+}
+
+/// Lets the fields of expanded records be as wide as the widest number or date of them that has
+/// room beside what the names need. The table stays where no width is kept, or where none of them
+/// would be broken anyway.
+pub(crate) fn keep_unbroken_fields(table: &mut Table, width: Option<u16>) -> Result<()>
+    ensures { OnOk result (table.new ≡ kept_unbroken_fields width table.old) }
+{
+    let Some(width) = width else {
+        return Ok(());
+    };
+    let names = names_content(table)?;
+    let room = room_for_two(table, width);
+    let field = field_width(table, room_beside(names, room));
+    if may_break(room, names, field) {
+        widen_fields(table, field);
+    }
+    Ok(())
+}
+
+// The content of the names of expanded records.
+fn names_content(table: &Table) -> Result<u16>
+    ensures { IfOk result (λ content. content ≡ slice_index (max_content_widths table.now) 0) }
+{
+    let contents = table.column_max_content_widths()?;
+    match contents.first() {
+        Some(content) => Ok(*content),
+        None => Ok(0),
+    }
+}
+
+// The room of a width for the contents of two columns.
+fn room_for_two(table: &Table, width: u16) -> u16
+    ensures value { result ≡ room_for_two width table.now.style }
+    ensures below { result ≤ 65531 }
+{
+    let beside = framed_width(table, &[0, 0]).min(65535) as u16;
+    width.saturating_sub(beside)
+}
+
+// What names leave of a room where they have what they need.
+fn room_beside(names: u16, room: u16) -> u16
+    ensures { result ≡ room_beside names room }
+{
+    room.saturating_sub(needed_content(false, names))
+}
+
+// The width of the widest number or date of the fields that has room.
+fn field_width(table: &Table, room: u16) -> u16
+    ensures value { result ≡ field_width room table.now }
+    ensures within { result ≤ room }
+{
+    let mut widest = 0;
+    for cell in table.column_cells_with_header_iter(1) {
+        if let Some(cell) = cell {
+            widest = cell_unbroken_width(table, cell, room).max(widest);
+        }
+    }
+    widest
+}
+
+fn cell_unbroken_width(table: &Table, cell: &Cell, room: u16) -> u16
+    ensures value { result ≡ cell_unbroken_width room (measured_cell table.now cell.now) }
+    ensures within { result ≤ room }
+{
+    let (lines, _) = measured_lines(cell, table.has_custom_styling());
+    let mut widest = 0;
+    for line in lines {
+        widest = unbroken_width(line.as_str(), room).max(widest);
+    }
+    widest
+}
+
+// The width of a text line that is a number or a date and has room; else nothing.
+fn unbroken_width(line: &str, room: u16) -> u16
+    ensures value { result ≡ unbroken_width room line.now }
+    ensures within { result ≤ room }
+{
+    if !is_unbroken(line) {
+        return 0;
+    }
+    let width = measure_text_width(line);
+    if width <= usize::from(room) {
+        width as u16
+    } else {
+        0
+    }
+}
+
+// Whether a field might be broken that has room beside names.
+fn may_break(room: u16, names: u16, field: u16) -> bool
+    ensures { result ≡ may_break room names field }
+{
+    u32::from(room) < u32::from(names.min(field)) + u32::from(field)
+}
+
+// Gives the fields' column this content, and its paddings.
+fn widen_fields(table: &mut Table, content: u16)
+    requires { content ≤ 65531 }
+    ensures { table.new ≡ with_field_width content table.old }
+{
+    if let Some(column) = table.column_mut(1) {
+        set_content(column, content);
+    }
+}
+
+fn set_content(column: &mut Column, content: u16)
+    requires { content ≤ 65531 }
+    ensures { column.new ≡ with_content content column.old }
+{
+    column.set_constraint(ColumnConstraint::Absolute(Width::Fixed(content + 2)));
 }
 
 // Lets these columns be as wide as their contents.

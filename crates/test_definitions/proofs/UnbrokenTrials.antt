@@ -10,13 +10,14 @@ use Rattle.comfy_parts.specs.CellValue.{ColumnValue, plain_cell, plain_row}
 use Rattle.comfy_parts.specs.Presets.{ascii_full}
 use Rattle.comfy_parts.specs.Text.{Text}
 use Rattle.comfy_parts.specs.declared.style.column.ColumnConstraint.{ColumnConstraint}
-use Rattle.comfy_parts.specs.declared.style.column.ColumnConstraint.TheVariants.{ContentWidth}
+use Rattle.comfy_parts.specs.declared.style.column.ColumnConstraint.TheVariants.{Absolute, ContentWidth}
+use Rattle.comfy_parts.specs.declared.style.column.Width.TheVariants.{Fixed}
 use Rattle.csv_records.specs.Number.{is_number}
 use Rattle.comfy_table.specs.TableValue.{TableValue, new_table, with_rows}
 use Rattle.comfy_parts.specs.Wrapping.{lines_of_text}
 use Rattle.csv_tables.specs.Drawn.{is_expanded_in}
-use Rattle.csv_tables.specs.Laws.{IsWholeColumn}
-use Rattle.csv_tables.specs.Unbroken.{framed_width, has_room, is_unbroken, is_unbroken_column, kept_unbroken, least_width, needed_contents}
+use Rattle.csv_tables.specs.Laws.{IsWholeColumn, StandsWhole}
+use Rattle.csv_tables.specs.Unbroken.{framed_width, has_room, is_unbroken, is_unbroken_column, kept_unbroken, kept_unbroken_fields, least_width, may_break, needed_contents, room_beside, room_for_two, unbroken_width}
 use Rattle.csv_tables.specs.declared.options.Expansion.TheVariants.{Always, Auto, Never}
 
 abbrev texts : List String → List Text
@@ -89,3 +90,48 @@ narrower_than_its_content whole = let is : 7 ≤ 6 = whole.content in omega (ari
 broken_over_lines : ¬ (lines_of_text 6 0x20 (codes "letters") ≡ codes "letters" ∷ [])
 unfolding wrapping
 broken_over_lines same = cc same
+
+-- ---- fields of expanded records
+
+-- three borders and four paddings leave 23 of 30; names need four of it, or all of a shorter one
+rooms : room_for_two 30 ascii_full ≡ 23
+rooms = refl
+
+beside : map (λ names. room_beside names 23) (30 ∷ 2 ∷ 0 ∷ []) ≡ 19 ∷ 21 ∷ 22 ∷ []
+beside = refl
+
+-- a date that has room counts, and no word does
+counted : map (unbroken_width 10) (texts ("2026-05-02" ∷ "2026-05-02 12:30" ∷ "letters" ∷ [])) ≡ 10 ∷ 0 ∷ 0 ∷ []
+unfolding wrapping chars lib.Utf8.encode ucd_category is_number
+counted = refl
+
+-- it might be broken beside a long name; but not where the name fits, nor where half of the room is enough
+shared : map (may_break 23 30) (19 ∷ 11 ∷ []) ≡ true ∷ false ∷ []
+shared = refl
+
+short_names : may_break 23 4 19 ≡ false
+short_names = refl
+
+-- a record with a date below a number; the date has room from width 21 on
+abbrev record_of_two : TableValue
+record_of_two =
+    with_rows (plain_row (plain_cell (codes "letters") ∷ plain_cell (codes "12") ∷ []) ∷ plain_row (plain_cell (codes "seven") ∷ plain_cell (codes "2026-05-02") ∷ []) ∷ [])
+    (new_table ascii_full)
+
+abbrev pair_constraints : Option ℕ → List (Option ColumnConstraint)
+pair_constraints width = map (λ (column : ColumnValue). column.constraint) (kept_unbroken_fields width record_of_two).columns
+
+held : pair_constraints (Some 22) ≡ None ∷ Some (Absolute (Fixed 12)) ∷ []
+unfolding wrapping chars lib.Utf8.encode ucd_category is_number
+held = refl
+
+-- with less room for it, or with room for the names too, nothing is held
+free : map pair_constraints (Some 20 ∷ Some 24 ∷ None ∷ []) ≡ (None ∷ None ∷ []) ∷ (None ∷ None ∷ []) ∷ (None ∷ None ∷ []) ∷ []
+unfolding wrapping chars lib.Utf8.encode ucd_category is_number
+free = refl
+
+-- a column of six breaks a date of ten characters
+-- false: csv_tables::laws::auto_keeps_numbers_and_dates_whole
+narrower_than_a_date : ¬ (StandsWhole 6 (codes "2026-05-02"))
+unfolding wrapping
+narrower_than_a_date whole = let is : 10 ≤ 6 = whole.0 in omega (arith, is)
