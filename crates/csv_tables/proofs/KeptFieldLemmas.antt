@@ -1,6 +1,6 @@
 -- Numbers and dates of expanded records are broken only where names leave them no room.
-use Rattle.std.proofs.Common.{◌≡◌, ◌⊎◌, ◌≤◌, ◌<◌, ◌&&◌, ℕ, ◌+◌, ◌-◌, ◌/◌, Bool, true, false, not, cond, List, [], ◌∷◌, Option, Some, None, MatchBool, filter, flat_map, length, map, max, min, nat_le, nat_lt, replicate, slice_index, slice_index_or, sum, sum_by, unwrap_or, refl, sym, ap, ap₂, ◌∙◌, subst, arith, ⊎_elim}
-use Rattle.std.specs.List.{All, AllByRecursion, AllZip, enumerate_from, range_with_len}
+use Rattle.std.proofs.Common.{◌≡◌, ◌≤◌, ◌<◌, ◌&&◌, ℕ, ◌+◌, ◌-◌, ◌/◌, Bool, true, false, not, cond, List, [], ◌∷◌, Option, Some, None, MatchBool, flat_map, length, map, max, min, nat_le, nat_lt, replicate, slice_index, slice_index_or, sum, unwrap_or, refl, sym, ap, ap₂, ◌∙◌, subst, arith, ⊎_elim}
+use Rattle.std.specs.List.{All, AllByRecursion, AllZip, range_with_len}
 use Rattle.std.specs.Prelude.{if◌then◌else◌}
 use Rattle.std.proofs.lemmas.Bool.{le-leb, leb-true, ltb-false, ltb-true}
 use Rattle.std.proofs.lemmas.List.{map-append}
@@ -20,16 +20,16 @@ use Rattle.comfy_table.proofs.LevelledLemmas.{dynamic_is_full, dynamic_is_levell
 use Rattle.comfy_table.proofs.ThreePlacesLemmas.{every-le-greatest}
 use Rattle.comfy_table.proofs.UnconstrainedLemmas.{content_room-unconstrained, wider-is}
 use Rattle.comfy_table.specs.Arrangement.{IsArranged, is_full_width, room_beside_borders, width_kept, widths_at}
-use Rattle.comfy_table.specs.Dynamic.{IsDynamicLayout, added, content_room, widened}
+use Rattle.comfy_table.specs.Dynamic.{IsDynamicLayout, content_room, widened}
 use Rattle.comfy_table.specs.Frame.{border_count}
 use Rattle.comfy_table.specs.Laws.{NoConstraints}
 use Rattle.comfy_table.specs.Levels.{HasLevel, IsFull, IsLevelled, IsLevelledAt, IsLevelledColumn, IsShrunkOrLevel, IsUnconstrained, fit_contents, wider_columns}
 use Rattle.comfy_table.specs.Lines.{cell_delimiter, cell_lines, longest_line}
-use Rattle.comfy_table.specs.TableValue.{TableValue, cell_content_width, column_cells, column_content_width, max_content_widths, shown_columns, table_width, with_row, with_rows}
+use Rattle.comfy_table.specs.TableValue.{TableValue, cell_content_width, column_cells, column_content_width, max_content_widths, shown_columns, table_width, with_rows}
 use Rattle.comfy_table.specs.Widths.{ColumnNeeds, even_spread, needs_of, part_of, shown_count, shown_needs}
 use Rattle.csv_tables.proofs.KeptWidthLemmas.{IsFixedAt, fixed_is_kept, kept_arrangement, le-added}
 use Rattle.csv_tables.proofs.LineLemmas.{Any, any_built, any_drawn, kept_setting}
-use Rattle.csv_tables.proofs.SeparatorLemmas.{restyled, separated}
+use Rattle.csv_tables.proofs.SeparatorLemmas.{separated}
 use Rattle.csv_tables.proofs.UnbrokenLemmas.{framed_pair}
 use Rattle.csv_tables.proofs.WholeColumnLemmas.{HasTwo, all_shown, both_shown, exactly_two, pairs_are_two}
 use Rattle.csv_tables.proofs.WholeTableLemmas.{IsDrawn, drawn-is, fewer_borders, field_separated}

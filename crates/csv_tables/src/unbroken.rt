@@ -120,6 +120,31 @@ fn framed_width(table: &Table, contents: &[u16]) -> usize
     width
 }
 
+// Lets these columns be as wide as their contents.
+fn constrain_columns(table: &mut Table, unbroken: &[bool])
+    ensures { table.new ≡ with_constrained unbroken.now table.old }
+{
+    for (at, is_unbroken) in unbroken.iter().enumerate() {
+        if *is_unbroken {
+            constrain_at(table, at);
+        }
+    }
+}
+
+fn constrain_at(table: &mut Table, at: usize)
+    ensures { table.new ≡ record table.old { columns = constrained_at at table.old.columns } }
+{
+    if let Some(column) = table.column_mut(at) {
+        constrain_column(column);
+    }
+}
+
+fn constrain_column(column: &mut Column)
+    ensures { column.new ≡ constrained_column true column.old }
+{
+    column.set_constraint(ColumnConstraint::ContentWidth);
+}
+
 /// Lets the fields of expanded records be as wide as the widest number or date of them that has
 /// room beside what the names need. The table stays where no width is kept, or where none of them
 /// would be broken anyway.
@@ -229,31 +254,6 @@ fn set_content(column: &mut Column, content: u16)
     ensures { column.new ≡ with_content content column.old }
 {
     column.set_constraint(ColumnConstraint::Absolute(Width::Fixed(content + 2)));
-}
-
-// Lets these columns be as wide as their contents.
-fn constrain_columns(table: &mut Table, unbroken: &[bool])
-    ensures { table.new ≡ with_constrained unbroken.now table.old }
-{
-    for (at, is_unbroken) in unbroken.iter().enumerate() {
-        if *is_unbroken {
-            constrain_at(table, at);
-        }
-    }
-}
-
-fn constrain_at(table: &mut Table, at: usize)
-    ensures { table.new ≡ record table.old { columns = constrained_at at table.old.columns } }
-{
-    if let Some(column) = table.column_mut(at) {
-        constrain_column(column);
-    }
-}
-
-fn constrain_column(column: &mut Column)
-    ensures { column.new ≡ constrained_column true column.old }
-{
-    column.set_constraint(ColumnConstraint::ContentWidth);
 }
 
 // Whether no field of a column is broken over lines: each is at most 25 characters long, and is
