@@ -8,6 +8,7 @@ pub mod Foreign
 pub mod Input
 pub mod Number
 pub mod NumberLaws
+pub mod Numbered
 pub mod Numerals
 pub mod Pieces
 pub mod Places
