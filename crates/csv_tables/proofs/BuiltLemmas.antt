@@ -2,7 +2,7 @@
 use Rattle.std.proofs.Common.{◌≡◌, ℕ, zero, suc, Bool, true, false, List, [], ◌∷◌, Option, Some, None, Result, Ok, Err, decimal, encode_utf8_all, flat_map, map, ◌+◌, ap, refl, subst, ◌∙◌}
 use Rattle.std.specs.List.{All}
 use Rattle.std.specs.Prelude.{if◌then◌else◌, unwrap_or}
-use Rattle.std.proofs.lemmas.List.Elements.{All-head, All-map, All-nil, All-tail, All-take}
+use Rattle.std.proofs.lemmas.List.Elements.{All-cons, All-head, All-map, All-nil, All-tail, All-take}
 use Rattle.std.proofs.lemmas.Str.{chars-nil}
 use Rattle.comfy_parts.proofs.CallerLemmas.{All-flat_map}
 use Rattle.comfy_parts.specs.CellValue.{RowValue}
@@ -13,8 +13,9 @@ use Rattle.csv.specs.Records.{field_at}
 use Rattle.csv_records.proofs.CleaningLemmas.{Stays-nil, stays_cleaned}
 use Rattle.csv_tables.specs.Cells.{field_text, field_or_blank, header_for, kept_by, kept_for_markdown, marked, row_for, unless_blank}
 use Rattle.csv_records.specs.Cleaning.{cleaned}
-use Rattle.csv_tables.specs.Columns.{columns_for, name_at}
-use Rattle.csv_tables.specs.Drawn.{ContentValue, content_of, content_with, drawn_rows, empty_table, headed_table, limited, names_of, ok_map, pairs_of, pairs_table, records_below, rows_table}
+use Rattle.csv_records.specs.Numbered.{behind_mark, numbered_from}
+use Rattle.csv_tables.specs.Columns.{columns_for, name_from}
+use Rattle.csv_tables.specs.Drawn.{ContentValue, content_of, content_with, drawn_rows, empty_table, headed_table, limited, names_beside, names_of, ok_map, pairs_in, pairs_table, records_below, rows_beside, rows_table}
 use Rattle.csv_tables.specs.Markdown.{escaped}
 use Rattle.csv_records.specs.declared.cleaning.CleanOptions.{CleanOptions}
 use Rattle.csv_tables.specs.declared.options.Look.{Look}
@@ -43,11 +44,11 @@ each_field P empty (f ∷ fs) zero each = All-head P f fs each
 each_field P empty (f ∷ fs) (suc i) each = each_field P empty fs i (All-tail P f fs each)
 
 -- and a name, where the number that stands for a missing one does
-pub each_name : (P : Text → Type 0) (names : List Text) (i : ℕ) → P (decimal (i + 1)) → All P names → P (name_at names i)
+pub each_name : (P : Text → Type 0) (first : ℕ) (names : List Text) (i : ℕ) → P (decimal (i + first)) → All P names → P (name_from first names i)
 unfolding field_at
-each_name P names i number each = by_field names i each
+each_name P first names i number each = by_field names i each
   where
-    by_field : (fields : List Text) (j : ℕ) → All P fields → P (unwrap_or (field_at fields j) (decimal (i + 1)))
+    by_field : (fields : List Text) (j : ℕ) → All P fields → P (unwrap_or (field_at fields j) (decimal (i + first)))
     by_field [] j each = number
     by_field (f ∷ fs) zero each = All-head P f fs each
     by_field (f ∷ fs) (suc j) each = by_field fs j (All-tail P f fs each)
@@ -74,10 +75,32 @@ pub record EachOf (P : List Text → Type 0) (content : ContentValue) : Type 0 w
   pub names : (names : List Text) → content.names ≡ Some names → P names
   pub rows : All P content.rows
 
-pub each_of : (P : List Text → Type 0) (options : Options) (records : List (List Text)) (columns : List DrawnColumn) → All P records → EachOf P (content_with options records columns)
-each_of P options records columns each =
-    record { names = λ names is. first options.selection.has_header records names is each; rows = all_limited P options.selection.limit _ (all_below P options.selection.has_header records each) }
+-- P holds of a record beside its number, and of names beside that of the column of numbers, where it holds without
+pub record HoldsBeside (P : List Text → Type 0) : Type 0 where
+  pub names : (names : List Text) → P names → P (behind_mark names)
+  pub row : (number : ℕ) (fields : List Text) → P fields → P (decimal number ∷ fields)
+
+each_numbered : (P : List Text → Type 0) → HoldsBeside P → (number : ℕ) (rows : List (List Text)) → All P rows → All P (numbered_from number rows)
+each_numbered P beside number [] each = each
+each_numbered P beside number (fields ∷ rows) each =
+    All-cons P (decimal number ∷ fields) (numbered_from (number + 1) rows) (beside.row number fields (All-head P fields rows each)) (each_numbered P beside (number + 1) rows (All-tail P fields rows each))
+
+each_row : (P : List Text → Type 0) → HoldsBeside P → (is_numbered : Bool) (rows : List (List Text)) → All P rows → All P (rows_beside is_numbered rows)
+each_row P beside true rows each = each_numbered P beside 1 rows each
+each_row P beside false rows each = each
+
+pub each_of : (P : List Text → Type 0) → HoldsBeside P → (options : Options) (records : List (List Text)) (columns : List DrawnColumn) → All P records → EachOf P (content_with options records columns)
+each_of P beside options records columns each =
+    record {
+      names = λ names is. shown options.selection.is_numbered (names_of options.selection.has_header records) (λ names is. first options.selection.has_header records names is each) names is;
+      rows = each_row P beside options.selection.is_numbered _ (all_limited P options.selection.limit _ (all_below P options.selection.has_header records each));
+    }
   where
+    shown : (is_numbered : Bool) (own : Option (List Text)) → ((names : List Text) → own ≡ Some names → P names) → (names : List Text) → names_beside is_numbered own ≡ Some names → P names
+    shown false own each names is = each names is
+    shown true None each names is = absurd (cc is)
+    shown true (Some own) each names is = let same : behind_mark own ≡ names = cc is in subst P same (beside.names own (each own refl))
+
     first : (has_header : Bool) (records : List (List Text)) (names : List Text) → names_of has_header records ≡ Some names → All P records → P names
     first true [] names is each = absurd (cc is)
     first true (record_ ∷ records) names is each =
@@ -85,10 +108,10 @@ each_of P options records columns each =
         subst P same (All-head P record_ records each)
     first false records names is each = absurd (cc is)
 
-pub each_content : (P : List Text → Type 0) (options : Options) (records : List (List Text)) (content : ContentValue) → content_of options records ≡ Ok content → All P records → EachOf P content
-each_content P options records content is each =
+pub each_content : (P : List Text → Type 0) → HoldsBeside P → (options : Options) (records : List (List Text)) (content : ContentValue) → content_of options records ≡ Ok content → All P records → EachOf P content
+each_content P beside options records content is each =
     let found = made_of (content_with options records) (columns_for options (unwrap_or (names_of options.selection.has_header records) []) (drawn_rows options records)) content is in
-    subst (EachOf P) found.2 (each_of P options records found.0 each)
+    subst (EachOf P) found.2 (each_of P beside options records found.0 each)
 
 -- ---- tables
 
@@ -107,7 +130,7 @@ module _ (look : Look) (Q : RowValue → Type 0) (content : ContentValue) where
 
   -- and of the rows of a record that is expanded
   abbrev pub MakesPairs : List Text → Type 0
-  MakesPairs fields = All Q (pairs_of look content.columns (unwrap_or content.names []) fields)
+  MakesPairs fields = All Q (pairs_in look content fields)
 
   empty : Built (empty_table look)
   empty = record { is = refl; columns = All-nil IsNewColumn; header = All-nil Q; rows = All-nil Q }
@@ -121,7 +144,7 @@ module _ (look : Look) (Q : RowValue → Type 0) (content : ContentValue) where
       built-rows (empty_table look) Q (map (row_for look content.columns) content.rows) (headed_table look content.columns content.names) (All-map Q (row_for look content.columns) content.rows each) (headed content.names head)
 
   pub built_pairs : All MakesPairs content.rows → Built (pairs_table look content)
-  built_pairs each = built-rows (empty_table look) Q (flat_map (pairs_of look content.columns (unwrap_or content.names [])) content.rows) (empty_table look) (All-flat_map Q (pairs_of look content.columns (unwrap_or content.names [])) content.rows each) empty
+  built_pairs each = built-rows (empty_table look) Q (flat_map (pairs_in look content) content.rows) (empty_table look) (All-flat_map Q (pairs_in look content) content.rows each) empty
 
   pub built : (is_expanded : Bool) → ((n : List Text) → content.names ≡ Some n → Q (header_for look content.columns n)) → All MakesRow content.rows → All MakesPairs content.rows → Built (plain_table is_expanded look content)
   built true head rows pairs = built_pairs pairs

@@ -5,6 +5,7 @@ use Rattle.std.specs.Fmt.{digit_glyph, digits, digits_onto}
 use Rattle.std.specs.List.{list_all, list_any}
 use Rattle.std.specs.Prelude.{if◌then◌else◌}
 use Rattle.std.proofs.lemmas.Bool.{and_parts}
+use Rattle.std.proofs.lemmas.List.{length-append}
 use Rattle.std.proofs.lemmas.List.Elements.{All-cons, All-nil}
 use Rattle.std.proofs.lemmas.List.Folds.{list_all-append}
 use Rattle.std.proofs.lemmas.List.Splits.{slice_split_none}
@@ -123,10 +124,53 @@ drawn_in_one_line look none field printable =
     same : field_text look field ≡ unless_blank field
     same = rw none (by_raw look.is_raw)
 
--- so is a number
-pub number_lines : (look : Look) → look.is_markdown ≡ false → (n : ℕ) → All (λ text. (is_printable_ascii text ≡ true) × (length text ≤ 64)) (plain_cell (field_text look (decimal n))).text_lines
-number_lines look none n =
-    subst (All Is) (sym (drawn_in_one_line look none (decimal n) (number_is_printable n))) (All-cons Is (unless_blank (decimal n)) [] (unless_blank-keeps Is (decimal n) (refl, omega arith) (number_is_printable n, number_is_short n)) (All-nil Is))
+-- ---- short fields
+
+-- a text of printable ASCII of at most so many characters
+abbrev pub IsShortPrintable : ℕ → Text → Type 0
+IsShortPrintable most text = (is_printable_ascii text ≡ true) × (length text ≤ most)
+
+-- what is escaped is at most twice as long
+character_is_short : (special : Bool) (c : ℕ) → is_printable c ≡ true → length (escaped_character special c) ≤ 2
+character_is_short special c printable = rw (no_break c printable) (by_test special)
   where
-    Is : Text → Type 0
-    Is text = (is_printable_ascii text ≡ true) × (length text ≤ 64)
+    by_test : (b : Bool) → length (if b then 0x5C ∷ c ∷ [] else c ∷ []) ≤ 2
+    by_test true = omega arith
+    by_test false = omega arith
+
+escaped_is_short : (is_marked : Bool) (before : Option ℕ) (text : Text) → is_printable_ascii text ≡ true → length (escaped_after is_marked before text) ≤ length text + length text
+escaped_is_short is_marked before [] printable = omega arith
+escaped_is_short is_marked before (c ∷ cs) printable =
+    let parts = and_parts (is_printable c) (is_printable_ascii cs) printable in
+    let here = is_marked_at is_marked before (c ∷ cs) in
+    let special = is_special here before c cs in
+    let own = character_is_short special c parts.0 in
+    let rest = escaped_is_short here (Some c) cs parts.1 in
+    let whole = length-append (escaped_character special c) (escaped_after here (Some c) cs) in
+    omega (arith, own, rest, whole)
+
+marked_is_short : (text : Text) → IsShortPrintable 64 text → IsShortPrintable 128 (marked text)
+marked_is_short text (printable, few) =
+    let more = escaped_is_short false None text printable in
+    let same : marked text ≡ escaped text =
+    ap (λ (cs : List ℕ). encode_utf8_all (escaped cs)) (chars-IsAscii text (ascii-printable text printable)) ∙ encodes-IsAscii (escaped text) (ascii-printable (escaped text) (escaped_stays false None text printable)) in
+    (marked_stays text printable, rw same (omega (arith, more, few)))
+
+-- such a field is drawn in such text lines
+pub short_lines : (look : Look) (field : Text) → IsShortPrintable 64 field → All (IsShortPrintable 128) (plain_cell (field_text look field)).text_lines
+short_lines look field (printable, few) =
+    subst (All (IsShortPrintable 128)) (sym (whole_line (field_text look field) own.0)) (All-cons (IsShortPrintable 128) (field_text look field) [] own (All-nil (IsShortPrintable 128)))
+  where
+    clean : (kept : CleanOptions) → cleaned kept field ≡ field
+    clean kept = sym (drawn_so kept field (IsUtf8-printable field printable) (none_replaced kept field printable))
+
+    unless : IsShortPrintable 128 (unless_blank field)
+    unless = unless_blank-keeps (IsShortPrintable 128) field (refl, omega arith) (printable, omega (arith, few))
+
+    by_flags : (is_markdown is_raw : Bool) → IsShortPrintable 128 (if is_markdown then marked (cleaned (kept_for_markdown look) field) else if is_raw then unless_blank field else unless_blank (cleaned (kept_by look) field))
+    by_flags true is_raw = subst (λ (t : Text). IsShortPrintable 128 (marked t)) (sym (clean (kept_for_markdown look))) (marked_is_short field (printable, few))
+    by_flags false true = unless
+    by_flags false false = subst (λ (t : Text). IsShortPrintable 128 (unless_blank t)) (sym (clean (kept_by look))) unless
+
+    own : IsShortPrintable 128 (field_text look field)
+    own = by_flags look.is_markdown look.is_raw

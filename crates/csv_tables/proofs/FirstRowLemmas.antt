@@ -12,7 +12,7 @@ use Rattle.csv_records.specs.Reading.{AreRecordsFor, AreRecordsIn, IsDecodedBy}
 use Rattle.csv_records.specs.declared.encoding.Encoding.{Encoding}
 use Rattle.csv_tables.specs.Columns.{ColumnFault, IsColumnsRefusal, columns_for}
 use Rattle.csv_tables.specs.Doubt.{IsDoubtOfBeginning, doubt_for}
-use Rattle.csv_tables.specs.Drawn.{AreEnough, ContentValue, HasLimit, RendersAnyRecords, RendersBeginning, RendersFound, content_counted, content_of, content_with, counting, drawn_rows, limited, most_drawn, names_of, ok_map, records_below, with_count}
+use Rattle.csv_tables.specs.Drawn.{AreEnough, ContentValue, HasLimit, RendersAnyRecords, RendersBeginning, RendersFound, columns_beside, content_counted, content_of, content_with, counting, drawn_rows, limited, most_drawn, names_beside, names_of, ok_map, records_below, rows_beside, with_count}
 use Rattle.csv_tables.specs.Errors.{of_columns}
 use Rattle.csv_tables.specs.Run.{IsInputRefusal, IsRefusal}
 use Rattle.csv_tables.specs.declared.error.ColumnsError.{ColumnsError}
@@ -48,7 +48,10 @@ mapped_twice f g (Err e) = refl
 -- what is drawn of these names and rows
 abbrev content_by : Option ℕ → Options → Option (List Text) → List (List Text) → Result ContentValue ColumnFault
 content_by count options names rows =
-    ok_map (λ (columns : List DrawnColumn). record { names = names; rows = rows; columns = columns; count = count }) (columns_for options (unwrap_or names []) rows)
+    let is_numbered = options.selection.is_numbered in
+    ok_map
+    (λ (columns : List DrawnColumn). record { names = names_beside is_numbered names; rows = rows_beside is_numbered rows; columns = columns_beside is_numbered columns; count = count; is_numbered = is_numbered })
+    (columns_for options (unwrap_or names []) rows)
 
 counted-is : (count : Option ℕ) (options : Options) (records : List (List Text)) → content_counted count options records ≡ content_by count options (names_of options.selection.has_header records) (drawn_rows options records)
 counted-is count options records =

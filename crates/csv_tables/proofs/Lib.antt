@@ -1,3 +1,4 @@
+pub mod BesideLemmas
 pub mod BlankLemmas
 pub mod BuiltLemmas
 pub mod CleanCharacterLemmas
@@ -18,6 +19,7 @@ pub mod MarkdownPartLemmas
 pub mod MarkdownRowLemmas
 pub mod MarkdownWidthLemmas
 pub mod MarkedLemmas
+pub mod NumberedLemmas
 pub mod OneOutputLemmas
 pub mod OutputControlLemmas
 pub mod OutputLemmas

@@ -24,7 +24,7 @@ use Rattle.csv_tables.proofs.BuiltLemmas.{Built, built, plain_table}
 use Rattle.csv_tables.proofs.SeparatorLemmas.{condensed-all, separated}
 use Rattle.csv_tables.proofs.WholeTableLemmas.{HasRoom, IsDrawn, drawn-is, drawn_table-is, least-fits, unconstrained-drawn, wider-fits}
 use Rattle.csv_tables.specs.Cells.{row_for}
-use Rattle.csv_tables.specs.Drawn.{ContentValue, RendersRecords, RendersAsTable, RendersContent, condensed_style, drawn_fields, empty_table, is_expanded_for, is_table_expanded, output_table, pairs_of, separated_table, some_lines, table_text}
+use Rattle.csv_tables.specs.Drawn.{ContentValue, RendersRecords, RendersAsTable, RendersContent, condensed_style, drawn_fields, empty_table, is_expanded_for, is_table_expanded, output_table, pairs_in, separated_table, some_lines, table_text}
 use Rattle.csv_tables.specs.Laws.{EachLineHas, HasLines, IsFilling, IsOutputWith, IsWithin, OutputFillsWidth, OutputKeepsToWidth}
 use Rattle.csv_tables.specs.declared.options.Look.{Look}
 use Rattle.csv_tables.specs.declared.options.Options.{Options}
@@ -36,7 +36,7 @@ Any row = Unit {0}
 pub any_built : (is_expanded : Bool) (look : Look) (content : ContentValue) → Built look Any content (plain_table is_expanded look content)
 any_built is_expanded look content =
     built look Any content is_expanded (λ n is. tt) (All-every (λ fields. Any (row_for look content.columns fields)) content.rows (λ fields. tt))
-    (All-every (λ fields. All Any (pairs_of look content.columns (unwrap_or content.names []) fields)) content.rows (λ fields. All-every Any (pairs_of look content.columns (unwrap_or content.names []) fields) (λ row. tt)))
+    (All-every (λ fields. All Any (pairs_in look content fields)) content.rows (λ fields. All-every Any (pairs_in look content fields) (λ row. tt)))
 
 -- the drawn table is so built
 pub any_drawn : (look : Look) (content : ContentValue) (is_expanded has : Bool) → IsDrawn (separated has look) Any content (separated_table has (output_table is_expanded look content))

@@ -1,5 +1,5 @@
 -- Each row of a drawing has a line: a text that isn't blank has one at every width, and a blank one is drawn as the empty text.
-use Rattle.std.proofs.Common.{◌≡◌, ◌==◌, ◌<◌, ◌≤◌, ◌&&◌, ◌||◌, ◌+◌, ◌-◌, ℕ, zero, suc, Bool, true, false, not, List, [], ◌∷◌, ◌++◌, Option, Some, None, cond, drop, encode_utf8_all, flat_map, length, length-append, map, max, nat_le, replicate, slice_get, take, arith, refl, sym, ap, ◌∙◌, subst, option_map, unwrap_or}
+use Rattle.std.proofs.Common.{◌≡◌, ◌==◌, ◌<◌, ◌≤◌, ◌&&◌, ◌||◌, ◌-◌, ℕ, zero, suc, Bool, true, false, not, List, [], ◌∷◌, ◌++◌, Option, Some, None, cond, drop, encode_utf8_all, flat_map, length, length-append, map, max, nat_le, replicate, slice_get, take, arith, refl, sym, ap, ◌∙◌, subst, option_map, unwrap_or}
 use Rattle.std.specs.List.{All, list_all, list_any, onto_first}
 use Rattle.std.specs.Prelude.{if◌then◌else◌}
 use Rattle.std.specs.Str.{IsUtf8}
@@ -21,7 +21,6 @@ use Rattle.comfy_parts.proofs.CallerLemmas.{IsUtf8-printable}
 use Rattle.comfy_table.proofs.InfoLemmas.{infos-known}
 use Rattle.comfy_table.specs.Drawing.{infos_of}
 use Rattle.comfy_table.specs.Pieces.{row_height, shown_infos}
-use Rattle.std.proofs.Common.{decimal}
 use Rattle.std.proofs.lemmas.List.Elements.{All-weaker}
 use Rattle.csv.specs.Records.{AllText}
 use Rattle.csv_records.proofs.ControlLemmas.{cleaned_whole}
@@ -29,7 +28,7 @@ use Rattle.csv_records.specs.Cleaning.{cleaned}
 use Rattle.csv_tables.proofs.BlankLemmas.{unless_blank-keeps}
 use Rattle.csv_tables.proofs.BuiltLemmas.{EachOf, each_content, each_field}
 use Rattle.csv_tables.proofs.CleanCharacterLemmas.{IsMadeOf, lines_made}
-use Rattle.csv_tables.proofs.FieldLemmas.{number_is_printable}
+use Rattle.csv_tables.proofs.NumberedLemmas.{HoldsOfShort, lines_beside, number_drawn}
 use Rattle.csv_tables.proofs.OutputControlLemmas.{text_fields}
 use Rattle.csv_tables.proofs.SeparatorLemmas.{separated}
 use Rattle.csv_tables.proofs.TextTableLemmas.{EachLine, MakesRows, blank, table_of_texts}
@@ -257,18 +256,18 @@ records_have_lines options records content table widths none unkept texts is (ha
     expanded : Bool
     expanded = is_expanded_for options.look content
 
+    gives : HoldsOfShort IsUtf8
+    gives text printable few = IsUtf8-printable text printable
+
     each : EachOf (All (EachLine IsUtf8 look)) content
     each =
-        each_content (All (EachLine IsUtf8 look)) options records content is
+        each_content (All (EachLine IsUtf8 look)) (lines_beside IsUtf8 gives look) options records content is
         (All-weaker AllText (All (EachLine IsUtf8 look)) (λ fields text. All-weaker IsUtf8 (EachLine IsUtf8 look) (field_utf8 look unmarked) fields (text_fields fields text)) records texts)
-
-    numbers : (at : ℕ) → EachLine IsUtf8 look (decimal (at + 1))
-    numbers at = field_utf8 look unmarked (decimal (at + 1)) (IsUtf8-printable (decimal (at + 1)) (number_is_printable (at + 1)))
 
     drawn : IsDrawn look IsLinedRow content table
     drawn =
         subst (IsDrawn look IsLinedRow content) (sym made)
-        (drawn_table-is options.look IsLinedRow content expanded has (table_of_texts IsUtf8 IsUtf8-nil look IsLinedRow (lined_rows look unmarked) content each numbers expanded))
+        (drawn_table-is options.look IsLinedRow content expanded has (table_of_texts IsUtf8 IsUtf8-nil look IsLinedRow (lined_rows look unmarked) content each (number_drawn IsUtf8 gives look) expanded))
 
     plain : table.custom_styling ≡ false
     plain = ap (λ (t : TableValue). t.custom_styling) (drawn-is look IsLinedRow content table drawn) ∙ (style_only has options.look).1 ∙ unkept

@@ -29,7 +29,8 @@ use Rattle.csv_tables.proofs.MarkdownWidthLemmas.{all_columns, by_contents, draw
 use Rattle.csv_tables.proofs.OutputControlLemmas.{text_fields}
 use Rattle.csv_tables.proofs.OutputLemmas.{markdown_unbroken}
 use Rattle.csv_tables.proofs.RowLemmas.{with_rows-rows}
-use Rattle.csv_tables.proofs.StraightLemmas.{IsShort, empty_is_short}
+use Rattle.csv_tables.proofs.StraightLemmas.{IsShort, empty_is_short, short_printable}
+use Rattle.csv_tables.proofs.NumberedLemmas.{lines_beside, text_beside}
 use Rattle.csv_tables.proofs.TextTableLemmas.{EachLine, blank}
 use Rattle.csv_tables.specs.Drawn.{ContentValue, RendersAsMarkdown, RendersContent, below_first, headed_table, markdown_look, markdown_style, markdown_table, note_for}
 use Rattle.csv_tables.specs.MarkdownLines.{GivesBack, MarkdownGivesRecordsBack}
@@ -193,8 +194,8 @@ records_are_given_back options records output is short text made some =
     let Short = All (EachLine IsShort (markdown_look look)) in
     let drawn : RendersAsMarkdown look content made.text = subst (λ b. RendersContent b look content made.text) is made.is_text in
     let fields : All Short records = All-weaker (All (EachLine IsShort look)) Short (λ fields. All-weaker (EachLine IsShort look) (EachLine IsShort (markdown_look look)) (drawn_for_markdown look is) fields) records short in
-    let each = with_names Short (All-nil (EachLine IsShort (markdown_look look))) content (each_content Short options records content made.is_content fields) in
-    let texts = with_names AllText none content (each_content AllText options records content made.is_content text) in
+    let each = with_names Short (All-nil (EachLine IsShort (markdown_look look))) content (each_content Short (lines_beside IsShort short_printable (markdown_look look)) options records content made.is_content fields) in
+    let texts = with_names AllText none content (each_content AllText text_beside options records content made.is_content text) in
     let names = unwrap_or content.names [] in
     let widths = drawn.drawing.widths in
     let arranged = drawn.drawing.arranged in

@@ -39,7 +39,8 @@ use Rattle.csv_tables.specs.declared.options.Options.{Options}
 use Rattle.csv_tables.proofs.BuiltLemmas.{Built, EachOf, each_content}
 use Rattle.csv_tables.proofs.OutputControlLemmas.{each_below_first, free_markdown, markdown_lines_of, printable_is_seen, rule_is_clear, rule_is_printable}
 use Rattle.csv_tables.proofs.LineLemmas.{Any, any_built, never_expanded}
-use Rattle.csv_tables.proofs.StraightLemmas.{IsSeenTable, IsShort, empty_is_short, rows_are_straight, short_rows}
+use Rattle.csv_tables.proofs.StraightLemmas.{IsSeenTable, IsShort, empty_is_short, rows_are_straight, short_printable, short_rows}
+use Rattle.csv_tables.proofs.NumberedLemmas.{lines_beside, text_beside}
 use Rattle.csv_tables.proofs.TextTableLemmas.{EachLine, rows_of_texts}
 use Rattle.csv_tables.specs.Laws.{AreSeen, EachText, IsLookWithoutControls, IsStraightOutput, MarkdownOutputIsStraight, WholeOutputIsStraight, seen_lines}
 use Rattle.csv_tables.specs.Drawn.{ContentValue, RendersAsMarkdown, RendersRecords, RendersContent, content_of, below_first, headed_table, empty_table, markdown_content, markdown_look, markdown_style, markdown_table}
@@ -300,7 +301,7 @@ AreSeenInMarkdown true look records = IsLookWithoutControls look × All AllText 
 
 seen_markdown : (visible : Bool) (options : Options) (records : List (List Text)) (content : ContentValue) → content_of options records ≡ Ok content → AreSeenInMarkdown visible options.look records → IsSeenTable visible (markdown_look options.look) (markdown_table options.look content)
 seen_markdown false options records content is any = refl
-seen_markdown true options records content is (clear, text) = let cleaned = clear.cleaned in free_markdown options.look cleaned content (each_content AllText options records content is text)
+seen_markdown true options records content is (clear, text) = let cleaned = clear.cleaned in free_markdown options.look cleaned content (each_content AllText text_beside options records content is text)
 
 markdown_straight : (visible : Bool) (options : Options) (records : List (List Text)) (output : Text) → AreSeenInMarkdown visible options.look records → options.look.is_markdown ≡ true
     → EachText IsShort options.look records → RendersRecords options records output → IsStraightOutput visible options records output
@@ -309,7 +310,7 @@ markdown_straight visible options records output own is short made =
     let Short = All (EachLine IsShort (markdown_look look)) in
     let text : RendersAsMarkdown look made.content made.text = subst (λ b. RendersContent b look made.content made.text) is made.is_text in
     let fields : All Short records = All-weaker (All (EachLine IsShort look)) Short (λ fields. All-weaker (EachLine IsShort look) (EachLine IsShort (markdown_look look)) (drawn_for_markdown look is) fields) records short in
-    let each = with_names Short (All-nil (EachLine IsShort (markdown_look look))) made.content (each_content Short options records made.content made.is_content fields) in
+    let each = with_names Short (All-nil (EachLine IsShort (markdown_look look))) made.content (each_content Short (lines_beside IsShort short_printable (markdown_look look)) options records made.content made.is_content fields) in
     let seen = seen_markdown visible options records made.content made.is_content own in
     let rule = rule_line made.content.columns (max_content_widths (markdown_table look made.content)) in
     record {

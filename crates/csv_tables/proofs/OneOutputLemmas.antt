@@ -18,7 +18,7 @@ use Rattle.csv_tables.specs.declared.options.Look.{Look}
 use Rattle.csv_tables.specs.declared.options.Options.{Options}
 use Rattle.csv_tables.specs.declared.options.RowSeparators.{RowSeparators}
 use Rattle.csv_tables.specs.declared.options.RowSeparators.TheVariants.{Styled, Needed, Never}
-use Rattle.csv_tables.specs.Drawn.{ContentValue, HasSeparators, RendersAsMarkdown, RendersRecords, RendersAnyRecords, RendersContent, RendersTable, below_first, content_of, content_with, counting, drawn_rows, limited, markdown_table, names_of, note_for, ok_map, output_table, records_below, separated_table, separators_in, table_text}
+use Rattle.csv_tables.specs.Drawn.{ContentValue, columns_beside, HasSeparators, RendersAsMarkdown, RendersRecords, RendersAnyRecords, RendersContent, RendersTable, below_first, content_of, content_with, counting, drawn_rows, limited, markdown_table, names_beside, names_of, note_for, ok_map, output_table, records_below, rows_beside, separated_table, separators_in, table_text}
 use Rattle.csv_tables.specs.OneOutput.{AreSameOptions, OutputIsOne, OutputOfIsOne}
 use Rattle.csv_records.proofs.OneRecordLemmas.{read_is_one}
 use Rattle.csv_records.specs.Reading.{AreRecordsFor}
@@ -70,17 +70,20 @@ module _ (options others : Options) (same : AreSameOptions options others) where
       ∙ ap₂ (λ (r l : Result (List ℕ) ColumnFault). columns_with names (own others.look) (kept_columns names count others.selection.columns.items others.selection.dropped.items) r l) right left
 
   -- what is drawn of some records, by what of the options it depends on
-  abbrev content_by : Bool → Bool → Option ℕ → List (List Text) → (List Text → List (List Text) → Result (List DrawnColumn) ColumnFault) → Result ContentValue ColumnFault
-  content_by counts has_header limit records columns =
+  abbrev content_by : Bool → Bool → Bool → Option ℕ → List (List Text) → (List Text → List (List Text) → Result (List DrawnColumn) ColumnFault) → Result ContentValue ColumnFault
+  content_by is_numbered counts has_header limit records columns =
       let rows = limited limit (records_below has_header records) in
       let names = names_of has_header records in
-      ok_map (λ (own : List DrawnColumn). record { names = names; rows = rows; columns = own; count = if counts then Some (length (records_below has_header records)) else None }) (columns (unwrap_or names []) rows)
+      let count = if counts then Some (length (records_below has_header records)) else None in
+      ok_map
+      (λ (own : List DrawnColumn). record { names = names_beside is_numbered names; rows = rows_beside is_numbered rows; columns = columns_beside is_numbered own; count = count; is_numbered = is_numbered })
+      (columns (unwrap_or names []) rows)
 
   same_content : (records : List (List Text)) → content_of options records ≡ content_of others records
   same_content records =
       ap (ok_map (content_with options records)) (same_columns (unwrap_or (names_of options.selection.has_header records) []) (drawn_rows options records))
-      ∙ ap₂ (λ (h : Bool) (l : Option ℕ). content_by options.selection.counts_all h l records (columns_for others)) same.header same.limit
-      ∙ ap (λ (counts : Bool). content_by counts others.selection.has_header others.selection.limit records (columns_for others)) same.counts
+      ∙ ap₂ (λ (h : Bool) (l : Option ℕ). content_by options.selection.is_numbered options.selection.counts_all h l records (columns_for others)) same.header same.limit
+      ∙ ap₂ (λ (numbers counts : Bool). content_by numbers counts others.selection.has_header others.selection.limit records (columns_for others)) same.numbers same.counts
 
 -- ---- tables
 
@@ -151,7 +154,7 @@ output_is_one options others input output other same first second =
 
     -- they are the same where all records are counted too
     counted : AreSameOptions (counting options) (counting others)
-    counted = record { input = same.input; header = same.header; limit = same.limit; counts = refl; columns = same.columns; dropped = same.dropped; right = same.right; left = same.left; look = same.look }
+    counted = record { input = same.input; header = same.header; limit = same.limit; counts = refl; numbers = same.numbers; columns = same.columns; dropped = same.dropped; right = same.right; left = same.left; look = same.look }
 
     any : (rs : List (List Text)) → RendersAnyRecords (counting options) rs output → RendersAnyRecords (counting others) rs other → output ≡ other
     any [] nothing also = nothing ∙ sym also

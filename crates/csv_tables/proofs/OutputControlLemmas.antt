@@ -33,6 +33,7 @@ use Rattle.csv_tables.specs.declared.options.Look.{Look}
 use Rattle.csv_tables.specs.declared.options.Options.{Options}
 use Rattle.csv_tables.proofs.BuiltLemmas.{Built, EachOf, each_content, plain_table}
 use Rattle.csv_tables.proofs.FieldLemmas.{number_is_printable, printable_unbroken}
+use Rattle.csv_tables.proofs.NumberedLemmas.{text_beside}
 use Rattle.csv_tables.proofs.LineLemmas.{drawn, never_expanded, with_lines}
 use Rattle.csv_tables.proofs.OutputLemmas.{markdown_unbroken}
 use Rattle.csv_tables.proofs.SeparatorLemmas.{condensed-all, separated}
@@ -133,7 +134,7 @@ module _ (look : Look) (is : IsLookWithoutControls look) (content : ContentValue
   built_output : (is_expanded : Bool) → Built look (IsClearRow look.has_sequences) content (plain_table is_expanded look content)
   built_output is_expanded =
       table_of_texts (IsClearLine look.has_sequences) (empty_line look.has_sequences) look (IsClearRow look.has_sequences) (clear_rows look) content each
-      (λ at. clear_field look is.cleaned (decimal (at + 1)) (IsUtf8-printable (decimal (at + 1)) (number_is_printable (at + 1)))) is_expanded
+      (λ number. clear_field look is.cleaned (decimal number) (IsUtf8-printable (decimal number) (number_is_printable number))) is_expanded
 
 pub free_output : (look : Look) → IsLookWithoutControls look → (content : ContentValue) → EachOf AllText content → (is_expanded has : Bool) → IsFreeOfControls (separated_table has (output_table is_expanded look content))
 free_output look is content text is_expanded has =
@@ -321,7 +322,7 @@ free_markdown look cleaned content text = free_rows (markdown_look look) (record
 markdown_is_clear : (options : Options) (records : List (List Text)) (output : Text) → IsLookWithoutControls options.look → All AllText records → (made : RendersRecords options records output) → RendersAsMarkdown options.look made.content made.text → options.look.is_markdown ≡ true → HasNoStrayControl (visible_text output)
 markdown_is_clear options records output look text made drawn is =
     let rule = rule_line made.content.columns (max_content_widths (markdown_table options.look made.content)) in
-    let own = each_content AllText options records made.content made.is_content text in
+    let own = each_content AllText text_beside options records made.content made.is_content text in
     output_of_clear options records output (below_first rule drawn.lines) (record { content = made.content; is_content = made.is_content; is_expanded = false; expansion = never_expanded options.look made.content is; text = made.text; has_lines = markdown_lines_of options.look made.content made.text drawn; joined = made.joined })
     (each_below_first IsClear rule drawn.lines (rule_is_clear made.content.columns _)
     (drawn.drawing.controls.without_controls (free_markdown options.look look.cleaned made.content own)))
@@ -329,7 +330,7 @@ markdown_is_clear options records output look text made drawn is =
 table_is_clear : (options : Options) (records : List (List Text)) (output : Text) → IsLookWithoutControls options.look → All AllText records → (made : RendersRecords options records output) → RendersAsTable options.look made.content made.text → options.look.is_markdown ≡ false → HasNoStrayControl (visible_text output)
 table_is_clear options records output look text made drawn_text none =
     let has = drawn_text.drawn.has_separators in
-    let own = each_content AllText options records made.content made.is_content text in
+    let own = each_content AllText text_beside options records made.content made.is_content text in
     output_of_clear options records output (drawn options records output made drawn_text none) (with_lines options records output made drawn_text none (unbroken_without options.look.style look.style))
     (drawn_text.drawn.is_arranged.headline.controls.without_controls (free_output options.look look made.content own drawn_text.is_expanded has))
 

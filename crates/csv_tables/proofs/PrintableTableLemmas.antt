@@ -1,5 +1,5 @@
 -- Fields of printable ASCII make a table of printable ASCII.
-use Rattle.std.proofs.Common.{◌≡◌, ℕ, ◌+◌, decimal, Bool, true, false, List, Option, Some, None, refl, ap, sym, subst, ◌∙◌, unwrap_or}
+use Rattle.std.proofs.Common.{◌≡◌, ℕ, Bool, true, false, List, Option, Some, None, refl, ap, sym, subst, ◌∙◌, unwrap_or}
 use Rattle.std.specs.Int.{is_in_range}
 use Rattle.std.specs.List.{All, slice_get}
 use Rattle.std.proofs.lemmas.List.Elements.{All-weaker}
@@ -12,7 +12,8 @@ use Rattle.comfy_table.specs.Lines.{cell_delimiter, fitting_indicator}
 use Rattle.comfy_table.specs.Pieces.{shown_infos}
 use Rattle.comfy_table.specs.TableValue.{TableValue, column_cells, measured_rows, shown_columns}
 use Rattle.csv_tables.proofs.BuiltLemmas.{Built, EachOf, each_content, made_of, plain_table}
-use Rattle.csv_tables.proofs.FieldLemmas.{fields_stay, number_is_printable}
+use Rattle.csv_tables.proofs.FieldLemmas.{fields_stay}
+use Rattle.csv_tables.proofs.NumberedLemmas.{HoldsOfShort, lines_beside, number_drawn}
 use Rattle.csv_tables.proofs.LineLemmas.{kept_setting}
 use Rattle.csv_tables.proofs.SeenLemmas.{fitting_ellipsis_adds}
 use Rattle.csv_tables.proofs.StraightLemmas.{IsDefaultRowOf, IsSeenTable, default_rows_of, seen_all, seen_table}
@@ -57,6 +58,9 @@ module _ (look : Look) (no_sequences : look.has_sequences ≡ false) (content : 
       (λ row. All-every (AddsOneColumnEachWhereWritten table row) (shown_infos (infos_of table widths))
       (λ p cell h found limited more. subst (λ (t : Text). AddsOneColumnEach (fitting_indicator p.1.content_width t)) (sym (ap (λ (t : TableValue). t.indicator) (drawn-is look IsBareRow content table known))) (fitting_ellipsis_adds p.1.content_width)))
 
+gives : HoldsOfShort IsPrintable
+gives text printable few = printable
+
 module _ (look : Look) (no_sequences : look.has_sequences ≡ false) (content : ContentValue) (each : EachOf (All (EachLine IsPrintable look)) content) where
   of_drawn : (table : TableValue) (widths : List ℕ) → IsDrawn look IsBareRow content table → IsPrintableTable table widths
   of_drawn table widths known = record { printable_cells = printable_cells look no_sequences content table known; indicator_adds_one_column_each = cut_cells look no_sequences content table known widths }
@@ -66,12 +70,12 @@ module _ (look : Look) (no_sequences : look.has_sequences ≡ false) (content : 
       of_drawn (rows_table look content) widths (drawn_plain look IsBareRow content (rows_table look content) (rows_of_texts IsPrintable refl look IsBareRow (default_rows_of IsPrintable refl look) content each))
 
   built_output : (is_expanded : Bool) → Built look IsBareRow content (plain_table is_expanded look content)
-  built_output is_expanded = table_of_texts IsPrintable refl look IsBareRow (default_rows_of IsPrintable refl look) content each (λ at. fields_stay look (decimal (at + 1)) (number_is_printable (at + 1))) is_expanded
+  built_output is_expanded = table_of_texts IsPrintable refl look IsBareRow (default_rows_of IsPrintable refl look) content each (number_drawn IsPrintable gives look) is_expanded
 
 pub printable_table : (options : Options) (records : List (List Text)) (table : TableValue) (widths : List ℕ) → PrintableTextsMakePrintableTable options records table widths
 printable_table options records table widths no_sequences each is =
     let made = made_of (rows_table options.look) (content_of options records) table is in
-    subst (λ t. IsPrintableTable t widths) made.2 (printable_rows options.look no_sequences made.0 (each_content (All (EachLine IsPrintable options.look)) options records made.0 made.1 each) widths)
+    subst (λ t. IsPrintableTable t widths) made.2 (printable_rows options.look no_sequences made.0 (each_content (All (EachLine IsPrintable options.look)) (lines_beside IsPrintable gives options.look) options records made.0 made.1 each) widths)
 
 -- the lines of an output of such records are counted
 pub lines_have : (P : TableValue → ℕ → Type 0) (visible : Bool) (options : Options) (records : List (List Text)) (output : Text) → PrintableLinesHave P visible options records output
@@ -85,7 +89,7 @@ lines_have P visible options records output has plain each = by_table has.is_tab
 
     texts : EachOf (All (EachLine IsPrintable look)) content
     texts =
-        each_content (All (EachLine IsPrintable look)) options records content has.is_output.is_content
+        each_content (All (EachLine IsPrintable look)) (lines_beside IsPrintable gives look) options records content has.is_output.is_content
         (All-weaker (All IsPrintable) (All (EachLine IsPrintable look)) (λ fields own. All-weaker IsPrintable (EachLine IsPrintable look) (fields_stay look) fields own) records each)
 
     separated_texts : (separators : Bool) → EachOf (All (EachLine IsPrintable (separated separators look))) content

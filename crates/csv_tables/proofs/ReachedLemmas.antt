@@ -60,6 +60,17 @@ module _ (fields : List Text) where
   none-reached [] none = refl
   none-reached (column ∷ columns) none = rw none refl
 
+  -- without the first column, those behind it are reached as before
+  pub reached-behind : (columns : List DrawnColumn) → drop 1 (reached fields columns) ≡ reached fields (drop 1 columns)
+  reached-behind [] = refl
+  reached-behind (column ∷ columns) = by_any (list_any (has_field fields) (column ∷ columns)) refl
+    where
+      by_any : (b : Bool) → list_any (has_field fields) (column ∷ columns) ≡ b → drop 1 (reached fields (column ∷ columns)) ≡ reached fields columns
+      by_any true is = rw is refl
+      by_any false is =
+          let parts = or_parts (has_field fields column) (list_any (has_field fields) columns) is in
+          rw is (sym (none-reached columns parts.1))
+
   -- where one is held from a column on, that column is reached
   pub reached-more : (columns : List DrawnColumn) (k : ℕ) → k < length columns → list_any (has_field fields) (drop k columns) ≡ true
       → take k columns ++ reached fields (drop k columns) ≡ take (suc k) columns ++ reached fields (drop (suc k) columns)

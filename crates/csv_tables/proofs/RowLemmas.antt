@@ -5,10 +5,11 @@ use Rattle.std.proofs.lemmas.List.{length-map}
 use Rattle.comfy_parts.specs.CellValue.{RowValue}
 use Rattle.comfy_parts.specs.Text.{Text}
 use Rattle.comfy_table.specs.TableValue.{TableValue, with_row, with_rows}
+use Rattle.csv_tables.proofs.BesideLemmas.{beside-length}
 use Rattle.csv_tables.proofs.BuiltLemmas.{made_of}
 use Rattle.csv_tables.specs.Cells.{row_for}
 use Rattle.csv_tables.specs.Columns.{ColumnFault, at_two_sides, columns_for, columns_with, drawn_columns, placed_columns, seen}
-use Rattle.csv_tables.specs.Drawn.{ContentValue, content_of, content_with, drawn_rows, headed_table, names_of, rows_table}
+use Rattle.csv_tables.specs.Drawn.{ContentValue, columns_beside, content_of, content_with, drawn_rows, headed_table, names_beside, names_of, rows_beside, rows_table}
 use Rattle.csv_tables.specs.Laws.{TableKeepsRows}
 use Rattle.csv_tables.specs.declared.options.Look.{Look}
 use Rattle.csv_tables.specs.declared.options.Options.{Options}
@@ -49,7 +50,11 @@ keeps_rows options records table is =
     let names = unwrap_or (names_of options.selection.has_header records) [] in
     let rows = drawn_rows options records in
     let found = made_of (content_with options records) (columns_for options names rows) made.0 made.1 in
-    let same : table.rows ≡ map (row_for look found.0) rows =
-    ap (λ (t : TableValue). t.rows) (sym made.2) ∙ ap (λ (c : ContentValue). (rows_table look c).rows) (sym found.2) ∙ with_rows-rows (map (row_for look found.0) rows) (headed_table look found.0 (names_of options.selection.has_header records))
-    ∙ ap (λ (t : List RowValue). t ++ map (row_for look found.0) rows) (headed-rows look found.0 (names_of options.selection.has_header records)) in
-    record { columns = found.0; rows = same; as_many = ap length same ∙ length-map rows (row_for look found.0); chosen = chosen names (map (seen look.has_sequences) rows) _ _ _ found.0 found.1 }
+    let beside = options.selection.is_numbered in
+    let columns = columns_beside beside found.0 in
+    let head = headed_table look columns (names_beside beside (names_of options.selection.has_header records)) in
+    let shown = map (row_for look columns) (rows_beside beside rows) in
+    let same : table.rows ≡ shown =
+    ap (λ (t : TableValue). t.rows) (sym made.2) ∙ ap (λ (c : ContentValue). (rows_table look c).rows) (sym found.2) ∙ with_rows-rows shown head
+    ∙ ap (λ (t : List RowValue). t ++ shown) (headed-rows look columns (names_beside beside (names_of options.selection.has_header records))) in
+    record { columns = found.0; rows = same; as_many = ap length same ∙ length-map (rows_beside beside rows) (row_for look columns) ∙ beside-length beside rows; chosen = chosen names (map (seen look.has_sequences) rows) _ _ _ found.0 found.1 }

@@ -1,5 +1,5 @@
 -- Tables with the lines between their rows, and without them.
-use Rattle.std.proofs.Common.{◌≡◌, ℕ, Bool, true, false, List, [], ◌∷◌, Option, Some, None, flat_map, map, drop, take, refl, sym, ap, unwrap_or, ◌∙◌}
+use Rattle.std.proofs.Common.{◌≡◌, ℕ, Bool, true, false, List, [], ◌∷◌, Option, Some, None, flat_map, map, drop, take, refl, sym, ap, ◌∙◌}
 use Rattle.std.specs.List.{All}
 use Rattle.std.proofs.lemmas.List.Elements.{All-append, All-cons, All-drop, All-take}
 use Rattle.comfy_parts.proofs.CallerLemmas.{frame_adds}
@@ -12,7 +12,7 @@ use Rattle.csv_tables.specs.Cells.{row_for}
 use Rattle.csv_tables.specs.declared.options.DrawnColumn.{DrawnColumn}
 use Rattle.csv_tables.specs.declared.options.Look.{Look}
 use Rattle.csv_tables.proofs.BuiltLemmas.{plain_table}
-use Rattle.csv_tables.specs.Drawn.{ContentValue, condensed_style, empty_table, headed_table, pairs_of, separated_table}
+use Rattle.csv_tables.specs.Drawn.{ContentValue, condensed_style, empty_table, headed_table, pairs_in, separated_table}
 
 -- a look with these lines, or without them
 abbrev pub separated : Bool → Look → Look
@@ -51,7 +51,7 @@ module _ (look : Look) (content : ContentValue) where
   -- the table of some records, with the lines or without them, is that of the look for it
   pub restyled : (is_expanded has : Bool) → plain_table is_expanded (separated has look) content ≡ separated_table has (plain_table is_expanded look content)
   restyled is_expanded true = refl
-  restyled true false = sym (condensed-rows (flat_map (pairs_of look content.columns (unwrap_or content.names [])) content.rows) (empty_table look))
+  restyled true false = sym (condensed-rows (flat_map (pairs_in look content) content.rows) (empty_table look))
   restyled false false =
       let rows = map (row_for look content.columns) content.rows in
       sym (condensed-rows rows (headed_table look content.columns content.names) ∙ ap (with_rows rows) (condensed-headed content.columns content.names))

@@ -1,12 +1,12 @@
 -- What is visible of the lines of an output is equally wide.
-use Rattle.std.proofs.Common.{◌≡◌, ℕ, ◌≤◌, ◌+◌, ◌⊎◌, Bool, true, false, List, [], ◌∷◌, Option, Some, None, Ok, All, arith, decimal, inl, inr, length, map, max, option_map, slice_index_or, unwrap_or, ap, refl, subst, sym, ◌∙◌}
+use Rattle.std.proofs.Common.{◌≡◌, ℕ, ◌≤◌, ◌⊎◌, Bool, true, false, List, [], ◌∷◌, Option, Some, None, Ok, All, arith, decimal, inl, inr, map, max, option_map, slice_index_or, unwrap_or, ap, refl, subst, sym, ◌∙◌}
 use Rattle.std.proofs.lemmas.List.Elements.{All-cons, All-map, All-nil, All-weaker}
 use Rattle.std.proofs.lemmas.Str.{chars-nil}
 use Rattle.cluster_width.specs.ClusterSums.{selectors_agree}
 use Rattle.comfy_parts.proofs.CallerLemmas.{All-at, All-every, frame_adds, measure-nil, measure-printable}
 use Rattle.comfy_parts.specs.CellValue.{CellValue, ColumnInfo, ColumnValue, RowValue, plain_cell}
 use Rattle.comfy_parts.specs.Columns.{AddsOneColumn, CharactersFit, IsApart, IsOneColumnStyle, SelectorsAgree}
-use Rattle.comfy_parts.specs.Text.{Text, is_printable_ascii, measure}
+use Rattle.comfy_parts.specs.Text.{Text, measure}
 use Rattle.comfy_parts.specs.VisibleText.{visible_text}
 use Rattle.comfy_table.proofs.ControlLemmas.{free_of_escapes}
 use Rattle.comfy_table.proofs.FittingTableLemmas.{fitting_tables_are_straight}
@@ -23,7 +23,7 @@ use Rattle.comfy_table.specs.Pieces.{shown_infos}
 use Rattle.comfy_table.specs.Straight.{EachCell, IsStraightTable, TextsFit}
 use Rattle.comfy_table.specs.TableValue.{TableValue, measured_rows, should_style, table_width}
 use Rattle.csv_tables.proofs.BuiltLemmas.{EachOf, each_content}
-use Rattle.csv_tables.proofs.FieldLemmas.{number_lines}
+use Rattle.csv_tables.proofs.NumberedLemmas.{HoldsOfShort, lines_beside, number_drawn, text_beside}
 use Rattle.csv_tables.proofs.LineLemmas.{drawn, drawn_table, expansion, is_table_text, kept_setting, with_lines}
 use Rattle.csv_tables.proofs.OutputControlLemmas.{free_output}
 use Rattle.csv_tables.proofs.SeenLemmas.{ellipsis_is_apart, fitting_agree, printable_fits, wider_column}
@@ -66,14 +66,10 @@ any_content : (look : Look) (content : ContentValue) → EachOf (All (EachLine I
 any_content look content =
     record { names = λ names is. All-every (EachLine IsAny look) names (any_line look); rows = All-every (All (EachLine IsAny look)) content.rows (λ fields. All-every (EachLine IsAny look) fields (any_line look)) }
 
--- what printable ASCII of at most 64 characters meets, a number does
-each_number : (P : Text → Type 0) → ((text : Text) → is_printable_ascii text ≡ true → length text ≤ 64 → P text) → (look : Look) → look.is_markdown ≡ false → (n : ℕ) → EachLine P look (decimal n)
-each_number P gives look none n = All-weaker (λ text. (is_printable_ascii text ≡ true) × (length text ≤ 64)) P (λ text is. gives text is.0 is.1) _ (number_lines look none n)
-
-short_printable : (text : Text) → is_printable_ascii text ≡ true → length text ≤ 64 → IsShort text
+pub short_printable : HoldsOfShort IsShort
 short_printable text printable few = rw (measure-printable text printable) (omega (arith, few))
 
-whole_printable : (limit : Option ℕ) (text : Text) → is_printable_ascii text ≡ true → length text ≤ 64 → IsWholeText limit text
+whole_printable : (limit : Option ℕ) → HoldsOfShort (IsWholeText limit)
 whole_printable limit text printable few = (short_printable text printable few, inr (fitting_agree 1 text (printable_fits text printable)))
 
 -- ---- rows
@@ -264,16 +260,12 @@ each_separated : (P : Text → Type 0) (look : Look) (has : Bool) (content : Con
 each_separated P look true content each = each
 each_separated P look false content each = each
 
-no_markdown : (has : Bool) (look : Look) → look.is_markdown ≡ false → (separated has look).is_markdown ≡ false
-no_markdown true look none = none
-no_markdown false look none = none
-
 -- the drawn table is seen as its lines are
 pub seen_table : (options : Options) (records : List (List Text)) (content : ContentValue) → content_of options records ≡ Ok content → (is_expanded has visible : Bool) → AreSeen visible options.look records
     → IsSeenTable visible (separated has options.look) (separated_table has (output_table is_expanded options.look content))
 seen_table options records content is is_expanded true false plain = plain
 seen_table options records content is is_expanded false false plain = plain
-seen_table options records content is is_expanded has true (clear, text) = free_output options.look clear content (each_content AllText options records content is text) is_expanded has
+seen_table options records content is is_expanded has true (clear, text) = free_output options.look clear content (each_content AllText text_beside options records content is text) is_expanded has
 
 -- short texts, whose selectors agree where texts are cut
 whole_texts : (look : Look) (records : List (List Text)) → EachText IsShort look records → CanBeCut look records → EachText (IsWholeText look.max_height) look records
@@ -309,10 +301,10 @@ module _ (visible : Bool) (options : Options) (records : List (List Text)) (outp
   seen = seen_table options records made.content made.is_content text.is_expanded has visible plain.seen
 
   -- the drawn table, of rows of which Q holds
-  of_texts : (P : Text → Type 0) (empty : P []) (Q : RowValue → Type 0) → MakesRows P empty own Q → EachText P look records → ((n : ℕ) → EachLine P own (decimal n)) → IsDrawn own Q made.content table
-  of_texts P empty Q makes each numbers =
+  of_texts : (P : Text → Type 0) (empty : P []) (Q : RowValue → Type 0) → MakesRows P empty own Q → EachText P look records → HoldsOfShort P → IsDrawn own Q made.content table
+  of_texts P empty Q makes each gives =
       drawn_table-is look Q made.content text.is_expanded has
-      (table_of_texts P empty own Q makes made.content (each_separated P look has made.content (each_content (All (EachLine P look)) options records made.content made.is_content each)) (λ at. numbers (at + 1)) text.is_expanded)
+      (table_of_texts P empty own Q makes made.content (each_separated P look has made.content (each_content (All (EachLine P look)) (lines_beside P gives look) options records made.content made.is_content each)) (number_drawn P gives own) text.is_expanded)
 
   -- the output is straight where its table is
   straight : (Q : RowValue → Type 0) → IsDrawn own Q made.content table → IsStraightTable table headline.widths → IsStraightOutput visible options records output
@@ -331,7 +323,7 @@ rows_are_straight visible options records output none characters plain no_width 
     let own = separated separators options.look in
     let known =
     of_texts visible options records output none characters plain made (IsWholeText limit) (empty_is_whole limit) IsWholeRow (whole_rows limit own (kept_setting (λ l. l.max_height) options.look refl separators limit refl))
-    (whole_texts options.look records short cut) (each_number (IsWholeText limit) (whole_printable limit) own (no_markdown separators options.look none)) in
+    (whole_texts options.look records short cut) (whole_printable limit) in
     straight visible options records output none characters plain made IsWholeRow known
     (whole own (unkept visible options records output none characters plain made) (separated_is_one_column separators options.look characters) made.content _ _ (headline visible options records output none characters plain made) known
     (kept_setting (λ l. l.width) options.look refl separators None no_width))
@@ -343,7 +335,7 @@ narrow_is_straight visible options records output none characters plain each mad
     let empty : CharactersFit 1 [] = printable_fits [] refl in
     let known =
     of_texts visible options records output none characters plain made (CharactersFit 1) empty (IsDefaultRowOf (CharactersFit 1)) (default_rows_of (CharactersFit 1) empty own) each
-    (each_number (CharactersFit 1) (λ text printable few. printable_fits text printable) own (no_markdown separators options.look none)) in
+    (λ text printable few. printable_fits text printable) in
     straight visible options records output none characters plain made (IsDefaultRowOf (CharactersFit 1)) known
     (narrow own (unkept visible options records output none characters plain made) (separated_is_one_column separators options.look characters) made.content _ _ (headline visible options records output none characters plain made) known)
 
@@ -355,7 +347,7 @@ fitting_is_straight visible options records output none characters plain fits ma
     let text = is_table_text options records output made none in
     let known =
     drawn_table-is options.look IsDefaultRow made.content text.is_expanded separators
-    (table_of_texts IsAny tt own IsDefaultRow (default_rows own) made.content (any_content own made.content) (λ at. any_line own (decimal (at + 1))) text.is_expanded) in
+    (table_of_texts IsAny tt own IsDefaultRow (default_rows own) made.content (any_content own made.content) (λ number. any_line own (decimal number)) text.is_expanded) in
     straight visible options records output none characters plain made IsDefaultRow known
     (fitting own (unkept visible options records output none characters plain made) (separated_is_one_column separators options.look characters) made.content _ _ drawing IsDefaultRow known (λ row is. is)
     (fits made.content (drawn_table options records output made text none) drawing.widths made.is_content (separators, ap (λ e. separated_table separators (output_table e options.look made.content)) (expansion options records output made text none)) drawing.arranged))
@@ -379,9 +371,9 @@ narrow_lines_have P visible options records output has none characters plain eac
         let wide = separated_is_one_column separators look characters in
         let empty : CharactersFit 1 [] = printable_fits [] refl in
         let seen = subst (IsSeenTable visible own) (sym is) (seen_table options records content has.is_output.is_content is_expanded separators visible plain.seen) in
-        let texts = each_separated (CharactersFit 1) look separators content (each_content (All (EachLine (CharactersFit 1) look)) options records content has.is_output.is_content each) in
-        let numbers = each_number (CharactersFit 1) (λ text printable few. printable_fits text printable) own (no_markdown separators look none) in
-        let built = table_of_texts (CharactersFit 1) empty own Q (default_rows_of (CharactersFit 1) empty own) content texts (λ at. numbers (at + 1)) is_expanded in
+        let gives : HoldsOfShort (CharactersFit 1) = λ text printable few. printable_fits text printable in
+        let texts = each_separated (CharactersFit 1) look separators content (each_content (All (EachLine (CharactersFit 1) look)) (lines_beside (CharactersFit 1) gives look) options records content has.is_output.is_content each) in
+        let built = table_of_texts (CharactersFit 1) empty own Q (default_rows_of (CharactersFit 1) empty own) content texts (number_drawn (CharactersFit 1) gives own) is_expanded in
         let known = subst (IsDrawn own Q content) (sym is) (drawn_table-is look Q content is_expanded separators built) in
         seen_all own unkept content has.table has.lines has.drawing Q known visible seen (λ line. P has.table (measure line))
         (has.counts.straight_lines (narrow own unkept wide content has.table has.lines has.drawing known))

@@ -8,8 +8,8 @@ use Rattle.comfy_parts.specs.CellValue.{CellValue, RowValue, plain_cell}
 use Rattle.comfy_parts.specs.Text.{Text}
 use Rattle.csv_tables.proofs.BuiltLemmas.{Built, EachOf, blank_drawn, built, built_rows, each_field, each_name, plain_table}
 use Rattle.csv_tables.specs.Cells.{cell_for, cells_for, field_text, field_or_blank, header_for, held, pair_for, row_for, with_weight}
-use Rattle.csv_tables.specs.Columns.{name_at}
-use Rattle.csv_tables.specs.Drawn.{ContentValue, pairs_of, rows_table}
+use Rattle.csv_tables.specs.Columns.{name_from}
+use Rattle.csv_tables.specs.Drawn.{ContentValue, first_number, pair_columns, pairs_in, rows_table}
 use Rattle.csv_tables.specs.declared.options.Look.{Look}
 use Rattle.csv_tables.specs.declared.options.DrawnColumn.{DrawnColumn}
 
@@ -53,19 +53,20 @@ module _ (P : Text → Type 0) (empty : P []) (look : Look) where
     pub rows_of_texts : Built look Q content (rows_table look content)
     rows_of_texts = built_rows look Q content (λ n is. makes.header content.columns n (each.names n is)) rows
 
-    named : (names : Option (List Text)) → ((n : List Text) → names ≡ Some n → All (EachLine P look) n) → ((at : ℕ) → EachLine P look (decimal (at + 1))) → (at : ℕ) → EachLine P look (name_at (unwrap_or names []) at)
-    named None own numbers at = each_name (EachLine P look) [] at (numbers at) (All-nil (EachLine P look))
-    named (Some n) own numbers at = each_name (EachLine P look) n at (numbers at) (own n refl)
+    named : (names : Option (List Text)) → ((n : List Text) → names ≡ Some n → All (EachLine P look) n) → ((number : ℕ) → EachLine P look (decimal number)) → (first at : ℕ) → EachLine P look (name_from first (unwrap_or names []) at)
+    named None own numbers first at = each_name (EachLine P look) first [] at (numbers (at + first)) (All-nil (EachLine P look))
+    named (Some n) own numbers first at = each_name (EachLine P look) first n at (numbers (at + first)) (own n refl)
 
-    pairs : ((at : ℕ) → EachLine P look (decimal (at + 1))) → (fields : List Text) → All (EachLine P look) fields → All Q (pairs_of look content.columns (unwrap_or content.names []) fields)
+    pairs : ((number : ℕ) → EachLine P look (decimal number)) → (fields : List Text) → All (EachLine P look) fields → All Q (pairs_in look content fields)
     pairs numbers fields own =
         let names = unwrap_or content.names [] in
-        All-map Q (λ (column : DrawnColumn). pair_for look (name_at names column.position) (field_or_blank fields column.position)) (held fields content.columns)
-        (All-every (λ (column : DrawnColumn). Q (pair_for look (name_at names column.position) (field_or_blank fields column.position))) (held fields content.columns)
-        (λ column. makes.pair (name_at names column.position) (field_or_blank fields column.position) (named content.names each.names numbers column.position) (each_field (EachLine P look) blank fields column.position own)))
+        let first = first_number content in
+        All-map Q (λ (column : DrawnColumn). pair_for look (name_from first names column.position) (field_or_blank fields column.position)) (held fields (pair_columns content))
+        (All-every (λ (column : DrawnColumn). Q (pair_for look (name_from first names column.position) (field_or_blank fields column.position))) (held fields (pair_columns content))
+        (λ column. makes.pair (name_from first names column.position) (field_or_blank fields column.position) (named content.names each.names numbers first column.position) (each_field (EachLine P look) blank fields column.position own)))
 
     -- and of expanded records, where P holds of the numbers that stand for missing names
-    pub table_of_texts : ((at : ℕ) → EachLine P look (decimal (at + 1))) → (is_expanded : Bool) → Built look Q content (plain_table is_expanded look content)
+    pub table_of_texts : ((number : ℕ) → EachLine P look (decimal number)) → (is_expanded : Bool) → Built look Q content (plain_table is_expanded look content)
     table_of_texts numbers is_expanded =
         built look Q content is_expanded (λ n is. makes.header content.columns n (each.names n is)) rows
-        (All-weaker (All (EachLine P look)) (λ fields. All Q (pairs_of look content.columns (unwrap_or content.names []) fields)) (pairs numbers) content.rows each.rows)
+        (All-weaker (All (EachLine P look)) (λ fields. All Q (pairs_in look content fields)) (pairs numbers) content.rows each.rows)

@@ -207,9 +207,14 @@ drawn_columns right left rows positions =
       alignment = alignment_for right left (is_number_column rows p) p;
     }) positions
 
--- the name of the column at a position, or its number where there is no header
+-- the name of the column at a position, or its number where there is no header and the first has
+-- this one
+abbrev pub name_from : ℕ → List Text → ℕ → Text
+name_from first names position = unwrap_or (field_at names position) (decimal (position + first))
+
+-- so where they are counted from 1
 abbrev pub name_at : List Text → ℕ → Text
-name_at names position = unwrap_or (field_at names position) (decimal (position + 1))
+name_at names position = name_from 1 names position
 
 -- the first column at the right that is at the left too
 abbrev pub at_two_sides : List ℕ → List ℕ → Option ℕ

@@ -1,9 +1,10 @@
 -- What is drawn of some records, and what is written of it.
-use Rattle.std.specs.Prelude.{ℕ, zero, suc, ◌+◌, Bool, true, false, not, ◌&&◌, ◌≡◌, nat_lt, List, [], ◌∷◌, ◌++◌, Option, Some, None, Result, Ok, Err, codes, decimal, drop, flat_map, length, map, slice_get, slice_index_or, sum_by, take, unwrap_or, if◌then◌else◌, ◌⊎◌}
+use Rattle.std.specs.Prelude.{ℕ, zero, suc, ◌+◌, Bool, true, false, not, ◌&&◌, ◌≡◌, nat_lt, List, [], ◌∷◌, ◌++◌, Option, Some, None, Result, Ok, Err, codes, decimal, drop, flat_map, length, map, option_map, slice_get, slice_index_or, sum_by, take, unwrap_or, if◌then◌else◌, ◌⊎◌}
 use Rattle.std.specs.List.{list_any, range_with_len}
 use Rattle.comfy_parts.specs.CellValue.{RowValue}
 use Rattle.comfy_parts.specs.Presets.{ascii_markdown}
 use Rattle.comfy_parts.specs.Text.{Text}
+use Rattle.comfy_parts.specs.declared.style.cell.CellAlignment.TheVariants.{Right}
 use Rattle.comfy_parts.specs.declared.style.table.ContentArrangement.{ContentArrangement}
 use Rattle.comfy_parts.specs.declared.style.table.ContentArrangement.TheVariants.{Disabled, Dynamic, DynamicFullWidth}
 use Rattle.comfy_parts.specs.declared.style.table_style.TableStyle.{TableStyle}
@@ -14,7 +15,8 @@ use Rattle.comfy_table.specs.Parts.{ArrangedValue, IsArrangedTable, part_lines, 
 use Rattle.comfy_table.specs.Pieces.{row_height}
 use Rattle.comfy_table.specs.TableValue.{TableValue, max_content_widths, new_table, with_header, with_rows}
 use Rattle.csv_tables.specs.Cells.{field_or_blank, header_for, held, pair_for, row_for}
-use Rattle.csv_tables.specs.Columns.{ColumnFault, columns_for, name_at}
+use Rattle.csv_tables.specs.Columns.{ColumnFault, columns_for, name_from}
+use Rattle.csv_records.specs.Numbered.{behind_mark, numbered_from}
 use Rattle.csv_records.specs.Beginning.{IsEnough}
 use Rattle.csv_records.specs.Reading.{AreRecordsFor}
 use Rattle.devices.specs.Outcome.{Beginning, Extent, Whole}
@@ -47,13 +49,35 @@ records_below has_header records = if has_header then drop 1 records else record
 abbrev pub most_drawn : Bool → ℕ → ℕ
 most_drawn has_header limit = if has_header then limit + 1 else limit
 
--- what is drawn of some records: names, where there are any, rows, and columns of them; and how
--- many records stand below the header, where that is known
+-- ---- numbers
+
+-- names behind that of the column of numbers, where that is drawn
+abbrev pub names_beside : Bool → Option (List Text) → Option (List Text)
+names_beside is_numbered names = if is_numbered then option_map behind_mark names else names
+
+-- rows behind their numbers, where these are drawn
+abbrev pub rows_beside : Bool → List (List Text) → List (List Text)
+rows_beside is_numbered rows = if is_numbered then numbered_from 1 rows else rows
+
+-- columns beside that of numbers, which stands at the right, where it is drawn
+abbrev pub columns_beside : Bool → List DrawnColumn → List DrawnColumn
+columns_beside is_numbered columns =
+    if is_numbered
+    then record { position = 0; alignment = Some Right }
+    ∷ map (λ (column : DrawnColumn). record column { position = column.position + 1 }) columns
+    else columns
+
+-- ---- contents
+
+-- what is drawn of some records: names, where there are any, rows, and columns of them; how many
+-- records stand below the header, where that is known; and whether the first column is that of
+-- numbers
 pub record ContentValue : Type 0 where
   pub names : Option (List Text)
   pub rows : List (List Text)
   pub columns : List DrawnColumn
   pub count : Option ℕ
+  pub is_numbered : Bool
 
 -- what is made of a value, where there is one
 abbrev pub ok_map : {A B E : Type 0} → (A → B) → Result A E → Result B E
@@ -74,13 +98,17 @@ count_below options records =
 abbrev pub content_with : Options → List (List Text) → List DrawnColumn → ContentValue
 content_with options records columns =
     record {
-      names = names_of options.selection.has_header records;
-      rows = drawn_rows options records;
-      columns = columns;
+      names =
+          names_beside options.selection.is_numbered
+          (names_of options.selection.has_header records);
+      rows = rows_beside options.selection.is_numbered (drawn_rows options records);
+      columns = columns_beside options.selection.is_numbered columns;
       count = count_below options records;
+      is_numbered = options.selection.is_numbered;
     }
 
--- what is drawn of some records, or a fault of the columns
+-- what is drawn of some records, or a fault of the columns, which are chosen before numbers stand
+-- beside them
 abbrev pub content_of : Options → List (List Text) → Result ContentValue ColumnFault
 content_of options records =
     ok_map (content_with options records)
@@ -127,17 +155,30 @@ rows_table look content =
 abbrev pub table_for : Options → List (List Text) → Result TableValue ColumnFault
 table_for options records = ok_map (rows_table options.look) (content_of options records)
 
--- the fields of one record, each below the one before, beside the names of their columns
-abbrev pub pairs_of : Look → List DrawnColumn → List Text → List Text → List RowValue
-pairs_of look columns names fields =
-    map (λ (column : DrawnColumn). pair_for look (name_at names column.position)
+-- the fields of one record, each below the one before, beside the names of their columns, of which
+-- the first has this number where there is no header
+abbrev pub pairs_of : Look → ℕ → List DrawnColumn → List Text → List Text → List RowValue
+pairs_of look first columns names fields =
+    map (λ (column : DrawnColumn). pair_for look (name_from first names column.position)
     (field_or_blank fields column.position)) (held fields columns)
+
+-- the columns of expanded records: their numbers stand above them
+abbrev pub pair_columns : ContentValue → List DrawnColumn
+pair_columns content = if content.is_numbered then drop 1 content.columns else content.columns
+
+-- the number of the first column, where that of numbers isn't counted
+abbrev pub first_number : ContentValue → ℕ
+first_number content = if content.is_numbered then 0 else 1
+
+-- the pairs of a record
+abbrev pub pairs_in : Look → ContentValue → List Text → List RowValue
+pairs_in look content fields =
+    pairs_of look (first_number content) (pair_columns content) (unwrap_or content.names []) fields
 
 -- the table of expanded records: so many rows for each
 abbrev pub pairs_table : Look → ContentValue → TableValue
 pairs_table look content =
-    with_rows (flat_map (pairs_of look content.columns (unwrap_or content.names [])) content.rows)
-    (empty_table look)
+    with_rows (flat_map (pairs_in look content) content.rows) (empty_table look)
 
 -- the table that is drawn, with all lines of its style: of expanded records, or of rows. Its
 -- numbers and dates aren't broken where there is room
@@ -215,9 +256,9 @@ abbrev pub record_line : ℕ → Option ℕ → Text
 record_line number count =
     (((codes "record " ++ decimal number) ++ codes " of ") ++ count_text count) ++ codes "\n"
 
--- how many fields of a record are drawn
+-- how many fields of an expanded record are drawn
 abbrev pub drawn_fields : ContentValue → List Text → ℕ
-drawn_fields content fields = length (held fields content.columns)
+drawn_fields content fields = length (held fields (pair_columns content))
 
 -- the lines of a part of a table, where it has a row
 abbrev pub some_lines : ArrangedValue → ℕ → ℕ → List Text

@@ -20,7 +20,7 @@ use Rattle.csv_tables.specs.Cells.{field_text, row_for}
 use Rattle.csv_records.specs.Cleaning.{visible_of}
 use Rattle.csv_tables.specs.Columns.{count_of, kept_columns}
 use Rattle.csv_tables.specs.Controls.{HasNoStrayControl, IsStyleWithoutControls}
-use Rattle.csv_tables.specs.Drawn.{ContentValue, RendersBeginning, RendersInput, RendersRecords, content_of, drawn_rows, is_expanded_for, names_of, note_for, output_table, record_line, separated_table, table_for}
+use Rattle.csv_tables.specs.Drawn.{ContentValue, RendersBeginning, RendersInput, RendersRecords, columns_beside, content_of, drawn_rows, is_expanded_for, names_of, note_for, output_table, record_line, rows_beside, separated_table, table_for}
 use Rattle.csv_tables.specs.Unbroken.{framed_width, is_unbroken, needed_content, unbroken_columns}
 use Rattle.csv.specs.Records.{AllText}
 use Rattle.csv_tables.specs.declared.options.Expansion.TheVariants.{Auto, Never}
@@ -30,12 +30,15 @@ use Rattle.csv_tables.specs.declared.options.DrawnColumn.{DrawnColumn}
 
 -- ---- rows
 
--- a row for each record that is drawn, in order, with the fields of the same columns, and these are
--- the chosen ones, less those that are left out
+-- a row for each record that is drawn, in order, behind its number where that is wanted, with the
+-- fields of the same columns, and these are the chosen ones, less those that are left out
 pub record KeepsRows (options : Options) (records : List (List Text))
     (table : TableValue) : Type 0 where
   pub columns : List DrawnColumn
-  pub rows : table.rows ≡ map (row_for options.look columns) (drawn_rows options records)
+  pub rows :
+      table.rows
+      ≡ map (row_for options.look (columns_beside options.selection.is_numbered columns))
+      (rows_beside options.selection.is_numbered (drawn_rows options records))
   pub as_many : length table.rows ≡ length (drawn_rows options records)
   pub chosen :
       kept_columns (unwrap_or (names_of options.selection.has_header records) [])

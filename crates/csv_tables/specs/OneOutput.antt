@@ -10,6 +10,7 @@ pub record AreSameOptions (options others : Options) : Type 0 where
   pub header : options.selection.has_header ≡ others.selection.has_header
   pub limit : options.selection.limit ≡ others.selection.limit
   pub counts : options.selection.counts_all ≡ others.selection.counts_all
+  pub numbers : options.selection.is_numbered ≡ others.selection.is_numbered
   pub columns :
       map string_bytes options.selection.columns.items
       ≡ map string_bytes others.selection.columns.items

@@ -7,7 +7,7 @@ ghost use Rattle.comfy_parts.specs.VisibleText.{visible_text};
 ghost use Rattle.csv.specs.Records.{field_at};
 ghost use Rattle.csv_tables.specs.Cells.{field_or_blank};
 ghost use Rattle.csv_tables.specs.declared.columns.FieldKind.TheVariants.{Neutral};
-ghost use Rattle.csv_tables.specs.Columns.{AreKindsOf, IsColumnsRefusal, alignment_for, at_two_sides, chosen_columns, column_of, columns_chosen, columns_for, count_of, drawn_columns, end_of, is_text, joined_kind, joined_kinds, kept_columns, kind_at, kind_of, name_at, numbered, position_named, positions_of, positions_of_word, range_at, range_of, seen, without};
+ghost use Rattle.csv_tables.specs.Columns.{AreKindsOf, IsColumnsRefusal, alignment_for, at_two_sides, chosen_columns, column_of, columns_chosen, columns_for, count_of, drawn_columns, end_of, is_text, joined_kind, joined_kinds, kept_columns, kind_at, kind_of, name_at, name_from, numbered, position_named, positions_of, positions_of_word, range_at, range_of, seen, without};
 
 use crate::error::ColumnsError;
 use crate::hints::hint_of;
@@ -60,13 +60,26 @@ fn at_two_sides(right: &[usize], left: &[usize]) -> Option<usize>
     None
 }
 
-/// The name of the column at a position, or its number where there is no header.
-pub fn name_at(alloc: Global, names: &Record<'_>, position: usize) -> Result<String, AllocError>
+// The name of the column at a position, or its number where there is no header.
+fn name_at(alloc: Global, names: &Record<'_>, position: usize) -> Result<String, AllocError>
     ensures { IfOk result (λ name. string_bytes name ≡ name_at names.now position) }
+{
+    name_from(alloc, 1, names, position)
+}
+
+/// The name of the column at a position, or its number where there is no header and the first
+/// column has this one.
+pub(crate) fn name_from(
+    alloc: Global,
+    first: usize,
+    names: &Record<'_>,
+    position: usize,
+) -> Result<String, AllocError>
+    ensures { IfOk result (λ name. string_bytes name ≡ name_from first names.now position) }
 {
     match names.get(position) {
         Some(name) => String::from_str(alloc, name),
-        None => format!(in alloc; "{}", position as u128 + 1),
+        None => format!(in alloc; "{}", position as u128 + first as u128),
     }
 }
 

@@ -1,14 +1,17 @@
 //! What is drawn of some records.
 
-ghost use Rattle.std.specs.Prelude.{◌≡◌, IfOk, IfErr, Ok, [], unwrap_or};
+ghost use Rattle.std.specs.Prelude.{◌≡◌, IfOk, IfErr, Ok, [], unwrap_or, if◌then◌else◌};
+ghost use Rattle.csv_records.specs.Numbered.{numbered};
 ghost use Rattle.csv_tables.specs.Columns.{IsColumnsRefusal};
 ghost use Rattle.csv_tables.specs.Cells.{reached};
-ghost use Rattle.csv_tables.specs.Drawn.{content_counted, content_of, drawn_fields, limited, names_of, records_below};
+ghost use Rattle.csv_tables.specs.Drawn.{columns_beside, content_counted, content_of, drawn_fields, first_number, limited, names_of, pair_columns, records_below};
+ghost use Rattle.csv_tables.specs.declared.error.ColumnsError.TheVariants.{OutOfMemory};
 ghost use Rattle.csv_tables.specs.Leasts.{least_positions};
 
 use crate::columns::columns_of;
 use crate::error::ColumnsError;
 use crate::options::{DrawnColumn, Options};
+use comfy_parts::style::CellAlignment;
 use csv_records::{Record, Records, Rows};
 use std::alloc::{AllocError, Global};
 use std::marker::Model;
@@ -26,6 +29,8 @@ pub struct Content {
     pub(crate) columns: Vec<DrawnColumn>,
     // of each column, the least position of it and of those behind it
     leasts: Vec<usize>,
+    // whether the first column is that of numbers
+    is_numbered: bool,
 }
 
 impl Model for Content {
@@ -42,6 +47,7 @@ impl Model for Content {
       rows = limited c.limit (records_below c.has_header c.records);
       columns = c.columns.items;
       count = c.count;
+      is_numbered = c.is_numbered;
     } };
 }
 
@@ -63,7 +69,10 @@ impl Content {
         let names = names_of(&all, has_header).unwrap_or(all.blank());
         let rows = limited(&records_below(&all, has_header), limit);
         let columns = columns_of(alloc, &names, &rows, options)?;
+        let is_numbered = options.selection.is_numbered;
+        let columns = columns_beside(alloc, columns, is_numbered)?;
         let leasts = leasts_of(alloc, columns.as_slice())?;
+        let records = records_beside(alloc, records, has_header, is_numbered)?;
         Ok(Content {
             alloc,
             records,
@@ -72,6 +81,7 @@ impl Content {
             count,
             columns,
             leasts,
+            is_numbered,
         })
     }
 
@@ -110,12 +120,31 @@ impl Content {
         self.columns.as_slice()
     }
 
-    /// How many fields of a record are drawn.
+    /// The same columns for a record that is expanded.
+    pub(crate) fn reached_pairs(&self, row: &Record<'_>) -> &[DrawnColumn]
+        ensures { result.now ≡ reached row.now (pair_columns self.now) }
+    {
+        let columns = self.reached(row);
+        if self.is_numbered {
+            let (_, own) = columns.split_at(columns.len().min(1));
+            return own;
+        }
+        columns
+    }
+
+    /// The number of the first column, where that of numbers isn't counted.
+    pub(crate) fn first_number(&self) -> usize
+        ensures { result ≡ first_number self.now }
+    {
+        if self.is_numbered { 0 } else { 1 }
+    }
+
+    /// How many fields of an expanded record are drawn.
     pub(crate) fn drawn_fields(&self, row: &Record<'_>) -> usize
         ensures { result ≡ drawn_fields self.now row.now }
     {
         let mut count = 0;
-        for column in self.reached(row) {
+        for column in self.reached_pairs(row) {
             if column.position < row.len() {
                 count += 1;
             }
@@ -128,6 +157,51 @@ impl Content {
         ensures { result ≡ self.now.count }
     {
         self.count
+    }
+}
+
+// The columns beside that of numbers, where it is drawn. A column stands at the greatest position
+// only where there is no memory for one more.
+fn columns_beside(
+    alloc: Global,
+    columns: Vec<DrawnColumn>,
+    is_numbered: bool,
+) -> Result<Vec<DrawnColumn>, ColumnsError>
+    ensures ok { IfOk result (λ beside. beside.items ≡ columns_beside is_numbered columns.items) }
+    ensures refused { IfErr result (λ e. e ≡ OutOfMemory) }
+{
+    if !is_numbered {
+        return Ok(columns);
+    }
+    let mut beside = Vec::with_capacity(alloc, columns.len())?;
+    beside.push(DrawnColumn {
+        position: 0,
+        alignment: Some(CellAlignment::Right),
+    })?;
+    for column in &columns {
+        let position = column.position.checked_add(1);
+        beside.push(DrawnColumn {
+            position: position.ok_or(ColumnsError::OutOfMemory)?,
+            alignment: column.alignment,
+        })?;
+    }
+    Ok(beside)
+}
+
+// The records behind their numbers, where these are drawn.
+fn records_beside(
+    alloc: Global,
+    records: Records,
+    has_header: bool,
+    is_numbered: bool,
+) -> Result<Records, AllocError>
+    ensures { IfOk result (λ beside. beside
+        ≡ if is_numbered then numbered has_header records else records) }
+{
+    if is_numbered {
+        records.numbered(alloc, has_header)
+    } else {
+        Ok(records)
     }
 }
 

@@ -33,6 +33,10 @@ pub struct Selection {
     pub limit: Option<usize>,
     /// Whether an input is read to its end where there is a limit, to tell how many records it has.
     pub counts_all: bool,
+    /// Whether a column `#` stands ahead, with the number of each record below the header, counted
+    /// from 1. No word chooses it, and other columns keep their numbers. Records that are expanded
+    /// have their numbers above them anyway, and no such field.
+    pub is_numbered: bool,
     /// The columns in the order in which they are drawn, by words; an empty list stands for all of
     /// them. A word is the number of a column that is there, counted from 1, else a name, else a
     /// range around a hyphen. Each end of a range is such a number, else a name; nothing behind the
@@ -53,6 +57,7 @@ impl Drop for Selection {
             has_header: _,
             limit: _,
             counts_all: _,
+            is_numbered: _,
             columns: _,
             dropped: _,
             right: _,

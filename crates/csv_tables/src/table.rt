@@ -2,11 +2,11 @@
 
 ghost use Rattle.std.specs.Prelude.{◌≡◌, IfErr, IfOk, Ok, OnOk, map, option_map, unwrap_or};
 ghost use Rattle.csv_tables.specs.Columns.{IsColumnsRefusal};
-ghost use Rattle.csv_tables.specs.Drawn.{arrangement_for, content_of, empty_table, headed_table, markdown_look, markdown_style, markdown_table, pairs_of, pairs_table, rows_table, table_for};
+ghost use Rattle.csv_tables.specs.Drawn.{arrangement_for, content_of, empty_table, first_number, headed_table, markdown_look, markdown_style, markdown_table, pair_columns, pairs_of, pairs_table, rows_table, table_for};
 ghost use Rattle.comfy_table.specs.TableValue.{with_rows};
 
 use crate::cells::{header_of, pair_of, row_of};
-use crate::columns::name_at;
+use crate::columns::name_from;
 use crate::content::Content;
 use crate::error::ColumnsError;
 use crate::options::{Look, Options};
@@ -92,11 +92,13 @@ impl Content {
         look: &Look,
     ) -> Result<()>
         ensures { OnOk result (table.new
-            ≡ with_rows (pairs_of look.now self.now.columns names.now row.now) table.old) }
+            ≡ with_rows (pairs_of look.now (first_number self.now) (pair_columns self.now)
+            names.now row.now) table.old) }
     {
-        for column in self.reached(row) {
+        let first = self.first_number();
+        for column in self.reached_pairs(row) {
             if let Some(field) = row.get(column.position) {
-                let name = name_at(self.alloc, names, column.position)?;
+                let name = name_from(self.alloc, first, names, column.position)?;
                 table.try_add_row(pair_of(self.alloc, name.as_str(), field, look)?)?;
             }
         }

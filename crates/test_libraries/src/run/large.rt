@@ -248,6 +248,7 @@ pub(super) fn options(alloc: Global, width: Option<u16>, has_sequences: bool) ->
             has_header: true,
             limit: None,
             counts_all: false,
+            is_numbered: false,
             columns: Vec::new(alloc),
             dropped: Vec::new(alloc),
             right: Vec::new(alloc),

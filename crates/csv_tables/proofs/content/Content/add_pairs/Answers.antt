@@ -6,8 +6,8 @@ use Rattle.comfy_parts.specs.CellValue.{RowValue}
 use Rattle.comfy_parts.specs.Text.{Text}
 use Rattle.comfy_table.specs.TableValue.{TableValue, with_row, with_rows}
 use Rattle.csv_tables.specs.Cells.{field_or_blank, has_field, pair_for, reached}
-use Rattle.csv_tables.specs.Columns.{name_at}
-use Rattle.csv_tables.specs.Drawn.{pairs_of}
+use Rattle.csv_tables.specs.Columns.{name_from}
+use Rattle.csv_tables.specs.Drawn.{first_number, pair_columns, pairs_of}
 use Rattle.csv_tables.specs.declared.options.DrawnColumn.{DrawnColumn}
 use Rattle.csv_tables.specs.declared.options.Look.{Look}
 use Rattle.csv_tables.proofs.ExpandedLemmas.{has-none, has-some, pairs-more, with_rows-more}
@@ -18,35 +18,36 @@ use Rattle.csv_tables.proofs.content.Content.add_pairs.Goals.{in-Some+in_ok-name
 pub loop-column-preserved : goal.loop-column-preserved
 loop-column-preserved c =
     let look : Look = c.args.look.now in
+    let first : ℕ = first_number c.args.self.now in
     let names : List Text = c.args.names.now in
     let fields : List Text = c.args.row.now in
-    let columns : List DrawnColumn = reached fields c.args.self.now.columns in
+    let columns : List DrawnColumn = reached fields (pair_columns c.args.self.now) in
     let i : ℕ = c.loop-column.column-index in
-    let items = c.reached-column-items.ensures in
-    let column : DrawnColumn = slice_index_or c.reached-column-items.result.now i record { position = 0; alignment = None } in
+    let items = c.reached_pairs-column-items.ensures in
+    let column : DrawnColumn = slice_index_or c.reached_pairs-column-items.result.now i record { position = 0; alignment = None } in
     let same : column ≡ slice_index_or columns i record { position = 0; alignment = None } = ap (λ (cs : List DrawnColumn). slice_index_or cs i record { position = 0; alignment = None }) items in
     let long = ap length items in
     let test = c.loop-column-test.true in
     let below : i < length columns = omega (arith, long, test) in
-    let more = pairs-more look columns names fields i record { position = 0; alignment = None } below in
+    let more = pairs-more look first columns names fields i record { position = 0; alignment = None } below in
     let gets = c.get.ensures.value in
-    let shown : DrawnColumn → RowValue = λ (column : DrawnColumn). pair_for look (name_at names column.position) (field_or_blank fields column.position) in
+    let shown : DrawnColumn → RowValue = λ (column : DrawnColumn). pair_for look (name_from first names column.position) (field_or_blank fields column.position) in
     let next : DrawnColumn = slice_index_or columns i record { position = 0; alignment = None } in
-    let before : List RowValue = pairs_of look (take i columns) names fields in
+    let before : List RowValue = pairs_of look first (take i columns) names fields in
     elim c.match-get.branch [
       | in-Some+in_ok-name+in_ok-pair_of+in_ok-try_add_row w ↦
           let own = has-some fields column.position w.in-Some.field.now w.in-Some.ensures.value in
           let is : has_field fields next ≡ true = ap (has_field fields) (sym same) ∙ own.0 in
           let row : w.in_ok-pair_of.field-0 ≡ shown next =
-          w.in_ok-pair_of.ensures ∙ ap₂ (pair_for look) (w.as_str.ensures.value ∙ w.in_ok-name.ensures) (sym own.1) ∙ ap shown same in
-          let rows : pairs_of look (take (i + 1) columns) names fields ≡ before ++ shown next ∷ [] =
+          w.in_ok-pair_of.ensures ∙ ap₂ (pair_for look) (w.as_str.ensures.value ∙ w.in_ok-name.ensures ∙ ap (λ (n : ℕ). name_from n names column.position) c.first_number-first.ensures) (sym own.1) ∙ ap shown same in
+          let rows : pairs_of look first (take (i + 1) columns) names fields ≡ before ++ shown next ∷ [] =
           more ∙ ap (λ (b : Bool). before ++ map shown (cond b (next ∷ []) [])) is in
           w.table-is ∙ w.in_ok-try_add_row.ensures.ok ∙ ap₂ (λ (r : RowValue) (t : TableValue). with_row r t) row c.loop-column.invariant
           ∙ sym (with_rows-more before (shown next) c.args.table.now) ∙ ap (λ (rs : List RowValue). with_rows rs c.args.table.now) (sym rows)
       | in_default w ↦
           let none = sym (ap (option_map (λ s. s.now)) w.in_default.is) ∙ gets in
           let is : has_field fields next ≡ false = ap (has_field fields) (sym same) ∙ has-none fields column.position none in
-          let rows : pairs_of look (take (i + 1) columns) names fields ≡ before =
+          let rows : pairs_of look first (take (i + 1) columns) names fields ≡ before =
           more ∙ ap (λ (b : Bool). before ++ map shown (cond b (next ∷ []) [])) is ∙ append-nil before in
           w.table-is ∙ c.loop-column.invariant ∙ ap (λ (rs : List RowValue). with_rows rs c.args.table.now) (sym rows)
     ]
@@ -54,12 +55,13 @@ loop-column-preserved c =
 pub returns : goal.returns
 returns c =
     let look : Look = c.args.look.now in
+    let first : ℕ = first_number c.args.self.now in
     let names : List Text = c.args.names.now in
     let fields : List Text = c.args.row.now in
-    let all : List DrawnColumn = c.args.self.now.columns in
-    let long = ap length c.reached-column-items.ensures in
+    let all : List DrawnColumn = pair_columns c.args.self.now in
+    let long = ap length c.reached_pairs-column-items.ensures in
     let test = c.loop-column-test.false in
     let end : length (reached fields all) ≤ c.loop-column.column-index = omega (arith, long, test) in
     c.loop-column.invariant
-    ∙ ap (λ (columns : List DrawnColumn). with_rows (pairs_of look columns names fields) c.args.table.now) (take_all c.loop-column.column-index (reached fields all) end)
-    ∙ ap (λ (columns : List DrawnColumn). with_rows (map (λ (column : DrawnColumn). pair_for look (name_at names column.position) (field_or_blank fields column.position)) columns) c.args.table.now) (held-reached fields all)
+    ∙ ap (λ (columns : List DrawnColumn). with_rows (pairs_of look first columns names fields) c.args.table.now) (take_all c.loop-column.column-index (reached fields all) end)
+    ∙ ap (λ (columns : List DrawnColumn). with_rows (map (λ (column : DrawnColumn). pair_for look (name_from first names column.position) (field_or_blank fields column.position)) columns) c.args.table.now) (held-reached fields all)
