@@ -116,6 +116,7 @@ options_are_one context found other same a b is also =
       header = is.selection.header ∙ ap not (given (codes "no-header")) ∙ sym also.selection.header;
       limit = is.selection.limit ∙ number 64 (codes "limit") ∙ sym also.selection.limit;
       counts = is.selection.counts ∙ given (codes "count") ∙ sym also.selection.counts;
+      numbers = is.selection.numbers ∙ given (codes "number") ∙ sym also.selection.numbers;
       columns = is.selection.columns ∙ ap words_in (first (codes "columns")) ∙ sym also.selection.columns;
       dropped = is.selection.dropped ∙ ap words_in (first (codes "drop")) ∙ sym also.selection.dropped;
       right = is.selection.right ∙ ap words_in (first (codes "right")) ∙ sym also.selection.right;

@@ -218,6 +218,7 @@ pub record IsSelectionParsed (found : Found) (selection : Selection) : Type 0 wh
   pub header : selection.has_header ≡ not (is_given found (codes "no-header"))
   pub limit : selection.limit ≡ number_found 64 found (codes "limit")
   pub counts : selection.counts_all ≡ is_given found (codes "count")
+  pub numbers : selection.is_numbered ≡ is_given found (codes "number")
   pub columns : map string_bytes selection.columns.items
       ≡ words_in (first_value found (codes "columns"))
   pub dropped : map string_bytes selection.dropped.items

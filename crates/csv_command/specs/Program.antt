@@ -52,6 +52,7 @@ csvtable_rules =
     ∷ nameless (flag (codes "no-header") (Some 0x6E))
     ∷ nameless (number (codes "limit") None (vp.Unsigned 0 (2 ^ 64 - 1)))
     ∷ nameless (flag (codes "count") None)
+    ∷ nameless (flag (codes "number") (Some 0x6C))
     ∷ nameless (option (codes "columns") (Some 0x63))
     ∷ nameless (option (codes "drop") None)
     ∷ nameless (option (codes "right") (Some 0x72))

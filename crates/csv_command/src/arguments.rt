@@ -274,6 +274,7 @@ fn selection_of<'a>(alloc: Global, matches: &ArgMatches<'a>) -> Result<Selection
         has_header: !is_given(matches, "no-header"),
         limit: matches.get_one::<usize>("limit"),
         counts_all: is_given(matches, "count"),
+        is_numbered: is_given(matches, "number"),
         columns: words_of(alloc, matches.get_str("columns"))?,
         dropped: words_of(alloc, matches.get_str("drop"))?,
         right: words_of(alloc, matches.get_str("right"))?,

@@ -37,7 +37,7 @@ enum Kind {
     Encoding,
 }
 
-static OPTIONS: [OptionSpec; 26] = [
+static OPTIONS: [OptionSpec; 27] = [
     OptionSpec {
         name: "file",
         letter: None,
@@ -102,6 +102,13 @@ static OPTIONS: [OptionSpec; 26] = [
         kind: Kind::Flag,
         value: "",
         help: "With --limit: read on, and say how many there are",
+    },
+    OptionSpec {
+        name: "number",
+        letter: Some('l'),
+        kind: Kind::Flag,
+        value: "",
+        help: "Draw the number of each record in a first column, #",
     },
     OptionSpec {
         name: "columns",

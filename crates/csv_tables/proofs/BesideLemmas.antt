@@ -1,12 +1,10 @@
 -- Records and columns beside their numbers.
 use Rattle.std.specs.Prelude.{if◌then◌else◌, unwrap_or}
-use Rattle.std.proofs.Common.{◌≡◌, ◌<◌, ℕ, zero, suc, ◌+◌, Bool, true, false, List, [], ◌∷◌, ◌++◌, Option, Some, None, Result, Ok, arith, decimal, drop, length, map, min, take, refl, sym, ap, ap₂, ◌∙◌}
-use Rattle.std.specs.List.{slice_index_or}
+use Rattle.std.proofs.Common.{◌≡◌, ℕ, zero, suc, ◌+◌, Bool, true, false, List, [], ◌∷◌, Option, Some, None, Result, Ok, arith, decimal, drop, length, min, take, refl, sym, ap, ap₂, ◌∙◌}
 use Rattle.comfy_parts.specs.Text.{Text}
 use Rattle.csv_records.specs.Numbered.{numbered, numbered_from}
 use Rattle.csv_tables.specs.Columns.{ColumnFault, columns_for}
 use Rattle.csv_tables.specs.Drawn.{ContentValue, columns_beside, content_counted, content_with, drawn_rows, limited, names_beside, names_of, ok_map, records_below, rows_beside, with_count}
-use Rattle.comfy_parts.specs.declared.style.cell.CellAlignment.TheVariants.{Right}
 use Rattle.csv_tables.specs.declared.options.DrawnColumn.{DrawnColumn}
 use Rattle.csv_tables.specs.declared.options.Options.{Options}
 
@@ -44,21 +42,6 @@ numbered-length n (fields ∷ rows) = ap suc (numbered-length (n + 1) rows)
 pub beside-length : (is_numbered : Bool) (rows : List (List Text)) → length (rows_beside is_numbered rows) ≡ length rows
 beside-length true rows = numbered-length 1 rows
 beside-length false rows = refl
-
--- ---- columns
-
--- one more column beside that of numbers
-one_moved : (columns : List DrawnColumn) (k : ℕ) (d : DrawnColumn) → k < length columns
-    → let moved : DrawnColumn → DrawnColumn = λ column. record { position = column.position + 1; alignment = column.alignment } in map moved (take (suc k) columns) ≡ map moved (take k columns) ++ moved (slice_index_or columns k d) ∷ []
-one_moved [] k d below = absurd (omega (arith, below))
-one_moved (column ∷ columns) zero d below = refl
-one_moved (column ∷ columns) (suc k) d below = ap (λ (more : List DrawnColumn). record { position = column.position + 1; alignment = column.alignment } ∷ more) (one_moved columns k d (omega (arith, below)))
-
-pub one_beside : (columns : List DrawnColumn) (k : ℕ) (d : DrawnColumn) → k < length columns
-    → columns_beside true (take (k + 1) columns) ≡ columns_beside true (take k columns) ++ record { position = (slice_index_or columns k d).position + 1; alignment = (slice_index_or columns k d).alignment } ∷ []
-one_beside columns k d below =
-    let one : k + 1 ≡ suc k = omega arith in
-    ap (λ (n : ℕ). columns_beside true (take n columns)) one ∙ ap (λ (more : List DrawnColumn). record { position = 0; alignment = Some Right } ∷ more) (one_moved columns k d below)
 
 -- all but the first
 pub behind_first : {A : Type 0} (xs : List A) (n : ℕ) → n ≡ min (length xs) 1 → drop n xs ≡ drop 1 xs

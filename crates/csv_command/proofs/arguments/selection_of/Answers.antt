@@ -11,6 +11,7 @@ returns c =
       header = ap not c.is_given.ensures;
       limit = limit;
       counts = c.is_given-2.ensures;
+      numbers = c.is_given-3.ensures;
       columns = c.in_ok-words_of.ensures ∙ ap words_in c.get_str.ensures;
       dropped = c.in_ok-words_of-2.ensures ∙ ap words_in c.get_str-2.ensures;
       right = c.in_ok-words_of-3.ensures ∙ ap words_in c.get_str-3.ensures;
