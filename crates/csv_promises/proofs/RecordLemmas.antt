@@ -24,10 +24,11 @@ use Rattle.csv_tables.proofs.BlankLemmas.{unless_blank-keeps}
 use Rattle.csv_tables.proofs.BuiltLemmas.{Built, each_content, each_field, made_of}
 use Rattle.csv_tables.proofs.FieldLemmas.{drawn_in_one_line}
 use Rattle.csv_tables.proofs.RowLemmas.{chosen, with_rows-rows}
-use Rattle.csv_tables.proofs.StraightLemmas.{IsShort, empty_is_short, short_rows}
+use Rattle.csv_tables.proofs.NumberedLemmas.{lines_beside}
+use Rattle.csv_tables.proofs.StraightLemmas.{IsShort, empty_is_short, short_printable, short_rows}
 use Rattle.csv_tables.proofs.TextTableLemmas.{EachLine, rows_of_texts}
 use Rattle.csv_tables.proofs.WholeColumnLemmas.{all_shown}
-use Rattle.csv_tables.specs.Drawn.{ContentValue, arrangement_for, content_of, content_with, drawn_rows, empty_table, headed_table, limited, names_of, records_below, rows_table, table_for}
+use Rattle.csv_tables.specs.Drawn.{ContentValue, arrangement_for, columns_beside, content_of, content_with, count_below, drawn_rows, empty_table, headed_table, limited, names_beside, names_of, records_below, rows_beside, rows_table, table_for}
 use Rattle.promises.proofs.KeptLemmas.{stand_later, whole_texts_stand}
 use Rattle.promises.specs.Kept.{ShowsWholeRow, StandIn, text_lines_at}
 use Rattle.promises.specs.Tables.{IsShownWhole, shown}
@@ -341,14 +342,22 @@ module _ (options : Options) (records : List (List Text)) (nothing : AsksForNoth
           (All-cons IsShort (unless_blank field) [] (unless_blank-keeps IsShort field empty_is_short (rw (measure-printable field printable) few)) (All-nil IsShort))
 
   known : (content : ContentValue) → content_of options records ≡ Ok content → Built look IsShortRow content (rows_table look content)
-  known content is = rows_of_texts IsShort empty_is_short look IsShortRow (short_rows look nothing.uncut) content (each_content (All (EachLine IsShort look)) options records content is short_fields)
+  known content is = rows_of_texts IsShort empty_is_short look IsShortRow (short_rows look nothing.uncut) content (each_content (All (EachLine IsShort look)) (lines_beside IsShort short_printable look) options records content is short_fields)
+
+  -- no numbers stand beside them
+  abbrev unnumbered : List DrawnColumn → ContentValue
+  unnumbered columns = record { names = names; rows = rows; columns = columns; count = count_below options records; is_numbered = false }
+
+  unnumbered-is : (columns : List DrawnColumn) → content_with options records columns ≡ unnumbered columns
+  unnumbered-is columns =
+      ap (λ (b : Bool). record { names = names_beside b names; rows = rows_beside b rows; columns = columns_beside b columns; count = count_below options records; is_numbered = b }) nothing.unnumbered
 
   -- a table of their rows has a row for each
   rows_of_records : (columns : List DrawnColumn) → map (λ (column : DrawnColumn). column.position) columns ≡ range_with_len 0 count
-      → let table : TableValue = rows_table look (content_with options records columns) in AllZip (IsRowOf (length table.columns)) (map shown_fields records) (header_and_rows table)
+      → let table : TableValue = rows_table look (unnumbered columns) in AllZip (IsRowOf (length table.columns)) (map shown_fields records) (header_and_rows table)
   rows_of_records columns are =
       let long : length columns ≡ count = sym (length-map columns (λ (column : DrawnColumn). column.position)) ∙ ap length are ∙ length-range_with_len 0 count in
-      let table : TableValue = rows_table look (content_with options records columns) in
+      let table : TableValue = rows_table look (unnumbered columns) in
       subst (λ (each : List (List Text)). AllZip (IsRowOf (length table.columns)) (map shown_fields each) (header_and_rows table)) all_drawn
       (all_rows_are look nothing.no_markdown columns (are ∙ ap (range_with_len 0) (sym long)) names rows long (subst (All IsPlainRecord) (sym all_drawn) plain)
       (subst (λ (n : ℕ). AllByRecursion (HasRoom n) (option_to_list names ++ rows)) (sym long) (all_have_room names rows)))
@@ -370,7 +379,7 @@ module _ (options : Options) (records : List (List Text)) (nothing : AsksForNoth
       let found = made_of (content_with options records) (columns_for options (unwrap_or names []) rows) made.0 made.1 in
       let positions = positions_are found.0 (chosen (unwrap_or names []) (map (seen look.has_sequences) rows) _ _ _ found.0 found.1) in
       let own = subst (Built look IsShortRow made.0) made.2 (known made.0 made.1) in
-      let are = subst (λ (t : TableValue). AllZip (IsRowOf (length t.columns)) (map shown_fields records) (header_and_rows t)) (ap (rows_table look) found.2 ∙ made.2) (rows_of_records found.0 positions) in
+      let are = subst (λ (t : TableValue). AllZip (IsRowOf (length t.columns)) (map shown_fields records) (header_and_rows t)) (ap (rows_table look) (sym (unnumbered-is found.0) ∙ found.2) ∙ made.2) (rows_of_records found.0 positions) in
       let disabled : table.arrangement ≡ Disabled = ap (λ (t : TableValue). t.arrangement) own.is ∙ ap (λ (width : Option ℕ). arrangement_for width look.fills_width) nothing.no_width in
       let shows = whole_texts_stand table lines drawing (ap (λ (t : TableValue). t.custom_styling) own.is ∙ nothing.no_sequences) disabled (is_whole made.0 table own) in
       lines_stand table own.columns (map shown_fields records) (header_and_rows table) shows.blocks lines are shows.show shows.stand

@@ -6,10 +6,11 @@ use Rattle.csv_tables.specs.Cells.{unless_blank}
 use Rattle.csv_tables.specs.declared.options.Options.{Options}
 use Rattle.promises.specs.Kept.{StandIn}
 
--- all records and all columns are drawn, nothing keeps to a width or a height, and the table is
--- neither for Markdown nor for fields with sequences
+-- all records and all columns are drawn, and no numbers, nothing keeps to a width or a height, and
+-- the table is neither for Markdown nor for fields with sequences
 pub record AsksForNothing (options : Options) : Type 0 where
   pub all_records : options.selection.limit ≡ None
+  pub unnumbered : options.selection.is_numbered ≡ false
   pub none_chosen : options.selection.columns.items ≡ []
   pub none_dropped : options.selection.dropped.items ≡ []
   pub no_width : options.look.width ≡ None
