@@ -1,5 +1,5 @@
 -- Private: where the fields of a record stand among those of all records.
-use Rattle.std.specs.Prelude.{◌-◌, ◌^◌, ◌<◌, ◌≤◌, List, drop, length, take}
+use Rattle.std.specs.Prelude.{◌+◌, ◌-◌, ◌^◌, ◌<◌, ◌≤◌, ℕ, List, [], ◌∷◌, drop, length, take}
 use Rattle.comfy_parts.specs.Text.{Text}
 use Rattle.csv_records.specs.declared.records.Place.{Place}
 
@@ -11,3 +11,9 @@ fields_at fields place = take (place.end - place.start) (drop place.start fields
 abbrev pub IsWithin : List Text → Place → Type 0
 IsWithin fields place =
     (place.start ≤ place.end) × (place.end ≤ length fields) × (place.end < 2 ^ 64)
+
+-- those of records of so many fields each, one behind another from a position on
+abbrev pub places_for : ℕ → List ℕ → List Place
+places_for start [] = []
+places_for start (n ∷ ns) =
+    record { start = start; end = start + n } ∷ places_for (start + n) ns

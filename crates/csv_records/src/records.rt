@@ -1,13 +1,14 @@
 //! The records of a text.
 
-ghost use Rattle.std.specs.Prelude.{◌≡◌, ◌<◌, ◌==◌, ◌-◌, ◌^◌, ◌∷◌, ◌++◌, [], All, IfErr, IfOk, IfSome, OnOk, drop, length, map, option_map, slice_get, take};
+ghost use Rattle.std.specs.Prelude.{◌≡◌, ◌≢◌, ◌<◌, ◌==◌, ◌-◌, ◌^◌, ◌∷◌, ◌++◌, [], All, IfErr, IfNone, IfOk, IfSome, OnOk, drop, length, map, option_map, slice_get, take};
 ghost use Rattle.std.specs.Iterator.{YieldsFirstBy, item_count};
 ghost use Rattle.csv.specs.Reading.{error_kind};
 ghost use Rattle.csv.specs.Records.{field_at, fields_of};
+ghost use Rattle.csv_records.specs.CutLists.{cut_by, total};
 ghost use Rattle.csv_records.specs.First.{AreFirst};
 ghost use Rattle.csv_records.specs.Input.{AreRecordsOf, IsReadingRefusal, IsRecordRefusal};
 ghost use Rattle.csv_records.specs.Numbered.{numbered, numbered_from};
-ghost use Rattle.csv_records.specs.Places.{IsWithin, fields_at};
+ghost use Rattle.csv_records.specs.Places.{IsWithin, fields_at, places_for};
 ghost use Rattle.csv_records.specs.Started.{IsStarted};
 
 use crate::error::RecordsError;
@@ -59,6 +60,30 @@ impl Model for Records {
 }
 
 impl Records {
+    /// Records of these fields, which stand one behind another: the first so many are those of the
+    /// first record, and so on. There are none where the counts don't add up to the fields.
+    ///
+    /// ```
+    /// let records = Records::from_fields(alloc, &["name", "days", "oats", "3"], &[2, 2])?;
+    /// // two records of two fields each
+    /// ```
+    pub fn from_fields(
+        alloc: Global,
+        fields: &[&str],
+        counts: &[usize],
+    ) -> Result<Option<Records>, AllocError>
+        ensures some { IfOk result (λ found. IfSome found (λ records. records
+            ≡ cut_by counts.now (map (λ field. field.now) fields.now))) }
+        ensures all { IfOk result (λ found. IfSome found (λ _. total counts.now ≡ length fields.now)) }
+        ensures none { IfOk result (λ found. IfNone found (total counts.now ≢ length fields.now)) }
+    {
+        let Some(places) = places_for(alloc, counts, fields.len())? else {
+            return Ok(None);
+        };
+        let fields = record_of(alloc, fields)?;
+        Ok(Some(Records { fields, places }))
+    }
+
     /// All of them, in their order.
     pub fn rows(&self) -> Rows<'_>
         ensures { result ≡ self.now }
@@ -308,6 +333,48 @@ fn push_record(
     Ok(())
 }
 
+// Where records of so many fields each stand among as many as there are in all.
+fn places_for(
+    alloc: Global,
+    counts: &[usize],
+    field_count: usize,
+) -> Result<Option<Vec<Place>>, AllocError>
+    ensures some { IfOk result (λ found. IfSome found (λ places.
+        places.items ≡ places_for 0 counts.now)) }
+    ensures all { IfOk result (λ found. IfSome found (λ _. total counts.now ≡ field_count)) }
+    ensures none { IfOk result (λ found. IfNone found (total counts.now ≢ field_count)) }
+{
+    let mut places = Vec::with_capacity(alloc, counts.len())?;
+    let mut start = 0;
+    for count in counts {
+        if field_count - start < *count {
+            return Ok(None);
+        }
+        let place = Place {
+            start,
+            end: start + *count,
+        };
+        places.push(place)?;
+        start = place.end;
+    }
+    Ok(if start == field_count {
+        Some(places)
+    } else {
+        None
+    })
+}
+
+// A record of these fields.
+fn record_of(alloc: Global, fields: &[&str]) -> Result<StringRecord, AllocError>
+    ensures { IfOk result (λ made. fields_of made ≡ map (λ field. field.now) fields.now) }
+{
+    let mut record = StringRecord::new(alloc);
+    for text in fields {
+        record.push_field(text)?;
+    }
+    Ok(record)
+}
+
 // Appends the fields of a record to others.
 fn push_fields(fields: &mut StringRecord, more: &StringRecord) -> Result<(), AllocError>
     ensures { OnOk result (fields_of fields.new ≡ fields_of fields.old ++ fields_of more.now) }
@@ -350,11 +417,11 @@ fn push_behind(
         ≡ map (fields_at (fields_of fields.old)) places.old.items
         ++ (first.now ∷ row.now) ∷ []) }
 {
-    let start = fields.len();
+    let begin = fields.len();
     fields.push_field(first)?;
     push_row(fields, row)?;
     let end = fields.len();
-    places.push(Place { start, end })?;
+    places.push(Place { start: begin, end })?;
     Ok(())
 }
 
@@ -363,8 +430,8 @@ fn push_row(fields: &mut StringRecord, row: &Record<'_>) -> Result<(), AllocErro
     ensures { OnOk result (fields_of fields.new ≡ fields_of fields.old ++ row.now) }
 {
     for position in 0..row.len() {
-        if let Some(field) = row.get(position) {
-            fields.push_field(field)?;
+        if let Some(text) = row.get(position) {
+            fields.push_field(text)?;
         }
     }
     Ok(())

@@ -22,4 +22,4 @@ pub use error::{ColumnsError, CsvError};
 pub use markdown::escaped;
 pub use options::{DrawnColumn, Expansion, Look, Options, RowSeparators, Selection};
 pub use table::table_of;
-pub use transfer::{draw, output_of_input};
+pub use transfer::{draw, output_of_input, output_of_records};

@@ -1,17 +1,18 @@
 //! Reads an input, draws the table of its records, and writes the drawing.
 
 ghost use Rattle.std.specs.Prelude.{◌≡◌, ◌≤◌, ◌^◌, ◌⊎◌, OnOk, IfErr, IfNone, IfOk, IfSome, Some, false, option_map, string_bytes, true};
+ghost use Rattle.csv_tables.specs.Columns.{IsColumnsRefusal};
 ghost use Rattle.csv_tables.specs.Doubt.{IsDoubtOf, IsDoubtOfInput};
-ghost use Rattle.csv_tables.specs.Drawn.{HasLimit, RendersExtent, RendersInput, most_drawn};
+ghost use Rattle.csv_tables.specs.Drawn.{HasLimit, RendersAnyRecords, RendersExtent, RendersInput, content_of, counting, most_drawn};
 ghost use Rattle.csv_tables.specs.Run.{IsAfter, IsInputRefusal, IsRefusal, is_read_fault, is_write_fault};
 ghost use Rattle.devices.specs.Outcome.{Between};
 ghost use Rattle.devices.specs.Run.{IsNoted};
 
-use crate::error::CsvError;
+use crate::error::{ColumnsError, CsvError};
 use crate::options::{Options, Selection};
 use crate::output::output_of;
 use csv_records::{
-    BeginningRecords, decoded, doubtful_delimiter, read_beginning, read_first_records,
+    BeginningRecords, Records, decoded, doubtful_delimiter, read_beginning, read_first_records,
 };
 use devices::{Render, Rendered, Sink, Source};
 use std::alloc::Global;
@@ -102,6 +103,25 @@ fn most_drawn(selection: &Selection) -> Option<usize>
     } else {
         Some(limit)
     }
+}
+
+/// The output for these records, as for those of an input: nothing where there are none, and all
+/// are counted.
+pub fn output_of_records(
+    alloc: Global,
+    records: Records,
+    options: &Options,
+) -> Result<String, ColumnsError>
+    ensures output { IfOk result (λ output.
+        RendersAnyRecords (counting options.now) records (string_bytes output)) }
+    ensures refused { IfErr result (λ e. IsColumnsRefusal e (content_of options.now records)) }
+{
+    let count = records.rows().len();
+    if count == 0 {
+        return Ok(String::new(alloc));
+    }
+    let below = count - usize::from(options.selection.has_header);
+    output_of(alloc, records, Some(below), options)
 }
 
 /// The output for an input that was read whole.

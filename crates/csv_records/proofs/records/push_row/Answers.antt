@@ -14,10 +14,10 @@ loop-position-preserved c =
     let gets = c.get.ensures.value in
     elim c.match-get.branch [
       | in-Some+in_ok-push_field w ↦
-          let here : field_at row at ≡ Some w.in-Some.field.now = sym gets ∙ ap (option_map (λ s. s.now)) w.in-Some.is in
-          let taken : take (at + 1) row ≡ take at row ++ w.in-Some.field.now ∷ [] = rw add-one (one_taken row at w.in-Some.field.now here) in
-          let pushed : fields_of w.push_field.new.self ≡ fields_of c.loop-position.fields ++ w.in-Some.field.now ∷ [] = search rules in
-          ap fields_of w.fields-is ∙ pushed ∙ ap (λ xs. xs ++ w.in-Some.field.now ∷ []) c.loop-position.invariant ∙ append_assoc had (take at row) (w.in-Some.field.now ∷ []) ∙ ap (λ xs. had ++ xs) (sym taken)
+          let here : field_at row at ≡ Some w.in-Some.text.now = sym gets ∙ ap (option_map (λ s. s.now)) w.in-Some.is in
+          let taken : take (at + 1) row ≡ take at row ++ w.in-Some.text.now ∷ [] = rw add-one (one_taken row at w.in-Some.text.now here) in
+          let pushed : fields_of w.push_field.new.self ≡ fields_of c.loop-position.fields ++ w.in-Some.text.now ∷ [] = search rules in
+          ap fields_of w.fields-is ∙ pushed ∙ ap (λ xs. xs ++ w.in-Some.text.now ∷ []) c.loop-position.invariant ∙ append_assoc had (take at row) (w.in-Some.text.now ∷ []) ∙ ap (λ xs. had ++ xs) (sym taken)
       | in_default w ↦
           let none : field_at row at ≡ None = sym gets ∙ ap (option_map (λ s. s.now)) w.in_default.is in
           let taken : take (at + 1) row ≡ take at row = rw add-one (none_taken row at none) in

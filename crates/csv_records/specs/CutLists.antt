@@ -1,0 +1,11 @@
+-- Lists cut into parts.
+use Rattle.std.specs.Prelude.{ℕ, List, [], ◌∷◌, drop, sum_by, take}
+
+-- the parts of a list that have these lengths, one behind another
+abbrev pub cut_by : {A : Type 0} → List ℕ → List A → List (List A)
+cut_by [] xs = []
+cut_by (n ∷ ns) xs = take n xs ∷ cut_by ns (drop n xs)
+
+-- how long a list is that has such parts
+abbrev pub total : List ℕ → ℕ
+total ns = sum_by (λ n. n) ns
