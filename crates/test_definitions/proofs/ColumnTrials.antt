@@ -1,11 +1,14 @@
 -- Columns by words: ranges, and columns that are left out.
-use Rattle.std.proofs.Common.{◌≡◌, List, [], ◌∷◌, Ok, Err, codes, map, refl}
+use Rattle.std.proofs.Common.{◌≡◌, List, [], ◌∷◌, None, Some, Ok, Err, codes, false, map, refl, true}
 use Prim.Native.String.{String}
 use Rattle.std.specs.Fmt.{digits}
 use Rattle.comfy_parts.specs.Text.{Text}
 use Rattle.csv.specs.Records.{field_at}
 use Rattle.csv_tables.specs.Columns.{less, positions_of_word}
 use Rattle.csv_tables.specs.Columns.ColumnFault.{missing, none_left}
+use Rattle.comfy_parts.specs.declared.style.cell.CellAlignment.TheVariants.{Right}
+use Rattle.csv_records.specs.Numbered.{numbered}
+use Rattle.csv_tables.specs.Drawn.{columns_beside, rows_beside}
 use Rattle.csv_tables.specs.Hints.{hint_for}
 
 abbrev texts : List String → List Text
@@ -69,3 +72,20 @@ none_are_left = refl
 
 chosen_before_left_out : less (Err (missing (codes "a") [])) (Err (missing (codes "b") [])) ≡ Err (missing (codes "a") [])
 chosen_before_left_out = refl
+
+-- records behind their numbers, below a header and without one
+numbered_below_a_header : numbered true (texts ("a" ∷ "b" ∷ []) ∷ texts ("x" ∷ []) ∷ [] ∷ []) ≡ texts ("#" ∷ "a" ∷ "b" ∷ []) ∷ texts ("1" ∷ "x" ∷ []) ∷ texts ("2" ∷ []) ∷ []
+unfolding digits
+numbered_below_a_header = refl
+
+numbered_without_a_header : numbered false (texts ("a" ∷ []) ∷ texts ("b" ∷ []) ∷ []) ≡ texts ("1" ∷ "a" ∷ []) ∷ texts ("2" ∷ "b" ∷ []) ∷ []
+unfolding digits
+numbered_without_a_header = refl
+
+-- columns beside that of numbers, and without it
+beside_numbers : map (λ is_numbered. columns_beside is_numbered (record { position = 2; alignment = None } ∷ [])) (true ∷ false ∷ []) ≡ (record { position = 0; alignment = Some Right } ∷ record { position = 3; alignment = None } ∷ []) ∷ (record { position = 2; alignment = None } ∷ []) ∷ []
+beside_numbers = refl
+
+-- false: csv_tables::laws::tables_keep_their_rows
+number_is_missing : ¬ (texts ("a" ∷ []) ∷ [] ≡ rows_beside true (texts ("a" ∷ []) ∷ []))
+number_is_missing same = cc same

@@ -80,12 +80,12 @@ abbrev asking : Options → Options
 asking options =
     let own = options.selection in
     record options {
-      selection = record own { has_header = true; limit = None; columns = no_words own.columns; dropped = no_words own.dropped };
+      selection = record own { has_header = true; limit = None; is_numbered = false; columns = no_words own.columns; dropped = no_words own.dropped };
       look = bold;
     }
 
 asks_for_nothing : (options : Options) → AsksForNothing (asking options)
-asks_for_nothing options = record { all_records = refl; none_chosen = refl; none_dropped = refl; no_width = refl; uncut = refl; no_markdown = refl; no_sequences = refl }
+asks_for_nothing options = record { all_records = refl; unnumbered = refl; none_chosen = refl; none_dropped = refl; no_width = refl; uncut = refl; no_markdown = refl; no_sequences = refl }
 
 -- a header, and a record that is shorter
 are_plain : All IsPlainRecord ((codes "day" ∷ codes "text" ∷ []) ∷ (codes "3 mai" ∷ []) ∷ [])
