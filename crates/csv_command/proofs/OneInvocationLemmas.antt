@@ -60,9 +60,9 @@ module _ (found other : Found) (same : rows_of found ≡ rows_of other) where
 
 -- ---- looks
 
-abbrev look_of : TableStyle → RowSeparators → Expansion → Option ℕ → Bool → Option ℕ → Bool → Bool → Bool → Bool → Bool → Look
-look_of style separators expansion width fills height bold sequences bidi raw markdown =
-    record { style = style; separators = separators; expansion = expansion; width = width; fills_width = fills; max_height = height; has_bold_header = bold; has_sequences = sequences; keeps_bidi = bidi; is_raw = raw; is_markdown = markdown }
+abbrev look_of : TableStyle → RowSeparators → Expansion → Option ℕ → Bool → Option ℕ → Bool → Bool → Bool → Bool → Bool → Bool → Look
+look_of style separators expansion width fills height bold decimals sequences bidi raw markdown =
+    record { style = style; separators = separators; expansion = expansion; width = width; fills_width = fills; max_height = height; has_bold_header = bold; aligns_decimals = decimals; has_sequences = sequences; keeps_bidi = bidi; is_raw = raw; is_markdown = markdown }
 
 look_is_one : (context : OutputContext) (found other : Found) → rows_of found ≡ rows_of other → (a b : Look) → IsLookParsed context found a → IsLookParsed context other b → a ≡ b
 look_is_one context found other same a b is also =
@@ -77,16 +77,17 @@ look_is_one context found other same a b is also =
     let fills = is.full ∙ given (codes "full") ∙ sym also.full in
     let height = is.height ∙ number found other same 64 (codes "max-height") ∙ sym also.height in
     let bold = is.bold ∙ ap (λ (o : Option Text). is_bold_for o context) (first (codes "color")) ∙ sym also.bold in
+    let decimals = is.decimals ∙ ap not (given (codes "no-decimal")) ∙ sym also.decimals in
     let sequences = is.sequences ∙ given (codes "ansi") ∙ sym also.sequences in
     let bidi = is.bidi ∙ given (codes "bidi") ∙ sym also.bidi in
     let raw = is.raw ∙ given (codes "raw") ∙ sym also.raw in
     let markdown = is.markdown ∙ markdown found other same ∙ sym also.markdown in
-    ap₂ (λ (s : TableStyle) (r : RowSeparators). look_of s r a.expansion a.width a.fills_width a.max_height a.has_bold_header a.has_sequences a.keeps_bidi a.is_raw a.is_markdown) style separators
-    ∙ ap₂ (λ (e : Expansion) (w : Option ℕ). look_of b.style b.separators e w a.fills_width a.max_height a.has_bold_header a.has_sequences a.keeps_bidi a.is_raw a.is_markdown) expansion width
-    ∙ ap₂ (λ (f : Bool) (h : Option ℕ). look_of b.style b.separators b.expansion b.width f h a.has_bold_header a.has_sequences a.keeps_bidi a.is_raw a.is_markdown) fills height
-    ∙ ap₂ (λ (x y : Bool). look_of b.style b.separators b.expansion b.width b.fills_width b.max_height x y a.keeps_bidi a.is_raw a.is_markdown) bold sequences
-    ∙ ap₂ (λ (x y : Bool). look_of b.style b.separators b.expansion b.width b.fills_width b.max_height b.has_bold_header b.has_sequences x y a.is_markdown) bidi raw
-    ∙ ap (look_of b.style b.separators b.expansion b.width b.fills_width b.max_height b.has_bold_header b.has_sequences b.keeps_bidi b.is_raw) markdown
+    ap₂ (λ (s : TableStyle) (r : RowSeparators). look_of s r a.expansion a.width a.fills_width a.max_height a.has_bold_header a.aligns_decimals a.has_sequences a.keeps_bidi a.is_raw a.is_markdown) style separators
+    ∙ ap₂ (λ (e : Expansion) (w : Option ℕ). look_of b.style b.separators e w a.fills_width a.max_height a.has_bold_header a.aligns_decimals a.has_sequences a.keeps_bidi a.is_raw a.is_markdown) expansion width
+    ∙ ap₂ (λ (f : Bool) (h : Option ℕ). look_of b.style b.separators b.expansion b.width f h a.has_bold_header a.aligns_decimals a.has_sequences a.keeps_bidi a.is_raw a.is_markdown) fills height
+    ∙ ap₂ (λ (x y : Bool). look_of b.style b.separators b.expansion b.width b.fills_width b.max_height x y a.has_sequences a.keeps_bidi a.is_raw a.is_markdown) bold decimals
+    ∙ ap₂ (λ (x y : Bool). look_of b.style b.separators b.expansion b.width b.fills_width b.max_height b.has_bold_header b.aligns_decimals x y a.is_raw a.is_markdown) sequences bidi
+    ∙ ap₂ (λ (x y : Bool). look_of b.style b.separators b.expansion b.width b.fills_width b.max_height b.has_bold_header b.aligns_decimals b.has_sequences b.keeps_bidi x y) raw markdown
 
 -- ---- options
 

@@ -201,6 +201,7 @@ pub record IsLookParsed (context : OutputContext) (found : Found) (look : Look) 
   pub full : look.fills_width ≡ is_given found (codes "full")
   pub height : look.max_height ≡ number_found 64 found (codes "max-height")
   pub bold : look.has_bold_header ≡ is_bold_for (first_value found (codes "color")) context
+  pub decimals : look.aligns_decimals ≡ not (is_given found (codes "no-decimal"))
   pub sequences : look.has_sequences ≡ is_given found (codes "ansi")
   pub bidi : look.keeps_bidi ≡ is_given found (codes "bidi")
   pub raw : look.is_raw ≡ is_given found (codes "raw")

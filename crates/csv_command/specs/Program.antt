@@ -57,6 +57,7 @@ csvtable_rules =
     ∷ nameless (option (codes "drop") None)
     ∷ nameless (option (codes "right") (Some 0x72))
     ∷ nameless (option (codes "left") None)
+    ∷ nameless (flag (codes "no-decimal") None)
     ∷ nameless (number (codes "width") (Some 0x77) (vp.Signed (pos 0) (pos 65535)))
     ∷ nameless (flag (codes "full") None)
     ∷ nameless (letter (codes "all-expanded") 0x78)

@@ -301,6 +301,7 @@ fn look_of<'a>(matches: &ArgMatches<'a>, context: OutputContext<'_>) -> Look
         fills_width: is_given(matches, "full"),
         max_height: matches.get_one::<usize>("max-height"),
         has_bold_header: is_bold(matches.get_str("color"), context),
+        aligns_decimals: !is_given(matches, "no-decimal"),
         has_sequences: is_given(matches, "ansi"),
         keeps_bidi: is_given(matches, "bidi"),
         is_raw: is_given(matches, "raw"),

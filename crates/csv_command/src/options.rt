@@ -139,6 +139,13 @@ static OPTIONS: [OptionSpec; 27] = [
         help: "Left-align these columns, numbers or not",
     },
     OptionSpec {
+        name: "no-decimal",
+        letter: None,
+        kind: Kind::Flag,
+        value: "",
+        help: "Don't put decimal points below each other",
+    },
+    OptionSpec {
         name: "width",
         letter: Some('w'),
         kind: Kind::Width,

@@ -22,9 +22,9 @@ use Rattle.csv_tables.proofs.SeparatorLemmas.{restyled, separated}
 use Rattle.csv_tables.proofs.UnbrokenLemmas.{kept-test}
 use Rattle.csv_tables.proofs.WholeColumnLemmas.{all_shown}
 use Rattle.csv_tables.proofs.WholeTableLemmas.{drawn-is, whole_separated}
-use Rattle.csv_tables.specs.Drawn.{ContentValue, arrangement_for, empty_table, is_expanded_for, is_expanded_in, is_table_expanded, output_table, rows_table, separated_table}
+use Rattle.csv_tables.specs.Drawn.{ContentValue, arrangement_for, empty_table, is_expanded_for, is_expanded_in, fitting_content, is_table_expanded, output_table, rows_table, separated_table, unbroken_in}
 use Rattle.csv_tables.specs.Laws.{AutoKeepsWhole, IsWholeColumn, NeverKeepsWhole, UnbrokenColumnsAreWhole}
-use Rattle.csv_tables.specs.Unbroken.{has_room, kept_unbroken, unbroken_columns, constrained_columns, with_constrained}
+use Rattle.csv_tables.specs.Unbroken.{has_room, kept_unbroken, constrained_columns, with_constrained}
 use Rattle.csv_tables.specs.declared.options.Expansion.TheVariants.{Auto}
 use Rattle.csv_tables.specs.declared.options.Look.{Look}
 
@@ -155,17 +155,17 @@ stands_whole table i width content =
         (All-from_recursion (λ (line : Text). measure line ≤ greatest (map measure cell.text_lines)) cell.text_lines (every-le-greatest measure cell.text_lines))
 
 -- where there is room for them, they are whole
-room_keeps_whole : (w : ℕ) (look : Look) (content : ContentValue) → look.width ≡ Some w → has_room (Some w) (unbroken_columns look.has_sequences content.columns content.rows) (rows_table look content) ≡ true → is_expanded_for look content ≡ false → UnbrokenColumnsAreWhole look content
+room_keeps_whole : (w : ℕ) (look : Look) (content : ContentValue) → look.width ≡ Some w → has_room (Some w) (unbroken_in look content) (rows_table look (fitting_content look content)) ≡ true → is_expanded_for look content ≡ false → UnbrokenColumnsAreWhole look content
 room_keeps_whole w look content wide room none table widths i is_drawn arranged below is = stands_whole table i (slice_index widths i) (subst (λ (t : TableValue). column_content_width t i ≤ slice_index widths i) (sym same) kept)
   where
     has : Bool
     has = is_drawn.0
 
     rows : TableValue
-    rows = rows_table look content
+    rows = rows_table look (fitting_content look content)
 
     whole : List Bool
-    whole = unbroken_columns look.has_sequences content.columns content.rows
+    whole = unbroken_in look content
 
     drawn : TableValue
     drawn = separated_table has (output_table false look content)
@@ -189,7 +189,7 @@ room_keeps_whole w look content wide room none table widths i is_drawn arranged 
     known = ap table_width looks ∙ rw wide_look refl
 
     new : AllByRecursion IsNewColumn (separated_table has rows).columns
-    new = subst (λ (t : TableValue). AllByRecursion IsNewColumn t.columns) (restyled look content false has) (recursion_from_All IsNewColumn _ (any_built false (separated has look) content).columns)
+    new = subst (λ (t : TableValue). AllByRecursion IsNewColumn t.columns) (restyled look (fitting_content look content) false has) (recursion_from_All IsNewColumn _ (any_built false (separated has look) (fitting_content look content)).columns)
 
     with : drawn ≡ with_constrained whole (separated_table has rows)
     with = sym own ∙ same
@@ -210,10 +210,10 @@ pub auto_keeps_whole : (w : ℕ) (look : Look) (content : ContentValue) → Auto
 auto_keeps_whole w look content table wide auto none = room_keeps_whole w look content wide (held (has_room (Some w) whole rows) (sym test ∙ none)) none
   where
     rows : TableValue
-    rows = rows_table look content
+    rows = rows_table look (fitting_content look content)
 
     whole : List Bool
-    whole = unbroken_columns look.has_sequences content.columns content.rows
+    whole = unbroken_in look content
 
     test : is_expanded_for look content ≡ not (has_room (Some w) whole rows)
     test = ap (λ m. not m && is_table_expanded look content) table ∙ ap (λ e. is_expanded_in e (has_room look.width whole rows)) auto ∙ ap (λ o. not (has_room o whole rows)) wide
@@ -222,10 +222,10 @@ pub never_keeps_whole : (w : ℕ) (look : Look) (content : ContentValue) → Nev
 never_keeps_whole w look content table wide never none = room_keeps_whole w look content wide (held (has_room (Some w) whole rows) (sym test ∙ none)) own
   where
     rows : TableValue
-    rows = rows_table look content
+    rows = rows_table look (fitting_content look content)
 
     whole : List Bool
-    whole = unbroken_columns look.has_sequences content.columns content.rows
+    whole = unbroken_in look content
 
     test : is_expanded_for (record look { expansion = Auto }) content ≡ not (has_room (Some w) whole rows)
     test = ap (λ m. not m && is_expanded_in Auto (has_room look.width whole rows)) table ∙ ap (λ o. not (has_room o whole rows)) wide

@@ -4,10 +4,13 @@ pub mod BuiltLemmas
 pub mod CleanCharacterLemmas
 pub mod ColumnLawLemmas
 pub mod ColumnLemmas
+pub mod DecimalLawLemmas
+pub mod DecimalLemmas
 mod ExpandedLemmas
 pub mod FieldControlLemmas
 pub mod FieldLemmas
 pub mod FirstRowLemmas
+pub mod FittingLemmas
 pub mod KeptFieldLemmas
 pub mod KeptWidthLemmas
 mod KindLemmas
@@ -29,6 +32,7 @@ pub mod RowLemmas
 pub mod RunLemmas
 pub mod SeenLemmas
 pub mod SeparatorLemmas
+pub mod SpacedLemmas
 pub mod StraightLemmas
 pub mod TextLineLemmas
 pub mod TextTableLemmas

@@ -21,6 +21,7 @@ use Rattle.comfy_table.specs.TableLaws.{shown_contents, wider_total}
 use Rattle.comfy_table.specs.TableValue.{TableValue, table_width}
 use Rattle.comfy_table.specs.Widths.{shown_count}
 use Rattle.csv_tables.proofs.BuiltLemmas.{Built, built, plain_table}
+use Rattle.csv_tables.proofs.FittingLemmas.{drawn_content}
 use Rattle.csv_tables.proofs.SeparatorLemmas.{condensed-all, separated}
 use Rattle.csv_tables.proofs.WholeTableLemmas.{HasRoom, IsDrawn, drawn-is, drawn_table-is, least-fits, unconstrained-drawn, wider-fits}
 use Rattle.csv_tables.specs.Cells.{row_for}
@@ -40,7 +41,7 @@ any_built is_expanded look content =
 
 -- the drawn table is so built
 pub any_drawn : (look : Look) (content : ContentValue) (is_expanded has : Bool) → IsDrawn (separated has look) Any content (separated_table has (output_table is_expanded look content))
-any_drawn look content is_expanded has = drawn_table-is look Any content is_expanded has (any_built is_expanded (separated has look) content)
+any_drawn look content is_expanded has = drawn_table-is look Any content is_expanded has (any_built is_expanded (separated has look) (drawn_content is_expanded look content))
 
 -- no line of it holds a line feed, where none is in the style
 unbroken_style : (has : Bool) (look : Look) → IsStyleWithout 0x0A look.style → IsStyleWithout 0x0A (separated has look).style

@@ -28,7 +28,8 @@ use Rattle.csv_records.specs.Cleaning.{cleaned}
 use Rattle.csv_tables.proofs.BlankLemmas.{unless_blank-keeps}
 use Rattle.csv_tables.proofs.BuiltLemmas.{EachOf, each_content, each_field}
 use Rattle.csv_tables.proofs.CleanCharacterLemmas.{IsMadeOf, lines_made}
-use Rattle.csv_tables.proofs.NumberedLemmas.{HoldsOfShort, lines_beside, number_drawn}
+use Rattle.csv_tables.proofs.FittingLemmas.{drawn_content, each_drawn}
+use Rattle.csv_tables.proofs.NumberedLemmas.{HoldsOfShort, lines_beside, number_drawn, short_drawn}
 use Rattle.csv_tables.proofs.OutputControlLemmas.{text_fields}
 use Rattle.csv_tables.proofs.SeparatorLemmas.{separated}
 use Rattle.csv_tables.proofs.TextTableLemmas.{EachLine, MakesRows, blank, table_of_texts}
@@ -264,10 +265,13 @@ records_have_lines options records content table widths none unkept texts is (ha
         each_content (All (EachLine IsUtf8 look)) (lines_beside IsUtf8 gives look) options records content is
         (All-weaker AllText (All (EachLine IsUtf8 look)) (λ fields text. All-weaker IsUtf8 (EachLine IsUtf8 look) (field_utf8 look unmarked) fields (text_fields fields text)) records texts)
 
+    fitting : EachOf (All (EachLine IsUtf8 look)) (drawn_content expanded options.look content)
+    fitting = each_drawn (EachLine IsUtf8 look) (short_drawn IsUtf8 gives look) options.look unkept content each expanded
+
     drawn : IsDrawn look IsLinedRow content table
     drawn =
         subst (IsDrawn look IsLinedRow content) (sym made)
-        (drawn_table-is options.look IsLinedRow content expanded has (table_of_texts IsUtf8 IsUtf8-nil look IsLinedRow (lined_rows look unmarked) content each (number_drawn IsUtf8 gives look) expanded))
+        (drawn_table-is options.look IsLinedRow content expanded has (table_of_texts IsUtf8 IsUtf8-nil look IsLinedRow (lined_rows look unmarked) (drawn_content expanded options.look content) fitting (number_drawn IsUtf8 gives look) expanded))
 
     plain : table.custom_styling ≡ false
     plain = ap (λ (t : TableValue). t.custom_styling) (drawn-is look IsLinedRow content table drawn) ∙ (style_only has options.look).1 ∙ unkept

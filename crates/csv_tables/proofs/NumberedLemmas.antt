@@ -16,18 +16,18 @@ abbrev pub HoldsOfShort : (Text → Type 0) → Type 0
 HoldsOfShort P = (text : Text) → is_printable_ascii text ≡ true → length text ≤ 128 → P text
 
 module _ (P : Text → Type 0) (gives : HoldsOfShort P) (look : Look) where
-  drawn : (field : Text) → IsShortPrintable 64 field → EachLine P look field
-  drawn field short = All-weaker (IsShortPrintable 128) P (λ text is. gives text is.0 is.1) (plain_cell (field_text look field)).text_lines (short_lines look field short)
+  pub short_drawn : (field : Text) → IsShortPrintable 64 field → EachLine P look field
+  short_drawn field short = All-weaker (IsShortPrintable 128) P (λ text is. gives text is.0 is.1) (plain_cell (field_text look field)).text_lines (short_lines look field short)
 
   -- so it does of the text lines of a number
   pub number_drawn : (number : ℕ) → EachLine P look (decimal number)
-  number_drawn number = drawn (decimal number) (number_is_printable number, number_is_short number)
+  number_drawn number = short_drawn (decimal number) (number_is_printable number, number_is_short number)
 
   -- and of those of records beside their numbers
   pub lines_beside : HoldsBeside (All (EachLine P look))
   lines_beside =
       record {
-        names = λ names each. All-cons (EachLine P look) (codes "#") names (drawn (codes "#") (refl, omega arith)) each;
+        names = λ names each. All-cons (EachLine P look) (codes "#") names (short_drawn (codes "#") (refl, omega arith)) each;
         row = λ number fields each. All-cons (EachLine P look) (decimal number) fields (number_drawn number) each;
       }
 

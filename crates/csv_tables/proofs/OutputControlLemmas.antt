@@ -34,6 +34,7 @@ use Rattle.csv_tables.specs.declared.options.Options.{Options}
 use Rattle.csv_tables.proofs.BuiltLemmas.{Built, EachOf, each_content, plain_table}
 use Rattle.csv_tables.proofs.FieldLemmas.{number_is_printable, printable_unbroken}
 use Rattle.csv_tables.proofs.NumberedLemmas.{text_beside}
+use Rattle.csv_tables.proofs.FittingLemmas.{drawn_content, text_drawn}
 use Rattle.csv_tables.proofs.LineLemmas.{drawn, never_expanded, with_lines}
 use Rattle.csv_tables.proofs.OutputLemmas.{markdown_unbroken}
 use Rattle.csv_tables.proofs.SeparatorLemmas.{condensed-all, separated}
@@ -140,7 +141,8 @@ pub free_output : (look : Look) → IsLookWithoutControls look → (content : Co
 free_output look is content text is_expanded has =
     let own = separated has look in
     let clear = separated_without has look is in
-    let known = drawn_table-is look (IsClearRow own.has_sequences) content is_expanded has (built_output own clear content text is_expanded) in
+    let drawn = drawn_content is_expanded look content in
+    let known = drawn_table-is look (IsClearRow own.has_sequences) content is_expanded has (built_output own clear drawn (text_drawn look content text is_expanded) is_expanded) in
     free_of_controls own clear content text (separated_table has (output_table is_expanded look content)) known
 
 -- ---- lines and the last line

@@ -13,7 +13,8 @@ use Rattle.comfy_table.specs.Pieces.{shown_infos}
 use Rattle.comfy_table.specs.TableValue.{TableValue, column_cells, measured_rows, shown_columns}
 use Rattle.csv_tables.proofs.BuiltLemmas.{Built, EachOf, each_content, made_of, plain_table}
 use Rattle.csv_tables.proofs.FieldLemmas.{fields_stay}
-use Rattle.csv_tables.proofs.NumberedLemmas.{HoldsOfShort, lines_beside, number_drawn}
+use Rattle.csv_tables.proofs.FittingLemmas.{drawn_content, each_drawn}
+use Rattle.csv_tables.proofs.NumberedLemmas.{HoldsOfShort, lines_beside, number_drawn, short_drawn}
 use Rattle.csv_tables.proofs.LineLemmas.{kept_setting}
 use Rattle.csv_tables.proofs.SeenLemmas.{fitting_ellipsis_adds}
 use Rattle.csv_tables.proofs.StraightLemmas.{IsDefaultRowOf, IsSeenTable, default_rows_of, seen_all, seen_table}
@@ -61,16 +62,17 @@ module _ (look : Look) (no_sequences : look.has_sequences ≡ false) (content : 
 gives : HoldsOfShort IsPrintable
 gives text printable few = printable
 
-module _ (look : Look) (no_sequences : look.has_sequences ≡ false) (content : ContentValue) (each : EachOf (All (EachLine IsPrintable look)) content) where
+module _ (look : Look) (no_sequences : look.has_sequences ≡ false) (content : ContentValue) where
   of_drawn : (table : TableValue) (widths : List ℕ) → IsDrawn look IsBareRow content table → IsPrintableTable table widths
   of_drawn table widths known = record { printable_cells = printable_cells look no_sequences content table known; indicator_adds_one_column_each = cut_cells look no_sequences content table known widths }
 
-  printable_rows : (widths : List ℕ) → IsPrintableTable (rows_table look content) widths
-  printable_rows widths =
-      of_drawn (rows_table look content) widths (drawn_plain look IsBareRow content (rows_table look content) (rows_of_texts IsPrintable refl look IsBareRow (default_rows_of IsPrintable refl look) content each))
+  module _ (each : EachOf (All (EachLine IsPrintable look)) content) where
+    printable_rows : (widths : List ℕ) → IsPrintableTable (rows_table look content) widths
+    printable_rows widths =
+        of_drawn (rows_table look content) widths (drawn_plain look IsBareRow content (rows_table look content) (rows_of_texts IsPrintable refl look IsBareRow (default_rows_of IsPrintable refl look) content each))
 
-  built_output : (is_expanded : Bool) → Built look IsBareRow content (plain_table is_expanded look content)
-  built_output is_expanded = table_of_texts IsPrintable refl look IsBareRow (default_rows_of IsPrintable refl look) content each (number_drawn IsPrintable gives look) is_expanded
+    built_output : (is_expanded : Bool) → Built look IsBareRow content (plain_table is_expanded look content)
+    built_output is_expanded = table_of_texts IsPrintable refl look IsBareRow (default_rows_of IsPrintable refl look) content each (number_drawn IsPrintable gives look) is_expanded
 
 pub printable_table : (options : Options) (records : List (List Text)) (table : TableValue) (widths : List ℕ) → PrintableTextsMakePrintableTable options records table widths
 printable_table options records table widths no_sequences each is =
@@ -92,9 +94,15 @@ lines_have P visible options records output has plain each = by_table has.is_tab
         each_content (All (EachLine IsPrintable look)) (lines_beside IsPrintable gives look) options records content has.is_output.is_content
         (All-weaker (All IsPrintable) (All (EachLine IsPrintable look)) (λ fields own. All-weaker IsPrintable (EachLine IsPrintable look) (fields_stay look) fields own) records each)
 
-    separated_texts : (separators : Bool) → EachOf (All (EachLine IsPrintable (separated separators look))) content
-    separated_texts true = texts
-    separated_texts false = texts
+    drawn : ContentValue
+    drawn = drawn_content (is_expanded_for look content) look content
+
+    fitting : EachOf (All (EachLine IsPrintable look)) drawn
+    fitting = each_drawn (EachLine IsPrintable look) (short_drawn IsPrintable gives look) look plain.no_sequences content texts (is_expanded_for look content)
+
+    separated_texts : (separators : Bool) → EachOf (All (EachLine IsPrintable (separated separators look))) drawn
+    separated_texts true = fitting
+    separated_texts false = fitting
 
     by_table : IsDrawnTable look content has.table → All (λ line. P has.table (count line)) (seen_lines visible has.lines)
     by_table (separators, is) =
@@ -102,7 +110,7 @@ lines_have P visible options records output has plain each = by_table has.is_tab
         let is_expanded = is_expanded_for look content in
         let unkept = kept_setting (λ l. l.has_sequences) look refl separators false plain.no_sequences in
         let seen = subst (IsSeenTable visible own) (sym is) (seen_table options records content has.is_output.is_content is_expanded separators visible plain.seen) in
-        let built = built_output own unkept content (separated_texts separators) is_expanded in
+        let built = built_output own unkept drawn (separated_texts separators) is_expanded in
         let known = subst (IsDrawn own IsBareRow content) (sym is) (drawn_table-is look IsBareRow content is_expanded separators built) in
         seen_all own unkept content has.table has.lines has.drawing IsBareRow known visible seen (λ line. P has.table (count line))
-        (has.counts.printable_lines (of_drawn own unkept content (separated_texts separators) has.table has.drawing.widths known))
+        (has.counts.printable_lines (of_drawn own unkept content has.table has.drawing.widths known))

@@ -1,5 +1,5 @@
 -- What is visible of the lines of an output is equally wide.
-use Rattle.std.proofs.Common.{◌≡◌, ℕ, ◌≤◌, ◌⊎◌, Bool, true, false, List, [], ◌∷◌, Option, Some, None, Ok, All, arith, decimal, inl, inr, map, max, option_map, slice_index_or, unwrap_or, ap, refl, subst, sym, ◌∙◌}
+use Rattle.std.proofs.Common.{◌≡◌, ℕ, ◌≤◌, ◌+◌, ◌⊎◌, Bool, true, false, List, [], ◌∷◌, Option, Some, None, Ok, All, arith, decimal, inl, inr, map, max, option_map, slice_index_or, unwrap_or, ap, refl, subst, sym, ◌∙◌}
 use Rattle.std.proofs.lemmas.List.Elements.{All-cons, All-map, All-nil, All-weaker}
 use Rattle.std.proofs.lemmas.Str.{chars-nil}
 use Rattle.cluster_width.specs.ClusterSums.{selectors_agree}
@@ -23,7 +23,8 @@ use Rattle.comfy_table.specs.Pieces.{shown_infos}
 use Rattle.comfy_table.specs.Straight.{EachCell, IsStraightTable, TextsFit}
 use Rattle.comfy_table.specs.TableValue.{TableValue, measured_rows, should_style, table_width}
 use Rattle.csv_tables.proofs.BuiltLemmas.{EachOf, each_content}
-use Rattle.csv_tables.proofs.NumberedLemmas.{HoldsOfShort, lines_beside, number_drawn, text_beside}
+use Rattle.csv_tables.proofs.FittingLemmas.{drawn_content, each_drawn}
+use Rattle.csv_tables.proofs.NumberedLemmas.{HoldsOfShort, lines_beside, number_drawn, short_drawn, text_beside}
 use Rattle.csv_tables.proofs.LineLemmas.{drawn, drawn_table, expansion, is_table_text, kept_setting, with_lines}
 use Rattle.csv_tables.proofs.OutputControlLemmas.{free_output}
 use Rattle.csv_tables.proofs.SeenLemmas.{ellipsis_is_apart, fitting_agree, printable_fits, wider_column}
@@ -303,8 +304,11 @@ module _ (visible : Bool) (options : Options) (records : List (List Text)) (outp
   -- the drawn table, of rows of which Q holds
   of_texts : (P : Text → Type 0) (empty : P []) (Q : RowValue → Type 0) → MakesRows P empty own Q → EachText P look records → HoldsOfShort P → IsDrawn own Q made.content table
   of_texts P empty Q makes each gives =
+      let fields = each_content (All (EachLine P look)) (lines_beside P gives look) options records made.content made.is_content each in
+      let fitting = each_drawn (EachLine P look) (short_drawn P gives look) look plain.no_sequences made.content fields text.is_expanded in
+      let drawn = drawn_content text.is_expanded look made.content in
       drawn_table-is look Q made.content text.is_expanded has
-      (table_of_texts P empty own Q makes made.content (each_separated P look has made.content (each_content (All (EachLine P look)) (lines_beside P gives look) options records made.content made.is_content each)) (number_drawn P gives own) text.is_expanded)
+      (table_of_texts P empty own Q makes drawn (each_separated P look has drawn fitting) (number_drawn P gives own) text.is_expanded)
 
   -- the output is straight where its table is
   straight : (Q : RowValue → Type 0) → IsDrawn own Q made.content table → IsStraightTable table headline.widths → IsStraightOutput visible options records output
@@ -347,7 +351,7 @@ fitting_is_straight visible options records output none characters plain fits ma
     let text = is_table_text options records output made none in
     let known =
     drawn_table-is options.look IsDefaultRow made.content text.is_expanded separators
-    (table_of_texts IsAny tt own IsDefaultRow (default_rows own) made.content (any_content own made.content) (λ number. any_line own (decimal number)) text.is_expanded) in
+    (table_of_texts IsAny tt own IsDefaultRow (default_rows own) (drawn_content text.is_expanded options.look made.content) (any_content own (drawn_content text.is_expanded options.look made.content)) (λ number. any_line own (decimal number)) text.is_expanded) in
     straight visible options records output none characters plain made IsDefaultRow known
     (fitting own (unkept visible options records output none characters plain made) (separated_is_one_column separators options.look characters) made.content _ _ drawing IsDefaultRow known (λ row is. is)
     (fits made.content (drawn_table options records output made text none) drawing.widths made.is_content (separators, ap (λ e. separated_table separators (output_table e options.look made.content)) (expansion options records output made text none)) drawing.arranged))
@@ -372,8 +376,11 @@ narrow_lines_have P visible options records output has none characters plain eac
         let empty : CharactersFit 1 [] = printable_fits [] refl in
         let seen = subst (IsSeenTable visible own) (sym is) (seen_table options records content has.is_output.is_content is_expanded separators visible plain.seen) in
         let gives : HoldsOfShort (CharactersFit 1) = λ text printable few. printable_fits text printable in
-        let texts = each_separated (CharactersFit 1) look separators content (each_content (All (EachLine (CharactersFit 1) look)) (lines_beside (CharactersFit 1) gives look) options records content has.is_output.is_content each) in
-        let built = table_of_texts (CharactersFit 1) empty own Q (default_rows_of (CharactersFit 1) empty own) content texts (number_drawn (CharactersFit 1) gives own) is_expanded in
+        let fields = each_content (All (EachLine (CharactersFit 1) look)) (lines_beside (CharactersFit 1) gives look) options records content has.is_output.is_content each in
+        let drawn = drawn_content is_expanded look content in
+        let fitting = each_drawn (EachLine (CharactersFit 1) look) (short_drawn (CharactersFit 1) gives look) look plain.no_sequences content fields is_expanded in
+        let texts = each_separated (CharactersFit 1) look separators drawn fitting in
+        let built = table_of_texts (CharactersFit 1) empty own Q (default_rows_of (CharactersFit 1) empty own) drawn texts (number_drawn (CharactersFit 1) gives own) is_expanded in
         let known = subst (IsDrawn own Q content) (sym is) (drawn_table-is look Q content is_expanded separators built) in
         seen_all own unkept content has.table has.lines has.drawing Q known visible seen (λ line. P has.table (measure line))
         (has.counts.straight_lines (narrow own unkept wide content has.table has.lines has.drawing known))

@@ -20,10 +20,11 @@ use Rattle.comfy_table.specs.TableValue.{TableValue, max_content_widths, measure
 use Rattle.comfy_table.specs.Widths.{ColumnNeeds, needs_of, shown_count, shown_needs}
 use Rattle.csv_tables.proofs.BuiltLemmas.{Built, plain_table}
 use Rattle.csv_tables.proofs.SeparatorLemmas.{restyled, separated}
+use Rattle.csv_tables.proofs.FittingLemmas.{drawn_content}
 use Rattle.csv_tables.proofs.UnbrokenLemmas.{framed_pair}
 use Rattle.csv_tables.proofs.WholeColumnLemmas.{AreNeeds, IsPaddedColumn, all_shown, are_fixed, field_width-within, fixed_or_one, lower-none, needs, padded_columns, padded_second, pairs_have_two, second_needs}
-use Rattle.csv_tables.specs.Drawn.{ContentValue, condensed_style, empty_table, output_table, pairs_table, rows_table, separated_table}
-use Rattle.csv_tables.specs.Unbroken.{constrained_columns, field_width, framed_width, has_room, kept_unbroken, kept_unbroken_fields, may_break, needed_content, needed_contents, room_beside, room_for_two, unbroken_columns, with_constrained, with_field_width, with_second}
+use Rattle.csv_tables.specs.Drawn.{ContentValue, condensed_style, empty_table, fitting_content, output_table, pairs_table, rows_table, separated_table, unbroken_in}
+use Rattle.csv_tables.specs.Unbroken.{constrained_columns, field_width, framed_width, has_room, kept_unbroken, kept_unbroken_fields, may_break, needed_content, needed_contents, room_beside, room_for_two, with_constrained, with_field_width, with_second}
 use Rattle.csv_tables.specs.declared.options.Look.{Look}
 
 -- ---- room
@@ -173,7 +174,7 @@ module _ (look : Look) (Q : RowValue → Type 0) (content : ContentValue) where
         subst NoConstraints (sym (drawn.is_plain ∙ ap (λ (columns : List ColumnValue). record drawn.plain { columns = columns }) none)) (unconstrained (empty_table look) Q drawn.plain drawn.known)
 
 -- the table that is drawn of some records
-pub drawn_table-is : (look : Look) (Q : RowValue → Type 0) (content : ContentValue) (is_expanded has : Bool) → Built (separated has look) Q content (plain_table is_expanded (separated has look) content)
+pub drawn_table-is : (look : Look) (Q : RowValue → Type 0) (content : ContentValue) (is_expanded has : Bool) → Built (separated has look) Q content (plain_table is_expanded (separated has look) (drawn_content is_expanded look content))
     → IsDrawn (separated has look) Q content (separated_table has (output_table is_expanded look content))
 drawn_table-is look Q content true has known = by_width look.width refl
   where
@@ -239,16 +240,16 @@ drawn_table-is look Q content true has known = by_width look.width refl
 drawn_table-is look Q content false has known = by_width look.width refl
   where
     rows : TableValue
-    rows = rows_table look content
+    rows = rows_table look (fitting_content look content)
 
     plain : TableValue
-    plain = rows_table (separated has look) content
+    plain = rows_table (separated has look) (fitting_content look content)
 
     whole : List Bool
-    whole = unbroken_columns look.has_sequences content.columns content.rows
+    whole = unbroken_in look content
 
     same : plain ≡ separated_table has rows
-    same = restyled look content false has
+    same = restyled look (fitting_content look content) false has
 
     own : IsDrawn (separated has look) Q content (separated_table has rows)
     own = subst (IsDrawn (separated has look) Q content) same (drawn_plain (separated has look) Q content plain known)

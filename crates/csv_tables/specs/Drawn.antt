@@ -15,8 +15,10 @@ use Rattle.comfy_table.specs.Parts.{ArrangedValue, IsArrangedTable, part_lines, 
 use Rattle.comfy_table.specs.Pieces.{row_height}
 use Rattle.comfy_table.specs.TableValue.{TableValue, max_content_widths, new_table, with_header, with_rows}
 use Rattle.csv_tables.specs.Cells.{field_or_blank, header_for, held, pair_for, row_for}
-use Rattle.csv_tables.specs.Columns.{ColumnFault, columns_for, name_from}
+use Rattle.csv_tables.specs.Columns.{ColumnFault, columns_for, name_from, seen}
+use Rattle.csv_tables.specs.Decimals.{mark_at, spaced_fields}
 use Rattle.csv_records.specs.Numbered.{behind_mark, numbered_from}
+use Rattle.csv_records.specs.declared.decimals.Points.{Points}
 use Rattle.csv_records.specs.Beginning.{IsEnough}
 use Rattle.csv_records.specs.Reading.{AreRecordsFor}
 use Rattle.devices.specs.Outcome.{Beginning, Extent, Whole}
@@ -180,13 +182,44 @@ abbrev pub pairs_table : Look → ContentValue → TableValue
 pairs_table look content =
     with_rows (flat_map (pairs_in look content) content.rows) (empty_table look)
 
+-- its columns of numbers and dates
+abbrev pub unbroken_in : Look → ContentValue → List Bool
+unbroken_in look content = unbroken_columns look.has_sequences content.columns content.rows
+
+-- whether a width that is kept has room for the table of rows
+abbrev pub has_room_for : Look → ContentValue → ContentValue → Bool
+has_room_for look content drawn =
+    has_room look.width (unbroken_in look content) (rows_table look drawn)
+
+-- the same with spaces behind fields, by the decimal marks of their columns
+abbrev pub spaced_content : Look → (ℕ → Option Points) → ContentValue → ContentValue
+spaced_content look marks content =
+    record content { rows = map (spaced_fields look.has_sequences marks) content.rows }
+
+-- the decimal marks that are to stand below each other
+abbrev pub marks_for : Look → ContentValue → ℕ → Option Points
+marks_for look content position =
+    if look.aligns_decimals
+    then mark_at content.columns (map (seen look.has_sequences) content.rows) position
+    else None
+
+abbrev pub aligned_content : Look → ContentValue → ContentValue
+aligned_content look content = spaced_content look (marks_for look content) content
+
+-- they do where there is room for the table with the spaces
+abbrev pub fitting_content : Look → ContentValue → ContentValue
+fitting_content look content =
+    if has_room_for look content (aligned_content look content)
+    then aligned_content look content
+    else content
+
 -- the table that is drawn, with all lines of its style: of expanded records, or of rows. Its
 -- numbers and dates aren't broken where there is room
 abbrev pub output_table : Bool → Look → ContentValue → TableValue
 output_table true look content = kept_unbroken_fields look.width (pairs_table look content)
 output_table false look content =
-    kept_unbroken look.width (unbroken_columns look.has_sequences content.columns content.rows)
-    (rows_table look content)
+    kept_unbroken look.width (unbroken_in look content)
+    (rows_table look (fitting_content look content))
 
 -- ---- lines between rows
 
@@ -238,9 +271,7 @@ is_expanded_in Auto has_room = not has_room
 -- whether those of a table are
 abbrev pub is_table_expanded : Look → ContentValue → Bool
 is_table_expanded look content =
-    is_expanded_in look.expansion
-    (has_room look.width (unbroken_columns look.has_sequences content.columns content.rows)
-    (rows_table look content))
+    is_expanded_in look.expansion (has_room_for look content (fitting_content look content))
 
 -- whether those of an output are: none for Markdown
 abbrev pub is_expanded_for : Look → ContentValue → Bool

@@ -1,9 +1,9 @@
 -- What is so of every output.
 use Rattle.std.specs.Prelude.{◌≡◌, ◌⊎◌, ℕ, ◌+◌, ◌<◌, ◌≤◌, Bool, true, false, List, [], ◌∷◌, ◌++◌, Option, Some, None, Ok, All, Contains, flat_map, length, map, max, slice_get, slice_index, unwrap_or}
-use Rattle.std.specs.List.{range_with_len}
+use Rattle.std.specs.List.{AllZip, range_with_len}
 use Rattle.comfy_parts.specs.CellValue.{CellValue, plain_cell}
 use Rattle.comfy_parts.specs.Columns.{CharactersFit, IsOneColumnStyle, SelectorsAgree}
-use Rattle.comfy_parts.specs.Text.{Text, is_printable_ascii, measure}
+use Rattle.comfy_parts.specs.Text.{Text, is_printable_ascii, measure, spaces}
 use Rattle.comfy_parts.specs.VisibleText.{visible_text}
 use Rattle.comfy_parts.specs.Wrapping.{lines_of_text}
 use Rattle.comfy_table.specs.Arrangement.{IsArranged}
@@ -18,9 +18,12 @@ use Rattle.comfy_table.specs.TableValue.{TableValue, column_cells, column_conten
 use Rattle.comfy_table.specs.Widths.{shown_count}
 use Rattle.csv_tables.specs.Cells.{field_text, row_for}
 use Rattle.csv_records.specs.Cleaning.{visible_of}
+use Rattle.csv_records.specs.Decimals.{byte_of, digits_in, fraction_len, points_of, spaces_behind}
+use Rattle.csv_records.specs.Number.{halves, is_neutral}
+use Rattle.csv_records.specs.declared.decimals.Points.{Points}
 use Rattle.csv_tables.specs.Columns.{count_of, kept_columns}
 use Rattle.csv_tables.specs.Controls.{HasNoStrayControl, IsStyleWithoutControls}
-use Rattle.csv_tables.specs.Drawn.{ContentValue, RendersBeginning, RendersInput, RendersRecords, columns_beside, content_of, drawn_rows, is_expanded_for, names_of, note_for, output_table, record_line, rows_beside, separated_table, table_for}
+use Rattle.csv_tables.specs.Drawn.{ContentValue, RendersBeginning, RendersInput, RendersRecords, columns_beside, content_of, drawn_rows, fitting_content, is_expanded_for, names_of, note_for, output_table, record_line, rows_beside, separated_table, table_for}
 use Rattle.csv_tables.specs.Unbroken.{framed_width, is_unbroken, needed_content, unbroken_columns}
 use Rattle.csv.specs.Records.{AllText}
 use Rattle.csv_tables.specs.declared.options.Expansion.TheVariants.{Auto, Never}
@@ -50,6 +53,26 @@ pub record KeepsRows (options : Options) (records : List (List Text))
 abbrev pub TableKeepsRows : Options → List (List Text) → TableValue → Type 0
 TableKeepsRows options records table =
     table_for options records ≡ Ok table → KeepsRows options records table
+
+-- ---- decimal points
+
+-- a text as it is, or with spaces behind it
+abbrev pub HasSpacesBehind : Text → Text → Type 0
+HasSpacesBehind text drawn = (n : ℕ) × (drawn ≡ text ++ spaces n)
+
+-- the table of rows has the fields of its records, with nothing but spaces behind them
+abbrev pub SpacesAloneAreAdded : Look → ContentValue → Type 0
+SpacesAloneAreAdded look content =
+    AllZip (AllZip HasSpacesBehind) content.rows (fitting_content look content).rows
+
+-- in a column with a decimal mark the fraction of each field and the spaces behind it are as long
+-- as the longest fraction; a field that says nothing has neither
+abbrev pub MarksStandBelow : List Text → Type 0
+MarksStandBelow fields =
+    (points : Points) → points_of fields ≡ Some points
+    → All (λ field. (is_neutral field ≡ true)
+    ⊎ (fraction_len (halves (byte_of points.mark) (digits_in field)) + spaces_behind points field
+    ≡ points.longest)) fields
 
 -- ---- lines
 

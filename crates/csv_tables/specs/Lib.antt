@@ -2,6 +2,7 @@ pub mod Cells
 pub mod ColumnLaws
 pub mod Columns
 pub mod Controls
+pub mod Decimals
 pub mod Doubt
 pub mod Drawn
 pub mod Errors

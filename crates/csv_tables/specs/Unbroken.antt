@@ -10,7 +10,7 @@ use Rattle.comfy_parts.specs.declared.style.column.Width.TheVariants.{Fixed}
 use Rattle.comfy_parts.specs.declared.style.table_style.TableStyle.{TableStyle}
 use Rattle.comfy_table.specs.Frame.{border_count}
 use Rattle.comfy_table.specs.TableValue.{TableValue, column_cells, max_content_widths}
-use Rattle.csv_records.specs.Number.{is_number}
+use Rattle.csv_records.specs.Number.{is_neutral, is_number}
 use Rattle.csv_tables.specs.Cells.{field_or_blank}
 use Rattle.csv_tables.specs.Columns.{seen}
 use Rattle.csv_tables.specs.declared.options.DrawnColumn.{DrawnColumn}
@@ -21,10 +21,11 @@ use Rattle.csv_tables.specs.declared.options.DrawnColumn.{DrawnColumn}
 abbrev pub is_of_dates : ℕ → Bool
 is_of_dates c = is_ascii_digit c || list_any (λ mark. mark == c) (codes "-/:.TZ+ ")
 
--- a number, or such characters alone, as in an empty field; at most 25 characters
+-- a number, a field that says nothing, or such characters alone; at most 25 characters
 abbrev pub is_unbroken : Text → Bool
 is_unbroken field =
-    nat_le (length (chars field)) 25 && (list_all is_of_dates field || is_number field)
+    nat_le (length (chars field)) 25
+    && (list_all is_of_dates field || (is_number field || is_neutral field))
 
 -- so is each field of a column
 abbrev pub is_unbroken_column : List (List Text) → ℕ → Bool

@@ -1,27 +1,33 @@
 //! The cells and rows of records.
 
 ghost use Rattle.std.specs.Prelude.{◌≡◌, IfOk, false, max, option_map, string_bytes};
+ghost use Rattle.std.specs.Cow.{cow_str_bytes};
 ghost use Rattle.std.specs.Option.{option_or};
-ghost use Rattle.csv_tables.specs.Cells.{cell_for, cells_for, cut, field_text, header_for, is_blank, kept_by, kept_for_markdown, pair_for, unless_blank, with_weight};
+ghost use Rattle.csv_tables.specs.Decimals.{mark_in, spaced_fields};
+ghost use Rattle.csv_tables.specs.Cells.{cell_for, cells_for, cut, field_or_blank, field_text, header_for, is_blank, kept_by, kept_for_markdown, pair_for, unless_blank, with_weight};
 
+use crate::decimals::{mark_in, spaced};
 use crate::markdown::escaped;
 use crate::options::{DrawnColumn, Look};
 use comfy_parts::style::{Attribute, CellAlignment};
 use comfy_parts::{Cell, Cells, IntoRow, Result, Row};
-use csv_records::{CleanOptions, Record, cleaned};
+use csv_records::{CleanOptions, Points, Record, cleaned};
 use std::alloc::Global;
+use std::borrow::CowStr;
 
 /// The row of a record: a cell for each of these columns, blank where the record has no such field.
+/// The decimal marks are those that stand below each other, by position.
 pub fn row_of(
     alloc: Global,
     fields: &Record<'_>,
     columns: &[DrawnColumn],
+    marks: &[Option<Points>],
     look: &Look,
 ) -> Result<Row>
-    ensures { IfOk result (λ row. row
-        ≡ cut look.now (cells_for look.now false columns.now fields.now)) }
+    ensures { IfOk result (λ row. row ≡ cut look.now (cells_for look.now false columns.now
+        (spaced_fields look.now.has_sequences (mark_in marks.now) fields.now))) }
 {
-    Ok(cut(cells_of(alloc, fields, columns, look, false)?, look))
+    Ok(cut(cells_of(alloc, fields, columns, marks, look, false)?, look))
 }
 
 /// The row of the header.
@@ -33,7 +39,7 @@ pub fn header_of(
 ) -> Result<Row>
     ensures { IfOk result (λ row. row ≡ header_for look.now columns.now fields.now) }
 {
-    cells_of(alloc, fields, columns, look, look.has_bold_header)
+    cells_of(alloc, fields, columns, &[], look, look.has_bold_header)
 }
 
 /// The row of one field of a record that is drawn as a table of its own: the name of the field's
@@ -64,17 +70,34 @@ fn cells_of(
     alloc: Global,
     fields: &Record<'_>,
     columns: &[DrawnColumn],
+    marks: &[Option<Points>],
     look: &Look,
     is_bold: bool,
 ) -> Result<Row>
-    ensures { IfOk result (λ row. row ≡ cells_for look.now is_bold columns.now fields.now) }
+    ensures { IfOk result (λ row. row ≡ cells_for look.now is_bold columns.now
+        (spaced_fields look.now.has_sequences (mark_in marks.now) fields.now)) }
 {
     let mut row = Cells(Vec::with_capacity(alloc, columns.len())?).into_row(alloc)?;
     for column in columns {
-        let field = fields.get(column.position).unwrap_or("");
-        row.try_add_cell(cell_of(alloc, field, column.alignment, look, is_bold)?)?;
+        let field = spaced_field(alloc, fields, column.position, marks, look.has_sequences)?;
+        row.try_add_cell(cell_of(alloc, field.as_str(), column.alignment, look, is_bold)?)?;
     }
     Ok(row)
+}
+
+// The field at a position, with the spaces that it needs by the mark of its column.
+fn spaced_field<'a>(
+    alloc: Global,
+    fields: &Record<'a>,
+    position: usize,
+    marks: &[Option<Points>],
+    has_sequences: bool,
+) -> Result<CowStr<'a>>
+    ensures { IfOk result (λ field. cow_str_bytes field ≡ field_or_blank
+        (spaced_fields has_sequences (mark_in marks.now) fields.now) position) }
+{
+    let field = fields.get(position).unwrap_or("");
+    Ok(spaced(alloc, field, mark_in(marks, position), has_sequences)?)
 }
 
 // The cell of a field, in bold or not.

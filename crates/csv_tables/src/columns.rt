@@ -5,6 +5,7 @@ ghost use Rattle.std.specs.Cow.{cow_str_bytes};
 ghost use Rattle.std.specs.List.{range_with_len};
 ghost use Rattle.comfy_parts.specs.VisibleText.{visible_text};
 ghost use Rattle.csv.specs.Records.{field_at};
+ghost use Rattle.csv_records.specs.Cleaning.{visible_of};
 ghost use Rattle.csv_tables.specs.Cells.{field_or_blank};
 ghost use Rattle.csv_tables.specs.declared.columns.FieldKind.TheVariants.{Neutral};
 ghost use Rattle.csv_tables.specs.Columns.{AreKindsOf, IsColumnsRefusal, alignment_for, at_two_sides, chosen_columns, column_of, columns_chosen, columns_for, count_of, drawn_columns, end_of, is_text, joined_kind, joined_kinds, kept_columns, kind_at, kind_of, name_at, name_from, numbered, position_named, positions_of, positions_of_word, range_at, range_of, seen, without};
@@ -449,16 +450,26 @@ pub(crate) fn seen_field<'a>(
     ensures { IfOk result (λ field. cow_str_bytes field
         ≡ field_or_blank (seen has_sequences row.now) position) }
 {
-    let field = row.get(position).unwrap_or("");
+    seen_text(alloc, row.get(position).unwrap_or(""), has_sequences)
+}
+
+/// What is seen of a field.
+pub(crate) fn seen_text<'a>(
+    alloc: Global,
+    field: &'a str,
+    has_sequences: bool,
+) -> Result<CowStr<'a>, AllocError>
+    ensures { IfOk result (λ text. cow_str_bytes text ≡ visible_of has_sequences field.now) }
+{
     if has_sequences {
-        Ok(CowStr::Owned(seen_text(alloc, field)?))
+        Ok(CowStr::Owned(without_sequences(alloc, field)?))
     } else {
         Ok(CowStr::Borrowed(field))
     }
 }
 
-// What is seen of a field whose sequences are kept.
-fn seen_text(alloc: Global, field: &str) -> Result<String, AllocError>
+// A field without its sequences.
+fn without_sequences(alloc: Global, field: &str) -> Result<String, AllocError>
     ensures { IfOk result (λ text. string_bytes text ≡ visible_text field.now) }
 {
     match visible_text(alloc, field) {

@@ -6,7 +6,7 @@ ghost use Rattle.comfy_parts.specs.Text.{Text};
 ghost use Rattle.comfy_table.specs.TableValue.{TableValue};
 ghost use Rattle.csv_tables.specs.ColumnLaws.{KeepsChosenColumns};
 ghost use Rattle.csv_tables.specs.Drawn.{ContentValue};
-ghost use Rattle.csv_tables.specs.Laws.{AutoKeepsWhole, BeginningIsDrawnWithoutControls, ExpandedKeepsWhole, FittingOutputIsStraight, InputIsDrawnWithoutControls, IsFilling, IsWithin, MarkdownOutputIsStraight, NarrowLinesHave, NarrowOutputIsStraight, NeverKeepsWhole, OutputFillsWidth, OutputHoldsNoControls, OutputKeepsToWidth, PrintableFieldsStay, PrintableLinesHave, PrintableTextsMakePrintableTable, RecordsHaveLines, TableKeepsRows, WholeOutputIsStraight};
+ghost use Rattle.csv_tables.specs.Laws.{AutoKeepsWhole, BeginningIsDrawnWithoutControls, ExpandedKeepsWhole, FittingOutputIsStraight, InputIsDrawnWithoutControls, IsFilling, IsWithin, MarkdownOutputIsStraight, MarksStandBelow, NarrowLinesHave, NarrowOutputIsStraight, NeverKeepsWhole, OutputFillsWidth, OutputHoldsNoControls, OutputKeepsToWidth, PrintableFieldsStay, PrintableLinesHave, PrintableTextsMakePrintableTable, RecordsHaveLines, SpacesAloneAreAdded, TableKeepsRows, WholeOutputIsStraight};
 ghost use Rattle.csv_tables.specs.Markdown.{IsReadBack};
 ghost use Rattle.csv_tables.specs.MarkdownLines.{MarkdownGivesRecordsBack};
 ghost use Rattle.csv_tables.specs.OneOutput.{OutputIsOne, OutputOfIsOne};
@@ -19,6 +19,14 @@ ghost use Rattle.csv_tables.specs.declared.options.Selection.{Selection};
 pub fn tables_keep_their_rows()
     ensures { (options : Options) (records : List (List Text)) (table : TableValue)
         → TableKeepsRows options records table }
+{}
+
+/// Decimal marks stand below each other, by spaces alone. The table of rows has the fields of its
+/// records with nothing but spaces behind them. In a column with a decimal mark the fraction of
+/// each field is as long with its spaces, so all marks are as far from the right side.
+pub fn decimal_marks_stand_below_each_other()
+    ensures spaces { (look : Look) (content : ContentValue) → SpacesAloneAreAdded look content }
+    ensures marks { (fields : List Text) → MarksStandBelow fields }
 {}
 
 /// The columns that are drawn are there. They are those that words choose and none that others

@@ -5,6 +5,7 @@
 mod cells;
 mod columns;
 mod content;
+mod decimals;
 mod error;
 mod expanded;
 mod hints;

@@ -66,7 +66,8 @@ fn push_part(text: &mut String, column: &DrawnColumn, width: u16) -> Result<(), 
     })
 }
 
-fn is_right(alignment: Option<CellAlignment>) -> bool
+/// Whether cells of this alignment stand at the right.
+pub(crate) fn is_right(alignment: Option<CellAlignment>) -> bool
     ensures { result ≡ is_right alignment }
 {
     matches!(alignment, Some(CellAlignment::Right))

@@ -83,6 +83,9 @@ pub struct Look {
     pub max_height: Option<usize>,
     /// Whether the header is written in bold.
     pub has_bold_header: bool,
+    /// Whether the decimal points of a column of numbers stand below each other, where there is
+    /// room for the spaces behind its fields. In Markdown and in expanded records they don't.
+    pub aligns_decimals: bool,
     /// Whether SGR sequences in fields count no terminal columns. ESC is then kept as it is.
     pub has_sequences: bool,
     /// Whether characters that turn the direction of text are left as they are.

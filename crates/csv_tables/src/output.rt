@@ -3,9 +3,11 @@
 ghost use Rattle.std.specs.Prelude.{◌≡◌, ◌∷◌, ◌++◌, IfOk, IfErr, OnOk, false, map, string_bytes, true};
 ghost use Rattle.csv_tables.specs.Columns.{IsColumnsRefusal};
 ghost use Rattle.csv_tables.specs.Markdown.{rule_line};
-ghost use Rattle.csv_tables.specs.Drawn.{RendersAsMarkdown, RendersAsTable, RendersContent, RendersFound, RendersTable, are_more, content_counted, content_of, count_text, note_for, output_table};
+ghost use Rattle.csv_tables.specs.Drawn.{RendersAsMarkdown, RendersAsTable, RendersContent, RendersFound, RendersTable, are_more, content_counted, content_of, count_text, fitting_content, has_room_for, note_for, output_table, rows_table, unbroken_in};
+ghost use Rattle.csv_tables.specs.Unbroken.{kept_unbroken};
 
 use crate::content::Content;
+use crate::decimals::marks_of;
 use crate::error::ColumnsError;
 use crate::expanded::{between_fields, is_expanded, records_text};
 use crate::markdown::push_rule;
@@ -60,13 +62,41 @@ fn table_text(content: Content, look: &Look) -> Result<String>
     if look.expansion == Expansion::Always {
         return expanded_text(content, look);
     }
-    let mut table = content.rows_table(look)?;
-    let has_room = keep_unbroken(&mut table, &content, look)?;
+    let (table, has_room) = fitting_table(&content, look)?;
     if is_expanded(look.expansion, has_room) {
         drop(table);
         return expanded_text(content, look);
     }
     rows_text(content, table, look)
+}
+
+// The table of rows, with decimal points below each other where there is room for that, and whether
+// there is room for the table.
+fn fitting_table(content: &Content, look: &Look) -> Result<(Table, bool)>
+    ensures table { IfOk result (λ x. x.0 ≡ output_table false look.now content.now) }
+    ensures has_room { IfOk result (λ x. x.1
+        ≡ has_room_for look.now content.now (fitting_content look.now content.now)) }
+{
+    let marks = marks_of(content, look)?;
+    let marks = marks.as_slice();
+    let mut table = content.spaced_table(marks, look)?;
+    let has_room = keep_unbroken(&mut table, content, look)?;
+    if has_room || marks.is_empty() {
+        return Ok((table, has_room));
+    }
+    drop(table);
+    plain_table(content, look)
+}
+
+// The table of rows without spaces for decimal points, and whether there is room for it.
+fn plain_table(content: &Content, look: &Look) -> Result<(Table, bool)>
+    ensures table { IfOk result (λ x. x.0 ≡ kept_unbroken look.now.width
+        (unbroken_in look.now content.now) (rows_table look.now content.now)) }
+    ensures has_room { IfOk result (λ x. x.1 ≡ has_room_for look.now content.now content.now) }
+{
+    let mut table = content.rows_table(look)?;
+    let has_room = keep_unbroken(&mut table, content, look)?;
+    Ok((table, has_room))
 }
 
 // The text of this table of rows.

@@ -2,7 +2,8 @@
 
 ghost use Rattle.std.specs.Prelude.{◌≡◌, IfErr, IfOk, Ok, OnOk, map, option_map, unwrap_or};
 ghost use Rattle.csv_tables.specs.Columns.{IsColumnsRefusal};
-ghost use Rattle.csv_tables.specs.Drawn.{arrangement_for, content_of, empty_table, first_number, headed_table, markdown_look, markdown_style, markdown_table, pair_columns, pairs_of, pairs_table, rows_table, table_for};
+ghost use Rattle.csv_tables.specs.Drawn.{arrangement_for, content_of, empty_table, first_number, headed_table, markdown_look, markdown_style, markdown_table, pair_columns, pairs_of, pairs_table, rows_table, spaced_content, table_for};
+ghost use Rattle.csv_tables.specs.Decimals.{mark_in};
 ghost use Rattle.comfy_table.specs.TableValue.{with_rows};
 
 use crate::cells::{header_of, pair_of, row_of};
@@ -12,14 +13,15 @@ use crate::error::ColumnsError;
 use crate::options::{Look, Options};
 use comfy_table::presets::ASCII_MARKDOWN;
 use comfy_table::{ContentArrangement, LineStyle, Result, Table, TableStyle};
-use csv_records::{Record, Records};
+use csv_records::{Points, Record, Records};
 use std::alloc::Global;
 
 /// The table of these records, with the columns, rows and looks that are wanted, and all lines of
 /// the style. `NoColumn` has the first word that chooses no column that is there, in the list of
 /// columns, then in those of the dropped ones, of the right and of the left. `NoneLeft` comes
 /// before those of the right. `TwoSides` has the first column of the right that is at the left too.
-/// Where Markdown is wanted its texts alone are for Markdown; `draw` draws such a table.
+/// Where Markdown is wanted its texts alone are for Markdown; `draw` draws such a table. No spaces
+/// are added that put decimal points below each other; `draw` adds them.
 pub fn table_of(
     alloc: Global,
     records: Records,
@@ -37,7 +39,15 @@ impl Content {
     pub fn rows_table(&self, look: &Look) -> Result<Table>
         ensures { IfOk result (λ table. table ≡ rows_table look.now self.now) }
     {
-        self.rows_table_under(self.names(), look)
+        self.rows_table_under(self.names(), &[], look)
+    }
+
+    /// The same with spaces behind fields, by these decimal marks of their columns.
+    pub fn spaced_table(&self, marks: &[Option<Points>], look: &Look) -> Result<Table>
+        ensures { IfOk result (λ table. table
+            ≡ rows_table look.now (spaced_content look.now (mark_in marks.now) self.now)) }
+    {
+        self.rows_table_under(self.names(), marks, look)
     }
 
     /// The table of expanded records: for each field a row, with the name of its column.
@@ -57,16 +67,22 @@ impl Content {
         ensures { IfOk result (λ table. table ≡ markdown_table look.now self.now) }
     {
         let names = self.names_or_blank();
-        self.rows_table_under(Some(names), &markdown_look(*look))
+        self.rows_table_under(Some(names), &[], &markdown_look(*look))
     }
 
-    fn rows_table_under(&self, names: Option<Record<'_>>, look: &Look) -> Result<Table>
-        ensures { IfOk result (λ table. table
-            ≡ rows_table look.now (record self.now { names = names.entry })) }
+    fn rows_table_under(
+        &self,
+        names: Option<Record<'_>>,
+        marks: &[Option<Points>],
+        look: &Look,
+    ) -> Result<Table>
+        ensures { IfOk result (λ table. table ≡ rows_table look.now (spaced_content look.now
+            (mark_in marks.now) (record self.now { names = names.entry }))) }
     {
         let mut table = self.headed_table(names, look)?;
         for row in self.rows() {
-            table.try_add_row(row_of(self.alloc, &row, self.reached(&row), look)?)?;
+            let reached = self.reached(&row);
+            table.try_add_row(row_of(self.alloc, &row, reached, marks, look)?)?;
         }
         Ok(table)
     }

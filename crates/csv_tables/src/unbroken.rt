@@ -1,7 +1,8 @@
 //! Numbers and dates, which aren't broken over lines where there is room.
 
-ghost use Rattle.std.specs.Prelude.{◌≡◌, ◌-◌, ◌≤◌, ◌^◌, IfOk, OnOk, Some, chars, false, length, map, min, nat_le, slice_get, slice_index, true, unwrap_or};
+ghost use Rattle.std.specs.Prelude.{◌≡◌, ◌||◌, ◌-◌, ◌≤◌, ◌^◌, IfOk, OnOk, Some, chars, false, length, map, min, nat_le, slice_get, slice_index, true, unwrap_or};
 ghost use Rattle.std.specs.List.{list_all};
+ghost use Rattle.csv_records.specs.Number.{is_neutral, is_number};
 ghost use Rattle.csv_tables.specs.Columns.{seen};
 ghost use Rattle.comfy_table.specs.TableValue.{max_content_widths, measured_cell};
 ghost use Rattle.csv_tables.specs.Unbroken.{cell_unbroken_width, constrained_column, field_width, framed_width, has_room, is_of_dates, is_unbroken, is_unbroken_column, kept_unbroken, kept_unbroken_fields, may_break, needed_content, needed_contents, room_beside, room_for_two, unbroken_columns, unbroken_width, with_constrained, with_content, with_field_width};
@@ -14,7 +15,7 @@ use comfy_parts::content_split::measure_text_width;
 use comfy_parts::for_tables::measured_lines;
 use comfy_table::utils::arrangement::helper::count_border_columns;
 use comfy_table::{Cell, Column, ColumnConstraint, Result, Table, Width};
-use csv_records::{Rows, is_number};
+use csv_records::{Rows, is_neutral, is_number};
 use std::alloc::{AllocError, Global};
 
 // How many characters a field has at most that isn't broken.
@@ -257,7 +258,7 @@ fn set_content(column: &mut Column, content: u16)
 }
 
 // Whether no field of a column is broken over lines: each is at most 25 characters long, and is
-// empty, a number, or of digits, `-/:.TZ+` and spaces, as dates and times are.
+// a number, says nothing, or is of digits, `-/:.TZ+` and spaces, as dates and times are.
 fn is_unbroken_column(
     alloc: Global,
     position: usize,
@@ -276,11 +277,19 @@ fn is_unbroken_column(
     Ok(true)
 }
 
-// Whether a field is short, and empty, a number, or of the characters of dates and times.
+// Whether a field is short, and a number, one that says nothing, or of the characters of dates
+// and times.
 fn is_unbroken(field: &str) -> bool
     ensures { result ≡ is_unbroken field.now }
 {
-    is_short(field) && (are_of_dates(field.as_bytes()) || is_number(field))
+    is_short(field) && (are_of_dates(field.as_bytes()) || is_numeric(field))
+}
+
+// A number, or a field that says nothing in a column of numbers.
+fn is_numeric(field: &str) -> bool
+    ensures { result ≡ is_number field.now || is_neutral field.now }
+{
+    is_number(field) || is_neutral(field)
 }
 
 fn is_short(field: &str) -> bool

@@ -69,7 +69,7 @@ two_widths_are_not_straight is =
 
 -- the look of a table with a header in bold
 abbrev bold : Look
-bold = record { style = utf8_full; separators = Styled; expansion = Auto; width = None; fills_width = false; max_height = None; has_bold_header = true; has_sequences = false; keeps_bidi = false; is_raw = false; is_markdown = false }
+bold = record { style = utf8_full; separators = Styled; expansion = Auto; width = None; fills_width = false; max_height = None; has_bold_header = true; aligns_decimals = true; has_sequences = false; keeps_bidi = false; is_raw = false; is_markdown = false }
 
 -- no words choose columns, or leave some out
 abbrev no_words : {X : Type 0} → Vec X → Vec X

@@ -1,5 +1,5 @@
 -- Marks of columns, tried.
-use Rattle.std.proofs.Common.{◌≡◌, ℕ, List, [], ◌∷◌, Option, Some, None, codes, map, refl}
+use Rattle.std.proofs.Common.{◌≡◌, ℕ, List, [], ◌∷◌, Option, Some, None, arith, codes, map, refl}
 use Prim.Native.String.{String}
 use Rattle.std.specs.Option.{option_map_or}
 use Rattle.std.specs.Str.{chars}
@@ -7,6 +7,7 @@ use Rattle.comfy_parts.specs.Text.{Text}
 use Rattle.ucd_category.proofs.Computing.{ucd_category}
 use Rattle.csv_records.specs.Number.{is_neutral, is_number}
 use Rattle.csv_records.specs.Decimals.{points_of, spaces_behind}
+use Rattle.csv_tables.specs.Laws.{HasSpacesBehind}
 
 -- the spaces behind each field of a column; none where it has no mark
 abbrev spaces_in : List String → Option (List ℕ)
@@ -22,3 +23,10 @@ pub as_they_stand : map spaces_in (("1,234" ∷ "12" ∷ []) ∷ ("1,5" ∷ "1.5
     ≡ None ∷ None ∷ None ∷ None ∷ None ∷ None ∷ None ∷ None ∷ None ∷ []
 unfolding chars lib.Utf8.encode ucd_category is_neutral is_number
 as_they_stand = refl
+
+-- ---- the law
+
+-- a space in front isn't one behind
+-- false: csv_tables::laws::decimal_marks_stand_below_each_other
+space_in_front : ¬ (HasSpacesBehind (codes "7") (codes " 7"))
+space_in_front (n, same) = let is : ◌≡◌ {A = ℕ} 0x20 0x37 = cc same in omega (arith, is)

@@ -50,7 +50,7 @@ blank_fields_are_read = refl
 
 -- a look without anything kept, and two columns in another order
 abbrev look : Look
-look = record { style = ascii_full; separators = Styled; expansion = Never; width = None; fills_width = false; max_height = None; has_bold_header = false; has_sequences = false; keeps_bidi = false; is_raw = false; is_markdown = true }
+look = record { style = ascii_full; separators = Styled; expansion = Never; width = None; fills_width = false; max_height = None; has_bold_header = false; aligns_decimals = true; has_sequences = false; keeps_bidi = false; is_raw = false; is_markdown = true }
 
 abbrev columns : List DrawnColumn
 columns = record { position = 1; alignment = None } ∷ record { position = 0; alignment = None } ∷ []

@@ -66,7 +66,7 @@ clearing_is_harmful = harmful (codes "\u{1b}[2J") refl
 
 -- sequences are kept, and the header is in bold
 abbrev look : Look
-look = record { style = ascii_full; separators = Styled; expansion = Auto; width = None; fills_width = false; max_height = None; has_bold_header = true; has_sequences = true; keeps_bidi = false; is_raw = false; is_markdown = false }
+look = record { style = ascii_full; separators = Styled; expansion = Auto; width = None; fills_width = false; max_height = None; has_bold_header = true; aligns_decimals = true; has_sequences = true; keeps_bidi = false; is_raw = false; is_markdown = false }
 
 look_is_without : IsLookWithoutControls look
 look_is_without = record { cleaned = refl; style = refl }

@@ -22,7 +22,7 @@ use Rattle.comfy_table.specs.TableValue.{TableValue}
 
 -- rows are never expanded, and all are drawn
 abbrev look : Look
-look = record { style = ascii_full; separators = Styled; expansion = Never; width = None; fills_width = false; max_height = None; has_bold_header = false; has_sequences = false; keeps_bidi = false; is_raw = false; is_markdown = false }
+look = record { style = ascii_full; separators = Styled; expansion = Never; width = None; fills_width = false; max_height = None; has_bold_header = false; aligns_decimals = true; has_sequences = false; keeps_bidi = false; is_raw = false; is_markdown = false }
 
 abbrev drawn_by : Options → Options
 drawn_by options = record options { selection = record options.selection { limit = None }; look = look }

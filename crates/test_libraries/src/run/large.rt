@@ -262,6 +262,7 @@ pub(super) fn options(alloc: Global, width: Option<u16>, has_sequences: bool) ->
             fills_width: false,
             max_height: None,
             has_bold_header: false,
+            aligns_decimals: true,
             has_sequences,
             keeps_bidi: false,
             is_raw: false,

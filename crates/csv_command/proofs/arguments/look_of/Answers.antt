@@ -1,4 +1,4 @@
-use Rattle.std.proofs.Common.{◌∙◌, ap, refl}
+use Rattle.std.proofs.Common.{◌∙◌, ap, not, refl}
 use Rattle.std.specs.Str.Parse.{ParsesUnsigned, ExplainsUnsignedError, HasUnsignedDigitsIfOk}
 use Rattle.csv_command.proofs.ValueLemmas.{of_found}
 use Rattle.csv_command.specs.Styles.{style_for}
@@ -17,8 +17,9 @@ returns c =
       full = c.is_given-4.ensures;
       height = height;
       bold = c.is_bold.ensures ∙ ap (λ word. is_bold_for word c.args.context) c.get_str-2.ensures;
-      sequences = c.is_given-5.ensures;
-      bidi = c.is_given-6.ensures;
-      raw = c.is_given-7.ensures;
+      decimals = ap not c.is_given-5.ensures;
+      sequences = c.is_given-6.ensures;
+      bidi = c.is_given-7.ensures;
+      raw = c.is_given-8.ensures;
       markdown = c.is_markdown.ensures;
     }

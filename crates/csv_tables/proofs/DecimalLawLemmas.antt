@@ -1,0 +1,97 @@
+-- Decimal marks stand below each other, and nothing but spaces is added for that.
+use Rattle.std.proofs.Common.{◌≡◌, ◌≤◌, ◌+◌, ◌-◌, ◌&&◌, ◌⊎◌, inl, inr, ℕ, Bool, true, false, List, [], ◌∷◌, Option, Some, None, append-nil, fold, map, max, refl, sym, subst, arith}
+use Rattle.std.specs.List.{All, AllZip}
+use Rattle.std.specs.Prelude.{if◌then◌else◌}
+use Rattle.std.proofs.lemmas.List.Elements.{All-cons, All-nil, All-weaker}
+use Rattle.comfy_parts.proofs.CallerLemmas.{All-of_map}
+use Rattle.comfy_parts.specs.Text.{Text}
+use Rattle.csv_records.specs.Cleaning.{visible_of}
+use Rattle.csv_records.specs.Decimals.{byte_of, digits_in, fraction_len, has_mark, marks_of, points_of, spaces_behind, use_of}
+use Rattle.csv_records.specs.Number.{halves, is_neutral}
+use Rattle.csv_records.specs.declared.decimals.ColumnMarks.{ColumnMarks}
+use Rattle.csv_records.specs.declared.decimals.DecimalMark.{DecimalMark}
+use Rattle.csv_records.specs.declared.decimals.DecimalMark.TheVariants.{Comma, Point}
+use Rattle.csv_records.specs.declared.decimals.Points.{Points}
+use Rattle.csv_tables.proofs.FittingLemmas.{of_drawn}
+use Rattle.csv_tables.specs.Decimals.{spaced, spaced_fields, spaced_from}
+use Rattle.csv_tables.specs.Drawn.{ContentValue, marks_for}
+use Rattle.csv_tables.specs.Laws.{HasSpacesBehind, MarksStandBelow, SpacesAloneAreAdded}
+use Rattle.csv_tables.specs.declared.options.Look.{Look}
+
+-- ---- fractions
+
+least : (xs : List ℕ) (start : ℕ) → start ≤ fold max start xs
+least [] start = omega arith
+least (x ∷ xs) start = let more = least xs (max start x) in omega (arith, more)
+
+-- each number is at most the greatest
+each_at_most : (xs : List ℕ) (start : ℕ) → All (λ x. x ≤ fold max start xs) xs
+each_at_most [] start = All-nil (λ x. x ≤ start)
+each_at_most (x ∷ xs) start =
+    let more = least xs (max start x) in
+    All-cons (λ y. y ≤ fold max (max start x) xs) x xs (omega (arith, more)) (each_at_most xs (max start x))
+
+abbrev length_behind : DecimalMark → Text → ℕ
+length_behind mark field = fraction_len (halves (byte_of mark) (digits_in field))
+
+-- so is each fraction
+fractions : (mark : DecimalMark) (fields : List Text) → All (λ field. length_behind mark field ≤ (use_of mark fields).longest) fields
+fractions mark fields = All-of_map (λ n. n ≤ (use_of mark fields).longest) (length_behind mark) fields (each_at_most (map (length_behind mark) fields) 0)
+
+fits : (fields : List Text) (points : Points) → points_of fields ≡ Some points → All (λ field. length_behind points.mark field ≤ points.longest) fields
+fits fields points is = by_tests (marks.are_plain && has_mark marks.point marks.comma) (marks.are_plain && has_mark marks.comma marks.point) is
+  where
+    marks : ColumnMarks
+    marks = marks_of fields
+
+    Fit : Points → Type 0
+    Fit p = All (λ field. length_behind p.mark field ≤ p.longest) fields
+
+    by_tests : (a b : Bool) → (if a then Some (record { mark = Point; longest = marks.point.longest }) else if b then Some (record { mark = Comma; longest = marks.comma.longest }) else None) ≡ Some points → Fit points
+    by_tests true b is = let same : record { mark = Point; longest = marks.point.longest } ≡ points = cc is in subst Fit same (fractions Point fields)
+    by_tests false true is = let same : record { mark = Comma; longest = marks.comma.longest } ≡ points = cc is in subst Fit same (fractions Comma fields)
+    by_tests false false is = absurd (cc is)
+
+pub marks_stand_below : (fields : List Text) → MarksStandBelow fields
+marks_stand_below fields points is =
+    All-weaker (λ field. length_behind points.mark field ≤ points.longest) (λ field. (is_neutral field ≡ true) ⊎ (length_behind points.mark field + spaces_behind points field ≡ points.longest)) equal fields (fits fields points is)
+  where
+    equal : (field : Text) → length_behind points.mark field ≤ points.longest → (is_neutral field ≡ true) ⊎ (length_behind points.mark field + spaces_behind points field ≡ points.longest)
+    equal field fit = by_neutral (is_neutral field)
+      where
+        by_neutral : (b : Bool) → (b ≡ true) ⊎ (length_behind points.mark field + (if b then 0 else points.longest - length_behind points.mark field) ≡ points.longest)
+        by_neutral true = inl refl
+        by_neutral false = inr (omega (arith, fit))
+
+-- ---- spaces
+
+abbrev Added : List Text → List Text → Type 0
+Added = AllZip HasSpacesBehind
+
+as_it_is : (field : Text) → HasSpacesBehind field field
+as_it_is field = (0, sym (append-nil field))
+
+as_they_are : (fields : List Text) → Added fields fields
+as_they_are [] = tt
+as_they_are (field ∷ fields) = (as_it_is field, as_they_are fields)
+
+rows_as_they_are : (rows : List (List Text)) → AllZip Added rows rows
+rows_as_they_are [] = tt
+rows_as_they_are (fields ∷ rows) = (as_they_are fields, rows_as_they_are rows)
+
+module _ (keeps : Bool) (marks : ℕ → Option Points) where
+  with_spaces : (mark : Option Points) (field : Text) → HasSpacesBehind field (spaced keeps mark field)
+  with_spaces None field = as_it_is field
+  with_spaces (Some points) field = (spaces_behind points (visible_of keeps field), refl)
+
+  fields_with_spaces : (position : ℕ) (fields : List Text) → Added fields (spaced_from keeps marks position fields)
+  fields_with_spaces position [] = tt
+  fields_with_spaces position (field ∷ fields) = (with_spaces (marks position) field, fields_with_spaces (position + 1) fields)
+
+  rows_with_spaces : (rows : List (List Text)) → AllZip Added rows (map (spaced_fields keeps marks) rows)
+  rows_with_spaces [] = tt
+  rows_with_spaces (fields ∷ rows) = (fields_with_spaces 0 fields, rows_with_spaces rows)
+
+pub spaces_alone : (look : Look) (content : ContentValue) → SpacesAloneAreAdded look content
+spaces_alone look content =
+    of_drawn (λ (drawn : ContentValue). AllZip Added content.rows drawn.rows) look content (rows_as_they_are content.rows) (rows_with_spaces look.has_sequences (marks_for look content) content.rows) false

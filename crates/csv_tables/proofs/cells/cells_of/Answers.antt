@@ -1,6 +1,0 @@
-use Rattle.std.proofs.Common.{arith}
-use Rattle.std.proofs.lemmas.Grind.{common_steps}
-use Rattle.csv_tables.proofs.cells.cells_of.Goals as goal
-
-pub loop-column-preserved : goal.loop-column-preserved
-loop-column-preserved c = grind (arith, common_steps)
