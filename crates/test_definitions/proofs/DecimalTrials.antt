@@ -3,7 +3,6 @@ use Rattle.std.proofs.Common.{◌≡◌, ℕ, List, [], ◌∷◌, Option, Some,
 use Prim.Native.String.{String}
 use Rattle.std.specs.Option.{option_map_or}
 use Rattle.std.specs.Str.{chars}
-use Rattle.comfy_parts.specs.Text.{Text}
 use Rattle.ucd_category.proofs.Computing.{ucd_category}
 use Rattle.csv_records.specs.Number.{is_neutral, is_number}
 use Rattle.csv_records.specs.Decimals.{points_of, spaces_behind}

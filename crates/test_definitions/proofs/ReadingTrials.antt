@@ -10,7 +10,7 @@ use Rattle.csv.specs.Reading.{records_from, strip_bom}
 use Rattle.ucd_category.proofs.Computing.{ucd_category}
 use Rattle.comfy_parts.specs.Text.{Text}
 use Rattle.csv_command.specs.Ending.{input_name, reading_reason, reason_for}
-use Rattle.csv_records.specs.Number.{is_number}
+use Rattle.csv_records.specs.Number.{is_neutral, is_number}
 use Rattle.csv_records.specs.Delimiter.{agreement, below_lines, delimited, delimiter_in, doubtful_delimiter, is_poor}
 use Rattle.csv_tables.specs.Unbroken.{is_unbroken}
 use Rattle.csv_command.specs.Arguments.{delimiter_for, encoding_for}
@@ -117,13 +117,13 @@ encodings = refl
 
 -- ---- fields that aren't broken
 
-unbroken : list_all is_unbroken (texts ("" ∷ "-84,50" ∷ "($3.00)" ∷ "02.05.2026" ∷ "2026-05-01T09:10:00+02:00" ∷ "192.168.0.1" ∷ "10:00 - 11:30" ∷ "0042" ∷ [])) ≡ true
-unfolding chars lib.Utf8.encode ucd_category is_number
+unbroken : list_all is_unbroken (texts ("" ∷ "-84,50" ∷ "($3.00)" ∷ "02.05.2026" ∷ "2026-05-01T09:10:00+02:00" ∷ "192.168.0.1" ∷ "10:00 - 11:30" ∷ "0042" ∷ "n/a" ∷ [])) ≡ true
+unfolding chars lib.Utf8.encode ucd_category is_neutral is_number
 unbroken = refl
 
 -- words, and what is longer than 25 characters
-broken : list_any is_unbroken (texts ("n/a" ∷ "May 2" ∷ "1.2.3b" ∷ "12345678901234567890123456" ∷ [])) ≡ false
-unfolding chars lib.Utf8.encode ucd_category is_number
+broken : list_any is_unbroken (texts ("none" ∷ "May 2" ∷ "1.2.3b" ∷ "12345678901234567890123456" ∷ [])) ≡ false
+unfolding chars lib.Utf8.encode ucd_category is_neutral is_number
 broken = refl
 
 -- ---- signs that an input is no text in UTF-8

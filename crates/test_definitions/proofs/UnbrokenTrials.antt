@@ -12,7 +12,7 @@ use Rattle.comfy_parts.specs.Text.{Text}
 use Rattle.comfy_parts.specs.declared.style.column.ColumnConstraint.{ColumnConstraint}
 use Rattle.comfy_parts.specs.declared.style.column.ColumnConstraint.TheVariants.{Absolute, ContentWidth}
 use Rattle.comfy_parts.specs.declared.style.column.Width.TheVariants.{Fixed}
-use Rattle.csv_records.specs.Number.{is_number}
+use Rattle.csv_records.specs.Number.{is_neutral, is_number}
 use Rattle.comfy_table.specs.TableValue.{TableValue, new_table, with_rows}
 use Rattle.comfy_parts.specs.Wrapping.{lines_of_text}
 use Rattle.csv_tables.specs.Drawn.{is_expanded_in}
@@ -23,19 +23,19 @@ use Rattle.csv_tables.specs.declared.options.Expansion.TheVariants.{Always, Auto
 abbrev texts : List String → List Text
 texts words = map (λ (word : String). codes word) words
 
--- numbers, dates and times; the longest has 25 characters
-unbroken : list_all is_unbroken (texts ("" ∷ "2026-05-02" ∷ "02.05.2026" ∷ "5/2/26" ∷ "12:30" ∷ "2026-05-02 12:30" ∷ "2026-05-02T12:30:00Z" ∷ "2026-05-02T12:30:00+01:00" ∷ "-1,234.50" ∷ "12 %" ∷ [])) ≡ true
-unfolding chars lib.Utf8.encode ucd_category is_number
+-- numbers, fields that say nothing, dates and times; the longest has 25 characters
+unbroken : list_all is_unbroken (texts ("" ∷ "2026-05-02" ∷ "02.05.2026" ∷ "5/2/26" ∷ "12:30" ∷ "2026-05-02 12:30" ∷ "2026-05-02T12:30:00Z" ∷ "2026-05-02T12:30:00+01:00" ∷ "-1,234.50" ∷ "12 %" ∷ "n/a" ∷ "-" ∷ [])) ≡ true
+unfolding chars lib.Utf8.encode ucd_category is_neutral is_number
 unbroken = refl
 
 -- words, and digits of 26 characters
-broken : list_any is_unbroken (texts ("n/a" ∷ "2026-W18" ∷ "2 May" ∷ "2026-05-02T12:30:00.5+01:00" ∷ "12345678901234567890123456" ∷ [])) ≡ false
-unfolding chars lib.Utf8.encode ucd_category is_number
+broken : list_any is_unbroken (texts ("none" ∷ "2026-W18" ∷ "2 May" ∷ "2026-05-02T12:30:00.5+01:00" ∷ "12345678901234567890123456" ∷ [])) ≡ false
+unfolding chars lib.Utf8.encode ucd_category is_neutral is_number
 broken = refl
 
 -- of two rows the second has one field
 columns : map (is_unbroken_column (texts ("1" ∷ "a" ∷ []) ∷ texts ("2" ∷ []) ∷ [])) (0 ∷ 1 ∷ 2 ∷ []) ≡ true ∷ false ∷ true ∷ []
-unfolding chars lib.Utf8.encode ucd_category field_at is_number
+unfolding chars lib.Utf8.encode ucd_category field_at is_neutral is_number
 columns = refl
 
 -- all of the first content, four of the second, and columns past the list
