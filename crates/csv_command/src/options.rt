@@ -37,7 +37,7 @@ enum Kind {
     Encoding,
 }
 
-static OPTIONS: [OptionSpec; 27] = [
+static OPTIONS: [OptionSpec; 28] = [
     OptionSpec {
         name: "file",
         letter: None,

@@ -135,14 +135,13 @@ spaces_printable zero = refl
 spaces_printable (suc n) = spaces_printable n
 
 spaced-short : (points : Points) (field : Text) → points.longest ≤ 26 → Narrow field → IsShortPrintable 64 (field ++ spaces (spaces_behind points field))
-spaced-short points field least narrow =
-    (
-      list_all-append (is_in_range 0x20 0x7E) field (spaces n) ∙ ap₂ (λ (a b : Bool). a && b) both.1 (spaces_printable n),
-      (let few = leb-true (length field) 25 both.0 in
+spaced-short points field least narrow = (
+  list_all-append (is_in_range 0x20 0x7E) field (spaces n) ∙ ap₂ (λ (a b : Bool). a && b) both.1 (spaces_printable n),
+  (let few = leb-true (length field) 25 both.0 in
       let all = length-append field (spaces n) in
       let own = length-replicate {A = ℕ} n 0x20 in
       omega (arith, few, all, own, count)),
-    )
+)
   where
     n : ℕ
     n = spaces_behind points field
