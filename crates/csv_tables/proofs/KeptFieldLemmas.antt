@@ -33,7 +33,7 @@ use Rattle.csv_tables.proofs.SeparatorLemmas.{separated}
 use Rattle.csv_tables.proofs.UnbrokenLemmas.{framed_pair}
 use Rattle.csv_tables.proofs.WholeColumnLemmas.{HasTwo, all_shown, both_shown, exactly_two, pairs_are_two}
 use Rattle.csv_tables.proofs.WholeTableLemmas.{IsDrawn, drawn-is, fewer_borders, field_separated}
-use Rattle.csv_tables.specs.Drawn.{ContentValue, arrangement_for, empty_table, is_expanded_for, output_table, pairs_of, pairs_table, separated_table}
+use Rattle.csv_tables.specs.Drawn.{ContentValue, arrangement_for, empty_table, is_expanded_for, output_table, pairs_in, pairs_table, separated_table}
 use Rattle.csv_tables.specs.Laws.{ExpandedKeepsWhole, StandsWhole}
 use Rattle.csv_tables.specs.Unbroken.{cell_unbroken_width, field_width, framed_width, is_unbroken, kept_unbroken_fields, may_break, needed_content, room_beside, room_for_two, unbroken_width, with_content, with_field_width}
 use Rattle.csv_tables.specs.declared.options.Look.{Look}
@@ -403,7 +403,7 @@ module _ (w : ℕ) (look : Look) (content : ContentValue) (small : w ≤ 65535) 
         enough = line_wide (measure line) within content_width longest beside
 
   whole_cells : All (λ (cell : CellValue). All (λ (line : Text). is_unbroken line ≡ true → framed_width look.style (needed_content false (column_content_width table 0) ∷ measure line ∷ []) ≤ w → StandsWhole (slice_index widths 1) line) cell.text_lines) (column_cells table 1)
-  whole_cells = subst (All IsWhole) (sym (same_cells 1)) (all_cells look (flat_map (pairs_of look content.columns (unwrap_or content.names [])) content.rows) (pairs_are_two look content) IsWhole (λ two. with_both pairs.columns refl two))
+  whole_cells = subst (All IsWhole) (sym (same_cells 1)) (all_cells look (flat_map (pairs_in look content) content.rows) (pairs_are_two look content) IsWhole (λ two. with_both pairs.columns refl two))
     where
       IsWhole : CellValue → Type 0
       IsWhole cell =
