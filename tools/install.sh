@@ -1,7 +1,6 @@
 #!/bin/sh
 # Installs the programs ctable and csvtable, csvtable's man page and its completions for bash and zsh, and the library for C
-# with its header and its file for pkg-config. What isn't built yet is built first, which proves it. The program csvtable
-# stands in libexec/, and bin/csvtable is a script that runs it with the width of the terminal. To take all away again,
+# with its header and its file for pkg-config. What isn't built yet is built first, which proves it. To take all away again,
 # remove the files whose names are printed.
 #
 # usage: tools/install.sh PREFIX, as tools/install.sh /usr/local
@@ -16,11 +15,6 @@ cd "$(dirname "$0")/.."
 . tools/installing.sh
 
 build ctable ctable rt run
-build csvtable csvtable rt run -- --version
 put 755 crates/ctable/out/ctable bin
-put 755 crates/csvtable/out/csvtable libexec
-put 755 share/csvtable.sh bin csvtable
-put 644 share/csvtable.1 share/man/man1
-put 644 share/csvtable.bash share/bash-completion/completions csvtable
-put 644 share/_csvtable share/zsh/site-functions
+put_csvtable
 put_library

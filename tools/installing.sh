@@ -24,3 +24,14 @@ put_library() {
   put 644 "$(dirname "$(rt doc)")/c/liblibc_c.a" lib
   put 644 packages/c/comfy_table.pc lib/pkgconfig
 }
+
+# The program csvtable with its page and its completions. It stands in libexec/, and bin/csvtable is a script that runs it with
+# the width of the terminal.
+put_csvtable() {
+  build csvtable csvtable rt run -- --version
+  put 755 crates/csvtable/out/csvtable libexec
+  put 755 share/csvtable.sh bin csvtable
+  put 644 share/csvtable.1 share/man/man1
+  put 644 share/csvtable.bash share/bash-completion/completions csvtable
+  put 644 share/_csvtable share/zsh/site-functions
+}

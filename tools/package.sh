@@ -1,7 +1,7 @@
 #!/bin/sh
-# Makes packages of the library for C in a folder: a wheel for Python, a crate for Rust, and an archive with the library,
-# its header and its file for pkg-config. No network is needed. A library that isn't built yet is built first, which
-# proves it.
+# Makes packages in a folder: a wheel for Python, a crate for Rust, an archive with the library for C, its header and its file
+# for pkg-config, and one with the program csvtable, its page and its completions, to be unpacked into /usr/local. No network
+# is needed. What isn't built yet is built first, which proves it.
 #
 # usage: tools/package.sh OUT
 # CC is the compiler that links the shared library of the wheel, cc where it isn't set. Making the wheel takes Python 3.11.
@@ -25,6 +25,12 @@ prefix=$work/comfy_table-$version
 put_library > /dev/null
 cp LICENSE "$prefix"
 tar -C "$work" -czf "$out/comfy_table-$version-linux-x86_64.tar.gz" "comfy_table-$version"
+
+prefix=$work/csvtable-$version
+put_csvtable > /dev/null
+cp LICENSE "$prefix"
+tar -C "$work" -czf "$out/csvtable-$version-linux-x86_64.tar.gz" "csvtable-$version"
+prefix=$work/comfy_table-$version
 
 name=comfy_table_proved-$version
 mkdir "$work/$name" "$work/$name/lib"

@@ -6,12 +6,13 @@ serves each of them.
 
 import base64
 import hashlib
+import re
+import subprocess
 import sys
 import tomllib
 import zipfile
 from pathlib import Path
 
-_TAG = "py3-none-linux_x86_64"
 _HERE = Path(__file__).parent
 
 
@@ -20,16 +21,31 @@ def build_wheel(wheel_directory, config_settings=None, metadata_directory=None):
     project = tomllib.loads((_HERE / "pyproject.toml").read_text())["project"]
     name = f"{project['name']}-{project['version']}"
     files = _package(project["name"])
+    tag = _tag(_HERE / "src" / next(path for path in files if path.endswith(".so")))
     files[f"{name}.dist-info/LICENSE"] = (_HERE / "LICENSE").read_bytes()
     files[f"{name}.dist-info/METADATA"] = _metadata(project).encode()
-    files[f"{name}.dist-info/WHEEL"] = _lines({"Wheel-Version": "1.0", "Generator": "build_wheel", "Root-Is-Purelib": "false", "Tag": _TAG}).encode()
+    files[f"{name}.dist-info/WHEEL"] = _lines([("Wheel-Version", "1.0"), ("Generator", "build_wheel"), ("Root-Is-Purelib", "false"), ("Tag", tag)]).encode()
     record = f"{name}.dist-info/RECORD"
     files[record] = ("".join(f"{path},{_digest(data)},{len(data)}\n" for path, data in files.items()) + f"{record},,\n").encode()
-    with zipfile.ZipFile(Path(wheel_directory) / f"{name}-{_TAG}.whl", "w", zipfile.ZIP_DEFLATED) as wheel:
+    with zipfile.ZipFile(Path(wheel_directory) / f"{name}-{tag}.whl", "w", zipfile.ZIP_DEFLATED) as wheel:
         for path, data in files.items():
             # The time is the same in each wheel, so that equal files give equal wheels.
             wheel.writestr(zipfile.ZipInfo(path, (1980, 1, 1, 0, 0, 0)), data, zipfile.ZIP_DEFLATED)
-    return f"{name}-{_TAG}.whl"
+    return f"{name}-{tag}.whl"
+
+
+def build_sdist(sdist_directory, config_settings=None):
+    """There is none: the library is built by the Rattle toolchain, which no package index has."""
+    raise RuntimeError("comfy_table_proved has wheels alone: building its library takes the Rattle toolchain")
+
+
+def _tag(library):
+    """The tag of Linux systems that have the symbols of the C library that are used."""
+    symbols = subprocess.run(["objdump", "-T", library], capture_output=True, check=True, text=True).stdout
+    versions = [(int(major), int(minor)) for major, minor in re.findall(r"GLIBC_(\d+)\.(\d+)", symbols)]
+    # 2.17 is the oldest that installers know by this form.
+    major, minor = max(versions + [(2, 17)])
+    return f"py3-none-manylinux_{major}_{minor}_x86_64"
 
 
 def _package(name):
@@ -42,18 +58,22 @@ def _package(name):
 
 
 def _metadata(project):
-    return _lines({
-        "Metadata-Version": "2.1",
-        "Name": project["name"],
-        "Version": project["version"],
-        "Summary": project["description"],
-        "License": project["license"]["text"],
-        "Requires-Python": project["requires-python"],
-    })
+    headers = [
+        ("Metadata-Version", "2.1"),
+        ("Name", project["name"]),
+        ("Version", project["version"]),
+        ("Summary", project["description"]),
+        ("License", project["license"]),
+        ("Keywords", ",".join(project["keywords"])),
+        *[("Classifier", classifier) for classifier in project["classifiers"]],
+        ("Requires-Python", project["requires-python"]),
+        ("Description-Content-Type", "text/markdown"),
+    ]
+    return f"{_lines(headers)}\n{(_HERE / project['readme']).read_text()}"
 
 
 def _lines(headers):
-    return "".join(f"{name}: {value}\n" for name, value in headers.items())
+    return "".join(f"{name}: {value}\n" for name, value in headers)
 
 
 def _digest(data):

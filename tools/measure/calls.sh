@@ -42,11 +42,11 @@ count() {
 # Counts on an input, with a width where there is one.
 measure() {
   by_original=$(count original "$1" "${2-}")
-  by_proved=$(count proved "$1" "${2-}")
+  by_rows=$(count rows "$1" "${2-}")
   by_csv=$(count csv "$1" "${2-}")
-  awk -v name="$1${2:+, width $2}" -v proved="$by_proved" -v csv="$by_csv" -v original="$by_original" 'BEGIN {
+  awk -v name="$1${2:+, width $2}" -v rows="$by_rows" -v csv="$by_csv" -v original="$by_original" 'BEGIN {
     printf "%s: %.2f million instructions, from CSV %.2f, the original %.2f, ratios %.2f and %.2f\n",
-      name, proved / 1e6, csv / 1e6, original / 1e6, proved / original, csv / original
+      name, rows / 1e6, csv / 1e6, original / 1e6, rows / original, csv / original
   }'
   TIMES=20 "$calls" ${2-} < "$work/$1"
 }

@@ -4,15 +4,9 @@ ghost use Rattle.std.specs.Prelude.{◌≡◌, ◌≢◌, ◌≤◌, ◌<◌, If
 ghost use Rattle.comfy_c.specs.Calls.{IsHanded, IsCsvDrawing, IsCsvRefusal, IsInputMessage, IsArgumentsMessage};
 
 use crate::arguments::command_line;
-use crate::room::{DRAWN, OUT_OF_MEMORY, ROOM_TOO_SMALL, put};
+use crate::room::{DRAWN, INPUT_REFUSED, OUT_OF_MEMORY, ROOM_TOO_SMALL, SETTINGS_REFUSED, put};
 use csv_command::{ARGUMENT_NOT_UTF8, Refusal, render_csv};
 use std::alloc::Global;
-
-// What a call returns besides.
-
-const INPUT_REFUSED: u32 = 2;
-
-const WORDS_REFUSED: u32 = 4;
 
 /// Draws the table of CSV into the caller's buffer, as `csvtable` does for these arguments and a
 /// file of these bytes where standard output is no terminal, and neither `COLUMNS` nor `NO_COLOR`
@@ -55,7 +49,7 @@ pub extern "C" fn comfy_csv_draw(
     ensures input_refused { result ≡ 2
         → IsHanded (IsInputMessage arguments.now input.now) output.old output.new needed.new }
     ensures out_of_memory { result ≡ 3 → IsUtf8 arguments.now }
-    ensures words_refused { result ≡ 4
+    ensures arguments_refused { result ≡ 4
         → IsHanded (IsArgumentsMessage arguments.now) output.old output.new needed.new }
     ensures no_other { result ≤ 4 }
     ensures rest { drop needed.new output.new ≡ drop needed.new output.old }
@@ -64,7 +58,7 @@ pub extern "C" fn comfy_csv_draw(
 {
     let Ok(text) = simdutf8::compat::from_utf8(arguments) else {
         put(ARGUMENT_NOT_UTF8.as_bytes(), output, needed);
-        return WORDS_REFUSED;
+        return SETTINGS_REFUSED;
     };
     match drawing_for(alloc, text, input) {
         Ok(drawing) => {
@@ -81,7 +75,7 @@ pub extern "C" fn comfy_csv_draw(
         Err(Refusal::OutOfMemory) => OUT_OF_MEMORY,
         Err(Refusal::Arguments(message)) => {
             put(message.as_bytes(), output, needed);
-            WORDS_REFUSED
+            SETTINGS_REFUSED
         }
     }
 }

@@ -3,13 +3,19 @@
 ghost use Rattle.std.specs.Prelude.{◌≡◌, length, nat_le};
 ghost use Rattle.comfy_c.specs.Calls.{with_front};
 
-// What each function returns.
+// What the functions return.
 
 pub(crate) const DRAWN: u32 = 0;
 
 pub(crate) const ROOM_TOO_SMALL: u32 = 1;
 
+pub(crate) const INPUT_REFUSED: u32 = 2;
+
 pub(crate) const OUT_OF_MEMORY: u32 = 3;
+
+pub(crate) const SETTINGS_REFUSED: u32 = 4;
+
+pub(crate) const LENGTHS_REFUSED: u32 = 5;
 
 /// Copies bytes to the front of the caller's buffer, where it has room for all of them, and tells
 /// how many they are. Returns whether it had.

@@ -3,17 +3,11 @@
 ghost use Rattle.std.specs.Prelude.{◌≡◌, ◌≢◌, ◌≤◌, ◌<◌, None, IsUtf8, List, ℕ, drop, length, slice_get, take};
 ghost use Rattle.comfy_c.specs.Calls.{IsDrawnAs, arrangements, settings_for};
 
-use crate::room::{DRAWN, OUT_OF_MEMORY, ROOM_TOO_SMALL, put};
+use crate::room::{DRAWN, INPUT_REFUSED, OUT_OF_MEMORY, ROOM_TOO_SMALL, SETTINGS_REFUSED, put};
 use comfy_run::run::{Settings, render_tsv};
 use comfy_table::ContentArrangement;
 use comfy_table::presets::by_position;
 use std::alloc::Global;
-
-// What a call returns besides.
-
-const NOT_UTF8: u32 = 2;
-
-const UNKNOWN_SETTING: u32 = 4;
 
 /// Draws the table of tab-separated text into the caller's buffer, as `comfy_run::run::render_tsv`
 /// draws it.
@@ -60,10 +54,10 @@ pub extern "C" fn comfy_table_draw(
     ensures needed_kept { result ≢ 0 → result ≢ 1 → needed.new ≡ needed.old }
 {
     let Some(settings) = settings_of(width, arrangement, style) else {
-        return UNKNOWN_SETTING;
+        return SETTINGS_REFUSED;
     };
     let Ok(text) = simdutf8::compat::from_utf8(input) else {
-        return NOT_UTF8;
+        return INPUT_REFUSED;
     };
     let Ok(drawing) = render_tsv(alloc, text, settings) else {
         return OUT_OF_MEMORY;

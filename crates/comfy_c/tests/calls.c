@@ -97,6 +97,34 @@ static struct call made_csv(struct bytes input, struct bytes arguments, size_t r
     return call;
 }
 
+/* Rows as a caller passes them, of at most so many texts and rows. */
+struct rows {
+    struct bytes texts;
+    size_t lengths[8], length_count, counts[4], count_count;
+    struct bytes columns;
+};
+
+/* A header and a row: name and days, oats and 3. */
+static const struct rows ROWS = {{"namedaysoats3", 13}, {4, 4, 4, 1}, 4, {2, 2}, 2, {"", 0}};
+
+static struct comfy_rows_settings plain_settings(void) {
+    return (struct comfy_rows_settings){.max_height = COMFY_NO_LIMIT, .limit = COMFY_NO_LIMIT, .width = COMFY_NO_WIDTH, .has_header = 1};
+}
+
+static struct call made_rows(const struct rows *rows, struct comfy_rows_settings settings, size_t room) {
+    struct call call = with_room(room);
+    uint8_t *texts = copied(rows->texts), *columns = copied(rows->columns);
+    size_t *lengths = (size_t *)copied((struct bytes){(const char *)rows->lengths, rows->length_count * sizeof(size_t)});
+    size_t *counts = (size_t *)copied((struct bytes){(const char *)rows->counts, rows->count_count * sizeof(size_t)});
+    call.status = comfy_rows_draw(texts, rows->texts.length, lengths, rows->length_count, counts, rows->count_count, columns,
+                                  rows->columns.length, &settings, call.output, room, &call.needed);
+    free(texts);
+    free(columns);
+    free(lengths);
+    free(counts);
+    return call;
+}
+
 /* Whether the bytes from one position on are as they were. */
 static int is_untouched(const struct call *call, size_t from) {
     for (size_t i = from; i < call->room; i++)
@@ -145,7 +173,7 @@ static void expect_all_fill(struct bytes input) {
 
 /* A text that csvtable draws or says: into its room and into more, and into none that is smaller. */
 static void expect_csv(const char *what, struct bytes input, struct bytes arguments, uint32_t status, struct bytes text) {
-    uint32_t without = status == COMFY_CSV_DRAWN ? COMFY_CSV_ROOM_TOO_SMALL : status;
+    uint32_t without = status == COMFY_DRAWN ? COMFY_ROOM_TOO_SMALL : status;
     struct call full = made_csv(input, arguments, text.length), more = made_csv(input, arguments, text.length + 20);
     struct call less = made_csv(input, arguments, text.length - 1), none = made_csv(input, arguments, 0);
     expect(what, full.status == status && is_put(&full, text));
@@ -161,7 +189,7 @@ static void expect_csv(const char *what, struct bytes input, struct bytes argume
 /* A text on arguments of which only a part is known. */
 static void expect_said(const char *what, struct bytes arguments, const char *part) {
     struct call call = made_csv(TEXT(CSV), arguments, 8192);
-    int is_text = call.status == COMFY_CSV_ARGUMENTS_REFUSED && call.needed && call.needed < call.room && call.output[call.needed - 1] == '\n';
+    int is_text = call.status == COMFY_SETTINGS_REFUSED && call.needed && call.needed < call.room && call.output[call.needed - 1] == '\n';
     expect(what, is_text && is_untouched(&call, call.needed));
     if (is_text) {
         call.output[call.needed] = 0;
@@ -173,29 +201,29 @@ static void expect_said(const char *what, struct bytes arguments, const char *pa
 /* Where arguments are cut, and what they ask for. */
 static void expect_words_are_read(void) {
     struct bytes drawing = TEXT(CSV_DRAWING);
-    expect_csv("csv is drawn as arguments ask", TEXT(CSV), TEXT("-s\0ascii\0"), COMFY_CSV_DRAWN, drawing);
-    expect_csv("the last argument may lack its end", TEXT(CSV), TEXT("-s\0ascii"), COMFY_CSV_DRAWN, drawing);
-    expect_csv("an argument may be empty", TEXT(CSV), TEXT("-s\0ascii\0\0"), COMFY_CSV_DRAWN, drawing);
-    expect_csv("the last argument counts", TEXT(CSV), TEXT("-s\0ascii\0--drop\0days\0"), COMFY_CSV_DRAWN, TEXT(WITHOUT_DAYS));
-    expect_csv("the first argument counts", TEXT(CSV), TEXT("--drop=days\0-s\0ascii"), COMFY_CSV_DRAWN, TEXT(WITHOUT_DAYS));
-    expect_csv("a name may tell the delimiter", TEXT("name\tdays\noats\t3\n"), TEXT("-sascii\0no/such.tsv"), COMFY_CSV_DRAWN, drawing);
+    expect_csv("csv is drawn as arguments ask", TEXT(CSV), TEXT("-s\0ascii\0"), COMFY_DRAWN, drawing);
+    expect_csv("the last argument may lack its end", TEXT(CSV), TEXT("-s\0ascii"), COMFY_DRAWN, drawing);
+    expect_csv("an argument may be empty", TEXT(CSV), TEXT("-s\0ascii\0\0"), COMFY_DRAWN, drawing);
+    expect_csv("the last argument counts", TEXT(CSV), TEXT("-s\0ascii\0--drop\0days\0"), COMFY_DRAWN, TEXT(WITHOUT_DAYS));
+    expect_csv("the first argument counts", TEXT(CSV), TEXT("--drop=days\0-s\0ascii"), COMFY_DRAWN, TEXT(WITHOUT_DAYS));
+    expect_csv("a name may tell the delimiter", TEXT("name\tdays\noats\t3\n"), TEXT("-sascii\0no/such.tsv"), COMFY_DRAWN, drawing);
 }
 
 static void expect_refusals_are_said(void) {
     struct bytes bad = TEXT("name,days\noats,\xff\n");
-    expect_csv("0xFF is no UTF-8 in csv", bad, TEXT(""), COMFY_CSV_INPUT_REFUSED, TEXT(NOT_UTF8));
-    expect_csv("a message names the file", bad, TEXT("no/such.csv\0"), COMFY_CSV_INPUT_REFUSED,
+    expect_csv("0xFF is no UTF-8 in csv", bad, TEXT(""), COMFY_INPUT_REFUSED, TEXT(NOT_UTF8));
+    expect_csv("a message names the file", bad, TEXT("no/such.csv\0"), COMFY_INPUT_REFUSED,
                TEXT("csvtable: no/such.csv: line 2 isn't UTF-8; try -e cp1252\n"));
-    expect_csv("a NUL is no text", TEXT("a\0"), TEXT(""), COMFY_CSV_INPUT_REFUSED,
+    expect_csv("a NUL is no text", TEXT("a\0"), TEXT(""), COMFY_INPUT_REFUSED,
                TEXT("csvtable: standard input: line 1 has a NUL byte, so this isn't text; -e utf-8 reads it anyway\n"));
-    expect_csv("an encoding says that it is", TEXT("a\0\n"), TEXT("-sascii\0-eutf-8"), COMFY_CSV_DRAWN,
+    expect_csv("an encoding says that it is", TEXT("a\0\n"), TEXT("-sascii\0-eutf-8"), COMFY_DRAWN,
                TEXT("+----+\n| a\xef\xbf\xbd |\n+====+\n+----+\n"));
-    expect_csv("a column isn't there", TEXT(CSV), TEXT("-c\0zz\0"), COMFY_CSV_INPUT_REFUSED,
+    expect_csv("a column isn't there", TEXT(CSV), TEXT("-c\0zz\0"), COMFY_INPUT_REFUSED,
                TEXT("csvtable: standard input: no column zz; there are name and days\n"));
-    expect_csv("a quote isn't closed", TEXT("a\n\"b"), TEXT(""), COMFY_CSV_INPUT_REFUSED,
+    expect_csv("a quote isn't closed", TEXT("a\n\"b"), TEXT(""), COMFY_INPUT_REFUSED,
                TEXT("csvtable: standard input: a quote that opens in line 2 is never closed; try --no-quotes\n"));
-    expect_csv("0xFF is no UTF-8 in arguments", TEXT(CSV), TEXT("-s\0\xff\0"), COMFY_CSV_ARGUMENTS_REFUSED, TEXT("csvtable: an argument isn't UTF-8\n"));
-    expect_csv("half a character isn't either", TEXT(CSV), TEXT("\xe9\x9b\0"), COMFY_CSV_ARGUMENTS_REFUSED, TEXT("csvtable: an argument isn't UTF-8\n"));
+    expect_csv("0xFF is no UTF-8 in arguments", TEXT(CSV), TEXT("-s\0\xff\0"), COMFY_SETTINGS_REFUSED, TEXT("csvtable: an argument isn't UTF-8\n"));
+    expect_csv("half a character isn't either", TEXT(CSV), TEXT("\xe9\x9b\0"), COMFY_SETTINGS_REFUSED, TEXT("csvtable: an argument isn't UTF-8\n"));
     expect_said("the version is said", TEXT("--version"), "csvtable ");
     expect_said("help is said", TEXT("-h\0"), "Usage: csvtable [OPTIONS] [FILE]\n");
     expect_said("an unknown argument is said", TEXT("--nope\0"), "'--nope'");
@@ -206,8 +234,8 @@ static void expect_refusals_are_said(void) {
 
 /* Whether a call made its drawing fill the room that another one asked for. Some arguments exclude each other. */
 static int is_filled(const struct call *asked, const struct call *call) {
-    if (call->status == COMFY_CSV_ARGUMENTS_REFUSED) return asked->status == call->status && asked->needed == call->needed;
-    return asked->status == (asked->needed ? COMFY_CSV_ROOM_TOO_SMALL : COMFY_CSV_DRAWN) && call->status == COMFY_CSV_DRAWN
+    if (call->status == COMFY_SETTINGS_REFUSED) return asked->status == call->status && asked->needed == call->needed;
+    return asked->status == (asked->needed ? COMFY_ROOM_TOO_SMALL : COMFY_DRAWN) && call->status == COMFY_DRAWN
         && call->needed == asked->needed && (!call->needed || call->output[call->needed - 1] == '\n');
 }
 
@@ -227,6 +255,93 @@ static void expect_csv_fills(struct bytes input) {
         }
 }
 
+/* Rows that are drawn: into their room and into more, and into none that is smaller. */
+static void expect_rows(const char *what, const struct rows *rows, struct comfy_rows_settings settings, struct bytes text) {
+    struct call full = made_rows(rows, settings, text.length), more = made_rows(rows, settings, text.length + 20);
+    struct call less = made_rows(rows, settings, text.length - 1);
+    expect(what, full.status == COMFY_DRAWN && is_put(&full, text));
+    expect(what, more.status == COMFY_DRAWN && is_put(&more, text));
+    expect(what, less.status == COMFY_ROOM_TOO_SMALL && less.needed == text.length && is_untouched(&less, 0));
+    free(full.output);
+    free(more.output);
+    free(less.output);
+    uint32_t result = KEPT;
+    char *drawing = comfy_rows_text((const uint8_t *)rows->texts.at, rows->texts.length, rows->lengths, rows->length_count, rows->counts,
+                                    rows->count_count, (const uint8_t *)rows->columns.at, rows->columns.length, &settings, &result);
+    expect(what, drawing && result == COMFY_DRAWN && strlen(drawing) == text.length && !memcmp(drawing, text.at, text.length));
+    free(drawing);
+}
+
+static void expect_rows_refused(const char *what, const struct rows *rows, struct comfy_rows_settings settings, uint32_t status) {
+    struct call call = made_rows(rows, settings, 400);
+    expect(what, call.status == status && call.needed == KEPT && is_untouched(&call, 0));
+    free(call.output);
+}
+
+static void expect_rows_are_drawn(void) {
+    struct comfy_rows_settings settings = plain_settings();
+    struct rows rows = ROWS;
+    expect_rows("rows are drawn", &rows, settings, TEXT(CSV_DRAWING));
+    rows.columns = TEXT("\1\1");
+    expect_rows("columns stand at the left", &rows, settings, TEXT(DRAWING));
+    rows.columns = TEXT("\0\3");
+    expect_rows("a column is left out", &rows, settings, TEXT(WITHOUT_DAYS));
+    rows = (struct rows){{"a\nbc", 4}, {3, 0, 1}, 3, {1, 0, 2}, 3, {"\2", 1}};
+    settings.has_header = 0;
+    settings.style = COMFY_ROUNDED;
+    settings.row_lines = COMFY_LINES_NOWHERE;
+    expect_rows("rows of any length", &rows, settings,
+                TEXT("\xe2\x95\xad\xe2\x94\x80\xe2\x94\x80\xe2\x94\x80\xe2\x94\xac\xe2\x94\x80\xe2\x94\x80\xe2\x94\x80\xe2\x95\xae\n"
+                     "\xe2\x94\x82 a \xe2\x94\x86   \xe2\x94\x82\n"
+                     "\xe2\x94\x82 b \xe2\x94\x86   \xe2\x94\x82\n"
+                     "\xe2\x94\x82   \xe2\x94\x86   \xe2\x94\x82\n"
+                     "\xe2\x94\x82   \xe2\x94\x86 c \xe2\x94\x82\n"
+                     "\xe2\x95\xb0\xe2\x94\x80\xe2\x94\x80\xe2\x94\x80\xe2\x94\xb4\xe2\x94\x80\xe2\x94\x80\xe2\x94\x80\xe2\x95\xaf\n"));
+    rows = ROWS;
+    settings = plain_settings();
+    settings.is_markdown = 1;
+    expect_rows("rows are drawn for Markdown", &rows, settings, TEXT("| name | days |\n|------|-----:|\n| oats |    3 |\n"));
+    settings = plain_settings();
+    settings.limit = 0;
+    expect_rows("rows are limited", &rows, settings, TEXT("+------+------+\n| name | days |\n+=============+\n+------+------+\n0 of 1 records\n"));
+}
+
+static void expect_rows_are_refused(void) {
+    struct comfy_rows_settings plain = plain_settings(), settings = plain;
+    struct rows rows = ROWS;
+    rows.texts = TEXT("name\xff\xff\xff\xffoats3");
+    expect_rows_refused("0xFF is no UTF-8 in rows", &rows, plain, COMFY_INPUT_REFUSED);
+    rows = (struct rows){{"\xc3\xa9", 2}, {1, 1}, 2, {2}, 1, {"", 0}};
+    expect_rows_refused("half a character isn't either", &rows, plain, COMFY_INPUT_REFUSED);
+    rows = ROWS;
+    rows.texts.length--;
+    expect_rows_refused("a text is too short", &rows, plain, COMFY_LENGTHS_REFUSED);
+    rows = ROWS;
+    rows.length_count--;
+    expect_rows_refused("a length is missing", &rows, plain, COMFY_LENGTHS_REFUSED);
+    rows = ROWS;
+    rows.counts[1] = SIZE_MAX;
+    expect_rows_refused("a count is the greatest number", &rows, plain, COMFY_LENGTHS_REFUSED);
+    rows.counts[1] = 1;
+    expect_rows_refused("a cell is in no row", &rows, plain, COMFY_LENGTHS_REFUSED);
+    rows = ROWS;
+    rows.columns = TEXT("\4");
+    expect_rows_refused("there is no column's byte 4", &rows, plain, COMFY_SETTINGS_REFUSED);
+    rows.columns = TEXT("\0\0\1");
+    expect_rows_refused("a byte is for a column that isn't there", &rows, plain, COMFY_SETTINGS_REFUSED);
+    rows.columns = TEXT("\3\3");
+    expect_rows_refused("no column is left", &rows, plain, COMFY_SETTINGS_REFUSED);
+    rows = ROWS;
+    settings.style = COMFY_ROUNDED + 1;
+    expect_rows_refused("there is no such style", &rows, settings, COMFY_SETTINGS_REFUSED);
+    settings = plain;
+    settings.row_lines = 3;
+    expect_rows_refused("there are no such lines", &rows, settings, COMFY_SETTINGS_REFUSED);
+    settings = plain;
+    settings.expansion = UINT32_MAX;
+    expect_rows_refused("there is no such expansion", &rows, settings, COMFY_SETTINGS_REFUSED);
+}
+
 /* Without bytes there is nothing to point to. NOTHING draws no line of an empty table, ASCII_FULL draws two of one. */
 static void expect_null_is_read_nowhere(void) {
     size_t needed = KEPT;
@@ -237,7 +352,11 @@ static void expect_null_is_read_nowhere(void) {
     expect("frame lines take room", status == COMFY_ROOM_TOO_SMALL && needed == strlen("++\n++\n"));
     needed = KEPT;
     status = comfy_csv_draw(NULL, 0, NULL, 0, NULL, 0, &needed);
-    expect("no csv has an empty drawing", status == COMFY_CSV_DRAWN && needed == 0);
+    expect("no csv has an empty drawing", status == COMFY_DRAWN && needed == 0);
+    needed = KEPT;
+    struct comfy_rows_settings settings = plain_settings();
+    status = comfy_rows_draw(NULL, 0, NULL, 0, NULL, 0, NULL, 0, &settings, NULL, 0, &needed);
+    expect("no rows have an empty drawing", status == COMFY_DRAWN && needed == 0);
 }
 
 static void *draw_often(void *bad) {
@@ -245,9 +364,12 @@ static void *draw_often(void *bad) {
         struct call call = made(TEXT(INPUT), COMFY_NO_WIDTH, COMFY_DISABLED, COMFY_ASCII_FULL, LENGTH);
         struct call csv = made_csv(TEXT(CSV), TEXT("-sascii"), LENGTH);
         if (call.status != COMFY_DRAWN || !is_put(&call, TEXT(DRAWING))) *(int *)bad = 1;
-        if (csv.status != COMFY_CSV_DRAWN || !is_put(&csv, TEXT(CSV_DRAWING))) *(int *)bad = 1;
+        if (csv.status != COMFY_DRAWN || !is_put(&csv, TEXT(CSV_DRAWING))) *(int *)bad = 1;
+        struct call rows = made_rows(&ROWS, plain_settings(), LENGTH);
+        if (rows.status != COMFY_DRAWN || !is_put(&rows, TEXT(CSV_DRAWING))) *(int *)bad = 1;
         free(call.output);
         free(csv.output);
+        free(rows.output);
     }
     return NULL;
 }
@@ -269,14 +391,16 @@ int main(void) {
     expect_drawn("room after the drawing stays", LENGTH + 20);
     expect_too_small("a room one byte short is left alone", LENGTH - 1);
     expect_too_small("a room of no bytes is too small", 0);
-    expect_refused(TEXT("\xff"), COMFY_DYNAMIC, COMFY_UTF8_FULL, COMFY_NOT_UTF8, "0xFF is no UTF-8");
-    expect_refused(TEXT("a\xe9\x9b"), COMFY_DYNAMIC, COMFY_UTF8_FULL, COMFY_NOT_UTF8, "half a character is no UTF-8");
-    expect_refused(TEXT(INPUT), 3, COMFY_UTF8_FULL, COMFY_UNKNOWN_SETTING, "there is no arrangement 3");
-    expect_refused(TEXT(INPUT), UINT32_MAX, COMFY_UTF8_FULL, COMFY_UNKNOWN_SETTING, "there is no greatest arrangement");
-    expect_refused(TEXT(INPUT), COMFY_DYNAMIC, 13, COMFY_UNKNOWN_SETTING, "there is no style 13");
-    expect_refused(TEXT(INPUT), COMFY_DYNAMIC, UINT32_MAX, COMFY_UNKNOWN_SETTING, "there is no greatest style");
+    expect_refused(TEXT("\xff"), COMFY_DYNAMIC, COMFY_UTF8_FULL, COMFY_INPUT_REFUSED, "0xFF is no UTF-8");
+    expect_refused(TEXT("a\xe9\x9b"), COMFY_DYNAMIC, COMFY_UTF8_FULL, COMFY_INPUT_REFUSED, "half a character is no UTF-8");
+    expect_refused(TEXT(INPUT), 3, COMFY_UTF8_FULL, COMFY_SETTINGS_REFUSED, "there is no arrangement 3");
+    expect_refused(TEXT(INPUT), UINT32_MAX, COMFY_UTF8_FULL, COMFY_SETTINGS_REFUSED, "there is no greatest arrangement");
+    expect_refused(TEXT(INPUT), COMFY_DYNAMIC, 13, COMFY_SETTINGS_REFUSED, "there is no style 13");
+    expect_refused(TEXT(INPUT), COMFY_DYNAMIC, UINT32_MAX, COMFY_SETTINGS_REFUSED, "there is no greatest style");
     expect_words_are_read();
     expect_refusals_are_said();
+    expect_rows_are_drawn();
+    expect_rows_are_refused();
     expect_null_is_read_nowhere();
     expect_all_fill(mixed);
     expect_all_fill(TEXT("\n"));
@@ -285,6 +409,10 @@ int main(void) {
     expect_csv_fills(TEXT("\n"));
     expect_csv_fills(TEXT("\x01"));
     expect_threads_agree();
+    uint32_t result = KEPT;
+    char *said = comfy_csv_text((const uint8_t *)CSV, sizeof CSV - 1, (const uint8_t *)"-s\0ascii", 9, &result);
+    expect("csv is drawn into memory of malloc", said && result == COMFY_DRAWN && !strcmp(said, CSV_DRAWING));
+    free(said);
     if (!wrong) printf("calls: all as comfy_table.h says\n");
     return wrong ? 1 : 0;
 }

@@ -31,8 +31,8 @@ static struct region new_region(void) {
 struct caller {
     uint64_t seed;
     long calls, wrong;
-    long results[2][5];
-    struct region input, arguments, output;
+    long results[3][6];
+    struct region input, lengths, arguments, output;
 };
 
 static uint64_t next(struct caller *caller) {
@@ -114,44 +114,77 @@ static int is_as_said(uint32_t status, const uint8_t *output, size_t room, size_
     switch (status) {
     case COMFY_DRAWN: return is_put(output, room, needed);
     case COMFY_ROOM_TOO_SMALL: return is_too_small(output, room, needed);
-    case COMFY_NOT_UTF8:
-    case COMFY_UNKNOWN_SETTING: return needed == KEPT && is_untouched(output, 0, room);
+    case COMFY_INPUT_REFUSED:
+    case COMFY_SETTINGS_REFUSED:
+    case COMFY_LENGTHS_REFUSED: return needed == KEPT && is_untouched(output, 0, room);
     default: return 0;
     }
 }
 
 static int is_as_said_of_csv(uint32_t status, const uint8_t *output, size_t room, size_t needed) {
     switch (status) {
-    case COMFY_CSV_DRAWN: return is_put(output, room, needed);
-    case COMFY_CSV_ROOM_TOO_SMALL: return is_too_small(output, room, needed);
-    case COMFY_CSV_INPUT_REFUSED:
-    case COMFY_CSV_ARGUMENTS_REFUSED: return is_put(output, room, needed) || is_too_small(output, room, needed);
+    case COMFY_DRAWN: return is_put(output, room, needed);
+    case COMFY_ROOM_TOO_SMALL: return is_too_small(output, room, needed);
+    case COMFY_INPUT_REFUSED:
+    case COMFY_SETTINGS_REFUSED: return is_put(output, room, needed) || is_too_small(output, room, needed);
     default: return 0;
     }
 }
 
-/* A call of one function or the other. What it reads stands at the ends of its pages, where arguments are written from a copy. */
-static void call(struct caller *caller) {
-    size_t length = any_length(caller), room = any_length(caller), needed = KEPT;
-    uint8_t *input = caller->input.end - length, *output = caller->output.end - room;
-    int is_csv = (int)below(caller, 2);
-    uint32_t status;
-    fill_input(caller, input, length);
-    memset(output, UNTOUCHED, room);
-    if (is_csv) {
-        uint8_t line[256];
-        size_t count = put_words(caller, line, sizeof line);
-        if (count && below(caller, 16) == 0) line[below(caller, count)] = (uint8_t)next(caller);
-        memcpy(caller->arguments.end - count, line, count);
-        status = comfy_csv_draw(input, length, caller->arguments.end - count, count, output, room, &needed);
-    } else {
-        uint32_t width = any_number(caller, 120), arrangement = any_number(caller, 3), style = any_number(caller, 13);
-        status = comfy_table_draw(input, length, width, arrangement, style, output, room, &needed);
+static uint32_t call_csv(struct caller *caller, size_t length, size_t room, size_t *needed) {
+    uint8_t line[256];
+    size_t count = put_words(caller, line, sizeof line);
+    if (count && below(caller, 16) == 0) line[below(caller, count)] = (uint8_t)next(caller);
+    memcpy(caller->arguments.end - count, line, count);
+    return comfy_csv_draw(caller->input.end - length, length, caller->arguments.end - count, count, caller->output.end - room, room, needed);
+}
+
+static uint32_t call_table(struct caller *caller, size_t length, size_t room, size_t *needed) {
+    uint32_t width = any_number(caller, 120), arrangement = any_number(caller, 3), style = any_number(caller, 13);
+    return comfy_table_draw(caller->input.end - length, length, width, arrangement, style, caller->output.end - room, room, needed);
+}
+
+/* Numbers that mostly add up to a sum, at the end of some pages. */
+static size_t put_parts(struct caller *caller, struct region region, size_t sum, size_t most) {
+    size_t parts[64], count = 0, rest = sum;
+    while (count < 63 && rest && below(caller, 32)) {
+        size_t part = below(caller, most + 1);
+        parts[count++] = part < rest ? part : rest;
+        rest -= parts[count - 1];
     }
-    if (status < 5) caller->results[is_csv][status]++;
-    if (!(is_csv ? is_as_said_of_csv : is_as_said)(status, output, room, needed)) {
+    if (below(caller, 16)) parts[count++] = rest;
+    if (count && below(caller, 64) == 0) parts[below(caller, count)] = (size_t)next(caller);
+    memcpy(region.end - count * sizeof(size_t), parts, count * sizeof(size_t));
+    return count;
+}
+
+static uint32_t call_rows(struct caller *caller, size_t length, size_t room, size_t *needed) {
+    struct comfy_rows_settings settings = {
+        .max_height = below(caller, 4) ? COMFY_NO_LIMIT : below(caller, 4), .limit = below(caller, 4) ? COMFY_NO_LIMIT : below(caller, 4),
+        .style = any_number(caller, 14), .width = any_number(caller, 120), .fills_width = any_number(caller, 2), .row_lines = any_number(caller, 3),
+        .expansion = any_number(caller, 3), .has_header = any_number(caller, 2), .has_bold_header = any_number(caller, 2),
+        .has_sequences = any_number(caller, 2), .is_markdown = below(caller, 8) == 0};
+    size_t texts = put_parts(caller, caller->lengths, length, 12);
+    size_t rows = put_parts(caller, caller->arguments, texts, 5);
+    uint8_t columns[4];
+    size_t count = below(caller, 4);
+    for (size_t i = 0; i < count; i++) columns[i] = (uint8_t)(below(caller, 32) ? below(caller, 4) : next(caller));
+    return comfy_rows_draw(caller->input.end - length, length, (size_t *)(void *)caller->lengths.end - texts, texts,
+                           (size_t *)(void *)caller->arguments.end - rows, rows, columns, count, &settings, caller->output.end - room, room, needed);
+}
+
+/* A call of one of the functions. What it reads stands at the ends of its pages, where arguments are written from a copy. */
+static void call(struct caller *caller) {
+    static const char *const names[] = {"table", "csv", "rows"};
+    size_t length = any_length(caller), room = any_length(caller), needed = KEPT, which = below(caller, 3);
+    uint8_t *output = caller->output.end - room;
+    fill_input(caller, caller->input.end - length, length);
+    memset(output, UNTOUCHED, room);
+    uint32_t status = (which == 0 ? call_table : which == 1 ? call_csv : call_rows)(caller, length, room, &needed);
+    if (status < 6) caller->results[which][status]++;
+    if (!(which == 1 ? is_as_said_of_csv : is_as_said)(status, output, room, needed)) {
         caller->wrong++;
-        printf("wrong: %s, status %u, %zu bytes, room %zu, needed %zu\n", is_csv ? "csv" : "table", (unsigned)status, length, room, needed);
+        printf("wrong: %s, status %u, %zu bytes, room %zu, needed %zu\n", names[which], (unsigned)status, length, room, needed);
     }
 }
 
@@ -162,14 +195,14 @@ static void *call_often(void *it) {
 }
 
 static struct caller new_caller(uint64_t seed, long calls) {
-    return (struct caller){seed, calls, 0, {{0}, {0}}, new_region(), new_region(), new_region()};
+    return (struct caller){seed, calls, 0, {{0}, {0}, {0}}, new_region(), new_region(), new_region(), new_region()};
 }
 
-/* Whether each result came that comes without a refused request for memory. */
+/* Whether each result came that comes without a refused request for memory. Rows alone have lengths. */
 static int has_all(const struct caller *caller) {
-    for (int is_csv = 0; is_csv < 2; is_csv++)
-        for (int status = 0; status < 5; status++)
-            if (status != COMFY_OUT_OF_MEMORY && !caller->results[is_csv][status]) return 0;
+    for (int which = 0; which < 3; which++)
+        for (uint32_t status = 0; status < (which == 2 ? 6 : 5); status++)
+            if (status != COMFY_OUT_OF_MEMORY && !caller->results[which][status]) return 0;
     return 1;
 }
 

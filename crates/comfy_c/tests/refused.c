@@ -64,6 +64,13 @@ static uint32_t markdown_is_drawn(size_t *needed) {
     return csv_with(arguments, sizeof arguments, needed);
 }
 
+static uint32_t rows_are_drawn(size_t *needed) {
+    static const uint8_t texts[] = "namedaysoats and \xe9\x9b\xa8 more3", columns[] = {COMFY_COLUMN_RIGHT, COMFY_COLUMN_LEFT, COMFY_COLUMN_HIDDEN};
+    static const size_t lengths[] = {4, 4, 17, 1, 0}, counts[] = {2, 3};
+    const struct comfy_rows_settings settings = {.max_height = 3, .limit = COMFY_NO_LIMIT, .width = 12, .has_header = 1};
+    return comfy_rows_draw(texts, sizeof texts - 1, lengths, 5, counts, 2, columns, 3, &settings, output, sizeof output, needed);
+}
+
 static uint32_t column_is_refused(size_t *needed) {
     static const char arguments[] = "-r\0zz\0file";
     return csv_with(arguments, sizeof arguments, needed);
@@ -99,17 +106,18 @@ static long wrong_in(const char *what, uint32_t (*call)(size_t *), uint32_t want
         if (status == COMFY_OUT_OF_MEMORY ? needed != 7 || !is_untouched() : status != wanted || needed != whole) wrong++;
         if (status == wanted && refused_one <= requests) spared++;
     } while (refused_one <= requests);
-    if (refused_one == 1 || (spared && wanted != COMFY_CSV_ARGUMENTS_REFUSED)) wrong++;
+    if (refused_one == 1 || (spared && wanted != COMFY_SETTINGS_REFUSED)) wrong++;
     printf("%s: %ld requests refused in turn, %ld of them spared, %ld wrong\n", what, refused_one - 1, spared, wrong);
     return wrong;
 }
 
 int main(void) {
     long wrong = wrong_in("a table", table_is_drawn, COMFY_DRAWN);
-    wrong += wrong_in("csv", csv_is_drawn, COMFY_CSV_DRAWN);
-    wrong += wrong_in("expanded records", records_are_drawn, COMFY_CSV_DRAWN);
-    wrong += wrong_in("markdown", markdown_is_drawn, COMFY_CSV_DRAWN);
-    wrong += wrong_in("a column that isn't there", column_is_refused, COMFY_CSV_INPUT_REFUSED);
-    wrong += wrong_in("an unknown argument", word_is_refused, COMFY_CSV_ARGUMENTS_REFUSED);
+    wrong += wrong_in("csv", csv_is_drawn, COMFY_DRAWN);
+    wrong += wrong_in("expanded records", records_are_drawn, COMFY_DRAWN);
+    wrong += wrong_in("markdown", markdown_is_drawn, COMFY_DRAWN);
+    wrong += wrong_in("rows", rows_are_drawn, COMFY_DRAWN);
+    wrong += wrong_in("a column that isn't there", column_is_refused, COMFY_INPUT_REFUSED);
+    wrong += wrong_in("an unknown argument", word_is_refused, COMFY_SETTINGS_REFUSED);
     return wrong ? 1 : 0;
 }

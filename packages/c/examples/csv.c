@@ -30,12 +30,12 @@ int main(int count, char **given) {
         output.start = malloc(output.length);
         if (!output.start) return 1;
         status = comfy_csv_draw(input.start, input.length, arguments.start, arguments.length, output.start, output.length, &needed);
-    } while (status != COMFY_CSV_OUT_OF_MEMORY && needed > output.length);
-    if (status == COMFY_CSV_OUT_OF_MEMORY) return 1;
-    FILE *stream = status == COMFY_CSV_DRAWN ? stdout : stderr;
+    } while (status != COMFY_OUT_OF_MEMORY && needed > output.length);
+    if (status == COMFY_OUT_OF_MEMORY) return 1;
+    FILE *stream = status == COMFY_DRAWN ? stdout : stderr;
     int is_written = fwrite(output.start, 1, needed, stream) == needed && fflush(stream) == 0;
     free(output.start);
     free(arguments.start);
     free(input.start);
-    return is_written && status == COMFY_CSV_DRAWN ? 0 : 1;
+    return is_written && status == COMFY_DRAWN ? 0 : 1;
 }

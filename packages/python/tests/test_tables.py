@@ -13,14 +13,15 @@ import random
 import sqlite3
 import subprocess
 import sys
+import tempfile
 import threading
+import typing
 import unittest
 from collections import namedtuple
 from pathlib import Path
 
 import comfy_table_proved
 from comfy_table_proved import Table, draw_csv, tabulate
-from comfy_table_proved.tabs import Style, draw
 
 EXAMPLES = Path(__file__).parent.parent / "examples"
 CSVTABLE = os.environ.get("CSVTABLE")
@@ -97,7 +98,7 @@ class Drawings(unittest.TestCase):
 ┌──────────┐
 │ oats     │
 └──────────┘
-1 of 2 records
+1 of 2 rows
 """))
         self.assertEqual(
             tabulate([["a\nb\nlong text", 1.5]], max_height=2, floatfmt=".3f", style="box"),
@@ -179,7 +180,10 @@ class Refused(unittest.TestCase):
         connection = sqlite3.connect(":memory:")
         connection.row_factory = sqlite3.Row
         with self.assertRaises(ValueError):
-            tabulate(connection.execute("select 1 as a, 2 as a"), headers="keys")
+            tabulate(connection.execute("select 1 as a, 2 as a").fetchall(), headers="keys")
+        # A cursor has the names in order.
+        drawing = tabulate(connection.execute("select 1 as a, 2 as a"), headers="keys", style="ascii")
+        self.assertEqual(drawing, "+---+---+\n| a | a |\n+=======+\n| 1 | 2 |\n+---+---+")
 
     def test_messages_are_those_of_csvtable(self):
         with self.assertRaises(ValueError) as caught:
@@ -234,20 +238,291 @@ class Tables(unittest.TestCase):
         self.assertEqual(sorted(drawings), sorted([tabulate([[i, "x"]]) for i in range(50)] * 4))
 
 
-class Tabs(unittest.TestCase):
-    def test_a_drawing(self):
-        self.assertEqual(draw("name\tdays\noats\t3\n", style=Style.ASCII_FULL), drawn("""
-+------+------+
-| name | days |
-+=============+
-| oats | 3    |
-+------+------+
-""") + "\n")
+class Snippets(unittest.TestCase):
+    """What people write for tabulate."""
 
-    def test_unknown_settings(self):
-        for settings in {"style": 13}, {"arrangement": 3}, {"width": 65536}:
-            with self.assertRaises(ValueError):
-                draw("a", **settings)
+    maxDiff = None
+
+    def expect(self, drawing, wanted):
+        self.assertEqual(drawing, drawn(wanted))
+
+    def test_a_dict_of_columns(self):
+        self.expect(tabulate({"name": ["Ann", "김"], "x": [1.5, 2]}, headers="keys", tablefmt="github"), """
+| name |   x |
+|------|----:|
+| Ann  | 1.5 |
+| 김   |   2 |
+""")
+        self.expect(tabulate({"a": [1, 2], "b": ["x"]}, headers="keys", tablefmt="outline"), """
++---+---+
+| a | b |
++=======+
+| 1 | x |
+| 2 |   |
++---+---+
+""")
+
+    def test_the_third_argument_is_tablefmt(self):
+        self.expect(tabulate([["a", 1]], ["x", "y"], "grid"), """
++---+---+
+| x | y |
++=======+
+| a | 1 |
++---+---+
+""")
+
+    def test_frames_of_tabulate(self):
+        rows = [["a", 1], ["b", 22]]
+        self.expect(tabulate(rows, ["x", "n"], tablefmt="fancy_grid"), """
+┌───┬────┐
+│ x ┆  n │
+╞═══╪════╡
+│ a ┆  1 │
+├╌╌╌┼╌╌╌╌┤
+│ b ┆ 22 │
+└───┴────┘
+""")
+        self.expect(tabulate(rows, ["x", "n"], tablefmt="rounded_outline"), """
+╭───┬────╮
+│ x ┆  n │
+╞═══╪════╡
+│ a ┆  1 │
+│ b ┆ 22 │
+╰───┴────╯
+""")
+        self.expect(tabulate(rows, ["x", "n"], tablefmt="pipe"), """
+| x |  n |
+|---|---:|
+| a |  1 |
+| b | 22 |
+""")
+        self.assertEqual(tabulate(rows, tablefmt="plain"), " a   1 \n b  22 ")
+
+    def test_an_index(self):
+        self.expect(tabulate([["F", 24], ["M", 19]], showindex="always", style="box"), """
+┌───┬───┬────┐
+│ 0 ┆ F ┆ 24 │
+│ 1 ┆ M ┆ 19 │
+└───┴───┴────┘
+""")
+        self.expect(tabulate([["F", 24], ["M", 19]], ["sex", "age"], showindex=["x", "y"], style="box"), """
+┌───┬─────┬─────┐
+│   ┆ sex ┆ age │
+╞═══╪═════╪═════╡
+│ x ┆ F   ┆  24 │
+│ y ┆ M   ┆  19 │
+└───┴─────┴─────┘
+""")
+
+    def test_missing_values(self):
+        self.expect(tabulate([["a", None], [None, 1]], missingval="?", style="box"), """
+┌───┬───┐
+│ a ┆ ? │
+│ ? ┆ 1 │
+└───┴───┘
+""")
+
+    def test_formats_of_numbers(self):
+        rows = [["pi", 3.14159, 1234567], ["e", 2.71828, 89]]
+        self.expect(tabulate(rows, floatfmt=".2f", intfmt=",", style="box"), """
+┌────┬──────┬───────────┐
+│ pi ┆ 3.14 ┆ 1,234,567 │
+│ e  ┆ 2.72 ┆        89 │
+└────┴──────┴───────────┘
+""")
+        self.expect(tabulate([[1.5, 2.25]], floatfmt=("", ".1f"), style="box"), """
+┌─────┬─────┐
+│ 1.5 ┆ 2.2 │
+└─────┴─────┘
+""")
+
+    def test_sides_of_columns(self):
+        self.expect(tabulate([["one", 1], ["three", 3]], colalign=("right", "left"), style="box"), """
+┌───────┬───┐
+│   one ┆ 1 │
+│ three ┆ 3 │
+└───────┴───┘
+""")
+
+    def test_greatest_widths_of_columns(self):
+        self.expect(tabulate([["John Smith", "Middle Manager"]], ["Name", "Title"], maxcolwidths=[None, 8], style="box"), """
+┌────────────┬─────────┐
+│ Name       ┆ Title   │
+╞════════════╪═════════╡
+│ John Smith ┆ Middle  │
+│            ┆ Manager │
+└────────────┴─────────┘
+""")
+
+    def test_headers_that_name_keys_anew(self):
+        self.expect(tabulate([{"a": 1, "b": "x"}], headers={"a": "Alpha"}, style="box"), """
+┌───────┬───┐
+│ Alpha ┆ b │
+╞═══════╪═══╡
+│     1 ┆ x │
+└───────┴───┘
+""")
+
+    def test_the_first_row_as_header(self):
+        self.expect(tabulate([["Name", "Age"], ["Alice", 24], ["Bob", 19]], headers="firstrow", tablefmt="grid"), """
++-------+-----+
+| Name  | Age |
++=============+
+| Alice |  24 |
+|-------+-----|
+| Bob   |  19 |
++-------+-----+
+""")
+
+    def test_frames_of_data(self):
+        frame = Frame(["name", "age"], [("Alice", 24), ("Bob", 19)], [10, 20])
+        self.expect(tabulate(frame, headers="keys", style="box"), """
+┌────┬───────┬─────┐
+│    ┆ name  ┆ age │
+╞════╪═══════╪═════╡
+│ 10 ┆ Alice ┆  24 │
+│ 20 ┆ Bob   ┆  19 │
+└────┴───────┴─────┘
+""")
+        self.expect(tabulate(frame, headers="keys", showindex=False, style="box"), """
+┌───────┬─────┐
+│ name  ┆ age │
+╞═══════╪═════╡
+│ Alice ┆  24 │
+│ Bob   ┆  19 │
+└───────┴─────┘
+""")
+        self.expect(tabulate(Series("age", [24, 19], ["a", "b"]), headers="keys", style="box"), """
+┌───┬─────┐
+│   ┆ age │
+╞═══╪═════╡
+│ a ┆  24 │
+│ b ┆  19 │
+└───┴─────┘
+""")
+
+    def test_arrays_of_records(self):
+        self.expect(tabulate(Records(("a", "b"), [{"a": 1, "b": 2.5}]), headers="keys", style="box"), """
+┌───┬─────┐
+│ a ┆   b │
+╞═══╪═════╡
+│ 1 ┆ 2.5 │
+└───┴─────┘
+""")
+
+    def test_what_pandas_and_numpy_have(self):
+        try:
+            import numpy
+            import pandas
+        except ImportError:
+            self.skipTest("pandas isn't there")
+        wanted = tabulate(Frame(["a", "b"], [(1, "x"), (2, "y")], [0, 1]), headers="keys")
+        self.assertEqual(tabulate(pandas.DataFrame({"a": [1, 2], "b": ["x", "y"]}), headers="keys"), wanted)
+        self.assertEqual(tabulate(pandas.Series([24, 19], ["a", "b"], name="age")), tabulate(Series("age", [24, 19], ["a", "b"])))
+        self.assertEqual(tabulate(numpy.array([[1, 2], [3, 4]])), tabulate([[1, 2], [3, 4]]))
+        array = numpy.array([(1, 2.5)], dtype=[("a", "i4"), ("b", "f8")])
+        self.assertEqual(tabulate(array, headers="keys"), tabulate([{"a": 1, "b": 2.5}], headers="keys"))
+
+
+class Frame:
+    """As much of a DataFrame as is used of it."""
+
+    def __init__(self, columns, rows, index):
+        self.columns, self._rows, self.index = columns, rows, Index(index)
+
+    def itertuples(self, index, name):
+        return iter(self._rows)
+
+
+class Index(list):
+    name = None
+
+
+class Series:
+    """As much of a Series."""
+
+    dtype = object()
+
+    def __init__(self, name, values, index):
+        self.name, self._values, self.index = name, values, Index(index)
+
+    def __iter__(self):
+        return iter(self._values)
+
+    def items(self):
+        return zip(self.index, self._values)
+
+
+class Records(list):
+    """As much of a structured array."""
+
+    def __init__(self, names, rows):
+        super().__init__(rows)
+        self.dtype = namedtuple("Type", "names")(names)
+
+
+class Messages(unittest.TestCase):
+    """Of Python's parameters, with what there is in their place."""
+
+    def expect(self, kind, message, rows=((1, 2),), **settings):
+        with self.assertRaises(kind) as caught:
+            tabulate(rows, **settings)
+        self.assertEqual(str(caught.exception), message)
+
+    def test_settings_of_tabulate_that_are_not_here(self):
+        self.expect(TypeError, "tabulate has no setting 'numalign'; in its place there is left and right", numalign="left")
+        self.expect(TypeError, "tabulate has no setting 'witdh'", witdh=3)
+
+    def test_values(self):
+        self.expect(
+            ValueError,
+            "style is one of rounded, box, grid, ascii, plain, markdown or a preset such as \"UTF8_FULL\", not 'github'; "
+            "tablefmt='github' is one",
+            style="github",
+        )
+        self.expect(ValueError, "width is a whole number from 0 to 65535, \"terminal\" or None, not 10.5", width=10.5)
+        self.expect(ValueError, "width is a whole number from 0 to 65535, \"terminal\" or None, not 65536", width=65536)
+        self.expect(ValueError, "limit is a whole number from 0 on or None, not -1", limit=-1)
+        self.expect(ValueError, "expanded is True, False or \"auto\", not 'yes'", expanded="yes")
+        self.expect(ValueError, "style and tablefmt both name a frame", style="box", tablefmt="grid")
+        self.expect(ValueError, "showindex has 1 values for 2 rows", rows=[[1], [2]], showindex=["a"])
+        self.expect(ValueError, "colalign has \"left\", \"right\", \"decimal\" or None for each column, not 'center'", colalign=["center"])
+
+    def test_rows(self):
+        self.expect(TypeError, "a row is a list of cells, not 1; for one column pass [[value], ..]", rows=[1, 2])
+        self.expect(TypeError, "rows are a list of rows, not 'text'", rows="text")
+
+
+class Interface(unittest.TestCase):
+    def test_types_are_written_out(self):
+        hints = typing.get_type_hints(tabulate)
+        self.assertIn("maxcolwidths", hints)
+        self.assertIs(hints["return"], str)
+        self.assertEqual(typing.get_type_hints(Table)["full"], bool)
+
+    def test_tables_have_attributes(self):
+        table = Table([["x"]], style="ascii")
+        self.assertEqual((repr(table), len(table)), ("+---+\n| x |\n+---+", 1))
+        table.style = "box"
+        self.assertEqual(str(table), "┌───┐\n│ x │\n└───┘")
+
+    def test_a_version(self):
+        project = (Path(__file__).parent.parent / "pyproject.toml").read_text()
+        self.assertIn(f'version = "{comfy_table_proved.__version__}"', project)
+
+    def test_the_module_draws_a_file(self):
+        def run(*arguments, given=b""):
+            return subprocess.run([sys.executable, "-m", "comfy_table_proved", *arguments], input=given, capture_output=True)
+
+        with tempfile.TemporaryDirectory() as folder:
+            file = Path(folder) / "prices.csv"
+            file.write_text("name,price\noats,3\n")
+            wanted = b"+------+-------+\n| name | price |\n+==============+\n| oats |     3 |\n+------+-------+\n"
+            self.assertEqual(run(file, "-s", "ascii").stdout, wanted)
+        self.assertEqual(run("-", "-s", "ascii", given=b"name,price\noats,3\n").stdout, wanted)
+        refused = run("no/such.csv")
+        self.assertEqual((refused.returncode, refused.stdout), (1, b""))
+        self.assertIn(b"No such file", refused.stderr)
 
 
 # Pieces of texts: many scripts, what CSV and options are made of, and what terminals obey.
@@ -318,7 +593,7 @@ class RandomRows(unittest.TestCase):
             else:
                 drawing, words = tabulate(rows, **settings), [*words, "-n"]
             text = csv_of([[text_of(value) for value in row] for row in rows])
-            wanted = by_csvtable(text, words)
+            wanted = by_csvtable(text, words).replace(" records\n", " rows\n")
             self.assertEqual(drawing + "\n" if drawing else "", wanted, (seed, rows, settings))
 
     def test_colours_are_sequences_in_fields(self):

@@ -2,6 +2,7 @@ use std::fmt;
 
 /// Why there is no drawing.
 #[derive(Clone, Debug, PartialEq, Eq)]
+#[non_exhaustive]
 pub enum Error {
     /// The input is refused, with what csvtable says.
     Input(String),
@@ -10,7 +11,9 @@ pub enum Error {
     /// The table has no column of this name, or at this position.
     NoColumn(String),
     /// The header has this name twice, so that it says no column.
-    TwoColumns(String),
+    AmbiguousColumn(String),
+    /// The column at this position is to stand at the left and at the right.
+    TwoSides(usize),
     /// Memory ran out.
     OutOfMemory,
 }
@@ -20,7 +23,8 @@ impl fmt::Display for Error {
         match self {
             Error::Input(message) | Error::Arguments(message) => formatter.write_str(message.trim_end()),
             Error::NoColumn(column) => write!(formatter, "no column {column}"),
-            Error::TwoColumns(name) => write!(formatter, "the header has {name} twice; give the column's position"),
+            Error::AmbiguousColumn(name) => write!(formatter, "the header has {name} twice; give the column's position"),
+            Error::TwoSides(position) => write!(formatter, "the column at position {position} can't stand at the right and at the left"),
             Error::OutOfMemory => formatter.write_str("out of memory"),
         }
     }

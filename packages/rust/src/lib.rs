@@ -4,7 +4,9 @@
 //! ```
 //! use comfy_table_proved::Rows;
 //!
-//! let prices = Rows::new(["name", "price"]).row(["oats", "3"]).row(["rye", "-12.5"]);
+//! let mut prices = Rows::new(["name", "price"]);
+//! prices.push(("oats", 3));
+//! prices.push(("rye", -12.5));
 //! assert_eq!(prices.to_string(), "\
 //! ╭──────┬───────╮
 //! │ name ┆ price │
@@ -15,16 +17,24 @@
 //! ");
 //! ```
 //!
-//! [`draw_csv`] takes CSV and the arguments of the program csvtable, and [`draw`] tab-separated text.
+//! [`draw_csv`] takes CSV and the arguments of the program csvtable.
+#![warn(missing_docs)]
 
+mod cells;
+mod column;
 mod error;
 mod library;
+mod paint;
 mod rows;
-mod tabs;
+mod style;
+mod terminal;
 
+pub use cells::IntoCells;
+pub use column::Column;
 pub use error::Error;
-pub use rows::{Column, Expanded, Rows};
-pub use tabs::{Arrangement, Options, Style, draw};
+pub use paint::Paint;
+pub use rows::{Expanded, Rows};
+pub use style::Style;
 
 /// The drawing of CSV, by the arguments of the program csvtable, as `&["-r", "price", "-w", "60"]`.
 ///

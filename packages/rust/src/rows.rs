@@ -1,142 +1,171 @@
+use crate::cells::IntoCells;
+use crate::column::Column;
 use crate::error::Error;
-use crate::library::draw_csv;
+use crate::library::{RowsSettings, Texts, draw_rows};
+use crate::paint::Paint;
+use crate::style::Style;
+use crate::terminal;
 use std::fmt;
-
-/// A column, by its name in the header, or by its position, counted from 0.
-#[derive(Clone, Debug, PartialEq, Eq)]
-pub enum Column {
-    Name(String),
-    Position(usize),
-}
-
-impl From<&str> for Column {
-    fn from(name: &str) -> Column {
-        Column::Name(name.into())
-    }
-}
-
-impl From<usize> for Column {
-    fn from(position: usize) -> Column {
-        Column::Position(position)
-    }
-}
 
 /// When a row is drawn as a table of its own, of names and cells.
 #[derive(Clone, Copy, Debug, Default, PartialEq, Eq)]
+#[non_exhaustive]
 pub enum Expanded {
+    /// Never.
     #[default]
     Never,
     /// Where a width is kept that is too small for the columns.
     Auto,
+    /// Always.
     Always,
 }
+
+// What the library has for a column: by its contents, at the left, at the right.
+const BY_CONTENTS: u8 = 0;
+const LEFT: u8 = 1;
+const RIGHT: u8 = 2;
 
 /// Rows, and how their table is drawn. Rows may have different lengths.
 ///
 /// No text in a cell is taken for anything else: control characters become U+FFFD, TABs spaces, and line breaks stay.
 ///
-/// `Display` writes what [`Rows::draw`] returns, which ends with a line feed. Where that is an error, `to_string` and `println!`
-/// panic.
+/// `Display` writes what [`Rows::draw`] returns, which ends with a line feed. Where memory runs out, it is an error.
 ///
 /// ```
-/// use comfy_table_proved::Rows;
+/// use comfy_table_proved::{Rows, Style};
 ///
-/// let tides = Rows::new(["harbour", "high water"]).row(["Brest", "07:49"]).row(["Saint-Malo", "09:55"]);
-/// print!("{}", tides.right(["high water"]).width(30).style("box"));
+/// let mut tides = Rows::new(["harbour", "high water"]);
+/// tides.push(("Brest", "07:49"));
+/// tides.push(("Saint-Malo", "09:55"));
+/// print!("{}", tides.right(["high water"])?.width(30).style(Style::Box));
+/// # Ok::<(), comfy_table_proved::Error>(())
 /// ```
-#[derive(Clone, Debug, Default)]
+#[derive(Clone, Debug)]
 pub struct Rows {
-    header: Option<Vec<String>>,
+    header: Vec<String>,
     // the header and the rows
-    csv: String,
-    // the most cells of the header or a row
-    count: usize,
-    columns: Vec<Column>,
-    right: Vec<Column>,
-    left: Vec<Column>,
+    texts: Texts,
+    // what each column asks for, as many as a row has cells at most
+    sides: Vec<u8>,
+    // the positions of the columns that are drawn; of all where there are none
+    chosen: Vec<usize>,
+    style: Style,
+    has_row_lines: Option<bool>,
+    settings: Settings,
+}
+
+// The other settings.
+#[derive(Clone, Copy, Debug, Default)]
+struct Settings {
+    has_header: bool,
     width: Option<u16>,
     is_full: bool,
     max_height: Option<usize>,
     limit: Option<usize>,
-    style: Option<String>,
-    has_row_lines: Option<bool>,
     expanded: Expanded,
-    is_markdown: bool,
     has_bold_header: bool,
+    has_sequences: bool,
 }
 
 impl Rows {
     /// A table with a header, and no rows yet.
-    pub fn new<T: ToString>(header: impl IntoIterator<Item = T>) -> Rows {
-        let header: Vec<String> = header.into_iter().map(|name| name.to_string()).collect();
-        let mut rows = Rows::default();
-        rows.push(&header);
-        rows.header = Some(header);
+    pub fn new(header: impl IntoCells) -> Rows {
+        let header = header.into_cells();
+        let mut rows = Rows::without_header();
+        rows.push_texts(&header);
+        rows.settings.has_header = true;
+        rows.header = header;
         rows
     }
 
     /// A table without a header.
     pub fn without_header() -> Rows {
-        Rows::default()
+        Rows {
+            header: Vec::new(),
+            texts: Texts::default(),
+            sides: Vec::new(),
+            chosen: Vec::new(),
+            style: Style::default(),
+            has_row_lines: None,
+            settings: Settings::default(),
+        }
     }
 
     /// Adds a row below the others.
-    pub fn row<T: ToString>(mut self, cells: impl IntoIterator<Item = T>) -> Rows {
-        let cells: Vec<String> = cells.into_iter().map(|cell| cell.to_string()).collect();
-        self.push(&cells);
+    pub fn push(&mut self, cells: impl IntoCells) {
+        let cells = cells.into_cells();
+        self.push_texts(&cells);
+    }
+
+    /// The table with a row more.
+    pub fn row(mut self, cells: impl IntoCells) -> Rows {
+        self.push(cells);
         self
     }
 
-    /// Draws these columns alone, in this order; all where the list is empty.
-    pub fn columns<T: Into<Column>>(mut self, columns: impl IntoIterator<Item = T>) -> Rows {
-        self.columns = columns.into_iter().map(Into::into).collect();
-        self
+    /// How many rows there are below the header.
+    pub fn len(&self) -> usize {
+        self.texts.counts.len() - usize::from(self.settings.has_header)
+    }
+
+    /// Whether there is none.
+    pub fn is_empty(&self) -> bool {
+        self.len() == 0
+    }
+
+    /// Draws these columns alone, in this order; all where the list is empty. A column is one of the header, or one that a row
+    /// has by now.
+    pub fn columns<T: Into<Column>>(mut self, columns: impl IntoIterator<Item = T>) -> Result<Rows, Error> {
+        self.chosen = self.positions(columns)?;
+        Ok(self)
     }
 
     /// Columns that stand at the right, beside those of numbers.
-    pub fn right<T: Into<Column>>(mut self, columns: impl IntoIterator<Item = T>) -> Rows {
-        self.right = columns.into_iter().map(Into::into).collect();
-        self
+    pub fn right<T: Into<Column>>(self, columns: impl IntoIterator<Item = T>) -> Result<Rows, Error> {
+        self.aligned(columns, RIGHT)
     }
 
     /// Columns that stand at the left, of numbers or not.
-    pub fn left<T: Into<Column>>(mut self, columns: impl IntoIterator<Item = T>) -> Rows {
-        self.left = columns.into_iter().map(Into::into).collect();
-        self
+    pub fn left<T: Into<Column>>(self, columns: impl IntoIterator<Item = T>) -> Result<Rows, Error> {
+        self.aligned(columns, LEFT)
     }
 
     /// Keeps to so many terminal columns; 0 is no width.
     pub fn width(mut self, width: u16) -> Rows {
-        self.width = Some(width);
+        self.settings.width = (width > 0).then_some(width);
         self
     }
 
-    /// Fills the width.
-    pub fn full(mut self) -> Rows {
-        self.is_full = true;
+    /// Keeps to the width of the terminal: what `COLUMNS` says, else what the terminal of standard output has, else 80.
+    pub fn terminal_width(self) -> Rows {
+        self.width(terminal::columns())
+    }
+
+    /// Whether the width is filled.
+    pub fn full(mut self, is_full: bool) -> Rows {
+        self.settings.is_full = is_full;
         self
     }
 
     /// So many lines a row has at most.
     pub fn max_height(mut self, lines: usize) -> Rows {
-        self.max_height = Some(lines);
+        self.settings.max_height = Some(lines);
         self
     }
 
     /// Draws so many rows; where there are more, a line below says so.
     pub fn limit(mut self, rows: usize) -> Rows {
-        self.limit = Some(rows);
+        self.settings.limit = Some(rows);
         self
     }
 
-    /// The frame: `rounded`, which holds without it, `box`, `grid`, `ascii`, `plain` or a preset, as `UTF8_FULL`; `markdown` is
-    /// as [`Rows::markdown`].
-    pub fn style(mut self, name: &str) -> Rows {
-        self.style = Some(name.into());
+    /// The frame.
+    pub fn style(mut self, style: Style) -> Rows {
+        self.style = style;
         self
     }
 
-    /// Lines between rows: in each style that has them, or in none.
+    /// Lines between rows: in each style that has them, or in none. Without it the style says so.
     pub fn row_lines(mut self, are_drawn: bool) -> Rows {
         self.has_row_lines = Some(are_drawn);
         self
@@ -144,96 +173,145 @@ impl Rows {
 
     /// When a row is drawn as a table of its own.
     pub fn expanded(mut self, when: Expanded) -> Rows {
-        self.expanded = when;
+        self.settings.expanded = when;
         self
     }
 
-    /// Draws a table for Markdown, which keeps to no width.
-    pub fn markdown(mut self) -> Rows {
-        self.is_markdown = true;
+    /// Whether the header is written in bold.
+    pub fn bold_header(mut self, is_bold: bool) -> Rows {
+        self.settings.has_bold_header = is_bold;
         self
     }
 
-    /// Writes the header in bold.
-    pub fn bold_header(mut self) -> Rows {
-        self.has_bold_header = true;
+    /// Paints the cells of the rows that are there, by a function of a row's position, a column's and the cell's text.
+    ///
+    /// ```
+    /// use comfy_table_proved::{Paint, Rows};
+    ///
+    /// let rows = Rows::new(["name", "change"]).row(("oats", -3)).row(("rye", 2));
+    /// let painted = rows.paint(|_, column, text| if column == 1 && text.starts_with('-') { Paint::RED } else { Paint::NONE });
+    /// assert!(painted.to_string().contains("\x1b[31m-3\x1b[0m"));
+    /// ```
+    pub fn paint(mut self, paint_of: impl Fn(usize, usize, &str) -> Paint) -> Rows {
+        let rows = std::mem::take(&mut self.texts);
+        let was_plain = !self.settings.has_sequences;
+        self.settings.has_sequences = true;
+        let first = usize::from(self.settings.has_header);
+        for (at, row) in rows.rows().enumerate() {
+            let plain: Vec<String> = row.iter().map(|text| if was_plain { text.replace('\x1b', "\u{fffd}") } else { (*text).into() }).collect();
+            let painted = |(column, text): (usize, &String)| match at.checked_sub(first) {
+                Some(row) => paint_of(row, column, text).around(text),
+                None => text.clone(),
+            };
+            let painted: Vec<String> = plain.iter().enumerate().map(painted).collect();
+            self.texts.push(&painted);
+        }
         self
     }
 
-    /// The drawing, which ends with a line feed. It is empty where there are neither header nor rows.
+    /// The drawing, which ends with a line feed. It is empty where there are neither header nor rows. Memory alone can be refused.
     pub fn draw(&self) -> Result<String, Error> {
-        let arguments = self.arguments()?;
-        let arguments: Vec<&str> = arguments.iter().map(String::as_str).collect();
-        draw_csv(self.csv.as_bytes(), &arguments)
-    }
-
-    // Adds a record. Quotes stand around each field, so that no text is taken for the file's form. An empty record has one
-    // empty field.
-    fn push(&mut self, cells: &[String]) {
-        let quoted: Vec<String> = cells.iter().map(|cell| cell.replace('"', "\"\"")).collect();
-        self.csv.push('"');
-        self.csv.push_str(&quoted.join("\",\""));
-        self.csv.push_str("\"\n");
-        self.count = self.count.max(cells.len());
-    }
-
-    // The arguments of csvtable that ask for this table.
-    fn arguments(&self) -> Result<Vec<String>, Error> {
-        let (style, is_markdown) = match &self.style {
-            Some(name) if name.eq_ignore_ascii_case("markdown") => (None, true),
-            style => (style.as_ref(), self.is_markdown),
-        };
-        let is_expanded = match self.expanded {
-            // A table for Markdown may not be asked for it, not even for never.
-            Expanded::Never if is_markdown => None,
-            Expanded::Never => Some("never"),
-            Expanded::Auto => Some("auto"),
-            Expanded::Always => Some("always"),
-        };
-        let arguments = [
-            // Without these csvtable would look for what stands between fields, and refuse a NUL.
-            option("delimiter", Some(",")),
-            option("encoding", Some("utf-8")),
-            flag("no-header", self.header.is_none()),
-            option("columns", self.numbers(&self.columns)?),
-            option("right", self.numbers(&self.right)?),
-            option("left", self.numbers(&self.left)?),
-            option("width", self.width),
-            flag("full", self.is_full),
-            option("max-height", self.max_height),
-            option("limit", self.limit),
-            option("style", style),
-            flag("rows", self.has_row_lines == Some(true)),
-            flag("no-rows", self.has_row_lines == Some(false)),
-            option("expanded", is_expanded),
-            flag("markdown", is_markdown),
-            option("color", self.has_bold_header.then_some("always")),
-        ];
-        Ok(arguments.into_iter().flatten().collect())
-    }
-
-    // These columns for csvtable, which counts them from 1; none without one.
-    fn numbers(&self, columns: &[Column]) -> Result<Option<String>, Error> {
-        let mut numbers = Vec::new();
-        for column in columns {
-            numbers.push((self.position(column)? + 1).to_string());
+        let settings = self.settings();
+        if self.chosen.is_empty() {
+            return draw_rows(&self.texts, &self.sides, &settings);
         }
-        Ok(if numbers.is_empty() { None } else { Some(numbers.join(",")) })
+        let mut texts = Texts::default();
+        for row in self.texts.rows() {
+            let chosen: Vec<&str> = self.chosen.iter().map(|position| row.get(*position).copied().unwrap_or("")).collect();
+            texts.push(&chosen);
+        }
+        let sides: Vec<u8> = self.chosen.iter().map(|position| self.sides[*position]).collect();
+        draw_rows(&texts, &sides, &settings)
     }
 
-    fn position(&self, column: &Column) -> Result<usize, Error> {
-        let name = match column {
-            Column::Position(position) if *position < self.count => return Ok(*position),
-            Column::Position(position) => return Err(Error::NoColumn(position.to_string())),
-            Column::Name(name) => name,
-        };
-        let names = self.header.iter().flatten().enumerate();
-        let mut found = names.filter(|(_, it)| *it == name).map(|(position, _)| position);
-        match (found.next(), found.next()) {
-            (Some(position), None) => Ok(position),
-            (Some(_), Some(_)) => Err(Error::TwoColumns(name.clone())),
-            (None, _) => Err(Error::NoColumn(name.clone())),
+    fn push_texts(&mut self, cells: &[String]) {
+        if self.settings.has_sequences {
+            // None in a text is to be one of the sequences of colours.
+            let plain: Vec<String> = cells.iter().map(|text| text.replace('\x1b', "\u{fffd}")).collect();
+            self.texts.push(&plain);
+        } else {
+            self.texts.push(cells);
         }
+        self.sides.resize(self.sides.len().max(cells.len()), BY_CONTENTS);
+    }
+
+    fn positions<T: Into<Column>>(&self, columns: impl IntoIterator<Item = T>) -> Result<Vec<usize>, Error> {
+        columns.into_iter().map(|column| column.into().position(&self.header, self.sides.len())).collect()
+    }
+
+    fn aligned<T: Into<Column>>(mut self, columns: impl IntoIterator<Item = T>, side: u8) -> Result<Rows, Error> {
+        for position in self.positions(columns)? {
+            if self.sides[position] != BY_CONTENTS && self.sides[position] != side {
+                return Err(Error::TwoSides(position));
+            }
+            self.sides[position] = side;
+        }
+        Ok(self)
+    }
+
+    // The settings as numbers of comfy_table.h.
+    fn settings(&self) -> RowsSettings {
+        let Settings { has_header, width, is_full, max_height, limit, expanded, has_bold_header, has_sequences } = self.settings;
+        RowsSettings {
+            max_height: max_height.unwrap_or(usize::MAX),
+            limit: limit.unwrap_or(usize::MAX),
+            style: self.style.number(),
+            width: width.map_or(u32::MAX, u32::from),
+            fills_width: is_full.into(),
+            row_lines: match self.has_row_lines {
+                Some(true) => 0,
+                Some(false) => 2,
+                None => self.style.is_compact().into(),
+            },
+            expansion: match expanded {
+                Expanded::Never => 0,
+                Expanded::Auto => 1,
+                Expanded::Always => 2,
+            },
+            has_header: has_header.into(),
+            has_bold_header: has_bold_header.into(),
+            has_sequences: has_sequences.into(),
+            is_markdown: (self.style == Style::Markdown).into(),
+        }
+    }
+}
+
+impl Texts {
+    fn push(&mut self, cells: &[impl AsRef<str>]) {
+        for cell in cells {
+            self.joined.push_str(cell.as_ref());
+            self.lengths.push(cell.as_ref().len());
+        }
+        self.counts.push(cells.len());
+    }
+
+    fn rows(&self) -> impl Iterator<Item = Vec<&str>> {
+        let mut behind = self.joined.as_str();
+        let mut lengths = self.lengths.iter();
+        self.counts.iter().map(move |count| {
+            let cut = |length: &usize| {
+                let (text, rest) = behind.split_at(*length);
+                behind = rest;
+                text
+            };
+            lengths.by_ref().take(*count).map(cut).collect()
+        })
+    }
+}
+
+impl<R: IntoCells> Extend<R> for Rows {
+    fn extend<I: IntoIterator<Item = R>>(&mut self, rows: I) {
+        for row in rows {
+            self.push(row);
+        }
+    }
+}
+
+impl<R: IntoCells> FromIterator<R> for Rows {
+    fn from_iter<I: IntoIterator<Item = R>>(rows: I) -> Rows {
+        let mut made = Rows::without_header();
+        made.extend(rows);
+        made
     }
 }
 
@@ -242,13 +320,4 @@ impl fmt::Display for Rows {
         let drawing = self.draw().map_err(|_| fmt::Error)?;
         formatter.write_str(&drawing)
     }
-}
-
-// An option with its value, where it has one.
-fn option(name: &str, value: Option<impl fmt::Display>) -> Option<String> {
-    value.map(|value| format!("--{name}={value}"))
-}
-
-fn flag(name: &str, is_set: bool) -> Option<String> {
-    is_set.then(|| format!("--{name}"))
 }

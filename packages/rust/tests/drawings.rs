@@ -1,6 +1,6 @@
 //! Expected drawings are typed by hand. CSVTABLE, where it is set, is the program csvtable: random rows, written here as CSV
 //! with few quotes, have to be drawn as it draws them.
-use comfy_table_proved::{Arrangement, Error, Expanded, Options, Rows, Style, draw, draw_csv};
+use comfy_table_proved::{Error, Expanded, Paint, Rows, Style, draw_csv};
 use std::io::Write;
 use std::process::{Command, Stdio};
 
@@ -32,13 +32,13 @@ fn columns_are_chosen_and_aligned() {
 │ 1 ┆ x ┆ long │
 └───┴───┴──────┘
 ";
-    assert_eq!(rows.columns([2, 0, 1]).left(["c"]).right([1]).style("box").to_string(), wanted);
+    assert_eq!(rows.columns([2, 0, 1]).unwrap().left(["c"]).unwrap().right([1]).unwrap().style(Style::Box).to_string(), wanted);
 }
 
 #[test]
 fn width_height_and_limit() {
     let rows = Rows::without_header().row(["oats"]).row(["rye"]);
-    assert_eq!(rows.width(12).full().limit(1).style("box").to_string(), "\
+    assert_eq!(rows.width(12).full(true).limit(1).style(Style::Box).to_string(), "\
 ┌──────────┐
 │ oats     │
 └──────────┘
@@ -67,16 +67,15 @@ fn width_height_and_limit() {
 fn markdown_records_and_bold() {
     let rows = Rows::new(["x", "y"]).row(["a|b", "1"]);
     let drawing = "| x    | y |\n|------|--:|\n| a\\|b | 1 |\n";
-    assert_eq!(rows.clone().markdown().to_string(), drawing);
-    assert_eq!(rows.clone().style("Markdown").to_string(), drawing);
-    assert_eq!(rows.clone().expanded(Expanded::Always).style("box").to_string(), "\
+    assert_eq!(rows.clone().style(Style::Markdown).to_string(), drawing);
+    assert_eq!(rows.clone().expanded(Expanded::Always).style(Style::Box).to_string(), "\
 record 1 of 1
 ┌───┬─────┐
 │ x ┆ a|b │
 │ y ┆ 1   │
 └───┴─────┘
 ");
-    assert!(rows.bold_header().to_string().contains("\x1b[1m"));
+    assert!(rows.bold_header(true).to_string().contains("\x1b[1m"));
 }
 
 #[test]
@@ -102,34 +101,58 @@ fn no_text_is_taken_for_the_form_of_a_file() {
 #[test]
 fn errors() {
     let rows = Rows::new(["a", "b", "a"]).row([1, 2, 3]);
-    assert_eq!(rows.clone().right(["c"]).draw(), Err(Error::NoColumn("c".into())));
-    assert_eq!(rows.clone().right([3]).draw(), Err(Error::NoColumn("3".into())));
-    assert_eq!(rows.clone().left(["a"]).draw(), Err(Error::TwoColumns("a".into())));
-    assert!(matches!(rows.clone().left(["b"]).right([1]).draw(), Err(Error::Input(_))));
-    assert!(matches!(rows.clone().style("box\0--raw").draw(), Err(Error::Arguments(_))));
-    assert!(matches!(rows.style("odd").draw(), Err(Error::Arguments(_))));
+    assert_eq!(rows.clone().right(["c"]).unwrap_err(), Error::NoColumn("c".into()));
+    assert_eq!(rows.clone().right([3]).unwrap_err(), Error::NoColumn("3".into()));
+    assert_eq!(rows.clone().left(["a"]).unwrap_err(), Error::AmbiguousColumn("a".into()));
+    assert_eq!(rows.left(["b"]).unwrap().right([1]).unwrap_err(), Error::TwoSides(1));
     let said = "csvtable: list.csv: a quote that opens in line 1 is never closed; try --no-quotes";
     assert_eq!(draw_csv("a,\"b\n", &["list.csv"]).unwrap_err().to_string(), said);
     assert_eq!(draw_csv([0xff], &["-e", "cp1252", "-n", "-s", "ascii"]).unwrap(), "+---+\n| ÿ |\n+---+\n");
+    assert!(matches!(draw_csv("a\n", &["-s", "odd"]), Err(Error::Arguments(_))));
+}
+
+#[test]
+fn rows_of_many_forms() {
+    let mut rows = Rows::new(("name", 2024));
+    rows.push(("oats", 3.5));
+    rows.extend([vec!["rye".to_string(), "12".into()]]);
+    rows.push(&["barley", "7"][..]);
+    assert_eq!(rows.len(), 3);
+    assert_eq!(rows.style(Style::Ascii).row_lines(false).to_string(), "\
++--------+------+
+| name   | 2024 |
++===============+
+| oats   |  3.5 |
+| rye    |   12 |
+| barley |    7 |
++--------+------+
+");
+    let collected: Rows = [(1, "a"), (2, "b")].into_iter().collect();
+    assert_eq!(collected.style(Style::Plain).to_string(), " 1  a \n 2  b \n");
+    assert!(Rows::new(["a"]).is_empty());
+}
+
+#[test]
+fn painted_cells() {
+    let rows = Rows::new(["a", "1"]).row((-1, "\x1b"));
+    let painted = rows.style(Style::Ascii).paint(|row, column, text| {
+        assert_eq!((row, [-1, 0][column]), (0, text.parse().unwrap_or(0)));
+        if text == "-1" { Paint::RED.bold() } else { Paint::NONE }
+    });
+    assert_eq!(painted.to_string(), "+----+---+\n|  a | 1 |\n+========+\n| \x1b[1;31m-1\x1b[0m | \u{fffd} |\n+----+---+\n");
+}
+
+#[test]
+fn widths_of_terminals() {
+    let lines = Rows::without_header().row(["x"]).terminal_width().full(true).to_string();
+    assert!(lines.lines().all(|line| line.chars().count() > 1));
 }
 
 #[test]
 fn a_drawing_that_is_much_longer_than_its_text() {
-    let drawing = Rows::without_header().row(["x"; 10]).width(60_000).full().to_string();
+    let drawing = Rows::without_header().row(["x"; 10]).width(60_000).full(true).to_string();
     let widths: Vec<usize> = drawing.lines().map(|line| line.chars().count()).collect();
     assert_eq!(widths, [60_000; 3]);
-}
-
-#[test]
-fn tab_separated_text() {
-    let options = Options { width: None, arrangement: Arrangement::Disabled, style: Style::AsciiFull };
-    assert_eq!(draw("name\tdays\noats\t3\n", options).unwrap(), "\
-+------+------+
-| name | days |
-+=============+
-| oats | 3    |
-+------+------+
-");
 }
 
 const PIECES: [&str; 32] = [

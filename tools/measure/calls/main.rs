@@ -1,8 +1,8 @@
-//! calls [WIDTH]: draws standard input by the original and by both functions of the proved library, in one process, and
+//! calls [WIDTH]: draws standard input by the original, by `Rows` of the proved library and from CSV, in one process, and
 //! compares. It prints the best time of each out of as many calls as TIMES says, one where it isn't set. With ONLY=original,
-//! ONLY=proved or ONLY=csv it makes one such call alone. The function for CSV gets the same table as CSV.
+//! ONLY=rows or ONLY=csv it makes one such call alone. The function for CSV gets the same table as CSV.
 use comfy_table::{Cell, ContentArrangement, Row, Table, presets};
-use comfy_table_proved::{Arrangement, Options, Style, draw, draw_csv};
+use comfy_table_proved::{Rows, Style, draw_csv};
 use std::io::{Read, stdin};
 use std::time::Instant;
 
@@ -39,9 +39,18 @@ fn by_original(text: &str, width: Option<u16>) -> String {
 
 #[unsafe(no_mangle)]
 #[inline(never)]
-fn by_proved(text: &str, width: Option<u16>) -> String {
-    let arrangement = if width.is_some() { Arrangement::Dynamic } else { Arrangement::Disabled };
-    draw(text, Options { width, arrangement, style: Style::AsciiFull }).expect("memory")
+fn by_rows(text: &str, width: Option<u16>) -> String {
+    let cells = |line: &str| -> Vec<String> { line.split('\t').map(|text| text.replace('\u{b}', "\n")).collect() };
+    let mut lines = text.lines();
+    let mut rows = Rows::new(cells(lines.next().unwrap_or("")));
+    let mut count = 0;
+    for line in lines {
+        let row = cells(line);
+        count = row.len().max(count);
+        rows.push(row);
+    }
+    let rows = rows.left(0..count).expect("columns").style(Style::Ascii);
+    rows.width(width.unwrap_or(0)).draw().expect("memory")
 }
 
 #[unsafe(no_mangle)]
@@ -70,7 +79,7 @@ fn main() {
     if let Ok(library) = std::env::var("ONLY") {
         let drawing = match library.as_str() {
             "original" => by_original(&text, width),
-            "proved" => by_proved(&text, width),
+            "rows" => by_rows(&text, width),
             _ => by_csv(&csv, width),
         };
         println!("{} bytes", drawing.len());
@@ -78,7 +87,7 @@ fn main() {
     }
     let mut best = [f64::MAX; 3];
     for _ in 0..times {
-        let calls: [&dyn Fn() -> String; 3] = [&|| by_original(&text, width), &|| by_proved(&text, width), &|| by_csv(&csv, width)];
+        let calls: [&dyn Fn() -> String; 3] = [&|| by_original(&text, width), &|| by_rows(&text, width), &|| by_csv(&csv, width)];
         let mut drawings = Vec::new();
         for (call, best) in calls.iter().zip(&mut best) {
             let begun = Instant::now();
@@ -87,6 +96,6 @@ fn main() {
         }
         assert!(drawings.iter().all(|drawing| *drawing == drawings[0]), "the drawings differ");
     }
-    let [original, proved, csv] = best.map(|seconds| seconds * 1e3);
-    println!("{original:.3} ms by the original, {proved:.3} ms by the proved library, {csv:.3} ms from CSV");
+    let [original, rows, csv] = best.map(|seconds| seconds * 1e3);
+    println!("{original:.3} ms by the original, {rows:.3} ms by Rows of the proved library, {csv:.3} ms from CSV");
 }

@@ -3,34 +3,80 @@
 from __future__ import annotations
 
 import dataclasses
-from typing import Any, Iterable, NamedTuple, Union
+from collections.abc import Mapping
+from typing import Any, Iterable, NamedTuple, Optional, Union
 
-Headers = Union[str, Iterable[object], None]
+Headers = Union[str, Mapping[Any, object], Iterable[object], None]
+ShowIndex = Union[bool, str, Iterable[object]]
 
 
 class Values(NamedTuple):
     """A table's values."""
 
-    header: list[Any] | None
+    header: Optional[list[Any]]
     rows: list[list[Any]]
 
 
-def values_of(rows: Iterable[object], headers: Headers) -> Values:
-    """The header that is asked for, and the rows. Those with keys have a column for each key, in the order in which keys
-    are first met; a key that a row lacks gives None."""
-    records = [_record(row) for row in rows]
-    keys = list(dict.fromkeys(key for record in records if isinstance(record, dict) for key in record))
-    lists = [[record.get(key) for key in keys] if isinstance(record, dict) else record for record in records]
-    asked = headers if headers is None or isinstance(headers, str) else list(headers)
-    if asked == "keys":
-        if not all(isinstance(record, dict) for record in records):
-            raise ValueError('headers="keys" asks for rows with keys')
-        return Values(keys if records else None, lists)
-    if asked == "firstrow":
-        return Values(lists[0] if lists else None, lists[1:])
-    if isinstance(asked, str):
-        raise ValueError(f'headers is "keys", "firstrow", a list or None, not {asked!r}')
-    return Values(asked, lists)
+class _Read(NamedTuple):
+    """Rows, what their columns are called where that is known, and what stands for each row where that is known."""
+
+    rows: list[list[Any]]
+    keys: Optional[list[Any]]
+    index: Optional[list[Any]] = None
+    index_name: object = None
+
+
+def values_of(data: Any, headers: Headers, showindex: ShowIndex) -> Values:
+    """The header that is asked for, and the rows, with an index in front where that is asked for."""
+    read = _read(data)
+    if isinstance(headers, str) and headers == "firstrow":
+        header, rows = (read.rows[0] if read.rows else None), read.rows[1:]
+        read = read._replace(index=None if read.index is None else read.index[1:])
+    else:
+        header, rows = _header_of(headers, read), read.rows
+    index = _index_of(showindex, read, len(rows))
+    if index is None:
+        return Values(header, rows)
+    name = "" if read.index_name is None else read.index_name
+    return Values(None if header is None else [name, *header], [[it, *row] for it, row in zip(index, rows)])
+
+
+def _read(data: Any) -> _Read:
+    """By what the data has, so that neither pandas nor numpy need be there."""
+    names = getattr(getattr(data, "dtype", None), "names", None)
+    if names:
+        return _Read([[row[name] for name in names] for row in data], list(names))
+    if hasattr(data, "itertuples") and hasattr(data, "columns"):
+        rows = [list(row) for row in data.itertuples(index=False, name=None)]
+        return _Read(rows, list(data.columns), list(data.index), data.index.name)
+    if hasattr(data, "index") and hasattr(data, "items") and hasattr(data, "dtype"):
+        name = "" if data.name is None else data.name
+        return _Read([[value] for value in data], [name], list(data.index), data.index.name)
+    if isinstance(data, Mapping):
+        return _columns_of(data)
+    if hasattr(data, "fetchone") and getattr(data, "description", None):
+        keys = [column[0] for column in data.description]
+        return _Read([list(row) for row in data], keys)
+    if isinstance(data, (str, bytes)):
+        raise TypeError(f"rows are a list of rows, not {data!r}")
+    return _rows_of(list(data))
+
+
+def _columns_of(data: Mapping[Any, Any]) -> _Read:
+    """A mapping has a column for each key. Shorter columns end with None."""
+    columns = [_cells_of(column) for column in data.values()]
+    count = max(map(len, columns), default=0)
+    filled = [column + [None] * (count - len(column)) for column in columns]
+    return _Read([list(row) for row in zip(*filled)], list(data))
+
+
+def _rows_of(data: list[Any]) -> _Read:
+    """Rows with keys have a column for each key, in the order in which keys are first met; a key that a row lacks gives None."""
+    records = [_record(row) for row in data]
+    found = list(dict.fromkeys(key for record in records if isinstance(record, dict) for key in record))
+    rows = [[record.get(key) for key in found] if isinstance(record, dict) else record for record in records]
+    have_keys = bool(records) and all(isinstance(record, dict) for record in records)
+    return _Read(rows, found if have_keys else None)
 
 
 def _record(row: Any) -> dict[Any, Any] | list[Any]:
@@ -40,10 +86,52 @@ def _record(row: Any) -> dict[Any, Any] | list[Any]:
     if hasattr(row, "_fields"):
         return dict(zip(row._fields, row))
     if hasattr(row, "keys"):
-        keys = list(row.keys())
-        if len(set(keys)) < len(keys):
-            raise ValueError("a row has a key twice; pass tuple(row) and a list of headers")
+        keys = _without_twins(list(row.keys()))
         return {key: row[key] for key in keys}
-    if isinstance(row, (str, bytes)):
-        raise TypeError(f"a row is a list of cells, not {row!r}")
-    return list(row)
+    return _cells_of(row)
+
+
+def _cells_of(cells: Any) -> list[Any]:
+    if isinstance(cells, (str, bytes)) or not hasattr(cells, "__iter__"):
+        raise TypeError(f"a row is a list of cells, not {cells!r}; for one column pass [[value], ..]")
+    return list(cells)
+
+
+def _without_twins(keys: list[Any]) -> list[Any]:
+    if len(set(keys)) < len(keys):
+        raise ValueError("a row has a key twice; pass tuple(row) and a list of headers")
+    return keys
+
+
+def _header_of(headers: Headers, read: _Read) -> Optional[list[Any]]:
+    if headers is None:
+        return None
+    if isinstance(headers, str):
+        if headers != "keys":
+            raise ValueError(f'headers is "keys", "firstrow", a list, a dict of keys or None, not {headers!r}')
+        if read.keys is None and read.rows:
+            raise ValueError('headers="keys" asks for rows with keys')
+        return read.keys
+    if isinstance(headers, Mapping):
+        if read.keys is None and read.rows:
+            raise ValueError("a dict of headers asks for rows with keys")
+        return [headers.get(key, key) for key in read.keys or []] or None
+    return list(headers) or None
+
+
+def _index_of(asked: ShowIndex, read: _Read, count: int) -> Optional[list[Any]]:
+    """What stands in front of each row; nothing where the list is None."""
+    if isinstance(asked, str):
+        if asked not in ("default", "always", "never"):
+            raise ValueError(f'showindex is "default", "always", "never", True, False or a list, not {asked!r}')
+        shows, given = asked != "never", asked == "always"
+    elif isinstance(asked, Iterable):
+        index = list(asked)
+        if len(index) != count:
+            raise ValueError(f"showindex has {len(index)} values for {count} rows")
+        return index
+    else:
+        shows, given = bool(asked), bool(asked)
+    if shows and read.index is not None:
+        return read.index
+    return list(range(count)) if given else None

@@ -1,0 +1,171 @@
+//! The settings of a table of rows, as numbers.
+
+ghost use Rattle.std.specs.Prelude.{◌≡◌, IfOk, IfNone, IfSome, false, map, slice_get, string_bytes};
+ghost use Rattle.comfy_c.specs.RowCalls.{AreOptionsFor, IsSelectionFor, are_known, expansions, limit_of, look_for, numbers_of, separators, style_at};
+
+use comfy_parts::style::TableStyle;
+use comfy_parts::style::presets::{UTF8_FULL, by_position};
+use csv_records::{Delimiter, InputOptions};
+use csv_tables::{Expansion, Look, Options, RowSeparators, Selection};
+use std::alloc::{AllocError, Global};
+
+/// How a table of rows is drawn. A flag is set where it isn't 0.
+#[repr(C)]
+pub struct RowsSettings {
+    /// How many lines a row below the header has at most; the greatest number stands for no limit.
+    pub max_height: usize,
+    /// How many rows are drawn; the greatest number stands for all.
+    pub limit: usize,
+    /// The frame: the position of a preset, as `presets::by_position` counts them, or 13 for
+    /// `UTF8_FULL` with round corners.
+    pub style: u32,
+    /// The width to keep to, in terminal columns. A number above 65535 stands for none.
+    pub width: u32,
+    /// A flag: the width is filled.
+    pub fills_width: u32,
+    /// Where the style's lines between rows are drawn: 0 everywhere, 1 where a drawn row has more
+    /// than one line, 2 nowhere.
+    pub row_lines: u32,
+    /// When a row is drawn as a table of its own: 0 never, 1 where a width has no room for the
+    /// table of all rows, 2 always.
+    pub expansion: u32,
+    /// A flag: the first row is the header.
+    pub has_header: u32,
+    /// A flag: the header is written in bold.
+    pub has_bold_header: u32,
+    /// A flag: SGR sequences in texts stay, and count no columns.
+    pub has_sequences: u32,
+    /// A flag: the table is one for Markdown, whatever else is set.
+    pub is_markdown: u32,
+}
+
+const ROUNDED: u32 = 13;
+
+// What a column's byte says.
+
+const AT_LEFT: u8 = 1;
+
+const AT_RIGHT: u8 = 2;
+
+const HIDDEN: u8 = 3;
+
+// Texts are at hand, so nothing is read by this.
+const AS_CSV: InputOptions = InputOptions {
+    encoding: None,
+    skip: 0,
+    delimiter: Delimiter::Byte(b','),
+    has_quotes: true,
+};
+
+impl RowsSettings {
+    /// The options that these settings and columns stand for; none where a number stands for
+    /// nothing.
+    pub(crate) fn options(
+        &self,
+        alloc: Global,
+        columns: &[u8],
+    ) -> Result<Option<Options>, AllocError>
+        ensures some { IfOk result (λ found. IfSome found (AreOptionsFor self.now columns.now)) }
+        ensures none { IfOk result (λ found. IfNone found (are_known self.now columns.now ≡ false)) }
+    {
+        let Some(look) = self.look() else {
+            return Ok(None);
+        };
+        if columns.iter().any(|column| HIDDEN < *column) {
+            return Ok(None);
+        }
+        Ok(Some(Options {
+            input: AS_CSV,
+            selection: self.selection(alloc, columns)?,
+            look,
+        }))
+    }
+
+    fn selection(&self, alloc: Global, columns: &[u8]) -> Result<Selection, AllocError>
+        ensures { IfOk result (IsSelectionFor self.now columns.now) }
+    {
+        Ok(Selection {
+            has_header: self.has_header != 0,
+            limit: limit_of(self.limit),
+            counts_all: true,
+            columns: Vec::new(alloc),
+            dropped: numbers_of(alloc, columns, HIDDEN)?,
+            right: numbers_of(alloc, columns, AT_RIGHT)?,
+            left: numbers_of(alloc, columns, AT_LEFT)?,
+        })
+    }
+
+    fn look(&self) -> Option<Look>
+        ensures { result ≡ look_for self.now }
+    {
+        Some(Look {
+            style: style_at(self.style)?,
+            separators: separators_at(self.row_lines)?,
+            expansion: expansion_at(self.expansion)?,
+            width: u16::try_from(self.width).ok(),
+            fills_width: self.fills_width != 0,
+            max_height: limit_of(self.max_height),
+            has_bold_header: self.has_bold_header != 0,
+            has_sequences: self.has_sequences != 0,
+            keeps_bidi: false,
+            is_raw: false,
+            is_markdown: self.is_markdown != 0,
+        })
+    }
+}
+
+fn style_at(position: u32) -> Option<TableStyle>
+    ensures { result ≡ style_at position }
+{
+    if position == ROUNDED {
+        return Some(UTF8_FULL.with_rounded_corners());
+    }
+    by_position(position as usize)
+}
+
+fn separators_at(number: u32) -> Option<RowSeparators>
+    ensures { result ≡ slice_get separators number }
+{
+    match number {
+        0 => Some(RowSeparators::Styled),
+        1 => Some(RowSeparators::Needed),
+        2 => Some(RowSeparators::Never),
+        _ => None,
+    }
+}
+
+fn expansion_at(number: u32) -> Option<Expansion>
+    ensures { result ≡ slice_get expansions number }
+{
+    match number {
+        0 => Some(Expansion::Never),
+        1 => Some(Expansion::Auto),
+        2 => Some(Expansion::Always),
+        _ => None,
+    }
+}
+
+// A limit; the greatest number stands for none.
+fn limit_of(number: usize) -> Option<usize>
+    ensures { result ≡ limit_of number }
+{
+    if number == usize::MAX {
+        None
+    } else {
+        Some(number)
+    }
+}
+
+// The numbers of the columns that have this byte, counted from 1.
+fn numbers_of(alloc: Global, columns: &[u8], wanted: u8) -> Result<Vec<String>, AllocError>
+    ensures { IfOk result (λ numbers. map string_bytes numbers.items
+        ≡ numbers_of wanted columns.now) }
+{
+    let mut numbers = Vec::new(alloc);
+    for (at, column) in columns.iter().enumerate() {
+        if *column == wanted {
+            numbers.push(format!(in alloc; "{}", at as u128 + 1)?)?;
+        }
+    }
+    Ok(numbers)
+}

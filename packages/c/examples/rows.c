@@ -1,0 +1,43 @@
+/*
+ * Draws rows of texts, the prices at the right:
+ *
+ * +-----------+----------+
+ * | name      |    price |
+ * +======================+
+ * | Albatross | 12500.00 |
+ * |-----------+----------|
+ * | Anna      |  -980.00 |
+ * +-----------+----------+
+ */
+#include "comfy_table.h"
+
+#include <stdio.h>
+#include <string.h>
+
+enum { ROWS = 3, COLUMNS = 2 };
+
+static const char *const cells[ROWS][COLUMNS] = {{"name", "price"}, {"Albatross", "12500.00"}, {"Anna", "-980.00"}};
+
+int main(void) {
+    char texts[256];
+    size_t lengths[ROWS * COLUMNS], counts[ROWS], length = 0;
+    for (int row = 0; row < ROWS; row++) {
+        counts[row] = COLUMNS;
+        for (int column = 0; column < COLUMNS; column++) {
+            size_t bytes = lengths[row * COLUMNS + column] = strlen(cells[row][column]);
+            memcpy(texts + length, cells[row][column], bytes);
+            length += bytes;
+        }
+    }
+    const struct comfy_rows_settings settings = {
+        .max_height = COMFY_NO_LIMIT, .limit = COMFY_NO_LIMIT, .style = COMFY_ASCII_FULL, .width = COMFY_NO_WIDTH, .has_header = 1};
+    uint32_t result;
+    char *drawing = comfy_rows_text((const uint8_t *)texts, length, lengths, ROWS * COLUMNS, counts, ROWS, NULL, 0, &settings, &result);
+    if (!drawing) {
+        fprintf(stderr, "rows: result %u\n", (unsigned)result);
+        return 1;
+    }
+    fputs(drawing, stdout);
+    free(drawing);
+    return 0;
+}

@@ -1,0 +1,17 @@
+//! Prints boats, those with a leak in red:
+//!
+//! ╭───────┬────────┬──────╮
+//! │ boat  ┆ metres ┆ leak │
+//! ╞═══════╪════════╪══════╡
+//! │ Anna  ┆   11.5 ┆ no   │
+//! │ Marie ┆    9.0 ┆ yes  │
+//! ╰───────┴────────┴──────╯
+use comfy_table_proved::{Paint, Rows};
+
+fn main() {
+    let mut boats = Rows::new(["boat", "metres", "leak"]);
+    for (name, metres, leaks) in [("Anna", 11.5, false), ("Marie", 9.0, true)] {
+        boats.push((name, format!("{metres:.1}"), if leaks { "yes" } else { "no" }));
+    }
+    print!("{}", boats.paint(|_, _, text| if text == "yes" { Paint::RED } else { Paint::NONE }));
+}
