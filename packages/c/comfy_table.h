@@ -105,6 +105,8 @@ struct comfy_rows_settings {
     uint32_t expansion;       /* COMFY_EXPANDED_.. */
     uint32_t has_header;      /* a flag: the first row is the header */
     uint32_t has_bold_header; /* a flag: it is written in bold */
+    uint32_t is_numbered;     /* a flag: a first column has the numbers of the rows */
+    uint32_t aligns_decimals; /* a flag: decimal points of a column of numbers stand below each other */
     uint32_t has_sequences;   /* a flag: SGR sequences in texts stay, and count no columns */
     uint32_t is_markdown;     /* a flag: the table is one for Markdown, whatever else is set */
 };

@@ -71,6 +71,7 @@ look_by settings (Some style) (Some lines) (Some expansion) =
       fills_width = is_set settings.fills_width;
       max_height = limit_of settings.max_height;
       has_bold_header = is_set settings.has_bold_header;
+      aligns_decimals = is_set settings.aligns_decimals;
       has_sequences = is_set settings.has_sequences;
       keeps_bidi = false;
       is_raw = false;
@@ -95,6 +96,7 @@ pub record IsSelectionFor (settings : RowsSettings) (columns : List ℕ)
     (selection : Selection) : Type 0 where
   pub header : selection.has_header ≡ is_set settings.has_header
   pub limit : selection.limit ≡ limit_of settings.limit
+  pub numbers : selection.is_numbered ≡ is_set settings.is_numbered
   pub columns_in_order : selection.columns.items ≡ []
   pub left : map string_bytes selection.left.items ≡ numbers_of 1 columns
   pub right : map string_bytes selection.right.items ≡ numbers_of 2 columns

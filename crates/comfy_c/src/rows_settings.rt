@@ -33,6 +33,10 @@ pub struct RowsSettings {
     pub has_header: u32,
     /// A flag: the header is written in bold.
     pub has_bold_header: u32,
+    /// A flag: a first column has the numbers of the rows.
+    pub is_numbered: u32,
+    /// A flag: decimal points of a column of numbers stand below each other.
+    pub aligns_decimals: u32,
     /// A flag: SGR sequences in texts stay, and count no columns.
     pub has_sequences: u32,
     /// A flag: the table is one for Markdown, whatever else is set.
@@ -88,6 +92,7 @@ impl RowsSettings {
             has_header: self.has_header != 0,
             limit: limit_of(self.limit),
             counts_all: true,
+            is_numbered: self.is_numbered != 0,
             columns: Vec::new(alloc),
             dropped: numbers_of(alloc, columns, HIDDEN)?,
             right: numbers_of(alloc, columns, AT_RIGHT)?,
@@ -106,6 +111,7 @@ impl RowsSettings {
             fills_width: self.fills_width != 0,
             max_height: limit_of(self.max_height),
             has_bold_header: self.has_bold_header != 0,
+            aligns_decimals: self.aligns_decimals != 0,
             has_sequences: self.has_sequences != 0,
             keeps_bidi: false,
             is_raw: false,

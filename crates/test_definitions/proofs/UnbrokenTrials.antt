@@ -102,7 +102,7 @@ beside = refl
 
 -- a date that has room counts, and no word does
 counted : map (unbroken_width 10) (texts ("2026-05-02" ∷ "2026-05-02 12:30" ∷ "letters" ∷ [])) ≡ 10 ∷ 0 ∷ 0 ∷ []
-unfolding wrapping chars lib.Utf8.encode ucd_category is_number
+unfolding wrapping chars lib.Utf8.encode ucd_category is_number is_neutral
 counted = refl
 
 -- it might be broken beside a long name; but not where the name fits, nor where half of the room is enough
@@ -122,12 +122,12 @@ abbrev pair_constraints : Option ℕ → List (Option ColumnConstraint)
 pair_constraints width = map (λ (column : ColumnValue). column.constraint) (kept_unbroken_fields width record_of_two).columns
 
 held : pair_constraints (Some 22) ≡ None ∷ Some (Absolute (Fixed 12)) ∷ []
-unfolding wrapping chars lib.Utf8.encode ucd_category is_number
+unfolding wrapping chars lib.Utf8.encode ucd_category is_number is_neutral
 held = refl
 
 -- with less room for it, or with room for the names too, nothing is held
 free : map pair_constraints (Some 20 ∷ Some 24 ∷ None ∷ []) ≡ (None ∷ None ∷ []) ∷ (None ∷ None ∷ []) ∷ (None ∷ None ∷ []) ∷ []
-unfolding wrapping chars lib.Utf8.encode ucd_category is_number
+unfolding wrapping chars lib.Utf8.encode ucd_category is_number is_neutral
 free = refl
 
 -- a column of six breaks a date of ten characters

@@ -14,6 +14,8 @@ pub struct RowsSettings {
     pub expansion: u32,
     pub has_header: u32,
     pub has_bold_header: u32,
+    pub is_numbered: u32,
+    pub aligns_decimals: u32,
     pub has_sequences: u32,
     pub is_markdown: u32,
 }

@@ -57,6 +57,8 @@ pub struct Rows {
 // The other settings.
 #[derive(Clone, Copy, Debug, Default)]
 struct Settings {
+    is_numbered: bool,
+    leaves_decimals: bool,
     has_header: bool,
     width: Option<u16>,
     is_full: bool,
@@ -183,6 +185,18 @@ impl Rows {
         self
     }
 
+    /// Whether a first column `#` has the numbers of the rows.
+    pub fn number(mut self, is_numbered: bool) -> Rows {
+        self.settings.is_numbered = is_numbered;
+        self
+    }
+
+    /// Whether decimal points of a column of numbers stand below each other; without it they do.
+    pub fn align_decimals(mut self, are_aligned: bool) -> Rows {
+        self.settings.leaves_decimals = !are_aligned;
+        self
+    }
+
     /// Paints the cells of the rows that are there, by a function of a row's position, a column's and the cell's text.
     ///
     /// ```
@@ -251,7 +265,7 @@ impl Rows {
 
     // The settings as numbers of comfy_table.h.
     fn settings(&self) -> RowsSettings {
-        let Settings { has_header, width, is_full, max_height, limit, expanded, has_bold_header, has_sequences } = self.settings;
+        let Settings { is_numbered, leaves_decimals, has_header, width, is_full, max_height, limit, expanded, has_bold_header, has_sequences } = self.settings;
         RowsSettings {
             max_height: max_height.unwrap_or(usize::MAX),
             limit: limit.unwrap_or(usize::MAX),
@@ -270,6 +284,8 @@ impl Rows {
             },
             has_header: has_header.into(),
             has_bold_header: has_bold_header.into(),
+            is_numbered: is_numbered.into(),
+            aligns_decimals: (!leaves_decimals).into(),
             has_sequences: has_sequences.into(),
             is_markdown: (self.style == Style::Markdown).into(),
         }

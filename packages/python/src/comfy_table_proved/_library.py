@@ -35,6 +35,8 @@ class RowsSettings(ctypes.Structure):
         ("expansion", _NUMBER),
         ("has_header", _NUMBER),
         ("has_bold_header", _NUMBER),
+        ("is_numbered", _NUMBER),
+        ("aligns_decimals", _NUMBER),
         ("has_sequences", _NUMBER),
         ("is_markdown", _NUMBER),
     ]

@@ -19,7 +19,7 @@ Widths = Union[int, Sequence[Optional[int]], None]
 
 # What other settings of tabulate are beside those that are here.
 _INSTEAD = {
-    "numalign": "left and right",
+    "numalign": "left, right and align_decimals",
     "stralign": "left and right",
     "colglobalalign": "left, right and colalign",
     "headersalign": "left and right",
@@ -43,6 +43,7 @@ def tabulate(
     left: Columns = None,
     right: Columns = None,
     colalign: Sequence[Optional[str]] | None = None,
+    align_decimals: bool = True,
     columns: Columns = None,
     width: Width = None,
     full: bool = False,
@@ -78,6 +79,7 @@ def tabulate(
         0, and from -1 at the end. `columns` chooses which are drawn, in which order. A column in neither `left` nor `right`
         stands at the right where its values are numbers, negative ones and amounts of money too.
     colalign: the sides of the first columns, as ("left", "right").
+    align_decimals: decimal points of a column of numbers stand below each other; False leaves them where they are.
     width: so many terminal columns are kept to; "terminal" is the width of the terminal; with None no width is kept.
         `full=True` fills it.
     maxcolwidths: how many terminal columns a column's texts take at most, for all columns, or a list with a number or None for
@@ -113,6 +115,7 @@ def tabulate(
             left=left,
             right=right,
             colalign=colalign,
+            align_decimals=align_decimals,
             columns=columns,
             width=width,
             full=full,
@@ -154,6 +157,7 @@ class Table:
     left: Columns = None
     right: Columns = None
     colalign: Optional[Sequence[Optional[str]]] = None
+    align_decimals: bool = True
     columns: Columns = None
     width: Width = None
     full: bool = False
@@ -237,6 +241,8 @@ def _settings_of(table: Table, has_header: bool) -> RowsSettings:
         expansion=_expansion_of(table.expanded),
         has_header=has_header,
         has_bold_header=bool(table.bold_header),
+        is_numbered=False,
+        aligns_decimals=bool(table.align_decimals),
         has_sequences=table.colors is not None,
         is_markdown=is_markdown,
     )
