@@ -1,5 +1,5 @@
 -- What settings and columns of a table of rows mean, and what is drawn of its texts.
-use Rattle.std.specs.Prelude.{◌≡◌, ◌≢◌, ◌⊎◌, ◌+◌, ◌-◌, ◌^◌, ◌==◌, ◌&&◌, not, nat_le, ℕ, Bool, true, false, List, [], ◌∷◌, All, Option, Some, None, Err, IsUtf8, decimal, is_some, length, map, option_map, slice_get, string_bytes, if◌then◌else◌}
+use Rattle.std.specs.Prelude.{◌≡◌, ◌⊎◌, ◌+◌, ◌-◌, ◌^◌, ◌==◌, ◌&&◌, not, nat_le, ℕ, Bool, false, List, [], ◌∷◌, All, Option, Some, None, Err, IsUtf8, decimal, is_some, length, map, slice_get, string_bytes, if◌then◌else◌}
 use Rattle.std.specs.List.{enumerate_from, filter, list_all}
 use Rattle.comfy_parts.specs.Presets.{preset_at}
 use Rattle.comfy_parts.specs.Text.{Text}
@@ -14,6 +14,8 @@ use Rattle.csv_command.specs.Styles.{compact_style}
 use Rattle.csv_records.specs.CutLists.{cut_by, total}
 use Rattle.csv_tables.specs.Columns.{ColumnFault}
 use Rattle.csv_tables.specs.Drawn.{RendersAnyRecords, content_of, counting}
+use Rattle.csv_tables.specs.declared.error.ColumnsError.{ColumnsError}
+use Rattle.csv_tables.specs.declared.error.ColumnsError.TheVariants as columns
 use Rattle.csv_tables.specs.declared.options.Expansion.{Expansion}
 use Rattle.csv_tables.specs.declared.options.Expansion.TheVariants.{Always, Auto, Never as NeverExpanded}
 use Rattle.csv_tables.specs.declared.options.Look.{Look}
@@ -138,3 +140,8 @@ IsRowsRefusal texts lengths counts columns settings (Texts refusal) =
 IsRowsRefusal texts lengths counts columns settings Settings =
     IsSettingRefused (rows_of texts lengths counts) columns settings
 IsRowsRefusal texts lengths counts columns settings NoMemory = Unit {0}
+
+-- the refusal of columns that can't be drawn, by the error that it comes of
+abbrev pub refusal_of_columns : ColumnsError → RowsRefusal
+refusal_of_columns columns.OutOfMemory = NoMemory
+refusal_of_columns _ = Settings

@@ -3,7 +3,7 @@
 ghost use Rattle.std.specs.Prelude.{◌≡◌, ◌≢◌, ◌≤◌, ◌<◌, IfErr, IfOk, List, ℕ, drop, length, string_bytes, take};
 ghost use Rattle.comfy_c.specs.declared.rows_draw.RowsRefusal.TheVariants as rows;
 ghost use Rattle.comfy_c.specs.declared.texts.TextsRefusal.TheVariants.{Lengths, NotUtf8};
-ghost use Rattle.comfy_c.specs.RowCalls.{IsRowsDrawing, IsRowsRefusal, IsSettingRefused, IsTextsRefusal, rows_of};
+ghost use Rattle.comfy_c.specs.RowCalls.{IsRowsDrawing, IsRowsRefusal, IsSettingRefused, IsTextsRefusal, refusal_of_columns, rows_of};
 
 use crate::room::{
     DRAWN, INPUT_REFUSED, LENGTHS_REFUSED, OUT_OF_MEMORY, ROOM_TOO_SMALL, SETTINGS_REFUSED, put,
@@ -124,7 +124,16 @@ fn rows_drawing(
     let records = records_of(alloc, texts, lengths, counts)?;
     match output_of_records(alloc, records, &options) {
         Ok(drawing) => Ok(drawing),
-        Err(ColumnsError::OutOfMemory) => Err(RowsRefusal::OutOfMemory),
-        Err(_) => Err(RowsRefusal::Settings),
+        Err(error) => Err(refusal_of_columns(&error)),
+    }
+}
+
+// The refusal of columns that can't be drawn, by the error that it comes of.
+fn refusal_of_columns(error: &ColumnsError) -> RowsRefusal
+    ensures { result ≡ refusal_of_columns error.now }
+{
+    match error {
+        ColumnsError::OutOfMemory => RowsRefusal::OutOfMemory,
+        _ => RowsRefusal::Settings,
     }
 }

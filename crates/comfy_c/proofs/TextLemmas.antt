@@ -1,0 +1,55 @@
+-- Texts that are cut from a block by their lengths.
+use Rattle.std.proofs.Common.{◌≡◌, ◌<◌, ◌+◌, ◌++◌, ◌∷◌, ◌∙◌, [], ℕ, List, Result, zero, suc, ap, arith, drop, inr, length, refl, slice_index_or, string_bytes, subst, sym, take}
+use Rattle.std.specs.List.{All}
+use Rattle.std.proofs.lemmas.List.{drop-drop, take_more}
+use Rattle.std.proofs.lemmas.List.Elements.{All-head, All-tail}
+use Rattle.std.proofs.lemmas.List.Sums.{sum_by-cons}
+use Rattle.comfy_parts.specs.Text.{Text}
+use Rattle.comfy_c.specs.RowCalls.{AreOptionsFor, IsRowsRefusal, refusal_of_columns, rows_of}
+use Rattle.comfy_c.specs.declared.rows_settings.RowsSettings.{RowsSettings}
+use Rattle.csv_tables.specs.Columns.{ColumnFault, IsColumnsRefusal}
+use Rattle.csv_tables.specs.Columns.ColumnFault.{missing, none_left, two_sided}
+use Rattle.csv_tables.specs.Drawn.{ContentValue, content_of}
+use Rattle.csv_tables.specs.declared.error.ColumnsError.{ColumnsError}
+use Rattle.csv_tables.specs.declared.error.ColumnsError.TheVariants.{NoColumn, NoneLeft, OutOfMemory, TwoSides}
+use Rattle.csv_tables.specs.declared.options.Options.{Options}
+use Rattle.csv_records.proofs.CutLemmas.{place_taken}
+use Rattle.csv_records.specs.CutLists.{cut_by, total}
+
+-- what stands behind some parts
+behind : {A : Type 0} (n : ℕ) (ns : List ℕ) (xs : List A) → drop (total ns) (drop n xs) ≡ drop (total (n ∷ ns)) xs
+behind n ns xs = drop-drop (total ns) n xs ∙ ap (λ (k : ℕ). drop k xs) (sym (sum_by-cons (λ m. m) n ns))
+
+cut_more : {A : Type 0} (ns : List ℕ) (n : ℕ) (xs : List A) → cut_by (ns ++ n ∷ []) xs ≡ cut_by ns xs ++ take n (drop (total ns) xs) ∷ []
+cut_more [] n xs = refl
+cut_more (m ∷ ns) n xs = ap (λ ys. take m xs ∷ ys) (cut_more ns n (drop m xs) ∙ ap (λ ys. cut_by ns (drop m xs) ++ take n ys ∷ []) (behind m ns xs))
+
+-- in a loop over lengths: one part more, which ends so far from the front
+pub one_cut : {A : Type 0} (ns : List ℕ) (i d : ℕ) → i < length ns → (xs : List A)
+    → (cut_by (take (i + 1) ns) xs ≡ cut_by (take i ns) xs ++ take (slice_index_or ns i d) (drop (total (take i ns)) xs) ∷ []) × (total (take (i + 1) ns) ≡ total (take i ns) + slice_index_or ns i d)
+one_cut ns i d below xs =
+    (ap (λ (ms : List ℕ). cut_by ms xs) (take_more ns i d below) ∙ cut_more (take i ns) (slice_index_or ns i d) xs, (place_taken ns i d below).1)
+
+-- and it is one of all parts
+pub in_cut : {A : Type 0} (P : List A → Type 0) (ns : List ℕ) (i d : ℕ) → i < length ns → (xs : List A) → All P (cut_by ns xs) → P (take (slice_index_or ns i d) (drop (total (take i ns)) xs))
+in_cut P [] i d below xs all = absurd (omega (arith, below))
+in_cut P (n ∷ ns) zero d below xs all = All-head P (take n xs) (cut_by ns (drop n xs)) all
+in_cut P (n ∷ ns) (suc i) d below xs all =
+    subst (λ ys. P (take (slice_index_or ns i d) ys)) (behind n (take i ns) xs) (in_cut P ns i d (omega (arith, below)) (drop n xs) (All-tail P (take n xs) (cut_by ns (drop n xs)) all))
+
+-- there are as many parts as lengths
+pub length-cut_by : {A : Type 0} (ns : List ℕ) (xs : List A) → length (cut_by ns xs) ≡ length ns
+length-cut_by [] xs = refl
+length-cut_by (n ∷ ns) xs = ap suc (length-cut_by ns (drop n xs))
+
+-- ---- columns that can't be drawn
+
+module _ (texts : Text) (lengths counts columns : List ℕ) (settings : RowsSettings) (options : Options) (are : AreOptionsFor settings columns options) where
+  abbrev found : Result ContentValue ColumnFault
+  found = content_of options (rows_of texts lengths counts)
+
+  pub columns_refused : (e : ColumnsError) → IsColumnsRefusal e found → IsRowsRefusal texts lengths counts columns settings (refusal_of_columns e)
+  columns_refused (NoColumn word hint) is = inr (options, are, missing (string_bytes word) (string_bytes hint), is)
+  columns_refused NoneLeft is = inr (options, are, none_left, is)
+  columns_refused (TwoSides name) is = inr (options, are, two_sided (string_bytes name), is)
+  columns_refused OutOfMemory is = tt
