@@ -93,7 +93,8 @@ numbers_of wanted columns =
     map (λ (p : ℕ × ℕ). decimal (p.0 + 1))
     (filter (λ (p : ℕ × ℕ). p.1 == wanted) (enumerate_from 0 columns))
 
--- all rows are counted, and columns stand at the left or at the right or are left out by their bytes
+-- all rows are counted, and columns stand at the left or at the right, or are left out, by their
+-- bytes
 pub record IsSelectionFor (settings : RowsSettings) (columns : List ℕ)
     (selection : Selection) : Type 0 where
   pub header : selection.has_header ≡ is_set settings.has_header

@@ -70,7 +70,8 @@ impl RowsSettings {
         columns: &[u8],
     ) -> Result<Option<Options>, AllocError>
         ensures some { IfOk result (λ found. IfSome found (AreOptionsFor self.now columns.now)) }
-        ensures none { IfOk result (λ found. IfNone found (are_known self.now columns.now ≡ false)) }
+        ensures none { IfOk result (λ found.
+            IfNone found (are_known self.now columns.now ≡ false)) }
     {
         let Some(look) = self.look() else {
             return Ok(None);

@@ -74,8 +74,10 @@ impl Records {
     ) -> Result<Option<Records>, AllocError>
         ensures some { IfOk result (λ found. IfSome found (λ records. records
             ≡ cut_by counts.now (map (λ field. field.now) fields.now))) }
-        ensures all { IfOk result (λ found. IfSome found (λ _. total counts.now ≡ length fields.now)) }
-        ensures none { IfOk result (λ found. IfNone found (total counts.now ≢ length fields.now)) }
+        ensures all { IfOk result (λ found.
+            IfSome found (λ _. total counts.now ≡ length fields.now)) }
+        ensures none { IfOk result (λ found.
+            IfNone found (total counts.now ≢ length fields.now)) }
     {
         let Some(places) = places_for(alloc, counts, fields.len())? else {
             return Ok(None);

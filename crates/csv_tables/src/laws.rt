@@ -15,7 +15,8 @@ ghost use Rattle.csv_tables.specs.declared.options.Options.{Options};
 ghost use Rattle.csv_tables.specs.declared.options.Selection.{Selection};
 
 /// Picking columns loses no row. The table has a row for each record that is drawn, in order, with
-/// the fields of the same columns, and these are the chosen ones, less those that are left out.
+/// the fields of the same columns, behind its number where that is wanted. These columns are the
+/// chosen ones, less those that are left out.
 pub fn tables_keep_their_rows()
     ensures { (options : Options) (records : List (List Text)) (table : TableValue)
         → TableKeepsRows options records table }
