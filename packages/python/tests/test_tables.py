@@ -470,7 +470,7 @@ class Messages(unittest.TestCase):
         self.assertEqual(str(caught.exception), message)
 
     def test_settings_of_tabulate_that_are_not_here(self):
-        self.expect(TypeError, "tabulate has no setting 'numalign'; in its place there is left and right", numalign="left")
+        self.expect(TypeError, "tabulate has no setting 'numalign'; in its place there is left, right and align_decimals", numalign="left")
         self.expect(TypeError, "tabulate has no setting 'witdh'", witdh=3)
 
     def test_values(self):

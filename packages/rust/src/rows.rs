@@ -238,7 +238,9 @@ impl Rows {
         draw_rows(&texts, &sides, &settings)
     }
 
+    // Adds a row. An empty one has one empty cell, so that there is a column.
     fn push_texts(&mut self, cells: &[String]) {
+        let cells = if cells.is_empty() { &[String::new()] } else { cells };
         if self.settings.has_sequences {
             // None in a text is to be one of the sequences of colours.
             let plain: Vec<String> = cells.iter().map(|text| text.replace('\x1b', "\u{fffd}")).collect();

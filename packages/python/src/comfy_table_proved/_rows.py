@@ -22,8 +22,23 @@ class _Read(NamedTuple):
 
     rows: list[list[Any]]
     keys: Optional[list[Any]]
-    index: Optional[list[Any]] = None
-    index_name: object = None
+    labels: Optional[list[Any]] = None
+    labels_name: object = None
+
+
+class _Fetched(list):  # type: ignore[type-arg]
+    """The rows of a cursor, with the description of its columns."""
+
+    description: Any = None
+
+
+def kept(data: Any) -> Any:
+    """Rows that can be read more than once, and added to where they are a list."""
+    if getattr(data, "description", None) and hasattr(data, "fetchone"):
+        fetched = _Fetched(data)
+        fetched.description = data.description
+        return fetched
+    return list(data) if hasattr(data, "__next__") or isinstance(data, (list, tuple)) and not hasattr(data, "dtype") else data
 
 
 def values_of(data: Any, headers: Headers, showindex: ShowIndex) -> Values:
@@ -31,13 +46,13 @@ def values_of(data: Any, headers: Headers, showindex: ShowIndex) -> Values:
     read = _read(data)
     if isinstance(headers, str) and headers == "firstrow":
         header, rows = (read.rows[0] if read.rows else None), read.rows[1:]
-        read = read._replace(index=None if read.index is None else read.index[1:])
+        read = read._replace(labels=None if read.labels is None else read.labels[1:])
     else:
         header, rows = _header_of(headers, read), read.rows
     index = _index_of(showindex, read, len(rows))
     if index is None:
         return Values(header, rows)
-    name = "" if read.index_name is None else read.index_name
+    name = "" if read.labels_name is None else read.labels_name
     return Values(None if header is None else [name, *header], [[it, *row] for it, row in zip(index, rows)])
 
 
@@ -54,9 +69,8 @@ def _read(data: Any) -> _Read:
         return _Read([[value] for value in data], [name], list(data.index), data.index.name)
     if isinstance(data, Mapping):
         return _columns_of(data)
-    if hasattr(data, "fetchone") and getattr(data, "description", None):
-        keys = [column[0] for column in data.description]
-        return _Read([list(row) for row in data], keys)
+    if isinstance(data, _Fetched):
+        return _Read([list(row) for row in data], [column[0] for column in data.description])
     if isinstance(data, (str, bytes)):
         raise TypeError(f"rows are a list of rows, not {data!r}")
     return _rows_of(list(data))
@@ -132,6 +146,6 @@ def _index_of(asked: ShowIndex, read: _Read, count: int) -> Optional[list[Any]]:
         return index
     else:
         shows, given = bool(asked), bool(asked)
-    if shows and read.index is not None:
-        return read.index
+    if shows and read.labels is not None:
+        return read.labels
     return list(range(count)) if given else None

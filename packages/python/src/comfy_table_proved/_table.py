@@ -9,7 +9,7 @@ from typing import Any, Iterable, NoReturn, Optional, Sequence, Union
 
 from ._columns import Columns, Layout
 from ._library import NO_LIMIT, NO_WIDTH, RowsSettings, draw_rows
-from ._rows import Headers, ShowIndex, values_of
+from ._rows import Headers, ShowIndex, kept, values_of
 from ._styles import EVERYWHERE, NOWHERE, frame_of
 from ._texts import Colors, Texts, Writer
 from ._wrapping import wrapped
@@ -172,11 +172,7 @@ class Table:
     colors: Optional[Colors] = None
 
     def __post_init__(self) -> None:
-        # A generator is read once.
-        if hasattr(self.rows, "__next__"):
-            self.rows = list(self.rows)
-        elif isinstance(self.rows, (list, tuple)):
-            self.rows = list(self.rows)
+        self.rows = kept(self.rows)
 
     def add_row(self, row: object) -> None:
         """Adds a row below the others."""
@@ -203,7 +199,7 @@ def _drawing(table: Table) -> str:
     writer = Writer(table.floatfmt, table.intfmt, table.missingval, table.colors)
     names = [] if values.header is None else writer.header_of(values.header)
     header = [] if values.header is None else [names]
-    records = header + [writer.texts_of(position, row, names) for position, row in enumerate(values.rows)]
+    records = header + [writer.texts_of(position, row, names) or [""] for position, row in enumerate(values.rows)]
     settings = _settings_of(table, values.header is not None)
     if not records:
         return ""
