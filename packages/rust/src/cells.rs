@@ -1,44 +1,48 @@
+use std::fmt::Display;
+
 /// What can be a row: an array, a vector or a slice of values, or a tuple of values of different types.
 pub trait IntoCells {
-    /// The texts of its cells.
-    fn into_cells(self) -> Vec<String>;
+    /// Hands on each of the values, in order.
+    fn for_each_cell(self, each: impl FnMut(&dyn Display));
 }
 
-fn texts<T: ToString>(values: &[T]) -> Vec<String> {
-    values.iter().map(ToString::to_string).collect()
-}
-
-impl<T: ToString, const N: usize> IntoCells for [T; N] {
-    fn into_cells(self) -> Vec<String> {
-        texts(&self)
+fn for_each<T: Display>(values: &[T], mut each: impl FnMut(&dyn Display)) {
+    for value in values {
+        each(value);
     }
 }
 
-impl<T: ToString> IntoCells for Vec<T> {
-    fn into_cells(self) -> Vec<String> {
-        texts(&self)
+impl<T: Display, const N: usize> IntoCells for [T; N] {
+    fn for_each_cell(self, each: impl FnMut(&dyn Display)) {
+        for_each(&self, each);
     }
 }
 
-impl<T: ToString> IntoCells for &[T] {
-    fn into_cells(self) -> Vec<String> {
-        texts(self)
+impl<T: Display> IntoCells for Vec<T> {
+    fn for_each_cell(self, each: impl FnMut(&dyn Display)) {
+        for_each(&self, each);
     }
 }
 
-impl<T: ToString> IntoCells for &Vec<T> {
-    fn into_cells(self) -> Vec<String> {
-        texts(self)
+impl<T: Display> IntoCells for &[T] {
+    fn for_each_cell(self, each: impl FnMut(&dyn Display)) {
+        for_each(self, each);
+    }
+}
+
+impl<T: Display> IntoCells for &Vec<T> {
+    fn for_each_cell(self, each: impl FnMut(&dyn Display)) {
+        for_each(self, each);
     }
 }
 
 macro_rules! tuples {
     ($(($($name:ident)+))+) => {
-        $(impl<$($name: ToString),+> IntoCells for ($($name,)+) {
+        $(impl<$($name: Display),+> IntoCells for ($($name,)+) {
             #[allow(non_snake_case)]
-            fn into_cells(self) -> Vec<String> {
+            fn for_each_cell(self, mut each: impl FnMut(&dyn Display)) {
                 let ($($name,)+) = self;
-                vec![$($name.to_string()),+]
+                $(each(&$name);)+
             }
         })+
     };

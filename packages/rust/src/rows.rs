@@ -5,7 +5,7 @@ use crate::library::{RowsSettings, Texts, draw_rows};
 use crate::paint::Paint;
 use crate::style::Style;
 use crate::terminal;
-use std::fmt;
+use std::fmt::{self, Display, Write};
 
 /// When a row is drawn as a table of its own, of names and cells.
 #[derive(Clone, Copy, Debug, Default, PartialEq, Eq)]
@@ -72,11 +72,10 @@ struct Settings {
 impl Rows {
     /// A table with a header, and no rows yet.
     pub fn new(header: impl IntoCells) -> Rows {
-        let header = header.into_cells();
         let mut rows = Rows::without_header();
-        rows.push_texts(&header);
+        rows.push(header);
         rows.settings.has_header = true;
-        rows.header = header;
+        rows.header = rows.texts.rows().next().map(|names| names.into_iter().map(String::from).collect()).unwrap_or_default();
         rows
     }
 
@@ -93,10 +92,23 @@ impl Rows {
         }
     }
 
-    /// Adds a row below the others.
+    /// Adds a row below the others. An empty one has one empty cell.
     pub fn push(&mut self, cells: impl IntoCells) {
-        let cells = cells.into_cells();
-        self.push_texts(&cells);
+        let first = self.texts.lengths.len();
+        let has_sequences = self.settings.has_sequences;
+        cells.for_each_cell(|value| {
+            if has_sequences {
+                self.texts.push_cell(&plain(&value.to_string()));
+            } else {
+                self.texts.push_cell(value);
+            }
+        });
+        if self.texts.lengths.len() == first {
+            self.texts.push_cell(&"");
+        }
+        let count = self.texts.lengths.len() - first;
+        self.texts.counts.push(count);
+        self.sides.resize(self.sides.len().max(count), BY_CONTENTS);
     }
 
     /// The table with a row more.
@@ -212,13 +224,14 @@ impl Rows {
         self.settings.has_sequences = true;
         let first = usize::from(self.settings.has_header);
         for (at, row) in rows.rows().enumerate() {
-            let plain: Vec<String> = row.iter().map(|text| if was_plain { text.replace('\x1b', "\u{fffd}") } else { (*text).into() }).collect();
-            let painted = |(column, text): (usize, &String)| match at.checked_sub(first) {
-                Some(row) => paint_of(row, column, text).around(text),
-                None => text.clone(),
-            };
-            let painted: Vec<String> = plain.iter().enumerate().map(painted).collect();
-            self.texts.push(&painted);
+            for (column, text) in row.iter().enumerate() {
+                let text = if was_plain { plain(text) } else { (*text).into() };
+                match at.checked_sub(first) {
+                    Some(row) => self.texts.push_cell(&paint_of(row, column, &text).around(&text)),
+                    None => self.texts.push_cell(&text),
+                }
+            }
+            self.texts.counts.push(row.len());
         }
         self
     }
@@ -231,24 +244,13 @@ impl Rows {
         }
         let mut texts = Texts::default();
         for row in self.texts.rows() {
-            let chosen: Vec<&str> = self.chosen.iter().map(|position| row.get(*position).copied().unwrap_or("")).collect();
-            texts.push(&chosen);
+            for position in &self.chosen {
+                texts.push_cell(row.get(*position).unwrap_or(&""));
+            }
+            texts.counts.push(self.chosen.len());
         }
         let sides: Vec<u8> = self.chosen.iter().map(|position| self.sides[*position]).collect();
         draw_rows(&texts, &sides, &settings)
-    }
-
-    // Adds a row. An empty one has one empty cell, so that there is a column.
-    fn push_texts(&mut self, cells: &[String]) {
-        let cells = if cells.is_empty() { &[String::new()] } else { cells };
-        if self.settings.has_sequences {
-            // None in a text is to be one of the sequences of colours.
-            let plain: Vec<String> = cells.iter().map(|text| text.replace('\x1b', "\u{fffd}")).collect();
-            self.texts.push(&plain);
-        } else {
-            self.texts.push(cells);
-        }
-        self.sides.resize(self.sides.len().max(cells.len()), BY_CONTENTS);
     }
 
     fn positions<T: Into<Column>>(&self, columns: impl IntoIterator<Item = T>) -> Result<Vec<usize>, Error> {
@@ -294,13 +296,16 @@ impl Rows {
     }
 }
 
+// None in a text is to be one of the sequences of colours.
+fn plain(text: &str) -> String {
+    text.replace('\x1b', "\u{fffd}")
+}
+
 impl Texts {
-    fn push(&mut self, cells: &[impl AsRef<str>]) {
-        for cell in cells {
-            self.joined.push_str(cell.as_ref());
-            self.lengths.push(cell.as_ref().len());
-        }
-        self.counts.push(cells.len());
+    fn push_cell(&mut self, value: &dyn Display) {
+        let start = self.joined.len();
+        write!(self.joined, "{value}").expect("a string takes every text");
+        self.lengths.push(self.joined.len() - start);
     }
 
     fn rows(&self) -> impl Iterator<Item = Vec<&str>> {
