@@ -10,6 +10,7 @@ use csv_tables::{Expansion, Look, Options, RowSeparators, Selection};
 use std::alloc::{AllocError, Global};
 
 /// How a table of rows is drawn. A flag is set where it isn't 0.
+#[derive(Clone, Copy, Debug)]
 #[repr(C)]
 pub struct RowsSettings {
     /// How many lines a row below the header has at most; the greatest number stands for no limit.
