@@ -47,14 +47,15 @@ compare() {
   echo "$* draws as ctable $arguments"
 }
 
-# Compares what a program writes and says with what csvtable does, with arguments that are accepted and others.
+# Compares what a program writes, or says where it draws nothing, with what csvtable does, with arguments that are accepted and
+# others. What csvtable says beside a drawing has no place in a call.
 compare_csv() {
   for arguments in '' '-w 40' '-s grid -r 1' '-x --limit 2 --color always' '--markdown -e cp1252' '-t -n --rows' '-c 2,1 -m 1' \
     '--no-quotes --raw -s NOTHING' '-w 65535 --full -d ;' '-c nothing' '--rows --no-rows' '-w wide' '-d ab' '--odd' '--help'; do
     for input in "$work"/csv/*; do
       name=$(basename "$input")
-      (cd "$work/csv" && "$CSVTABLE" $arguments "$name") > "$work/wanted" 2>&1 || true
-      "$@" $arguments "$name" < "$input" > "$work/drawn" 2>&1 || true
+      (cd "$work/csv" && "$CSVTABLE" $arguments "$name") > "$work/wanted" 2> "$work/said" || cat "$work/said" >> "$work/wanted"
+      "$@" $arguments "$name" < "$input" > "$work/drawn" 2> "$work/said" || cat "$work/said" >> "$work/drawn"
       cmp "$work/wanted" "$work/drawn"
     done
   done
@@ -96,7 +97,7 @@ edition = "2024"
 comfy_table_proved = { path = "../crate" }
 END
   (cd "$work/project" && cargo build -q --offline)
-  sed -n 's/^.*\([╭│╞╰].*\)/\1/p' packages/rust/examples/boats.rs > "$work/wanted"
+  sed -n 's|^//! \([^P].*\)|\1|p' packages/rust/examples/boats.rs > "$work/wanted"
   "$work/project/target/debug/boats" | sed 's/.\[[0-9]*m//g' | cmp "$work/wanted" -
   compare_csv "$work/project/target/debug/csv"
   (cd "$work/crate" && cargo test -q --offline)

@@ -42,7 +42,7 @@ class Drawings(unittest.TestCase):
 ╭──────┬───────╮
 │ name ┆ price │
 ╞══════╪═══════╡
-│ oats ┆     3 │
+│ oats ┆   3   │
 ├╌╌╌╌╌╌┼╌╌╌╌╌╌╌┤
 │ rye  ┆ -12.5 │
 ├╌╌╌╌╌╌┼╌╌╌╌╌╌╌┤

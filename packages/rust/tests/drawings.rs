@@ -11,7 +11,7 @@ fn rows_below_a_header() {
 ╭──────┬───────╮
 │ name ┆ price │
 ╞══════╪═══════╡
-│ oats ┆     3 │
+│ oats ┆   3   │
 ├╌╌╌╌╌╌┼╌╌╌╌╌╌╌┤
 │ rye  ┆ -12.5 │
 ├╌╌╌╌╌╌┼╌╌╌╌╌╌╌┤
@@ -123,8 +123,8 @@ fn rows_of_many_forms() {
 | name   | 2024 |
 +===============+
 | oats   |  3.5 |
-| rye    |   12 |
-| barley |    7 |
+| rye    | 12   |
+| barley |  7   |
 +--------+------+
 ");
     let collected: Rows = [(1, "a"), (2, "b")].into_iter().collect();

@@ -197,7 +197,8 @@ class Table:
 def _drawing(table: Table) -> str:
     values = values_of(table.rows, table.headers, table.showindex)
     writer = Writer(table.floatfmt, table.intfmt, table.missingval, table.colors)
-    names = [] if values.header is None else writer.header_of(values.header)
+    # An empty row has one empty cell, so that there is a column.
+    names = [] if values.header is None else writer.header_of(values.header) or [""]
     header = [] if values.header is None else [names]
     records = header + [writer.texts_of(position, row, names) or [""] for position, row in enumerate(values.rows)]
     settings = _settings_of(table, values.header is not None)
