@@ -61,7 +61,7 @@ RUNS = [
     Run("dates.csv", "day,time,host,version\n02.05.2026,07:49,192.168.0.1,1.2.3\n", drawn=["│ 02.05.2026 ┆ 07:49 ┆ 192.168.0.1 ┆ 1.2.3   │"]),
     Run("tabs.tsv", TSV, drawn=['│ screw 5" ┆ 5" long │'], delimiter="\t"),
     Run("mixed.csv", MIXED, drawn=["│ refund ┆ ($3.00) ┆                  n/a │"]),
-    Run("ragged.csv", "a,b\n1\n1,2,3\n", drawn=["│ 1 ┆ 2 ┆ 3 │"]),
+    Run("ragged.csv", "a,b\n1\n1,2,3\n", drawn=["│ 1 ┆ 2 ┆ 3 │"], said='ragged.csv: took "," for the delimiter; -d names another'),
     Run("quote.csv", 'a,b\n1,"open\n2,3\n', "", 1, said="quote.csv: a quote that opens in line 2 is never closed; try --no-quotes"),
     Run("quote.csv", 'a,b\n1,"open\n2,3\n', "--no-quotes", drawn=['│ 1 ┆ "open │', "│ 2 ┆ 3     │"]),
     Run("empty.csv", "", drawn=[""]),
@@ -119,11 +119,11 @@ def fault_of(run, result):
     out, err = result.stdout.decode(errors="replace"), result.stderr.decode(errors="replace")
     if result.returncode != run.status:
         return f"status {result.returncode}: {err.strip()}"
-    if run.status:
-        message = "csvtable: " + run.said + ("" if run.said.endswith("\n") else "\n")
-        return "" if not out and err == message else f"it says {err!r}"
-    if err:
+    message = "csvtable: " + run.said + ("" if run.said.endswith("\n") else "\n") if run.said else ""
+    if err != message or (run.status and out):
         return f"it says {err!r}"
+    if run.status:
+        return ""
     missing = [it for it in run.drawn if it not in out]
     return f"no {missing[0]!r} in\n{out}" if missing or (run.drawn == [""] and out) else ""
 
