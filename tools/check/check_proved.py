@@ -10,7 +10,8 @@
 - Each law, and each function of `promises` and `csv_promises`, has a trial that shows a value of which its conclusion is
   false, below a line `-- false: CRATE::laws::NAME` of a file of trials.
 - README.md: each label that it cites is a heading of PROVED.md, and what it prints is the output of the stored run.
-- CALLING.md: each clause of its caller stands in the source of the library, of one that it tells of too, or of a caller.
+- CALLING.md: each clause and signature that it quotes stands in the source of the library, of one that it tells of too, or
+  of a caller.
 - Each mutation changes a function that exists.
 - Each definition of specs/ and proofs/ is reached (tools/check/reach.py).
 - No line of src/ and specs/ has more than 100 characters, but `use` lines and `#[tactic(..)]`, which `rt fmt` doesn't break.
@@ -31,7 +32,7 @@ from what_is_believed import fields_of_drawing, updated
 sys.path.append(f"{TOP}/tools/make")  # its tools make what is compared here
 from doc_examples import wrong_examples
 from manual import wrong_files
-from pictures import drawing_of_case, wrong_pictures
+from pictures import wrong_pictures
 
 LAWS_ALONE = ["cluster_width"]  # libraries without code
 WORDS = {"IsAfter", "IsTableDrawing", "input_table"}  # definitions, not functions
@@ -99,23 +100,25 @@ def wrong_trials():
 
 
 def on_one_line(text):
-    """A clause or a source, whatever its line breaks."""
-    return " ".join(text.split()).replace("; }", " }").replace("( ", "(")
+    """A clause, a signature or a source, whatever its line breaks and lifetimes."""
+    line = " ".join(text.split()).replace("; }", " }").replace("( ", "(").replace(", )", ")")
+    return re.sub(r"'\w+ (?=mut |\[|&|\w)|<'\w+>|\bmut (?=self\b)|\b(?:std::result|clap)::", "", line)
 
 
 def quoted_in(page):
-    """The clauses that a page quotes, each in the forms that its source may have: in a text block `S` and `S'` are what
-    `self` points to."""
+    """The clauses and signatures that a page quotes, each in the forms that its source may have: in a text block `S` and
+    `S'` are what `self` points to."""
     for block in re.findall(r"```rust\n(.*?)```", page, re.S):
         yield from ([it] for it in re.findall(r"^\s*((?:ensures|requires)\b.*?);?$", block, re.M))
     for block in re.findall(r"```text\n(.*?)```", page, re.S):
+        yield from ([f"fn {it}"] for it in re.findall(r"^fn (?:\w+::)*(.*)$", block, re.M))
         for clause in re.findall(r"^\s*ensures(?: \w+)?: (.*)$", block, re.M):
             after = re.sub(r"\bS'", "self.new", clause)
             yield [re.sub(r"\bS\b", before, after) for before in ("self.now", "self.old", "self.entry", "self")]
 
 
 def wrong_in_calling(crate):
-    """The clauses that a CALLING.md quotes and its library doesn't have."""
+    """The clauses and signatures that a CALLING.md quotes and its library doesn't have."""
     sources = [it for name in (crate, *TOLD_WITH.get(crate, []), *CALLERS) for it in sources_of(name)]
     source = on_one_line(" ".join(text_of(it) for it in sources))
     quoted = quoted_in(text_of(f"crates/{crate}/CALLING.md"))
@@ -170,9 +173,7 @@ def main():
     for group in re.findall(r"\[(P\d+(?:, P\d+)*)\]", readme):
         wrong += [f"README.md cites {it}, which isn't a heading" for it in group.split(", ") if it not in labels]
     wrong += [f"README.md doesn't print crates/{path}" for path in STORED if text_of(f"crates/{path}") not in readme]
-    if drawing_of_case("a-wide-file") not in readme:
-        wrong.append("README.md doesn't print the case a-wide-file")
-    for language, path in (("rust", "crates/example_ledger/src/main.rt"), ("python", "packages/python/examples/boats.py")):
+    for language, path in (("rust", "crates/example_first/src/main.rt"), ("python", "packages/python/examples/boats.py")):
         code = re.search(rf"^```{language}\n(.*?)^```", readme, re.M | re.S)[1]
         wrong += [f"{path} hasn't the line of README.md: {line}" for line in code.splitlines() if line not in text_of(path)]
     for path in glob.glob("crates/*/CALLING.md", root_dir=TOP):

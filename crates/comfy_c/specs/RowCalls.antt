@@ -1,5 +1,5 @@
 -- What settings and columns of a table of rows mean, and what is drawn of its texts.
-use Rattle.std.specs.Prelude.{◌≡◌, ◌⊎◌, ◌+◌, ◌-◌, ◌^◌, ◌==◌, ◌&&◌, not, nat_le, ℕ, Bool, false, List, [], ◌∷◌, All, Option, Some, None, Err, IsUtf8, decimal, is_some, length, map, slice_get, string_bytes, if◌then◌else◌}
+use Rattle.std.specs.Prelude.{◌≡◌, ◌⊎◌, ◌+◌, ◌-◌, ◌^◌, ◌==◌, ◌&&◌, not, nat_le, ℕ, Bool, true, false, List, [], ◌∷◌, All, Option, Some, None, Err, IsUtf8, decimal, is_some, length, map, slice_get, string_bytes, if◌then◌else◌}
 use Rattle.std.specs.List.{enumerate_from, filter, list_all}
 use Rattle.comfy_parts.specs.Presets.{preset_at}
 use Rattle.comfy_parts.specs.Text.{Text}
@@ -105,16 +105,20 @@ pub record IsSelectionFor (settings : RowsSettings) (columns : List ℕ)
   pub right : map string_bytes selection.right.items ≡ numbers_of 2 columns
   pub dropped : map string_bytes selection.dropped.items ≡ numbers_of 3 columns
 
+-- each byte stands for something
+abbrev pub are_bytes : List ℕ → Bool
+are_bytes columns = list_all (λ column. nat_le column 3) columns
+
 -- the options that settings and columns stand for
 pub record AreOptionsFor (settings : RowsSettings) (columns : List ℕ)
     (options : Options) : Type 0 where
   pub look : look_for settings ≡ Some options.look
+  pub bytes : are_bytes columns ≡ true
   pub selection : IsSelectionFor settings columns options.selection
 
 -- each number stands for something
 abbrev pub are_known : RowsSettings → List ℕ → Bool
-are_known settings columns =
-    is_some (look_for settings) && list_all (λ column. nat_le column 3) columns
+are_known settings columns = is_some (look_for settings) && are_bytes columns
 
 -- ---- drawings
 

@@ -1,7 +1,7 @@
 //! The settings of a table of rows, as numbers.
 
 ghost use Rattle.std.specs.Prelude.{◌≡◌, IfOk, IfNone, IfSome, false, map, slice_get, string_bytes};
-ghost use Rattle.comfy_c.specs.RowCalls.{AreOptionsFor, IsSelectionFor, are_known, expansions, limit_of, look_for, numbers_of, separators, style_at};
+ghost use Rattle.comfy_c.specs.RowCalls.{AreOptionsFor, IsSelectionFor, are_bytes, are_known, expansions, limit_of, look_for, numbers_of, separators, style_at};
 
 use comfy_parts::style::TableStyle;
 use comfy_parts::style::presets::{UTF8_FULL, by_position};
@@ -77,7 +77,7 @@ impl RowsSettings {
         let Some(look) = self.look() else {
             return Ok(None);
         };
-        if columns.iter().any(|column| HIDDEN < *column) {
+        if !are_bytes(columns) {
             return Ok(None);
         }
         Ok(Some(Options {
@@ -120,6 +120,13 @@ impl RowsSettings {
             is_markdown: self.is_markdown != 0,
         })
     }
+}
+
+// Whether each byte of a column stands for something.
+fn are_bytes(columns: &[u8]) -> bool
+    ensures { result ≡ are_bytes columns.now }
+{
+    columns.iter().all(|column| *column <= HIDDEN)
 }
 
 fn style_at(position: u32) -> Option<TableStyle>

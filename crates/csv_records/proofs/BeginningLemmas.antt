@@ -24,7 +24,7 @@ use Rattle.csv_records.specs.Input.{config_for}
 use Rattle.csv_records.specs.Quotes.{state_after}
 use Rattle.csv_records.specs.declared.delimiter.Delimiter.{Delimiter}
 use Rattle.csv_records.specs.declared.delimiter.Delimiter.TheVariants.{Auto, Byte, NamedOrTab, Spaces}
-use Rattle.csv_records.specs.Reading.{counts_quotes, parted, read_text, reads_quotes}
+use Rattle.csv_records.specs.Reading.{parted, read_text, reads_quotes}
 use Rattle.csv_records.proofs.ReadTextLemmas.{no_spaces, plain_quotes, plain_text}
 use Rattle.csv_records.specs.declared.encoding.Encoding.{Encoding}
 use Rattle.csv_records.specs.declared.encoding.Encoding.TheVariants.{Cp1252, Utf16, Utf8}

@@ -1,12 +1,13 @@
 -- What a column's fields say with one field more.
-use Rattle.std.proofs.Common.{◌≡◌, ◌&&◌, ◌||◌, Bool, true, false, List, [], ◌∷◌, ◌++◌, ℕ, fold, map, max, refl, sym, ap, ap₂, ◌∙◌}
+use Rattle.std.proofs.Common.{◌≡◌, ◌&&◌, ◌||◌, Bool, true, false, List, [], ◌∷◌, ◌++◌, ℕ, ap, ap₂, chars, fold, map, max, not, refl, sym, ◌∙◌}
+use Rattle.std.specs.Char.{is_ascii_digit}
 use Rattle.std.proofs.lemmas.List.{map-append}
 use Rattle.std.proofs.lemmas.List.Folds.{list_all-append, list_any-append}
 use Rattle.std.proofs.lemmas.List.Sums.{fold-append}
 use Rattle.std.specs.List.{list_all, list_any}
 use Rattle.comfy_parts.specs.Text.{Text}
 use Rattle.csv_records.specs.Decimals.{byte_of, decides, digits_in, fraction_len, is_plain, is_read, marks_of, use_of}
-use Rattle.csv_records.specs.Number.{halves}
+use Rattle.csv_records.specs.Number.{back_of, ends, front_of, halves, is_decimal, is_enclosed, is_name, is_neutral, is_number, is_scientific, is_signed, trimmed}
 use Rattle.csv_records.specs.declared.decimals.ColumnMarks.{ColumnMarks}
 use Rattle.csv_records.specs.declared.decimals.DecimalMark.{DecimalMark}
 use Rattle.csv_records.specs.declared.decimals.DecimalMark.TheVariants.{Comma, Point}
@@ -34,6 +35,40 @@ use_with mark this digits =
       is_read = this.is_read && is_read (halves (byte_of mark) digits);
       longest = max this.longest (fraction_len (halves (byte_of mark) digits));
     }
+
+-- a number that ends with a digit: one that isn't a name and has no exponent
+plain_number : (ends around named decimal scientific neutral : Bool)
+    → (neutral || (((around && (not named && (decimal || scientific))) && ends) && decimal)) ≡ ((ends && (around && (not named && decimal))) || neutral)
+plain_number ends around named decimal scientific neutral = by_cases ends around named decimal scientific neutral
+  where
+    by_cases : (a b c d e f : Bool) → (f || (((b && (not c && (d || e))) && a) && d)) ≡ ((a && (b && (not c && d))) || f)
+    by_cases a b c d e true = sym (or_true (a && (b && (not c && d))))
+      where
+        or_true : (x : Bool) → (x || true) ≡ true
+        or_true true = refl
+        or_true false = refl
+    by_cases true true true true e false = refl
+    by_cases true true true false e false = refl
+    by_cases true true false true e false = refl
+    by_cases true true false false true false = refl
+    by_cases true true false false false false = refl
+    by_cases true false c d e false = refl
+    by_cases false true true d e false = refl
+    by_cases false true false true e false = refl
+    by_cases false true false false true false = refl
+    by_cases false true false false false false = refl
+    by_cases false false c d e false = refl
+
+pub plain_by_parts : (field : Text)
+    → is_plain field ≡ ((ends is_ascii_digit (chars field) && ((is_signed (front_of (trimmed field)) (back_of (trimmed field)) || is_enclosed (front_of (trimmed field)) (back_of (trimmed field)))
+    && (not (is_name (digits_in field)) && is_decimal (digits_in field)))) || is_neutral field)
+unfolding is_number
+plain_by_parts field =
+    let front = front_of (trimmed field) in
+    let back = back_of (trimmed field) in
+    let digits = digits_in field in
+    plain_number (ends is_ascii_digit (chars field)) (is_signed front back || is_enclosed front back) (is_name digits) (is_decimal digits)
+    (is_scientific (halves 0x65 digits) || is_scientific (halves 0x45 digits)) (is_neutral field)
 
 use_more : (mark : DecimalMark) (fields : List Text) (field : Text) → use_with mark (use_of mark fields) (digits_in field) ≡ use_of mark (fields ++ field ∷ [])
 use_more mark fields field =

@@ -3,14 +3,14 @@ use Rattle.std.proofs.Common.{◌≡◌, ◌∙◌, ◌+◌, ◌-◌, ◌<◌, �
 use Rattle.std.proofs.lemmas.List.{take-append-drop}
 use Rattle.std.proofs.lemmas.List.Elements.{filter-append}
 use Rattle.std.proofs.lemmas.List.Splits.{slice_split-cons_no, slice_split-cons_yes}
-use Rattle.std.proofs.lemmas.List.Sums.{fails_before_first, prefix_len-le-length, prefix_len_passes, suffix_len-take_no, suffix_len-take_yes}
+use Rattle.std.proofs.lemmas.List.Sums.{fails_before_first, prefix_len_passes, suffix_len-take_no, suffix_len-take_yes}
 use Rattle.std.proofs.Math.Seq.{take-length}
 use Rattle.std.proofs.lemmas.List.{take_more}
 use Rattle.std.specs.Char.{is_ascii_whitespace}
 use Rattle.std.specs.List.{filter, onto_first, position_or_len, prefix_len, slice_split, suffix_len}
 use Rattle.std.specs.Prelude.{if◌then◌else◌, not}
 use Rattle.comfy_parts.specs.Text.{Text}
-use Rattle.csv_records.specs.Spaces.{KeepsAllButBlanks, behind_field, behind_gap, column_gaps, filled_lines, first_field, is_gap, spaced, tabbed_line, tabbed_text, trimmed_line, without_blanks}
+use Rattle.csv_records.specs.Spaces.{KeepsAllButBlanks, behind_field, behind_gap, column_gaps, filled_lines, first_field, is_gap, spaced, tabbed_line, trimmed_line, without_blanks}
 
 -- a blank in front counts nothing, and any byte in front is kept or isn't
 blank_first : (b : ℕ) (bs : Text) → is_ascii_whitespace b ≡ true → without_blanks (b ∷ bs) ≡ without_blanks bs

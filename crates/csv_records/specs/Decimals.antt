@@ -1,5 +1,5 @@
 -- Decimal marks of a column of numbers, and what its fractions lack to stand below each other.
-use Rattle.std.specs.Prelude.{ℕ, Bool, true, false, ◌+◌, ◌-◌, ◌==◌, ◌&&◌, ◌||◌, not, List, [], ◌∷◌, length, map, max, fold, Option, Some, None, chars, if◌then◌else◌}
+use Rattle.std.specs.Prelude.{ℕ, Bool, true, ◌+◌, ◌-◌, ◌==◌, ◌&&◌, ◌||◌, not, List, length, map, max, fold, Option, Some, None, chars, if◌then◌else◌}
 use Rattle.std.specs.Char.{is_ascii_digit}
 use Rattle.std.specs.List.{list_all, list_any}
 use Rattle.comfy_parts.specs.Text.{Text}

@@ -2,12 +2,12 @@
 
 ghost use Rattle.std.specs.Prelude.{◌≡◌, ◌<◌, ◌==◌, ◌&&◌, ◌||◌, ◌∷◌, ◌++◌, ℕ, Bool, List, [], chars, false, max, true};
 ghost use Rattle.std.specs.Char.{is_ascii_digit};
-ghost use Rattle.csv_records.specs.Number.{begins, ends, halves};
+ghost use Rattle.csv_records.specs.Number.{back_of, begins, ends, front_of, halves, trimmed};
 ghost use Rattle.csv_records.specs.Decimals.{byte_of, decides, digits_in, fraction_len, has_mark, is_plain, is_read, marks_of, may_be_whole, points_for, spaces_behind};
 
 use crate::number::{
-    has_groups, is_decimal, is_fraction, is_neutral, is_number, parts_of, position_of, split_last,
-    trimmed,
+    has_groups, is_bare_neutral, is_decimal_number, is_fraction, is_neutral, parts_of, position_of,
+    split_last, trimmed,
 };
 
 /// A decimal mark.
@@ -68,11 +68,12 @@ impl Points {
     pub fn spaces_behind(self, field: &str) -> usize
         ensures { result ≡ spaces_behind self field.now }
     {
-        if is_neutral(field) {
+        let text = trimmed(field);
+        if is_bare_neutral(text) {
             0
         } else {
-            self.longest
-                .saturating_sub(fraction_len(digits_in(field), self.mark))
+            let (_, digits, _) = parts_of(text);
+            self.longest.saturating_sub(fraction_len(digits, self.mark))
         }
     }
 }
@@ -88,7 +89,7 @@ impl MarkUse {
         }
     }
 
-    // With the digits of one field more.
+    // With the digits of one field more. Those without the mark say nothing of it.
     fn with(self, digits: &str, mark: DecimalMark) -> MarkUse
         ensures { result ≡ record {
           is_decided = self.is_decided || decides mark digits.now;
@@ -96,10 +97,14 @@ impl MarkUse {
           longest = max self.longest (fraction_len (halves (byte_of mark) digits.now));
         } }
     {
+        let len = fraction_len(digits, mark);
+        if len == 0 {
+            return self;
+        }
         MarkUse {
             is_decided: self.is_decided || decides(digits, mark),
-            is_read: self.is_read && is_read(digits, mark),
-            longest: self.longest.max(fraction_len(digits, mark)),
+            is_read: self.is_read && is_fraction(digits, mark.byte()),
+            longest: self.longest.max(len),
         }
     }
 
@@ -128,9 +133,9 @@ impl ColumnMarks {
         ensures { (fields : List (List ℕ)) → self ≡ marks_of fields
             → result ≡ marks_of (fields ++ field.now ∷ []) }
     {
-        let digits = digits_in(field);
+        let (front, digits, back) = parts_of(trimmed(field));
         ColumnMarks {
-            are_plain: self.are_plain && is_plain(field),
+            are_plain: self.are_plain && is_plain(field, front, digits, back),
             point: self.point.with(digits, DecimalMark::Point),
             comma: self.comma.with(digits, DecimalMark::Comma),
         }
@@ -158,18 +163,15 @@ impl ColumnMarks {
     }
 }
 
-// The digits of a field, with their marks.
-fn digits_in(field: &str) -> &str
-    ensures { result.now ≡ digits_in field.now }
-{
-    parts_of(trimmed(field)).1
-}
-
-// A field that says nothing, or a number that ends with a digit and has no exponent.
-fn is_plain(field: &str) -> bool
+// A number that ends with a digit and has no exponent, or a field that says nothing; by its digits
+// and what stands around them.
+fn is_plain(field: &str, front: &str, digits: &str, back: &str) -> bool
+    requires front { front.now ≡ front_of (trimmed field.now) }
+    requires digits { digits.now ≡ digits_in field.now }
+    requires back { back.now ≡ back_of (trimmed field.now) }
     ensures { result ≡ is_plain field.now }
 {
-    is_neutral(field) || is_number(field) && ends_with_digit(field) && is_decimal(digits_in(field))
+    ends_with_digit(field) && is_decimal_number(front, digits, back) || is_neutral(field)
 }
 
 fn ends_with_digit(field: &str) -> bool
@@ -196,13 +198,6 @@ fn begins_with_zero(bytes: &[u8]) -> bool
     ensures { result ≡ begins (λ b. b == 0x30) bytes.now }
 {
     matches!(bytes, [b'0', ..])
-}
-
-// Whether digits don't have this mark, or have a fraction behind it.
-fn is_read(digits: &str, mark: DecimalMark) -> bool
-    ensures { result ≡ is_read (halves (byte_of mark) digits.now) }
-{
-    position_of(digits.as_bytes(), mark.byte()).is_none() || is_fraction(digits, mark.byte())
 }
 
 // How many characters stand behind the whole number: the mark and the digits of the fraction.

@@ -1,6 +1,6 @@
 //! Which fields are numbers.
 
-ghost use Rattle.std.specs.Prelude.{◌≡◌, ◌∷◌, ◌++◌, ◌-◌, ◌<◌, ◌==◌, ℕ, Bool, [], IfNone, IfSome, bytes_eq, chars, encode_utf8, length};
+ghost use Rattle.std.specs.Prelude.{◌≡◌, ◌∷◌, ◌++◌, ◌-◌, ◌<◌, ◌==◌, ◌&&◌, ◌||◌, ℕ, Bool, [], IfNone, IfSome, bytes_eq, chars, encode_utf8, length, not};
 ghost use Rattle.std.specs.List.{list_any, position, prefix_len, suffix_len};
 ghost use Rattle.std.specs.Char.{is_ascii_digit, is_ascii_uppercase};
 ghost use Rattle.std.specs.Str.{IsCharBoundary};
@@ -59,7 +59,22 @@ fn is_bare_number(text: &str) -> bool
     ensures { result ≡ is_bare_number text.now }
 {
     let (front, figure, back) = parts_of(text);
-    (is_signed(front, back) || is_enclosed(front, back)) && is_figure(figure)
+    may_stand_around(front, back) && is_figure(figure)
+}
+
+// A number without exponent, by its figure and what stands around it.
+pub(crate) fn is_decimal_number(front: &str, figure: &str, back: &str) -> bool
+    ensures { result ≡ (is_signed front.now back.now || is_enclosed front.now back.now)
+        && (not (is_name figure.now) && is_decimal figure.now) }
+{
+    may_stand_around(front, back) && !is_name(figure.as_bytes()) && is_decimal(figure)
+}
+
+// What may stand around a figure.
+fn may_stand_around(front: &str, back: &str) -> bool
+    ensures { result ≡ is_signed front.now back.now || is_enclosed front.now back.now }
+{
+    is_signed(front, back) || is_enclosed(front, back)
 }
 
 // A field without spaces around it.
@@ -377,7 +392,7 @@ fn is_exponent(text: &str) -> bool
 }
 
 // A number without sign, exponent and unit.
-pub(crate) fn is_decimal(text: &str) -> bool
+fn is_decimal(text: &str) -> bool
     ensures { result ≡ is_decimal text.now }
 {
     is_digits(text.as_bytes())
@@ -514,7 +529,7 @@ pub fn is_neutral(field: &str) -> bool
     is_bare_neutral(trimmed(field))
 }
 
-fn is_bare_neutral(text: &str) -> bool
+pub(crate) fn is_bare_neutral(text: &str) -> bool
     ensures { result ≡ is_bare_neutral text.now }
 {
     text.is_empty() || text == "-" || is_missing(behind_sign(text))

@@ -1,80 +1,100 @@
--- The decimal marks of columns, one row and one column after another.
-use Rattle.std.proofs.Common.{◌≡◌, ◌&&◌, ℕ, Bool, true, false, List, [], ◌∷◌, ◌++◌, None, not, append_assoc, refl, sym, ap, ◌∙◌}
-use Rattle.std.specs.List.{list_all}
+-- The decimal marks of columns, one column after another.
+use Rattle.std.proofs.Common.{◌≡◌, ◌∙◌, ◌&&◌, ◌||◌, ◌==◌, ℕ, Bool, true, false, List, [], ◌∷◌, ◌++◌, Option, Some, None, ap, ap₂, eqb-true, refl, sym}
+use Rattle.std.specs.List.{list_all, list_any}
 use Rattle.std.specs.Prelude.{if◌then◌else◌}
-use Rattle.std.proofs.lemmas.List.{map-append}
-use Rattle.std.proofs.lemmas.List.Folds.{list_all-append}
+use Rattle.std.proofs.lemmas.List.Folds.{list_any-append}
+use Rattle.std.specs.Str.{chars}
 use Rattle.comfy_parts.specs.Text.{Text}
-use Rattle.csv_records.specs.Decimals.{is_plain, marks_of, points_for, points_of}
+use Rattle.csv_records.specs.Decimals.{decides, digits_in, fraction_len, is_plain, is_read, marks_of, points_for, use_of}
+use Rattle.csv_records.specs.Number.{halves, is_neutral, is_number}
 use Rattle.csv_records.specs.declared.decimals.ColumnMarks.{ColumnMarks}
-use Rattle.csv_tables.specs.Cells.{field_or_blank}
-use Rattle.csv_tables.specs.Decimals.{column_fields, is_narrow, mark_of_column}
+use Rattle.csv_records.specs.declared.decimals.DecimalMark.{DecimalMark}
+use Rattle.csv_records.specs.declared.decimals.DecimalMark.TheVariants.{Comma, Point}
+use Rattle.csv_records.specs.declared.decimals.Points.{Points}
+use Rattle.csv_tables.proofs.BlankFieldLemmas.{all_there, any_there, max_there}
+use Rattle.csv_tables.specs.Decimals.{column_fields, is_narrow, mark_at, mark_in, mark_of_column, narrow_marks, points_in}
+use Rattle.csv_tables.specs.Markdown.{is_right}
+use Rattle.csv_tables.specs.Summaries.{fields_there}
+use Rattle.csv_tables.specs.declared.options.DrawnColumn.{DrawnColumn}
 
--- ---- rows
+-- ---- missing fields say nothing
 
--- what the rows before the rest say of a column; all their fields are narrow
-pub record MarksUntil (all rest : List (List Text)) (position : ℕ) (marks : ColumnMarks) : Type 0 where
-  pub done : List (List Text)
-  pub whole : done ++ rest ≡ all
-  pub marks_are : marks ≡ marks_of (column_fields done position)
-  pub narrow : list_all is_narrow (column_fields done position) ≡ true
+blank_plain : is_plain [] ≡ true
+unfolding chars is_neutral is_number
+blank_plain = refl
 
-more_fields : (done : List (List Text)) (row : List Text) (position : ℕ) → column_fields (done ++ row ∷ []) position ≡ column_fields done position ++ field_or_blank row position ∷ []
-more_fields done row position = map-append (λ (fields : List Text). field_or_blank fields position) done (row ∷ [])
+blank_digits : digits_in [] ≡ []
+unfolding chars
+blank_digits = refl
 
--- a test of all fields, by those of the rows before, of one row and of those behind it
-tested : (p : Text → Bool) (all done rest : List (List Text)) (row : List Text) (position : ℕ) → done ++ row ∷ rest ≡ all
-    → list_all p (column_fields all position) ≡ (list_all p (column_fields (done ++ row ∷ []) position) && list_all p (column_fields rest position))
-tested p all done rest row position whole =
-    let each = λ (fields : List Text). field_or_blank fields position in
-    ap (λ (rows : List (List Text)). list_all p (column_fields rows position)) (sym whole ∙ sym (append_assoc done (row ∷ []) rest))
-    ∙ ap (list_all p) (map-append each (done ++ row ∷ []) rest)
-    ∙ list_all-append p (column_fields (done ++ row ∷ []) position) (column_fields rest position)
+use_there : (mark : DecimalMark) (rows : List (List Text)) (position : ℕ) → use_of mark (fields_there rows position) ≡ use_of mark (column_fields rows position)
+use_there Point rows position = rw (any_there (λ field. decides Point (digits_in field)) (rw blank_digits refl) rows position, all_there (λ field. is_read (halves 0x2E (digits_in field))) (rw blank_digits refl) rows position, max_there (λ field. fraction_len (halves 0x2E (digits_in field))) (rw blank_digits refl) rows position 0) refl
+use_there Comma rows position = rw (any_there (λ field. decides Comma (digits_in field)) (rw blank_digits refl) rows position, all_there (λ field. is_read (halves 0x2C (digits_in field))) (rw blank_digits refl) rows position, max_there (λ field. fraction_len (halves 0x2C (digits_in field))) (rw blank_digits refl) rows position 0) refl
 
-module _ (all rest : List (List Text)) (row : List Text) (position : ℕ) (marks : ColumnMarks) (known : MarksUntil all (row ∷ rest) position marks) (more : ColumnMarks)
-    (gives : (fields : List Text) → marks ≡ marks_of fields → more ≡ marks_of (fields ++ field_or_blank row position ∷ [])) where
-  abbrev until : List (List Text)
-  until = known.done ++ row ∷ []
+marks_there : (rows : List (List Text)) (position : ℕ) → marks_of (fields_there rows position) ≡ marks_of (column_fields rows position)
+marks_there rows position = rw (all_there is_plain blank_plain rows position, use_there Point rows position, use_there Comma rows position) refl
 
-  more_marks : more ≡ marks_of (column_fields until position)
-  more_marks = gives (column_fields known.done position) known.marks_are ∙ ap marks_of (sym (more_fields known.done row position))
+abbrev made : Bool → Bool → ColumnMarks → Option ColumnMarks
+made narrow plain marks = if narrow && plain then Some marks else None
 
-  narrow-more : list_all is_narrow (column_fields until position) ≡ is_narrow (field_or_blank row position)
-  narrow-more =
-      ap (list_all is_narrow) (more_fields known.done row position) ∙ list_all-append is_narrow (column_fields known.done position) (field_or_blank row position ∷ [])
-      ∙ ap (λ (b : Bool). b && (is_narrow (field_or_blank row position) && true)) known.narrow ∙ last (is_narrow (field_or_blank row position))
+-- the mark of a column, by the fields that are there
+pub points_there : (rows : List (List Text)) (position : ℕ) → points_in (narrow_marks (fields_there rows position)) ≡ mark_of_column rows position
+points_there rows position =
+    let narrow = all_there is_narrow refl rows position in
+    let plain = all_there is_plain blank_plain rows position in
+    let marks = marks_there rows position in
+    ap (λ (b : Bool). points_in (made b (list_all is_plain (fields_there rows position)) (marks_of (fields_there rows position)))) narrow
+    ∙ ap (λ (b : Bool). points_in (made (list_all is_narrow (column_fields rows position)) b (marks_of (fields_there rows position)))) plain
+    ∙ ap (λ (m : ColumnMarks). points_in (made (list_all is_narrow (column_fields rows position)) (list_all is_plain (column_fields rows position)) m)) marks
+    ∙ by_tests (list_all is_narrow (column_fields rows position)) (marks_of (column_fields rows position))
+  where
+    by_tests : (narrow : Bool) (marks : ColumnMarks) → points_in (if narrow && marks.are_plain then Some marks else None) ≡ (if narrow then points_for marks else None)
+    by_tests false marks = refl
+    by_tests true marks = by_plain marks.are_plain refl
+      where
+        by_plain : (plain : Bool) → marks.are_plain ≡ plain → points_in (if true && marks.are_plain then Some marks else None) ≡ points_for marks
+        by_plain true is = rw is refl
+        by_plain false is = rw is refl
+
+-- ---- one column more
+
+module _ (columns : List DrawnColumn) (column : DrawnColumn) (rows : List (List Text)) (marks : List (Option Points)) (known : (at : ℕ) → mark_in marks at ≡ mark_at columns rows at) where
+  abbrev chosen : ℕ → DrawnColumn → Bool
+  chosen at c = (c.position == at) && is_right c.alignment
+
+  abbrev marked : Bool → ℕ → Option Points
+  marked b at = if b then mark_of_column rows at else None
+
+  right_more : (at : ℕ) → list_any (chosen at) (columns ++ column ∷ []) ≡ (list_any (chosen at) columns || (chosen at column || false))
+  right_more at = list_any-append (chosen at) columns (column ∷ [])
+
+  -- one that isn't at the right
+  pub mark_same : is_right column.alignment ≡ false → (at : ℕ) → mark_in marks at ≡ mark_at (columns ++ column ∷ []) rows at
+  mark_same other at = known at ∙ ap (λ (b : Bool). marked b at) (sym (right_more at ∙ ap (λ (r : Bool). list_any (chosen at) columns || (((column.position == at) && r) || false)) other ∙ none (list_any (chosen at) columns) (column.position == at)))
     where
-      last : (b : Bool) → (true && (b && true)) ≡ b
-      last true = refl
-      last false = refl
+      none : (b here : Bool) → (b || ((here && false) || false)) ≡ b
+      none true here = refl
+      none false true = refl
+      none false false = refl
 
-  -- one row more
-  pub next_row : is_narrow (field_or_blank row position) ≡ true → MarksUntil all rest position more
-  next_row narrow = record { done = until; whole = append_assoc known.done (row ∷ []) rest ∙ known.whole; marks_are = more_marks; narrow = narrow-more ∙ narrow }
+  abbrev chosen_by : ℕ → Bool → Option Points
+  chosen_by at b = if b then mark_of_column rows column.position else mark_in marks at
 
-  -- a field that isn't narrow
-  pub not_narrow : is_narrow (field_or_blank row position) ≡ false → mark_of_column all position ≡ None
-  not_narrow wide =
-      let none = tested is_narrow all known.done rest row position known.whole ∙ ap (λ (b : Bool). b && list_all is_narrow (column_fields rest position)) (narrow-more ∙ wide) in
-      ap (λ (b : Bool). if b then points_of (column_fields all position) else None) none
-
-  -- or not plain
-  pub not_plain : more.are_plain ≡ false → mark_of_column all position ≡ None
-  not_plain other = by_narrow (list_all is_narrow (column_fields all position))
+  -- or one whose mark is put in its place
+  pub mark_put : (more : List (Option Points)) → is_right column.alignment ≡ true
+      → ((at : ℕ) → mark_in more at ≡ if column.position == at then mark_of_column rows column.position else mark_in marks at)
+      → (at : ℕ) → mark_in more at ≡ mark_at (columns ++ column ∷ []) rows at
+  mark_put more right put at = by_test (column.position == at) refl
     where
-      none : (marks_of (column_fields all position)).are_plain ≡ false
-      none =
-          tested is_plain all known.done rest row position known.whole
-          ∙ ap (λ (b : Bool). b && list_all is_plain (column_fields rest position)) (sym (ap (λ (m : ColumnMarks). m.are_plain) more_marks) ∙ other)
+      elsewhere : (b : Bool) → (b || ((false && true) || false)) ≡ b
+      elsewhere true = refl
+      elsewhere false = refl
 
-      unmarked : (m : ColumnMarks) → m.are_plain ≡ false → points_for m ≡ None
-      unmarked m is = rw is refl
+      here : (b : Bool) → (b || ((true && true) || false)) ≡ true
+      here true = refl
+      here false = refl
 
-      by_narrow : (b : Bool) → (if b then points_of (column_fields all position) else None) ≡ None
-      by_narrow true = unmarked (marks_of (column_fields all position)) none
-      by_narrow false = refl
-
--- a test that fails
-pub fails : (b : Bool) → not b ≡ true → b ≡ false
-fails true is = absurd (cc is)
-fails false is = refl
+      by_test : (b : Bool) → (column.position == at) ≡ b → mark_in more at ≡ mark_at (columns ++ column ∷ []) rows at
+      by_test false is = put at ∙ ap (chosen_by at) is ∙ known at ∙ ap (λ (b : Bool). marked b at) (sym (right_more at ∙ ap₂ (λ (h r : Bool). list_any (chosen at) columns || ((h && r) || false)) is right ∙ elsewhere (list_any (chosen at) columns)))
+      by_test true is =
+          put at ∙ ap (chosen_by at) is ∙ ap (λ (p : ℕ). mark_of_column rows p) (eqb-true column.position at is) ∙ ap (λ (b : Bool). marked b at) (sym (right_more at ∙ ap₂ (λ (h r : Bool). list_any (chosen at) columns || ((h && r) || false)) is right ∙ here (list_any (chosen at) columns)))

@@ -1,5 +1,5 @@
 -- Numbers and dates of expanded records are broken only where names leave them no room.
-use Rattle.std.proofs.Common.{◌≡◌, ◌≤◌, ◌<◌, ◌&&◌, ℕ, ◌+◌, ◌-◌, ◌/◌, Bool, true, false, not, cond, List, [], ◌∷◌, Option, Some, None, MatchBool, flat_map, length, map, max, min, nat_le, nat_lt, replicate, slice_index, slice_index_or, sum, unwrap_or, refl, sym, ap, ap₂, ◌∙◌, subst, arith, ⊎_elim}
+use Rattle.std.proofs.Common.{◌≡◌, ◌≤◌, ◌<◌, ◌&&◌, ℕ, ◌+◌, ◌-◌, ◌/◌, Bool, true, false, not, cond, List, [], ◌∷◌, Option, Some, None, MatchBool, flat_map, length, map, max, min, nat_le, nat_lt, replicate, slice_index, slice_index_or, sum, refl, sym, ap, ap₂, ◌∙◌, subst, arith, ⊎_elim}
 use Rattle.std.specs.List.{All, AllByRecursion, AllZip, range_with_len}
 use Rattle.std.specs.Prelude.{if◌then◌else◌}
 use Rattle.std.proofs.lemmas.Bool.{le-leb, leb-true, ltb-false, ltb-true}

@@ -1,4 +1,5 @@
 pub mod BesideLemmas
+pub mod BlankFieldLemmas
 pub mod BlankLemmas
 pub mod BuiltLemmas
 pub mod CleanCharacterLemmas
@@ -34,6 +35,7 @@ pub mod SeenLemmas
 pub mod SeparatorLemmas
 pub mod SpacedLemmas
 pub mod StraightLemmas
+pub mod SummaryLemmas
 pub mod TextLineLemmas
 pub mod TextTableLemmas
 pub mod UnbrokenFieldLemmas

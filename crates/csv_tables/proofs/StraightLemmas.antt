@@ -1,5 +1,5 @@
 -- What is visible of the lines of an output is equally wide.
-use Rattle.std.proofs.Common.{◌≡◌, ℕ, ◌≤◌, ◌+◌, ◌⊎◌, Bool, true, false, List, [], ◌∷◌, Option, Some, None, Ok, All, arith, decimal, inl, inr, map, max, option_map, slice_index_or, unwrap_or, ap, refl, subst, sym, ◌∙◌}
+use Rattle.std.proofs.Common.{◌≡◌, ℕ, ◌≤◌, ◌⊎◌, Bool, true, false, List, [], ◌∷◌, Option, Some, None, Ok, All, arith, decimal, inl, inr, map, max, option_map, slice_index_or, unwrap_or, ap, refl, subst, sym, ◌∙◌}
 use Rattle.std.proofs.lemmas.List.Elements.{All-cons, All-map, All-nil, All-weaker}
 use Rattle.std.proofs.lemmas.Str.{chars-nil}
 use Rattle.cluster_width.specs.ClusterSums.{selectors_agree}

@@ -1,5 +1,5 @@
 -- Which columns are drawn, and how their cells are aligned.
-use Rattle.std.specs.Prelude.{ℕ, Bool, true, false, ◌≡◌, ◌+◌, ◌-◌, ◌==◌, ◌&&◌, nat_le, nat_lt, not, List, [], ◌∷◌, ◌++◌, Option, Some, None, Result, Ok, Err, String, bytes_eq, decimal, drop, find, fold, get_or, length, map, max, ok_or, option_map, slice_index_or, string_bytes, take, unwrap_or, if◌then◌else◌}
+use Rattle.std.specs.Prelude.{ℕ, Bool, true, false, ◌≡◌, ◌+◌, ◌-◌, ◌==◌, ◌&&◌, nat_le, nat_lt, not, List, [], ◌∷◌, ◌++◌, Option, Some, None, Result, Ok, Err, String, bytes_eq, decimal, drop, find, fold, get_or, length, map, max, ok_or, option_map, string_bytes, take, unwrap_or, if◌then◌else◌}
 use Rattle.std.specs.Option.{option_or}
 use Rattle.std.specs.List.{filter, list_any, position_from, range_with_len}
 use Rattle.comfy_parts.specs.Text.{Text}
@@ -171,24 +171,17 @@ joined_kind Neutral kind = kind
 joined_kind Number kind = if is_other_kind kind then Other else Number
 joined_kind Other kind = Other
 
--- what a record's fields say of their columns, each with what was known of its column
-abbrev pub joined_kinds : List FieldKind → List Text → List FieldKind
-joined_kinds kinds [] = kinds
-joined_kinds [] (field ∷ fields) = map kind_of (field ∷ fields)
-joined_kinds (kind ∷ kinds) (field ∷ fields) =
-    joined_kind kind (kind_of field) ∷ joined_kinds kinds fields
+-- what the fields of a column say together
+abbrev pub column_kind : List Text → FieldKind
+column_kind fields =
+    if list_any (λ field. is_other_kind (kind_of field)) fields then Other
+    else if list_any (λ field. is_number_kind (kind_of field)) fields then Number else Neutral
 
 -- each field of a column is a number or neutral, and some field is a number
 abbrev pub is_number_column : List (List Text) → ℕ → Bool
 is_number_column rows position =
     not (list_any (λ fields. is_other_kind (kind_at position fields)) rows)
     && list_any (λ fields. is_number_kind (kind_at position fields)) rows
-
--- the kinds by which columns are number columns; of a column past the list nothing is known
-abbrev pub AreKindsOf : List (List Text) → List FieldKind → Type 0
-AreKindsOf rows kinds =
-    (position : ℕ) → is_number_kind (slice_index_or kinds position Neutral)
-    ≡ is_number_column rows position
 
 -- the alignment of a column: that which was chosen for it, else at the right where its fields are
 -- numbers

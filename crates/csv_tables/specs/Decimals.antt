@@ -3,7 +3,8 @@ use Rattle.std.specs.Prelude.{ℕ, Bool, ◌==◌, ◌&&◌, ◌+◌, List, [], 
 use Rattle.std.specs.List.{list_all, list_any, slice_index_or}
 use Rattle.comfy_parts.specs.Text.{Text, is_printable_ascii, spaces}
 use Rattle.csv_records.specs.Cleaning.{visible_of}
-use Rattle.csv_records.specs.Decimals.{points_of, spaces_behind}
+use Rattle.csv_records.specs.Decimals.{is_plain, marks_of, points_for, points_of, spaces_behind}
+use Rattle.csv_records.specs.declared.decimals.ColumnMarks.{ColumnMarks}
 use Rattle.csv_records.specs.declared.decimals.Points.{Points}
 use Rattle.csv_tables.specs.Cells.{field_or_blank}
 use Rattle.csv_tables.specs.Markdown.{is_right}
@@ -25,6 +26,15 @@ mark_of_column rows position =
     if list_all is_narrow (column_fields rows position)
     then points_of (column_fields rows position)
     else None
+
+-- what fields say of their decimal mark, where all are narrow, and numbers or neutral
+abbrev pub narrow_marks : List Text → Option ColumnMarks
+narrow_marks fields =
+    if list_all is_narrow fields && list_all is_plain fields then Some (marks_of fields) else None
+
+abbrev pub points_in : Option ColumnMarks → Option Points
+points_in None = None
+points_in (Some marks) = points_for marks
 
 -- the column at a position is drawn at the right
 abbrev pub is_right_at : List DrawnColumn → ℕ → Bool

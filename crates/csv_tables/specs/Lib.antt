@@ -14,6 +14,7 @@ pub mod OneOutput
 pub mod References
 pub mod Run
 pub mod Separators
+pub mod Summaries
 pub mod Unbroken
 pub mod ConstrainedAt
 pub mod Leasts

@@ -8,11 +8,12 @@ ghost use Rattle.csv.specs.Records.{field_at};
 ghost use Rattle.csv_records.specs.Cleaning.{visible_of};
 ghost use Rattle.csv_tables.specs.Cells.{field_or_blank};
 ghost use Rattle.csv_tables.specs.declared.columns.FieldKind.TheVariants.{Neutral};
-ghost use Rattle.csv_tables.specs.Columns.{AreKindsOf, IsColumnsRefusal, alignment_for, at_two_sides, chosen_columns, column_of, columns_chosen, columns_for, count_of, drawn_columns, end_of, is_text, joined_kind, joined_kinds, kept_columns, kind_at, kind_of, name_at, name_from, numbered, position_named, positions_of, positions_of_word, range_at, range_of, seen, without};
+ghost use Rattle.csv_tables.specs.Columns.{IsColumnsRefusal, alignment_for, at_two_sides, chosen_columns, column_kind, column_of, columns_chosen, columns_for, count_of, drawn_columns, end_of, is_text, joined_kind, kept_columns, kind_of, name_at, name_from, numbered, position_named, positions_of, positions_of_word, range_at, range_of, seen, without};
 
 use crate::error::ColumnsError;
 use crate::hints::hint_of;
 use crate::options::{DrawnColumn, Options, Selection};
+use crate::summary::{Summary, summaries_of, summary_at};
 use comfy_parts::content_split::visible_text;
 use comfy_parts::style::CellAlignment;
 use csv_records::{Record, Rows, is_neutral, is_number, number_of};
@@ -315,10 +316,10 @@ fn drawn_columns(
     ensures { IfOk result (λ columns. columns.items
         ≡ drawn_columns right.now left.now (map (seen has_sequences) rows.now) positions.now) }
 {
-    let kinds = column_kinds(alloc, rows, has_sequences)?;
+    let kinds = summaries_of::<FieldKind>(alloc, rows, has_sequences)?;
     let mut columns = Vec::with_capacity(alloc, positions.len())?;
     for position in positions {
-        let has_numbers = matches!(kind_in(kinds.as_slice(), *position), FieldKind::Number);
+        let has_numbers = matches!(summary_at(kinds.as_slice(), *position), FieldKind::Number);
         columns.push(DrawnColumn {
             position: *position,
             alignment: alignment_of(*position, right, left, has_numbers),
@@ -347,52 +348,6 @@ fn alignment_of(
     }
 }
 
-// What the fields of each column say. Records are looked at one by one, since most may have few of
-// the columns.
-fn column_kinds(
-    alloc: Global,
-    rows: &Rows<'_>,
-    has_sequences: bool,
-) -> Result<Vec<FieldKind>, AllocError>
-    ensures { IfOk result (λ kinds. AreKindsOf (map (seen has_sequences) rows.now) kinds.items) }
-{
-    let mut kinds = Vec::new(alloc);
-    for row in rows.iter() {
-        join_kinds(alloc, &mut kinds, &row, has_sequences)?;
-    }
-    Ok(kinds)
-}
-
-// Adds what the fields of a record say of their columns.
-fn join_kinds(
-    alloc: Global,
-    kinds: &mut Vec<FieldKind>,
-    row: &Record<'_>,
-    has_sequences: bool,
-) -> Result<(), AllocError>
-    ensures { OnOk result (kinds.new.items
-        ≡ joined_kinds kinds.old.items (seen has_sequences row.now)) }
-{
-    for position in 0..row.len() {
-        match kind_in(kinds.as_slice(), position) {
-            // No further field changes that.
-            FieldKind::Other => {}
-            known => {
-                let kind = joined_kind(known, kind_at(alloc, position, row, has_sequences)?);
-                put_kind(kinds, position, kind)?;
-            }
-        }
-    }
-    Ok(())
-}
-
-// The kind of a column; neutral where none of its fields was seen.
-fn kind_in(kinds: &[FieldKind], position: usize) -> FieldKind
-    ensures { result ≡ slice_index_or kinds.now position Neutral }
-{
-    kinds.get(position).copied().unwrap_or(FieldKind::Neutral)
-}
-
 // What two fields say of one column.
 fn joined_kind(one: FieldKind, other: FieldKind) -> FieldKind
     ensures { result ≡ joined_kind one other }
@@ -404,20 +359,6 @@ fn joined_kind(one: FieldKind, other: FieldKind) -> FieldKind
     }
 }
 
-// Puts a kind in the place of another, or behind the last.
-fn put_kind(kinds: &mut Vec<FieldKind>, position: usize, kind: FieldKind) -> Result<(), AllocError>
-    ensures { OnOk result (kinds.new.items ≡ if nat_lt position (length kinds.old.items)
-        then slice_set kinds.old.items position kind
-        else kinds.old.items ++ kind ∷ []) }
-{
-    if let Some(known) = kinds.get_mut(position) {
-        *known = kind;
-        return Ok(());
-    }
-    kinds.push(kind)?;
-    Ok(())
-}
-
 // What a field says of its column.
 #[derive(Clone, Copy)]
 enum FieldKind {
@@ -427,17 +368,20 @@ enum FieldKind {
     Other,
 }
 
-// What the field at a position says, as it is seen.
-fn kind_at(
-    alloc: Global,
-    position: usize,
-    row: &Record<'_>,
-    has_sequences: bool,
-) -> Result<FieldKind, AllocError>
-    ensures { IfOk result (λ kind. kind ≡ kind_at position (seen has_sequences row.now)) }
-{
-    let field = seen_field(alloc, position, row, has_sequences)?;
-    Ok(kind_of(field.as_str()))
+impl Summary for FieldKind {
+    ghost summary_of = { column_kind };
+
+    fn new() -> FieldKind {
+        FieldKind::Neutral
+    }
+
+    fn with(self, field: &str) -> FieldKind {
+        joined_kind(self, kind_of(field))
+    }
+
+    fn is_settled(self) -> bool {
+        matches!(self, FieldKind::Other)
+    }
 }
 
 /// The field at a position as it is seen, without sequences that are kept. A missing one is blank.

@@ -1,20 +1,21 @@
 //! Decimal points below each other.
 
-ghost use Rattle.std.specs.Prelude.{◌≡◌, ◌<◌, ◌==◌, ◌++◌, ℕ, IfOk, OnOk, if◌then◌else◌, length, map, string_bytes};
+ghost use Rattle.std.specs.Prelude.{◌≡◌, ◌++◌, ℕ, IfOk, map, string_bytes};
 ghost use Rattle.std.specs.Cow.{cow_str_bytes};
 ghost use Rattle.csv_tables.specs.Columns.{seen};
-ghost use Rattle.csv_tables.specs.Decimals.{is_narrow, mark_at, mark_in, mark_of_column, spaced};
+ghost use Rattle.csv_tables.specs.Decimals.{is_narrow, mark_at, mark_in, narrow_marks, points_in, spaced};
 ghost use Rattle.csv_tables.specs.Drawn.{marks_for};
 ghost use Rattle.comfy_parts.specs.Text.{spaces};
 ghost use Rattle.csv_records.specs.Cleaning.{visible_of};
 ghost use Rattle.csv_records.specs.Decimals.{spaces_behind};
 
-use crate::columns::{seen_field, seen_text};
+use crate::columns::seen_text;
 use crate::content::Content;
 use crate::markdown::is_right;
 use crate::options::Look;
+use crate::summary::{Summary, put_at, summaries_of, summary_at};
 use comfy_parts::content_split::is_printable;
-use csv_records::{ColumnMarks, Points, Rows};
+use csv_records::{ColumnMarks, Points};
 use std::alloc::{AllocError, Global};
 use std::borrow::CowStr;
 
@@ -42,40 +43,43 @@ fn marks_of_columns(
     ensures { IfOk result (λ marks. (position : ℕ) → mark_in marks.items position
         ≡ mark_at content.now.columns (map (seen has_sequences) content.now.rows) position) }
 {
+    let fields = summaries_of(content.alloc, &content.rows(), has_sequences)?;
     let mut marks = Vec::new(content.alloc);
     for column in &content.columns {
         if is_right(column.alignment) {
-            let mark = mark_of_column(
-                content.alloc,
-                column.position,
-                &content.rows(),
-                has_sequences,
-            )?;
-            put_mark(&mut marks, column.position, mark)?;
+            let mark = points_in(summary_at(fields.as_slice(), column.position));
+            put_at(&mut marks, column.position, mark, None)?;
         }
     }
     Ok(marks)
 }
 
-// The decimal mark of the column at a position, where its fields have one.
-fn mark_of_column(
-    alloc: Global,
-    position: usize,
-    rows: &Rows<'_>,
-    has_sequences: bool,
-) -> Result<Option<Points>, AllocError>
-    ensures { IfOk result (λ mark. mark
-        ≡ mark_of_column (map (seen has_sequences) rows.now) position) }
-{
-    let mut marks = ColumnMarks::new();
-    for row in rows.iter() {
-        let field = seen_field(alloc, position, &row, has_sequences)?;
-        marks = marks.with(field.as_str());
-        if !marks.are_plain || !is_narrow(field.as_str()) {
-            return Ok(None);
+impl Summary for Option<ColumnMarks> {
+    ghost summary_of = { narrow_marks };
+
+    fn new() -> Option<ColumnMarks> {
+        Some(ColumnMarks::new())
+    }
+
+    fn with(self, field: &str) -> Option<ColumnMarks> {
+        let marks = self?.with(field);
+        if marks.are_plain && is_narrow(field) {
+            Some(marks)
+        } else {
+            None
         }
     }
-    Ok(marks.points())
+
+    fn is_settled(self) -> bool {
+        self.is_none()
+    }
+}
+
+// The decimal mark of a column, where its fields have one.
+fn points_in(marks: Option<ColumnMarks>) -> Option<Points>
+    ensures { result ≡ points_in marks }
+{
+    marks?.points()
 }
 
 // At most 25 characters of printable ASCII.
@@ -83,36 +87,6 @@ fn is_narrow(field: &str) -> bool
     ensures { result ≡ is_narrow field.now }
 {
     field.len() <= LONGEST && is_printable(field.as_bytes())
-}
-
-// Puts the mark of a column into a list, where there is one.
-fn put_mark(
-    marks: &mut Vec<Option<Points>>,
-    position: usize,
-    mark: Option<Points>,
-) -> Result<(), AllocError>
-    ensures { OnOk result ((at : ℕ) → mark_in marks.new.items at
-        ≡ if position == at then mark else mark_in marks.old.items at) }
-{
-    if mark.is_some() {
-        widen(marks, position)?;
-    }
-    if let Some(place) = marks.get_mut(position) {
-        *place = mark;
-    }
-    Ok(())
-}
-
-// Lets a list have a place at a position.
-fn widen(marks: &mut Vec<Option<Points>>, position: usize) -> Result<(), AllocError>
-    ensures long { OnOk result (position < length marks.new.items) }
-    ensures same { OnOk result ((at : ℕ) → mark_in marks.new.items at
-        ≡ mark_in marks.old.items at) }
-{
-    while marks.len() <= position {
-        marks.push(None)?;
-    }
-    Ok(())
 }
 
 /// The mark at a position.

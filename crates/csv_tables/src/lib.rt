@@ -15,6 +15,7 @@ mod options;
 mod output;
 mod references;
 mod separators;
+mod summary;
 mod table;
 mod transfer;
 mod unbroken;

@@ -3,19 +3,18 @@
 ghost use Rattle.std.specs.Prelude.{◌≡◌, ◌||◌, ◌-◌, ◌≤◌, ◌^◌, IfOk, OnOk, Some, chars, false, length, map, min, nat_le, slice_get, slice_index, true, unwrap_or};
 ghost use Rattle.std.specs.List.{list_all};
 ghost use Rattle.csv_records.specs.Number.{is_neutral, is_number};
-ghost use Rattle.csv_tables.specs.Columns.{seen};
 ghost use Rattle.comfy_table.specs.TableValue.{max_content_widths, measured_cell};
-ghost use Rattle.csv_tables.specs.Unbroken.{cell_unbroken_width, constrained_column, field_width, framed_width, has_room, is_of_dates, is_unbroken, is_unbroken_column, kept_unbroken, kept_unbroken_fields, may_break, needed_content, needed_contents, room_beside, room_for_two, unbroken_columns, unbroken_width, with_constrained, with_content, with_field_width};
+ghost use Rattle.csv_tables.specs.Unbroken.{cell_unbroken_width, constrained_column, field_width, framed_width, has_room, is_of_dates, is_unbroken, kept_unbroken, kept_unbroken_fields, may_break, needed_content, needed_contents, room_beside, room_for_two, unbroken_columns, unbroken_width, with_constrained, with_content, with_field_width};
 ghost use Rattle.csv_tables.specs.ConstrainedAt.{constrained_at};
 
-use crate::columns::seen_field;
 use crate::content::Content;
 use crate::options::Look;
+use crate::summary::{Summary, summaries_of, summary_at};
 use comfy_parts::content_split::measure_text_width;
 use comfy_parts::for_tables::measured_lines;
 use comfy_table::utils::arrangement::helper::count_border_columns;
 use comfy_table::{Cell, Column, ColumnConstraint, Result, Table, Width};
-use csv_records::{Rows, is_neutral, is_number};
+use csv_records::{is_neutral, is_number};
 use std::alloc::{AllocError, Global};
 
 // How many characters a field has at most that isn't broken.
@@ -54,17 +53,36 @@ fn unbroken_columns(
     ensures { IfOk result (λ unbroken. unbroken.items
         ≡ unbroken_columns has_sequences content.now.columns content.now.rows) }
 {
+    let fields = summaries_of::<Unbroken>(content.alloc, &content.rows(), has_sequences)?;
     let mut unbroken = Vec::with_capacity(content.alloc, content.columns.len())?;
     for column in &content.columns {
-        let is_unbroken = is_unbroken_column(
-            content.alloc,
-            column.position,
-            &content.rows(),
-            has_sequences,
-        )?;
-        unbroken.push(is_unbroken)?;
+        unbroken.push(summary_at(fields.as_slice(), column.position).are_all)?;
     }
     Ok(unbroken)
+}
+
+// Whether the fields of a column are numbers and dates alone, which aren't broken.
+#[derive(Clone, Copy)]
+struct Unbroken {
+    are_all: bool,
+}
+
+impl Summary for Unbroken {
+    ghost summary_of = { λ fields. record { are_all = list_all is_unbroken fields } };
+
+    fn new() -> Unbroken {
+        Unbroken { are_all: true }
+    }
+
+    fn with(self, field: &str) -> Unbroken {
+        Unbroken {
+            are_all: self.are_all && is_unbroken(field),
+        }
+    }
+
+    fn is_settled(self) -> bool {
+        !self.are_all
+    }
 }
 
 // Whether a width has room for a table of rows, whose columns these are.
@@ -255,26 +273,6 @@ fn set_content(column: &mut Column, content: u16)
     ensures { column.new ≡ with_content content column.old }
 {
     column.set_constraint(ColumnConstraint::Absolute(Width::Fixed(content + 2)));
-}
-
-// Whether no field of a column is broken over lines: each is at most 25 characters long, and is
-// a number, says nothing, or is of digits, `-/:.TZ+` and spaces, as dates and times are.
-fn is_unbroken_column(
-    alloc: Global,
-    position: usize,
-    rows: &Rows<'_>,
-    has_sequences: bool,
-) -> std::result::Result<bool, AllocError>
-    ensures { IfOk result (λ yes. yes
-        ≡ is_unbroken_column (map (seen has_sequences) rows.now) position) }
-{
-    for row in rows.iter() {
-        let field = seen_field(alloc, position, &row, has_sequences)?;
-        if !is_unbroken(field.as_str()) {
-            return Ok(false);
-        }
-    }
-    Ok(true)
 }
 
 // Whether a field is short, and a number, one that says nothing, or of the characters of dates

@@ -1,11 +1,12 @@
 -- Marks of columns, tried.
-use Rattle.std.proofs.Common.{◌≡◌, ℕ, List, [], ◌∷◌, Option, Some, None, arith, codes, map, refl}
+use Rattle.std.proofs.Common.{◌≡◌, ◌⊎◌, ◌+◌, ℕ, List, [], ◌∷◌, Option, Some, None, arith, codes, inl, inr, map, refl, true}
 use Prim.Native.String.{String}
 use Rattle.std.specs.Option.{option_map_or}
 use Rattle.std.specs.Str.{chars}
 use Rattle.ucd_category.proofs.Computing.{ucd_category}
-use Rattle.csv_records.specs.Number.{is_neutral, is_number}
-use Rattle.csv_records.specs.Decimals.{points_of, spaces_behind}
+use Rattle.csv_records.specs.Number.{halves, is_neutral, is_number}
+use Rattle.csv_records.specs.Decimals.{digits_in, fraction_len, points_of, spaces_behind}
+use Rattle.csv_records.specs.declared.decimals.DecimalMark.TheVariants.{Point}
 use Rattle.csv_tables.specs.Laws.{HasSpacesBehind}
 
 -- the spaces behind each field of a column; none where it has no mark
@@ -29,3 +30,10 @@ as_they_stand = refl
 -- false: csv_tables::laws::decimal_marks_stand_below_each_other
 space_in_front : ¬ (HasSpacesBehind (codes "7") (codes " 7"))
 space_in_front (n, same) = let is : ◌≡◌ {A = ℕ} 0x20 0x37 = cc same in omega (arith, is)
+
+-- a fraction that is longer than the longest has no spaces to bring it there
+-- false: csv_tables::laws::decimal_marks_stand_below_each_other
+longer_fraction : ¬ ((is_neutral (codes "1.234") ≡ true) ⊎ (fraction_len (halves 0x2E (digits_in (codes "1.234"))) + spaces_behind (record { mark = Point; longest = 2 }) (codes "1.234") ≡ 2))
+unfolding chars lib.Utf8.encode ucd_category is_neutral is_number
+longer_fraction (inl neutral) = absurd (cc neutral)
+longer_fraction (inr long) = absurd (omega (arith, long))

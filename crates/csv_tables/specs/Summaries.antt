@@ -1,0 +1,15 @@
+-- What the fields of each column say together.
+use Rattle.std.specs.Prelude.{ℕ, List, [], ◌≡◌}
+use Rattle.std.specs.List.{filter_map, slice_index_or}
+use Rattle.comfy_parts.specs.Text.{Text}
+use Rattle.csv.specs.Records.{field_at}
+
+-- the fields of a column, without those that are missing
+abbrev pub fields_there : List (List Text) → ℕ → List Text
+fields_there rows position = filter_map (λ fields. field_at fields position) rows
+
+-- summaries of columns, by their positions; past the list no field is there
+abbrev pub AreSummaries : {S : Type 0} → (List Text → S) → List (List Text) → List S → Type 0
+AreSummaries summary_of rows summaries =
+    (position : ℕ) → slice_index_or summaries position (summary_of [])
+    ≡ summary_of (fields_there rows position)
