@@ -75,13 +75,13 @@ fn characters_of_ascii() {
 fn wrapped() {
     let table = Rows::new(["text"]).row(["the quick brown fox jumps"]);
     assert_eq!(table.width(16).to_string(), "\
-╭──────────────╮
-│ text         │
-╞══════════════╡
-│ the quick    │
-│ brown fox    │
-│ jumps        │
-╰──────────────╯
+╭───────────╮
+│ text      │
+╞═══════════╡
+│ the quick │
+│ brown fox │
+│ jumps     │
+╰───────────╯
 ");
 }
 
