@@ -1,6 +1,6 @@
 #!/bin/sh
 # Makes packages in a folder: a wheel for Python, a crate for Rust, an archive with the library for C, its header and its file
-# for pkg-config, and one with the program csvtable, its page and its completions, to be unpacked into /usr/local. No network
+# for pkg-config, and one with the program csvtable, its page and its completions. No network
 # is needed. What isn't built yet is built first, which proves it.
 #
 # usage: tools/package.sh OUT
