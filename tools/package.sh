@@ -1,7 +1,7 @@
 #!/bin/sh
 # Makes packages in a folder: a wheel for Python, a crate for Rust, an archive with the library for C, its header and its file
-# for pkg-config, and one with the program csvtable, its page and its completions. No network
-# is needed. What isn't built yet is built first, which proves it.
+# for pkg-config, and one with the program csvtable, its page and its completions. No network is needed. What isn't built yet
+# is built first, which proves it.
 #
 # usage: tools/package.sh OUT
 # CC is the compiler that links the shared library of the wheel, cc where it isn't set. Making the wheel takes Python 3.11.

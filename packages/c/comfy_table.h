@@ -112,7 +112,7 @@ struct comfy_rows_settings {
 };
 
 /*
- * Draws the table of rows into the caller's buffer, as csvtable draws records of these texts.
+ * Draws the table of rows into the caller's buffer, as csvtable draws records of these texts into a pipe, all of them counted.
  *
  * texts are the texts of all cells, one behind another; lengths has the bytes of each. counts has for each row how many cells it
  * has; rows may have different numbers. columns has a byte for each column, or for the first ones.
@@ -128,8 +128,8 @@ uint32_t comfy_rows_draw(const uint8_t *texts, size_t texts_length, const size_t
 /* ---- CSV */
 
 /*
- * Draws the table of CSV into the caller's buffer, as the program csvtable draws it for these arguments where its output goes
- * to no terminal, and neither COLUMNS nor NO_COLOR is set. `csvtable --help` lists the arguments.
+ * Draws the table of CSV into the caller's buffer, as the program csvtable draws it for these arguments and --count where
+ * its output goes to no terminal, and neither COLUMNS nor NO_COLOR is set. `csvtable --help` lists the arguments.
  *
  * arguments is UTF-8, and a zero byte ends each argument. It may be missing behind the last one, so the one that ends a string
  * of C serves: with "-r\0price\0-w\0" "60" and its size, numbers of the column price stand at the right, in 60 terminal columns.

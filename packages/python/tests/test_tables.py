@@ -354,6 +354,23 @@ class Snippets(unittest.TestCase):
 └────────────┴─────────┘
 """)
 
+    def test_controls_in_wrapped_columns(self):
+        self.expect(tabulate([["\x1b[31mabcd"]], maxcolwidths=2, style="box"), """
+┌────┐
+│ \ufffd[ │
+│ 31 │
+│ ma │
+│ bc │
+│ d  │
+└────┘
+""")
+        self.expect(tabulate([["a\tb"]], maxcolwidths=3, style="box"), """
+┌───┐
+│ a │
+│ b │
+└───┘
+""")
+
     def test_headers_that_name_keys_anew(self):
         self.expect(tabulate([{"a": 1, "b": "x"}], headers={"a": "Alpha"}, style="box"), """
 ┌───────┬───┐

@@ -1,5 +1,5 @@
-//! Tables drawn as text, by the library `comfy_table` of Rattle, whose drawing is proved: straight edges, widths that hold, no
-//! text lost.
+//! Tables drawn as text, by the library `comfy_table` of Rattle, whose drawing is proved: straight edges, and widths
+//! that hold.
 //!
 //! ```
 //! use comfy_table_proved::Rows;

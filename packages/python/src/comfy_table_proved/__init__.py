@@ -1,4 +1,4 @@
-"""Tables drawn as text, by the library comfy_table, whose drawing is proved: straight edges, widths that hold, no text lost.
+"""Tables drawn as text, by the library comfy_table, whose drawing is proved: straight edges, and widths that hold.
 
     >>> from comfy_table_proved import tabulate
     >>> print(tabulate([["oats", 3], ["rye", -12.5]], headers=["name", "price"]))

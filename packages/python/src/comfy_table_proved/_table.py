@@ -206,7 +206,7 @@ def _drawing(table: Table) -> str:
         return ""
     layout = Layout(names, max(map(len, records)))
     sides = layout.sides(table.left, table.right, table.colalign)
-    records = wrapped(records, table.maxcolwidths)
+    records = wrapped(records, table.maxcolwidths, table.colors is not None)
     chosen = layout.positions_of(table.columns)
     if chosen:
         records = [_chosen(record, chosen) for record in records]

@@ -10,11 +10,11 @@ from ._library import NO_LIMIT, RowsSettings, draw_rows
 _NOTHING = 12
 
 
-def wrapped(records: list[list[str]], widths: Union[int, Sequence[Optional[int]], None]) -> list[list[str]]:
-    """The records, with line breaks where a text is wider than its column may be."""
+def wrapped(records: list[list[str]], widths: Union[int, Sequence[Optional[int]], None], has_sequences: bool) -> list[list[str]]:
+    """The records, with line breaks where a text is wider than its column may be. Sequences of colours may count nothing."""
     if widths is None:
         return records
-    return [[_wrapped(text, _width_at(widths, at)) for at, text in enumerate(record)] for record in records]
+    return [[_wrapped(text, _width_at(widths, at), has_sequences) for at, text in enumerate(record)] for record in records]
 
 
 def _width_at(widths: Union[int, Sequence[Optional[int]]], at: int) -> Optional[int]:
@@ -24,10 +24,10 @@ def _width_at(widths: Union[int, Sequence[Optional[int]]], at: int) -> Optional[
     return width
 
 
-def _wrapped(text: str, width: Optional[int]) -> str:
+def _wrapped(text: str, width: Optional[int], has_sequences: bool) -> str:
     # A text of so few characters may still be wider than the width, in some scripts; then it is drawn to be seen.
-    if width is None or (len(text) <= width and text.isascii()):
+    if width is None or (len(text) <= width and text.isascii() and text.isprintable()):
         return text
-    settings = RowsSettings(max_height=NO_LIMIT, limit=NO_LIMIT, style=_NOTHING, width=width + 2, has_sequences="\x1b" in text)
+    settings = RowsSettings(max_height=NO_LIMIT, limit=NO_LIMIT, style=_NOTHING, width=width + 2, has_sequences=has_sequences)
     lines = draw_rows([[text]], b"\1", settings).split("\n")[:-1]
     return "\n".join(line[1:].rstrip(" ") for line in lines)
