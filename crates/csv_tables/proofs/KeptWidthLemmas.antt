@@ -1,5 +1,5 @@
 -- Columns that are as wide as their contents are drawn no narrower.
-use Rattle.std.proofs.Common.{◌≡◌, ◌==◌, ◌≤◌, ◌<◌, ◌&&◌, ℕ, zero, suc, ◌+◌, Bool, true, false, not, cond, List, [], ◌∷◌, ◌++◌, Option, Some, None, find, length, map, max, option_map, slice_index, unwrap_or, refl, sym, ap, ◌∙◌, subst, arith}
+use Rattle.std.proofs.Common.{◌≡◌, ◌==◌, ◌≤◌, ◌<◌, ◌&&◌, ◌||◌, ℕ, zero, suc, ◌+◌, Bool, true, false, not, cond, List, [], ◌∷◌, ◌++◌, Option, Some, None, eqb-true, find, length, map, max, option_map, slice_index, unwrap_or, refl, sym, ap, ◌∙◌, subst, arith}
 use Rattle.std.specs.List.{All, AllByRecursion, cons_option, enumerate_from, slice_get}
 use Rattle.std.specs.Prelude.{if◌then◌else◌}
 use Rattle.std.proofs.lemmas.Bool.{eq-eqb, le-leb, ne_eqb}
@@ -24,7 +24,8 @@ use Rattle.csv_tables.proofs.WholeColumnLemmas.{all_shown}
 use Rattle.csv_tables.proofs.WholeTableLemmas.{drawn-is, whole_separated}
 use Rattle.csv_tables.specs.Drawn.{ContentValue, arrangement_for, empty_table, is_expanded_for, is_expanded_in, fitting_content, is_table_expanded, output_table, rows_table, separated_table, unbroken_in}
 use Rattle.csv_tables.specs.Laws.{AutoKeepsWhole, IsWholeColumn, NeverKeepsWhole, UnbrokenColumnsAreWhole}
-use Rattle.csv_tables.specs.Unbroken.{has_room, kept_unbroken, constrained_columns, with_constrained}
+use Rattle.csv_tables.specs.Unbroken.{has_room, kept_unbroken, constrained_columns, unbroken_columns, with_constrained}
+use Rattle.csv_tables.specs.declared.options.DrawnColumn.{DrawnColumn}
 use Rattle.csv_tables.specs.declared.options.Expansion.TheVariants.{Auto}
 use Rattle.csv_tables.specs.declared.options.Look.{Look}
 
@@ -206,8 +207,21 @@ held : (b : Bool) → not b ≡ false → b ≡ true
 held true is = refl
 held false is = absurd (cc is)
 
+-- without records no column has numbers and dates alone
+none_in : (keeps : Bool) (columns : List DrawnColumn) (i : ℕ) → slice_get (unbroken_columns keeps columns []) i ≡ Some true → ⊥
+none_in keeps [] i is = cc is
+none_in keeps (column ∷ columns) zero is = cc is
+none_in keeps (column ∷ columns) (suc i) is = none_in keeps columns i is
+
+none_without : (look : Look) (content : ContentValue) → (length content.rows == 0) ≡ true → UnbrokenColumnsAreWhole look content
+none_without look content empty table widths i is_drawn arranged below is = absurd (by_rows content.rows (eqb-true (length content.rows) 0 empty) is)
+  where
+    by_rows : (rows : List (List Text)) → length rows ≡ 0 → slice_get (unbroken_columns look.has_sequences content.columns rows) i ≡ Some true → ⊥
+    by_rows [] none is = none_in look.has_sequences content.columns i is
+    by_rows (fields ∷ rows) none is = absurd (omega (arith, none))
+
 pub auto_keeps_whole : (w : ℕ) (look : Look) (content : ContentValue) → AutoKeepsWhole w look content
-auto_keeps_whole w look content table wide auto none = room_keeps_whole w look content wide (held (has_room (Some w) whole rows) (sym test ∙ none)) none
+auto_keeps_whole w look content table wide auto none = by_rows (length content.rows == 0) refl
   where
     rows : TableValue
     rows = rows_table look (fitting_content look content)
@@ -215,11 +229,15 @@ auto_keeps_whole w look content table wide auto none = room_keeps_whole w look c
     whole : List Bool
     whole = unbroken_in look content
 
-    test : is_expanded_for look content ≡ not (has_room (Some w) whole rows)
-    test = ap (λ m. not m && is_table_expanded look content) table ∙ ap (λ e. is_expanded_in e (has_room look.width whole rows)) auto ∙ ap (λ o. not (has_room o whole rows)) wide
+    test : is_expanded_for look content ≡ not ((length content.rows == 0) || has_room (Some w) whole rows)
+    test = ap (λ m. not m && is_table_expanded look content) table ∙ ap (λ e. is_expanded_in e ((length content.rows == 0) || has_room look.width whole rows)) auto ∙ ap (λ o. not ((length content.rows == 0) || has_room o whole rows)) wide
+
+    by_rows : (b : Bool) → (length content.rows == 0) ≡ b → UnbrokenColumnsAreWhole look content
+    by_rows true empty = none_without look content empty
+    by_rows false some = room_keeps_whole w look content wide (held (has_room (Some w) whole rows) (ap (λ b. not (b || has_room (Some w) whole rows)) (sym some) ∙ sym test ∙ none)) none
 
 pub never_keeps_whole : (w : ℕ) (look : Look) (content : ContentValue) → NeverKeepsWhole w look content
-never_keeps_whole w look content table wide never none = room_keeps_whole w look content wide (held (has_room (Some w) whole rows) (sym test ∙ none)) own
+never_keeps_whole w look content table wide never none = by_rows (length content.rows == 0) refl
   where
     rows : TableValue
     rows = rows_table look (fitting_content look content)
@@ -227,8 +245,12 @@ never_keeps_whole w look content table wide never none = room_keeps_whole w look
     whole : List Bool
     whole = unbroken_in look content
 
-    test : is_expanded_for (record look { expansion = Auto }) content ≡ not (has_room (Some w) whole rows)
-    test = ap (λ m. not m && is_expanded_in Auto (has_room look.width whole rows)) table ∙ ap (λ o. not (has_room o whole rows)) wide
+    test : is_expanded_for (record look { expansion = Auto }) content ≡ not ((length content.rows == 0) || has_room (Some w) whole rows)
+    test = ap (λ m. not m && is_expanded_in Auto ((length content.rows == 0) || has_room look.width whole rows)) table ∙ ap (λ o. not ((length content.rows == 0) || has_room o whole rows)) wide
 
     own : is_expanded_for look content ≡ false
-    own = ap (λ m. not m && is_table_expanded look content) table ∙ ap (λ e. is_expanded_in e (has_room look.width whole rows)) never
+    own = ap (λ m. not m && is_table_expanded look content) table ∙ ap (λ e. is_expanded_in e ((length content.rows == 0) || has_room look.width whole rows)) never
+
+    by_rows : (b : Bool) → (length content.rows == 0) ≡ b → UnbrokenColumnsAreWhole look content
+    by_rows true empty = none_without look content empty
+    by_rows false some = room_keeps_whole w look content wide (held (has_room (Some w) whole rows) (ap (λ b. not (b || has_room (Some w) whole rows)) (sym some) ∙ sym test ∙ none)) own

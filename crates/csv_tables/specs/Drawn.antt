@@ -1,5 +1,5 @@
 -- What is drawn of some records, and what is written of it.
-use Rattle.std.specs.Prelude.{ℕ, zero, suc, ◌+◌, Bool, true, false, not, ◌&&◌, ◌≡◌, nat_lt, List, [], ◌∷◌, ◌++◌, Option, Some, None, Result, Ok, Err, codes, decimal, drop, flat_map, length, map, option_map, slice_get, slice_index_or, sum_by, take, unwrap_or, if◌then◌else◌, ◌⊎◌}
+use Rattle.std.specs.Prelude.{ℕ, zero, suc, ◌+◌, ◌==◌, Bool, true, false, not, ◌&&◌, ◌||◌, ◌≡◌, nat_lt, List, [], ◌∷◌, ◌++◌, Option, Some, None, Result, Ok, Err, codes, decimal, drop, flat_map, length, map, option_map, slice_get, slice_index_or, sum_by, take, unwrap_or, if◌then◌else◌, ◌⊎◌}
 use Rattle.std.specs.List.{list_any, range_with_len}
 use Rattle.comfy_parts.specs.CellValue.{RowValue}
 use Rattle.comfy_parts.specs.Presets.{ascii_markdown}
@@ -268,10 +268,11 @@ is_expanded_in Always has_room = true
 is_expanded_in NeverExpanded has_room = false
 is_expanded_in Auto has_room = not has_room
 
--- whether those of a table are
+-- whether those of a table are; where there is none, the header always has room
 abbrev pub is_table_expanded : Look → ContentValue → Bool
 is_table_expanded look content =
-    is_expanded_in look.expansion (has_room_for look content (fitting_content look content))
+    is_expanded_in look.expansion
+    ((length content.rows == 0) || has_room_for look content (fitting_content look content))
 
 -- whether those of an output are: none for Markdown
 abbrev pub is_expanded_for : Look → ContentValue → Bool

@@ -1,6 +1,6 @@
 -- Columns and fields that aren't broken over lines: which they are, and where a width has room for
 -- them.
-use Rattle.std.specs.Prelude.{ℕ, ◌+◌, ◌-◌, Bool, ◌==◌, ◌&&◌, ◌||◌, true, false, List, [], ◌∷◌, Option, Some, None, chars, codes, length, map, max, min, nat_le, nat_lt, slice_index, sum_by, if◌then◌else◌}
+use Rattle.std.specs.Prelude.{ℕ, ◌+◌, ◌-◌, Bool, ◌==◌, ◌&&◌, ◌||◌, true, false, List, [], ◌∷◌, Option, Some, None, chars, codes, length, map, max, min, nat_le, nat_lt, not, slice_index, sum_by, if◌then◌else◌}
 use Rattle.std.specs.Char.{is_ascii_digit}
 use Rattle.std.specs.List.{list_all, list_any}
 use Rattle.comfy_parts.specs.CellValue.{CellValue, ColumnValue}
@@ -27,10 +27,11 @@ is_unbroken field =
     nat_le (length (chars field)) 25
     && (list_all is_of_dates field || (is_number field || is_neutral field))
 
--- so is each field of a column
+-- so is each field of a column, and there is one
 abbrev pub is_unbroken_column : List (List Text) → ℕ → Bool
 is_unbroken_column rows position =
-    list_all (λ fields. is_unbroken (field_or_blank fields position)) rows
+    not (length rows == 0)
+    && list_all (λ fields. is_unbroken (field_or_blank fields position)) rows
 
 -- ---- how wide they are
 

@@ -63,7 +63,7 @@ fn table_text(content: Content, look: &Look) -> Result<String>
         return expanded_text(content, look);
     }
     let (table, has_room) = fitting_table(&content, look)?;
-    if is_expanded(look.expansion, has_room) {
+    if is_expanded(look.expansion, content.rows().is_empty() || has_room) {
         drop(table);
         return expanded_text(content, look);
     }

@@ -53,10 +53,12 @@ fn unbroken_columns(
     ensures { IfOk result (λ unbroken. unbroken.items
         ≡ unbroken_columns has_sequences content.now.columns content.now.rows) }
 {
-    let fields = summaries_of::<Unbroken>(content.alloc, &content.rows(), has_sequences)?;
+    let rows = content.rows();
+    let fields = summaries_of::<Unbroken>(content.alloc, &rows, has_sequences)?;
     let mut unbroken = Vec::with_capacity(content.alloc, content.columns.len())?;
     for column in &content.columns {
-        unbroken.push(summary_at(fields.as_slice(), column.position).are_all)?;
+        let are_all = summary_at(fields.as_slice(), column.position).are_all;
+        unbroken.push(!rows.is_empty() && are_all)?;
     }
     Ok(unbroken)
 }
