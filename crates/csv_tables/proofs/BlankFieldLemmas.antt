@@ -3,9 +3,7 @@ use Rattle.std.proofs.Common.{◌≡◌, Bool, true, false, ◌&&◌, ◌||◌, 
 use Rattle.std.specs.List.{list_all, list_any}
 use Rattle.comfy_parts.specs.Text.{Text}
 use Rattle.csv.specs.Records.{field_at}
-use Rattle.csv_tables.specs.Cells.{field_or_blank}
-use Rattle.csv_tables.specs.Decimals.{column_fields}
-use Rattle.csv_tables.specs.Summaries.{fields_there}
+use Rattle.csv_tables.specs.Summaries.{column_fields, fields_there}
 
 pub any_there : (p : Text → Bool) → p [] ≡ false → (rows : List (List Text)) (position : ℕ) → list_any p (fields_there rows position) ≡ list_any p (column_fields rows position)
 any_there p blank [] position = refl
@@ -38,12 +36,3 @@ max_there len blank (fields ∷ rows) position least = by_field (λ n. max_there
         → fold max least (map len (fields_there (fields ∷ rows) position)) ≡ fold max least (map len (column_fields (fields ∷ rows) position))
     by_field rest None is = rw (is, blank, same) (rest least)
     by_field rest (Some field) is = rw is (rest (max least (len field)))
-
--- tests of records
-pub any_fields : (p : Text → Bool) (rows : List (List Text)) (position : ℕ) → list_any p (column_fields rows position) ≡ list_any (λ fields. p (field_or_blank fields position)) rows
-any_fields p [] position = refl
-any_fields p (fields ∷ rows) position = ap (λ b. p (field_or_blank fields position) || b) (any_fields p rows position)
-
-pub all_fields : (p : Text → Bool) (rows : List (List Text)) (position : ℕ) → list_all p (column_fields rows position) ≡ list_all (λ fields. p (field_or_blank fields position)) rows
-all_fields p [] position = refl
-all_fields p (fields ∷ rows) position = ap (λ b. p (field_or_blank fields position) && b) (all_fields p rows position)

@@ -12,9 +12,9 @@ use Rattle.csv_records.specs.declared.decimals.DecimalMark.{DecimalMark}
 use Rattle.csv_records.specs.declared.decimals.DecimalMark.TheVariants.{Comma, Point}
 use Rattle.csv_records.specs.declared.decimals.Points.{Points}
 use Rattle.csv_tables.proofs.BlankFieldLemmas.{all_there, any_there, max_there}
-use Rattle.csv_tables.specs.Decimals.{column_fields, is_narrow, mark_at, mark_in, mark_of_column, narrow_marks, points_in}
+use Rattle.csv_tables.specs.Decimals.{is_narrow, mark_at, mark_in, mark_of_column, narrow_marks, points_in}
 use Rattle.csv_tables.specs.Markdown.{is_right}
-use Rattle.csv_tables.specs.Summaries.{fields_there}
+use Rattle.csv_tables.specs.Summaries.{column_fields, fields_there}
 use Rattle.csv_tables.specs.declared.options.DrawnColumn.{DrawnColumn}
 
 -- ---- missing fields say nothing

@@ -23,7 +23,8 @@ use Rattle.csv_tables.proofs.BuiltLemmas.{EachOf}
 use Rattle.csv_tables.proofs.FieldLemmas.{IsShortPrintable}
 use Rattle.csv_tables.specs.Cells.{field_or_blank}
 use Rattle.csv_tables.specs.Columns.{seen}
-use Rattle.csv_tables.specs.Decimals.{column_fields, is_narrow, is_right_at, mark_at, mark_of_column, spaced, spaced_fields, spaced_from}
+use Rattle.csv_tables.specs.Decimals.{is_narrow, is_right_at, mark_at, mark_of_column, spaced, spaced_fields, spaced_from}
+use Rattle.csv_tables.specs.Summaries.{column_fields}
 use Rattle.csv_tables.specs.Drawn.{ContentValue, aligned_content, fitting_content, has_room_for, marks_for}
 use Rattle.csv_tables.specs.declared.options.DrawnColumn.{DrawnColumn}
 use Rattle.csv_tables.specs.declared.options.Look.{Look}

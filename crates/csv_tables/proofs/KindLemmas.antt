@@ -1,10 +1,10 @@
 -- What the fields of a column say, field by field, and which columns are number columns.
-use Rattle.std.proofs.Common.{◌≡◌, Bool, true, false, ◌&&◌, ◌||◌, not, ℕ, List, [], ◌∷◌, ◌++◌, refl, sym, ap, ap₂, ◌∙◌}
+use Rattle.std.proofs.Common.{◌≡◌, Bool, true, false, ◌||◌, ℕ, List, [], ◌∷◌, ◌++◌, refl, sym, ap, ap₂, ◌∙◌}
 use Rattle.std.specs.List.{list_any}
 use Rattle.std.specs.Prelude.{if◌then◌else◌}
 use Rattle.std.proofs.lemmas.List.Folds.{list_any-append}
 use Rattle.comfy_parts.specs.Text.{Text}
-use Rattle.csv_tables.proofs.BlankFieldLemmas.{any_fields, any_there}
+use Rattle.csv_tables.proofs.BlankFieldLemmas.{any_there}
 use Rattle.csv_tables.proofs.ColumnLemmas.{kind-empty}
 use Rattle.csv_tables.specs.Columns.{column_kind, is_number_column, is_number_kind, is_other_kind, joined_kind, kind_of}
 use Rattle.csv_tables.specs.Summaries.{fields_there}
@@ -37,14 +37,8 @@ kind_more fields field =
     sym (joined_by (list_any is_other fields) (list_any is_a_number fields) (kind_of field))
     ∙ ap₂ kind_by (sym (list_any-append is_other fields (field ∷ []))) (sym (list_any-append is_a_number fields (field ∷ [])))
 
-number_by : (others numbers : Bool) → is_number_kind (kind_by others numbers) ≡ (not others && numbers)
-number_by true numbers = refl
-number_by false true = refl
-number_by false false = refl
-
 -- which columns are number columns, by the fields that are there
 pub number_there : (rows : List (List Text)) (position : ℕ) → is_number_kind (column_kind (fields_there rows position)) ≡ is_number_column rows position
 number_there rows position =
-    number_by (list_any is_other (fields_there rows position)) (list_any is_a_number (fields_there rows position))
-    ∙ ap₂ (λ (others numbers : Bool). not others && numbers) (any_there is_other (ap is_other_kind (sym (kind-empty [] refl))) rows position ∙ any_fields is_other rows position)
-    (any_there is_a_number (ap is_number_kind (sym (kind-empty [] refl))) rows position ∙ any_fields is_a_number rows position)
+    ap₂ (λ (others numbers : Bool). is_number_kind (kind_by others numbers)) (any_there is_other (ap is_other_kind (sym (kind-empty [] refl))) rows position)
+    (any_there is_a_number (ap is_number_kind (sym (kind-empty [] refl))) rows position)

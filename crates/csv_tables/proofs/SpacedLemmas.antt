@@ -1,5 +1,5 @@
 -- Records whose fields have spaces behind them.
-use Rattle.std.proofs.Common.{◌≡◌, ◌+◌, ℕ, zero, suc, Bool, true, false, List, [], ◌∷◌, Option, Some, None, length, map, nat_lt, refl, sym, ap, ap₂, ◌∙◌, arith}
+use Rattle.std.proofs.Common.{◌≡◌, ◌+◌, ℕ, zero, suc, Bool, true, false, List, [], ◌∷◌, Option, Some, None, is_some, length, map, nat_lt, refl, sym, ap, ap₂, ◌∙◌, arith}
 use Rattle.std.specs.List.{list_any}
 use Rattle.std.specs.Prelude.{if◌then◌else◌}
 use Rattle.std.specs.Str.{chars}
@@ -124,15 +124,17 @@ module _ (look : Look) (content : ContentValue) (marks : List (Option Points)) (
   not_fitting is = sym (ap (λ (b : Bool). if b then aligned_content look content else content) (room false is))
 
   -- nor where there are no marks
-  pub nothing_fitting : length marks ≡ 0 → Spaced ≡ fitting_content look content
+  pub nothing_fitting : list_any is_some marks ≡ false → Spaced ≡ fitting_content look content
   nothing_fitting none = by_room (has_room_for look content (aligned_content look content))
     where
-      empty : (marks : List (Option Points)) → length marks ≡ 0 → (position : ℕ) → mark_in marks position ≡ None
-      empty [] none position = refl
-      empty (mark ∷ marks) none position = absurd (omega (arith, none))
+      no_mark : (marks : List (Option Points)) → list_any is_some marks ≡ false → (position : ℕ) → mark_in marks position ≡ None
+      no_mark [] none position = refl
+      no_mark (None ∷ marks) none zero = refl
+      no_mark (None ∷ marks) none (suc position) = no_mark marks none position
+      no_mark (Some mark ∷ marks) none position = absurd (cc none)
 
       plain : Spaced ≡ content
-      plain = plain_content look (mark_in marks) (empty marks none) content
+      plain = plain_content look (mark_in marks) (no_mark marks none) content
 
       by_room : (b : Bool) → Spaced ≡ (if b then aligned_content look content else content)
       by_room true = is_aligned

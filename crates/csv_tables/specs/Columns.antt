@@ -6,7 +6,7 @@ use Rattle.comfy_parts.specs.Text.{Text}
 use Rattle.comfy_parts.specs.declared.style.cell.CellAlignment.{CellAlignment}
 use Rattle.comfy_parts.specs.declared.style.cell.CellAlignment.TheVariants.{Left, Right}
 use Rattle.csv.specs.Records.{field_at}
-use Rattle.csv_tables.specs.Cells.{field_or_blank}
+use Rattle.csv_tables.specs.Summaries.{column_fields}
 use Rattle.csv_records.specs.Cleaning.{visible_of}
 use Rattle.csv_records.specs.Number.{is_neutral, is_number}
 use Rattle.csv_records.specs.Numerals.{number_for}
@@ -151,10 +151,6 @@ seen keeps_sequences fields = map (visible_of keeps_sequences) fields
 abbrev pub kind_of : Text → FieldKind
 kind_of field = if is_number field then Number else if is_neutral field then Neutral else Other
 
--- so of the field of a record at a position
-abbrev pub kind_at : ℕ → List Text → FieldKind
-kind_at position fields = kind_of (field_or_blank fields position)
-
 abbrev pub is_number_kind : FieldKind → Bool
 is_number_kind Number = true
 is_number_kind Neutral = false
@@ -179,9 +175,7 @@ column_kind fields =
 
 -- each field of a column is a number or neutral, and some field is a number
 abbrev pub is_number_column : List (List Text) → ℕ → Bool
-is_number_column rows position =
-    not (list_any (λ fields. is_other_kind (kind_at position fields)) rows)
-    && list_any (λ fields. is_number_kind (kind_at position fields)) rows
+is_number_column rows position = is_number_kind (column_kind (column_fields rows position))
 
 -- the alignment of a column: that which was chosen for it, else at the right where its fields are
 -- numbers

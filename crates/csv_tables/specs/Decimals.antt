@@ -1,13 +1,13 @@
 -- Decimal points below each other: the spaces behind the fields of a column.
-use Rattle.std.specs.Prelude.{ℕ, Bool, ◌==◌, ◌&&◌, ◌+◌, List, [], ◌∷◌, ◌++◌, Option, Some, None, length, map, nat_le, if◌then◌else◌}
+use Rattle.std.specs.Prelude.{ℕ, Bool, ◌==◌, ◌&&◌, ◌+◌, List, [], ◌∷◌, ◌++◌, Option, Some, None, length, nat_le, if◌then◌else◌}
 use Rattle.std.specs.List.{list_all, list_any, slice_index_or}
 use Rattle.comfy_parts.specs.Text.{Text, is_printable_ascii, spaces}
 use Rattle.csv_records.specs.Cleaning.{visible_of}
 use Rattle.csv_records.specs.Decimals.{is_plain, marks_of, points_for, points_of, spaces_behind}
 use Rattle.csv_records.specs.declared.decimals.ColumnMarks.{ColumnMarks}
 use Rattle.csv_records.specs.declared.decimals.Points.{Points}
-use Rattle.csv_tables.specs.Cells.{field_or_blank}
 use Rattle.csv_tables.specs.Markdown.{is_right}
+use Rattle.csv_tables.specs.Summaries.{column_fields}
 use Rattle.csv_tables.specs.declared.options.DrawnColumn.{DrawnColumn}
 
 -- ---- the decimal mark of a column
@@ -15,10 +15,6 @@ use Rattle.csv_tables.specs.declared.options.DrawnColumn.{DrawnColumn}
 -- at most 25 characters of printable ASCII
 abbrev pub is_narrow : Text → Bool
 is_narrow field = nat_le (length field) 25 && is_printable_ascii field
-
--- the fields of a column, empty where they are missing
-abbrev pub column_fields : List (List Text) → ℕ → List Text
-column_fields rows position = map (λ fields. field_or_blank fields position) rows
 
 -- the decimal mark of a column of such fields
 abbrev pub mark_of_column : List (List Text) → ℕ → Option Points

@@ -1,10 +1,15 @@
--- What the fields of each column say together.
-use Rattle.std.specs.Prelude.{ℕ, List, [], ◌≡◌}
+-- The fields of columns, and what those of each say together.
+use Rattle.std.specs.Prelude.{ℕ, List, [], ◌≡◌, map}
 use Rattle.std.specs.List.{filter_map, slice_index_or}
 use Rattle.comfy_parts.specs.Text.{Text}
 use Rattle.csv.specs.Records.{field_at}
+use Rattle.csv_tables.specs.Cells.{field_or_blank}
 
--- the fields of a column, without those that are missing
+-- the fields of a column, empty where they are missing
+abbrev pub column_fields : List (List Text) → ℕ → List Text
+column_fields rows position = map (λ fields. field_or_blank fields position) rows
+
+-- the same without those that are missing
 abbrev pub fields_there : List (List Text) → ℕ → List Text
 fields_there rows position = filter_map (λ fields. field_at fields position) rows
 

@@ -11,8 +11,8 @@ use Rattle.comfy_parts.specs.declared.style.table_style.TableStyle.{TableStyle}
 use Rattle.comfy_table.specs.Frame.{border_count}
 use Rattle.comfy_table.specs.TableValue.{TableValue, column_cells, max_content_widths}
 use Rattle.csv_records.specs.Number.{is_neutral, is_number}
-use Rattle.csv_tables.specs.Cells.{field_or_blank}
 use Rattle.csv_tables.specs.Columns.{seen}
+use Rattle.csv_tables.specs.Summaries.{column_fields}
 use Rattle.csv_tables.specs.declared.options.DrawnColumn.{DrawnColumn}
 
 -- ---- which columns
@@ -30,8 +30,7 @@ is_unbroken field =
 -- so is each field of a column, and there is one
 abbrev pub is_unbroken_column : List (List Text) → ℕ → Bool
 is_unbroken_column rows position =
-    not (length rows == 0)
-    && list_all (λ fields. is_unbroken (field_or_blank fields position)) rows
+    not (length rows == 0) && list_all is_unbroken (column_fields rows position)
 
 -- ---- how wide they are
 

@@ -1,6 +1,7 @@
 //! Decimal points below each other.
 
-ghost use Rattle.std.specs.Prelude.{◌≡◌, ◌++◌, ℕ, IfOk, map, string_bytes};
+ghost use Rattle.std.specs.Prelude.{◌≡◌, ◌++◌, ℕ, IfOk, is_some, map, string_bytes};
+ghost use Rattle.std.specs.List.{list_any};
 ghost use Rattle.std.specs.Cow.{cow_str_bytes};
 ghost use Rattle.csv_tables.specs.Columns.{seen};
 ghost use Rattle.csv_tables.specs.Decimals.{is_narrow, mark_at, mark_in, narrow_marks, points_in, spaced};
@@ -87,6 +88,13 @@ fn is_narrow(field: &str) -> bool
     ensures { result ≡ is_narrow field.now }
 {
     field.len() <= LONGEST && is_printable(field.as_bytes())
+}
+
+/// Whether a column has a mark.
+pub(crate) fn has_marks(marks: &[Option<Points>]) -> bool
+    ensures { result ≡ list_any is_some marks.now }
+{
+    marks.iter().any(|mark| mark.is_some())
 }
 
 /// The mark at a position.

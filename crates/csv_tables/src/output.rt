@@ -7,7 +7,7 @@ ghost use Rattle.csv_tables.specs.Drawn.{RendersAsMarkdown, RendersAsTable, Rend
 ghost use Rattle.csv_tables.specs.Unbroken.{kept_unbroken};
 
 use crate::content::Content;
-use crate::decimals::marks_of;
+use crate::decimals::{has_marks, marks_of};
 use crate::error::ColumnsError;
 use crate::expanded::{between_fields, is_expanded, records_text};
 use crate::markdown::push_rule;
@@ -81,7 +81,7 @@ fn fitting_table(content: &Content, look: &Look) -> Result<(Table, bool)>
     let marks = marks.as_slice();
     let mut table = content.spaced_table(marks, look)?;
     let has_room = keep_unbroken(&mut table, content, look)?;
-    if has_room || marks.is_empty() {
+    if has_room || !has_marks(marks) {
         return Ok((table, has_room));
     }
     drop(table);

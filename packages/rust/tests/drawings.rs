@@ -42,7 +42,7 @@ fn width_height_and_limit() {
 ┌──────────┐
 │ oats     │
 └──────────┘
-1 of 2 records
+1 of 2 rows
 ");
     let cut = Rows::without_header().row(["a\nb\nlong text"]).row(["c"]).max_height(2).row_lines(false);
     assert_eq!(cut.to_string(), "\

@@ -1,4 +1,4 @@
-use Rattle.std.proofs.Common.{◌≡◌, ◌∙◌, ℕ, List, Option, ap, eqb-true, length, subst, sym}
+use Rattle.std.proofs.Common.{◌≡◌, ◌∙◌, ℕ, List, Option, ap, subst, sym}
 use Rattle.std.specs.Result.{IfOk}
 use Rattle.csv_records.specs.declared.decimals.Points.{Points}
 use Rattle.csv_tables.proofs.SpacedLemmas.{fitting, not_fitting, nothing_fitting}
@@ -6,7 +6,7 @@ use Rattle.csv_tables.specs.Decimals.{mark_in}
 use Rattle.csv_tables.specs.Drawn.{ContentValue, fitting_content, has_room_for, marks_for, rows_table, spaced_content, unbroken_in}
 use Rattle.csv_tables.specs.Unbroken.{has_room, kept_unbroken}
 use Rattle.csv_tables.proofs.output.fitting_table.Goals as goal
-use Rattle.csv_tables.proofs.output.fitting_table.Goals.{then-has_room-via-then-has_room, then-has_room-via-else-has_room+then-is_empty}
+use Rattle.csv_tables.proofs.output.fitting_table.Goals.{then-has_room-via-then-has_room, then-has_room-via-else-has_room+then-not-has_marks}
 
 pub returns-then-has_room-clause-table : goal.returns-then-has_room-clause-table
 returns-then-has_room-clause-table c =
@@ -20,7 +20,7 @@ returns-then-has_room-clause-table c =
     let is : spaced ≡ fitting_content look content =
     elim c.then-has_room.branch [
       | then-has_room-via-then-has_room w ↦ fitting look content marks same (sym room ∙ w.if-has_room.true)
-      | then-has_room-via-else-has_room+then-is_empty w ↦ nothing_fitting look content marks same (eqb-true (length marks) 0 (sym w.is_empty.ensures ∙ w.if-is_empty.true))
+      | then-has_room-via-else-has_room+then-not-has_marks w ↦ nothing_fitting look content marks same (sym w.has_marks.ensures ∙ w.if-not-has_marks.true)
     ] in
     c.in_ok-has_room.ensures.table ∙ ap (kept_unbroken look.width (unbroken_in look content)) (c.in_ok-table.ensures ∙ ap (rows_table look) is)
 
@@ -36,7 +36,7 @@ returns-then-has_room-clause-has_room c =
     let is : spaced ≡ fitting_content look content =
     elim c.then-has_room.branch [
       | then-has_room-via-then-has_room w ↦ fitting look content marks same (sym room ∙ w.if-has_room.true)
-      | then-has_room-via-else-has_room+then-is_empty w ↦ nothing_fitting look content marks same (eqb-true (length marks) 0 (sym w.is_empty.ensures ∙ w.if-is_empty.true))
+      | then-has_room-via-else-has_room+then-not-has_marks w ↦ nothing_fitting look content marks same (sym w.has_marks.ensures ∙ w.if-not-has_marks.true)
     ] in
     room ∙ ap (has_room_for look content) is
 
