@@ -1,13 +1,16 @@
 -- What a column's fields say with one field more.
-use Rattle.std.proofs.Common.{◌≡◌, ◌&&◌, ◌||◌, Bool, true, false, List, [], ◌∷◌, ◌++◌, ℕ, ap, ap₂, chars, fold, map, max, not, refl, sym, ◌∙◌}
+use Rattle.std.proofs.Common.{◌≡◌, ◌&&◌, ◌||◌, Bool, true, false, List, [], ◌∷◌, ◌++◌, ℕ, None, ap, ap₂, chars, fold, length, map, max, nat_lt, not, refl, sym, ◌∙◌}
 use Rattle.std.specs.Char.{is_ascii_digit}
+use Rattle.std.proofs.Math.Nat.{max-zero}
+use Rattle.std.proofs.lemmas.Bool.{and_parts, or_right}
 use Rattle.std.proofs.lemmas.List.{map-append}
 use Rattle.std.proofs.lemmas.List.Folds.{list_all-append, list_any-append}
 use Rattle.std.proofs.lemmas.List.Sums.{fold-append}
 use Rattle.std.specs.List.{list_all, list_any}
 use Rattle.comfy_parts.specs.Text.{Text}
+use Rattle.csv_records.proofs.WholeLemmas.{digits_alone, ends_so, no_halves, whole_is_number}
 use Rattle.csv_records.specs.Decimals.{byte_of, decides, digits_in, fraction_len, is_plain, is_read, marks_of, use_of}
-use Rattle.csv_records.specs.Number.{back_of, ends, front_of, halves, is_decimal, is_enclosed, is_name, is_neutral, is_number, is_scientific, is_signed, trimmed}
+use Rattle.csv_records.specs.Number.{back_of, ends, front_of, halves, is_decimal, is_digits, is_enclosed, is_name, is_neutral, is_number, is_scientific, is_signed, trimmed}
 use Rattle.csv_records.specs.declared.decimals.ColumnMarks.{ColumnMarks}
 use Rattle.csv_records.specs.declared.decimals.DecimalMark.{DecimalMark}
 use Rattle.csv_records.specs.declared.decimals.DecimalMark.TheVariants.{Comma, Point}
@@ -92,3 +95,29 @@ marks_more fields field had made same plain point comma =
     let points : made.point ≡ use_of Point (fields ++ field ∷ []) = point ∙ ap (λ (m : ColumnMarks). use_with Point m.point (digits_in field)) same ∙ use_more Point fields field in
     let commas : made.comma ≡ use_of Comma (fields ++ field ∷ []) = comma ∙ ap (λ (m : ColumnMarks). use_with Comma m.comma (digits_in field)) same ∙ use_more Comma fields field in
     same_parts made (marks_of (fields ++ field ∷ [])) all points commas
+
+-- ---- digits alone
+
+-- they say nothing of a mark
+nothing_of : (mark : DecimalMark) (this : MarkUse) (field : Text) → list_all is_ascii_digit field ≡ true → is_ascii_digit (byte_of mark) ≡ false → this ≡ use_with mark this (digits_in field)
+nothing_of mark this field all other =
+    let none : halves (byte_of mark) (digits_in field) ≡ None = ap (halves (byte_of mark)) (digits_alone field all) ∙ no_halves (byte_of mark) other field all in
+    rw (none, or_nothing this.is_decided, and_nothing this.is_read, max-zero this.longest) refl
+
+pub whole_says_nothing : (fields : List Text) (field : Text) (had : ColumnMarks) → had ≡ marks_of fields → (is_digits field && not (is_name field)) ≡ true → had ≡ marks_of (fields ++ field ∷ [])
+whole_says_nothing fields field had same whole = marks_more fields field had had same plain (nothing_of Point had.point field all refl) (nothing_of Comma had.comma field all refl)
+  where
+    digits : is_digits field ≡ true
+    digits = (and_parts (is_digits field) (not (is_name field)) whole).0
+
+    all : list_all is_ascii_digit field ≡ true
+    all = (and_parts (nat_lt 0 (length field)) (list_all is_ascii_digit field) digits).1
+
+    decimal : is_decimal (digits_in field) ≡ true
+    decimal = ap is_decimal (digits_alone field all) ∙ (rw digits refl)
+
+    is : is_plain field ≡ true
+    is = or_right (is_neutral field) _ (rw (whole_is_number field whole, ends_so field digits, decimal) refl)
+
+    plain : had.are_plain ≡ (had.are_plain && is_plain field)
+    plain = rw is (sym (and_nothing had.are_plain))

@@ -24,3 +24,4 @@ pub mod ShownLemmas
 pub mod SpacesLawLemmas
 pub mod SpacesLemmas
 pub mod TextLemmas
+pub mod WholeLemmas

@@ -49,12 +49,12 @@ more_behind cs c one is = record { digit = any-append is_ascii_digit cs (c ∷ [
 digit_small : (c : ℕ) → is_ascii_digit c ≡ true → c < 128
 digit_small c is = search (rules, tests)
 
-ascii_digits : (text : Text) → list_all is_ascii_digit text ≡ true → IsAscii text
+pub ascii_digits : (text : Text) → list_all is_ascii_digit text ≡ true → IsAscii text
 ascii_digits [] is = IsAscii-nil
 ascii_digits (b ∷ bs) is = let parts = and_parts (is_ascii_digit b) (list_all is_ascii_digit bs) is in IsAscii-cons b bs (digit_small b parts.0) (ascii_digits bs parts.1)
 
 -- digits are their own characters
-chars-digits : (text : Text) → list_all is_ascii_digit text ≡ true → chars text ≡ text
+pub chars-digits : (text : Text) → list_all is_ascii_digit text ≡ true → chars text ≡ text
 chars-digits text is = chars-IsAscii text (ascii_digits text is)
 
 listed_digits : (text : Text) → list_all is_ascii_digit text ≡ true → list_all is_listed (chars text) ≡ true

@@ -6,8 +6,8 @@ ghost use Rattle.csv_records.specs.Number.{back_of, begins, ends, front_of, halv
 ghost use Rattle.csv_records.specs.Decimals.{byte_of, decides, digits_in, fraction_len, has_mark, is_plain, is_read, marks_of, may_be_whole, points_for, spaces_behind};
 
 use crate::number::{
-    has_groups, is_bare_neutral, is_decimal_number, is_fraction, is_neutral, parts_of, position_of,
-    split_last, trimmed,
+    has_groups, is_bare_neutral, is_decimal_number, is_fraction, is_neutral, is_whole, parts_of,
+    position_of, split_last, trimmed,
 };
 
 /// A decimal mark.
@@ -133,6 +133,10 @@ impl ColumnMarks {
         ensures { (fields : List (List ℕ)) → self ≡ marks_of fields
             → result ≡ marks_of (fields ++ field.now ∷ []) }
     {
+        // Many numbers are whole, and say nothing of marks.
+        if is_whole(field) {
+            return self;
+        }
         let (front, digits, back) = parts_of(trimmed(field));
         ColumnMarks {
             are_plain: self.are_plain && is_plain(field, front, digits, back),

@@ -51,7 +51,14 @@ const CURRENCY_CODES: [&str; 161] = [
 pub fn is_number(field: &str) -> bool
     ensures { result ≡ is_number field.now }
 {
-    is_bare_number(trimmed(field))
+    is_whole(field) || is_bare_number(trimmed(field))
+}
+
+// Digits that are no name. Such a number is seen at once, since nothing stands around it.
+pub(crate) fn is_whole(field: &str) -> bool
+    ensures { result ≡ (is_digits field.now && not (is_name field.now)) }
+{
+    is_digits(field.as_bytes()) && !is_name(field.as_bytes())
 }
 
 // A number without spaces around it.
