@@ -253,7 +253,8 @@ impl Rows {
         Ok(self.told_of_rows(draw_rows(&texts, &sides, &settings)?))
     }
 
-    // A drawing whose line on further rows speaks of rows, where the library's speaks of records.
+    // A drawing whose line on further rows speaks of rows, where the library's speaks of records. No line of a row is taken for it,
+    // since a space stands before each text.
     fn told_of_rows(&self, drawing: String) -> String {
         let of = format!("\n{} of {} ", self.settings.limit.unwrap_or(usize::MAX), self.len());
         match drawing.strip_suffix("records\n") {

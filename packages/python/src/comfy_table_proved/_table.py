@@ -211,7 +211,7 @@ def _drawing(table: Table) -> str:
     if chosen:
         records = [_chosen(record, chosen) for record in records]
         sides = [sides[position] for position in chosen]
-    # The library speaks of records.
+    # The library speaks of records. No line of a row is taken for its note, since a space stands before each text.
     note = f"{settings.limit} of {len(values.rows)} "
     drawing = draw_rows(records, bytes(sides), settings)[:-1]
     return f"{drawing[:-len('records')]}rows" if drawing.endswith(f"\n{note}records") else drawing
