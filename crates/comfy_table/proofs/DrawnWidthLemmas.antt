@@ -144,7 +144,7 @@ module _ (table : TableValue) (w : ℕ) (widths : List ℕ) (full : Bool) (none 
       omega (arith, drawn, paddings_of_needs table (shown_columns table))
 
   -- the least total is the border characters, the paddings and one for each column
-  pub least_total-is : border_count table.style (shown_count table) + least_with_steps (shown_needs table) steps ≡ least_total table
+  least_total-is : border_count table.style (shown_count table) + least_with_steps (shown_needs table) steps ≡ least_total table
   least_total-is =
       let least = least_with_steps-unconstrained (room_beside_borders table w) (shown_needs table) (unconstrained_shown table none) full steps (widths_at widths (shown_columns table)) by in
       omega (arith, least, paddings_of_needs table (shown_columns table), length-map (shown_columns table) (needs_of table))

@@ -13,7 +13,7 @@ use Rattle.comfy_table.proofs.ControlLemmas.{free_of_escapes, without_controls}
 use Rattle.comfy_table.proofs.MeasuredLemmas.{HasCells, IsRowOf, rows_of, measured_kept}
 use Rattle.comfy_parts.specs.CellValue.{CellValue, ColumnInfo, ColumnValue, IsCell, IsColumn, IsDelimiter, IsRow, RowValue, info_of}
 use Rattle.comfy_parts.specs.Text.{Text, measure}
-use Rattle.comfy_table.proofs.DrawnWidthLemmas.{least_total-is}
+use Rattle.comfy_table.proofs.DrawnWidthLemmas.{fills_width, keeps_to_width}
 use Rattle.comfy_table.proofs.EqualCountLemmas.{equal_counts}
 use Rattle.comfy_table.proofs.StraightLemmas.{straight}
 use Rattle.comfy_table.proofs.CellFitLemmas.{IsWholeCell}
@@ -26,8 +26,8 @@ use Rattle.comfy_table.proofs.WrittenLemmas.{cut_lines_are_closed, lines_are_res
 use Rattle.comfy_parts.specs.VisibleText.{visible_text}
 use Rattle.comfy_table.proofs.UnstyledLemmas.{unstyled_drawing}
 use Rattle.comfy_table.specs.Drawing.{drawing, drawing_of_infos, infos_of}
-use Rattle.comfy_table.specs.Headline.{AreTextsOrSlices, DrawingFillsWidth, DrawingKeepsToWidth, LineWidthsSatisfy, IsTableDrawing, IsTextOrSlices, VisibleLinesAreStraight}
-use Rattle.comfy_table.specs.Laws.{CutLinesAreClosed, HasNoBreak, HasNoControl, IsFreeOfEscapes, LeavesNoneOpen, LinesAreResumedInRow, NoneIsOpenAtTheEnd, count, line_total, unstyled}
+use Rattle.comfy_table.specs.Headline.{AreTextsOrSlices, LineWidthsSatisfy, IsTableDrawing, IsTextOrSlices}
+use Rattle.comfy_table.specs.Laws.{CutLinesAreClosed, HasNoBreak, HasNoControl, IsFreeOfEscapes, LeavesNoneOpen, LinesAreResumedInRow, NoneIsOpenAtTheEnd, count, least_total, line_total, unstyled}
 use Rattle.comfy_table.specs.Pieces.{shown_infos}
 use Rattle.comfy_table.specs.TableLaws.{wider_total}
 use Rattle.comfy_table.specs.TableValue.{KeepsParts, TableValue, ellipsis, header_and_rows, indicator_of, measured_rows}
@@ -110,12 +110,19 @@ table_drawing table infos lines utf8 kept (widths, arranged, is) drawn =
             (cells k default under j other below cell found);
       };
       edges = record {
+        frame_counts = λ line. frame_counts table widths line arranged.one_for_each;
         unstyled_lines = λ off plain.
             whole ∙ sym (unstyled_drawing table (infos_of table widths) off plain);
         equal_counts = λ plain. equal_counts table widths utf8 plain arranged;
         straight = straight table widths utf8 cells arranged;
       };
       known_width = record {
+        keeps_to_width = λ w none dynamic known.
+            each_line_counts (λ n. n ≤ max w (least_total table)) table widths utf8 cells arranged
+            (keeps_to_width table w widths none dynamic known arranged);
+        fills_width = λ w none full known some.
+            each_line_counts (λ n. n ≡ max w (least_total table)) table widths utf8 cells arranged
+            (fills_width table w widths none full known some arranged);
         keeps_to_wider_total = λ w dynamic known.
             let found = keeps_to_wider_total table w widths dynamic known arranged in
             let P : ℕ → Type 0 = λ n. n ≤ max w (wider_total table found.0) in
@@ -131,6 +138,10 @@ table_drawing table infos lines utf8 kept (widths, arranged, is) drawn =
       };
       sequences = record {
         without_sequences = free_lines;
+        straight_without_sequences = λ free is.
+            All-of_map (λ text. measure text ≡ line_total table widths) visible_text lines
+            (subst (All (λ text. measure text ≡ line_total table widths)) (sym (free_lines free))
+            (straight table widths utf8 cells arranged is));
         closed = λ on.
             each_shown (NoneIsOpenAtTheEnd table) (header_and_rows table) table widths
             (λ row info cell. none_is_open_at_the_end table row info cell on);
@@ -155,31 +166,6 @@ table_drawing table infos lines utf8 kept (widths, arranged, is) drawn =
             (without_controls table widths arranged.one_for_each texts free));
       };
     }
-
--- where no shown column has a constraint, the wider total is the least one: so the lines keep to
--- the width
-pub drawing_keeps_to_width : (table : TableValue) (w : ℕ) (lines : List Text)
-    → DrawingKeepsToWidth table w lines
-drawing_keeps_to_width table w lines drawn none dynamic known =
-    let found = drawn.known_width.keeps_to_wider_total w dynamic known in
-    subst (λ total. LineWidthsSatisfy (λ n. n ≤ max w total) table drawn.widths)
-    (least_total-is table w drawn.widths false none drawn.arranged found.0 found.1) found.2
-
--- or have exactly that
-pub drawing_fills_width : (table : TableValue) (w : ℕ) (lines : List Text)
-    → DrawingFillsWidth table w lines
-drawing_fills_width table w lines drawn none full known some =
-    let found = drawn.known_width.fills_wider_total w full known some in
-    subst (λ total. LineWidthsSatisfy (λ n. n ≡ max w total) table drawn.widths)
-    (least_total-is table w drawn.widths true none drawn.arranged found.0 found.1) found.2
-
--- what is visible of the lines is the unstyled drawing, which is straight
-pub visible_lines_are_straight : (table : TableValue) (lines : List Text)
-    → VisibleLinesAreStraight table lines
-visible_lines_are_straight table lines drawn free is =
-    let IsWide : Text → Type 0 = λ text. measure text ≡ line_total table drawn.widths in
-    All-of_map IsWide visible_text lines
-    (subst (All IsWide) (sym (drawn.sequences.without_sequences free)) (drawn.edges.straight is))
 
 -- the indicator of a new table is a character
 utf8_ellipsis : IsUtf8 ellipsis

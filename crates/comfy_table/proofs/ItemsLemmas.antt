@@ -1,11 +1,14 @@
 -- What was taken from an iterator that gives some items.
 use Rattle.std.specs.Prelude.{◌≡◌, ◌<◌, ◌++◌, ◌∷◌, [], ℕ, List, Option, Some, length, take}
 use Rattle.std.specs.Iterator.{AlwaysYields, Count, Drains, Yields}
-use Rattle.std.proofs.Common.{◌∙◌, ap, sym, arith}
+use Rattle.std.specs.Vec.Iter.{into_iter_items, into_iter_steps}
+use Rattle.std.specs.declared.vec.IntoIter.{IntoIter}
+use Rattle.std.proofs.Common.{◌∙◌, ap, sym, refl, arith}
 use Rattle.std.proofs.Math.Seq.{take-append_seam}
 use Rattle.std.proofs.iter.Yields.{gives_Drains, gives_left}
 use Rattle.std.proofs.lemmas.List.{length-append, map-id}
 use Rattle.comfy_parts.specs.Items.{GivesAll}
+use Rattle.comfy_parts.specs.ItemsGiven.{vec_gives}
 
 module _ {S A : Type 0} (steps : S → Option A → S → Type 0) where
   -- what is left isn't empty where an item came
@@ -25,3 +28,13 @@ module _ {S A : Type 0} {can_next : S → Type 0} {steps : S → Option A → S 
   not_all_given from at behind items taken x gives yields step =
       let left = gives_left steps (λ y. y) taken items from at gives.in_order yields in
       beginning steps at behind items taken left.0 x (left.1 ∙ ap (λ xs. xs ++ left.0) (map-id taken)) left.2 step
+
+-- what was taken from the iterator of a `Vec` stood before what is left
+pub taken_from_vec : {A Z : Type 0} (xs : List A) (s t : IntoIter A Z) → Yields into_iter_steps s xs t → into_iter_items s ≡ xs ++ into_iter_items t
+taken_from_vec [] s t is = ap into_iter_items is
+taken_from_vec (x ∷ xs) s t (j, step, more) = step.0 ∙ ap (λ items. x ∷ items) (taken_from_vec xs j t more)
+
+-- all of them, where it ended
+pub drained_from_vec : {A Z : Type 0} (xs : List A) (s : IntoIter A Z) → Drains into_iter_steps s xs → xs ≡ into_iter_items s
+drained_from_vec xs s drains =
+    sym (map-id xs) ∙ gives_Drains into_iter_steps (λ x. x) xs (into_iter_items s) s (vec_gives s (into_iter_items s) refl) drains

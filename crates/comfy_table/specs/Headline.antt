@@ -43,6 +43,10 @@ pub record KeepsTexts (table : TableValue) (widths : List ℕ) : Type 0 where
 
 -- the unstyled lines, which a table without styling and custom styling has, are equally wide
 pub record HasEdges (table : TableValue) (widths : List ℕ) (lines : List Text) : Type 0 where
+  -- each frame line has the same count of characters, whatever the style and the texts
+  pub frame_counts : (line : LineStyle)
+      → count (frame_line table.style line (outer_widths (infos_of table widths)))
+      ≡ line_total table widths
   pub unstyled_lines : should_style table ≡ false → table.custom_styling ≡ false
       → lines ≡ drawing (unstyled table) widths
   -- for printable ASCII they have the same count of characters
@@ -70,9 +74,19 @@ LeadToWidths table w full widths steps =
     IsArrangedBy (room_beside_borders table w) (shown_needs table) full steps
     (shown_contents table widths)
 
--- a known width w holds, or the wider total of the steps that lead to the widths, if it is more: a
--- line has at most that count, and under `DynamicFullWidth` exactly that where a column is shown
+-- a known width w holds: under `Dynamic` a line has at most that count, and under
+-- `DynamicFullWidth` exactly that, where a column is shown
 pub record KeepsKnownWidth (table : TableValue) (widths : List ℕ) : Type 0 where
+  -- w, or borders, paddings and one for each shown column, if these are more, where no shown column
+  -- has a constraint
+  pub keeps_to_width : (w : ℕ) → NoConstraints table → table.arrangement ≡ Dynamic
+      → table_width table ≡ Some w
+      → LineWidthsSatisfy (λ n. n ≤ max w (least_total table)) table widths
+  pub fills_width : (w : ℕ) → NoConstraints table → table.arrangement ≡ DynamicFullWidth
+      → table_width table ≡ Some w → 0 < shown_count table
+      → LineWidthsSatisfy (λ n. n ≡ max w (least_total table)) table widths
+  -- w, or the wider total of the steps that lead to the widths, if it is more, under every
+  -- constraint
   pub keeps_to_wider_total : (w : ℕ) → table.arrangement ≡ Dynamic → table_width table ≡ Some w
       → (steps : Steps) × LeadToWidths table w false widths steps
       × LineWidthsSatisfy (λ n. n ≤ max w (wider_total table steps)) table widths
@@ -90,6 +104,9 @@ pub record ClosesSequences (table : TableValue) (widths : List ℕ) (lines : Lis
   -- without their sequences the lines are the unstyled ones, where nothing else holds ESC
   pub without_sequences : IsFreeOfEscapes table
       → map visible_text lines ≡ drawing (unstyled table) widths
+  -- so what is visible of the lines of a straight table is equally wide too
+  pub straight_without_sequences : IsFreeOfEscapes table → IsStraightTable table widths
+      → All (λ line. measure (visible_text line) ≡ line_total table widths) lines
   -- with custom styling no line of a cell leaves a sequence open
   pub closed : table.custom_styling ≡ true
       → EachShownCell (NoneIsOpenAtTheEnd table) (header_and_rows table) table widths
@@ -112,8 +129,13 @@ pub record AddsNoControls (table : TableValue) (lines : List Text) : Type 0 wher
   pub without_controls : IsFreeOfControls table
       → All (λ line. HasNoControl (visible_text line)) lines
 
--- what every drawing of a table promises: its lines are the drawing over widths of the table's
--- columns, with what holds of its texts, edges, width, sequences and control characters
+-- What every drawing of a table promises. The headline is in these fields: every table draws frame
+-- lines and rows of padded pieces (`drawn`) that are, in order, slices of the cells' lines losing
+-- only delimiters (`texts.slices`) until `max_height` cuts (in `drawing`); given a width w and no
+-- constraint but `Hidden` (`known_width`), frame lines (`frame_lines`) count at most
+-- max(w, borders + paddings + shown columns) characters under `Dynamic` (`keeps_to_width`), exactly
+-- that under `DynamicFullWidth` (`fills_width`), and rows of printable ASCII (`printable_lines`)
+-- count the same.
 pub record IsTableDrawing (table : TableValue) (lines : List Text) : Type 0 where
   pub widths : List ℕ
   pub arranged : IsArranged table widths
@@ -138,28 +160,3 @@ JoinsTrimmedLines table text =
 abbrev pub TerminatesLines : TableValue → Text → Type 0
 TerminatesLines table text =
     (lines : List Text) × IsTableDrawing table lines × (text ≡ terminated_text_of lines)
-
--- ---- what follows for every drawing
-
--- a known width w holds where no shown column has a constraint: under `Dynamic` a line has at most
--- that count, or that of borders, paddings and one terminal column for each shown column
-abbrev pub DrawingKeepsToWidth : TableValue → ℕ → List Text → Type 0
-DrawingKeepsToWidth table w lines =
-    (drawn : IsTableDrawing table lines) → NoConstraints table → table.arrangement ≡ Dynamic
-    → table_width table ≡ Some w
-    → LineWidthsSatisfy (λ n. n ≤ max w (least_total table)) table drawn.widths
-
--- under `DynamicFullWidth` it has exactly that count, where a column is shown
-abbrev pub DrawingFillsWidth : TableValue → ℕ → List Text → Type 0
-DrawingFillsWidth table w lines =
-    (drawn : IsTableDrawing table lines) → NoConstraints table
-    → table.arrangement ≡ DynamicFullWidth → table_width table ≡ Some w → 0 < shown_count table
-    → LineWidthsSatisfy (λ n. n ≡ max w (least_total table)) table drawn.widths
-
--- what is visible of the lines of a straight table is equally wide, where nothing but the table's
--- sequences holds ESC
-abbrev pub VisibleLinesAreStraight : TableValue → List Text → Type 0
-VisibleLinesAreStraight table lines =
-    (drawn : IsTableDrawing table lines) → IsFreeOfEscapes table
-    → IsStraightTable table drawn.widths
-    → All (λ line. measure (visible_text line) ≡ line_total table drawn.widths) lines

@@ -10,7 +10,6 @@ ghost use Rattle.comfy_parts.specs.declared.style.table_style.LineStyle.{LineSty
 ghost use Rattle.comfy_parts.specs.declared.style.table_style.TableStyle.{TableStyle};
 ghost use Rattle.comfy_table.specs.AddedRows.{DrawingIsOne, RowIsAddedBelow, ShownLinesStay};
 ghost use Rattle.comfy_table.specs.FittingTables.{FittingTablesAreStraight};
-ghost use Rattle.comfy_table.specs.Headline.{DrawingFillsWidth, DrawingKeepsToWidth, VisibleLinesAreStraight};
 ghost use Rattle.comfy_table.specs.HiddenColumns.{HiddenColumnsTellNothing, IsDrawnWithoutHidden};
 ghost use Rattle.comfy_table.specs.Laws.{CellKeepsItsText, DynamicIsOne, FillsWidth, IsFreeOfControls, IsFreeOfEscapes, JoinedLinesAreFound, KeepsToWidth, NoLinesAreOneEmptyLine, TerminatedLinesAreFound};
 ghost use Rattle.comfy_table.specs.NewTables.{NewTablesAreStraight, NewTablesLeaveNoneOpen};
@@ -52,16 +51,6 @@ pub fn frame_lines_keep_to_the_width()
         → FrameFillsWidth table w widths line }
 {}
 
-/// Where no shown column has a constraint, every drawing keeps to the width as its frame lines do:
-/// all lines of printable ASCII in characters, and all lines of a straight table in terminal
-/// columns.
-pub fn drawings_keep_to_the_width()
-    ensures dynamic { (table : TableValue) (w : ℕ) (lines : List Text)
-        → DrawingKeepsToWidth table w lines }
-    ensures full { (table : TableValue) (w : ℕ) (lines : List Text)
-        → DrawingFillsWidth table w lines }
-{}
-
 /// Lines without line feeds are found in their texts. Joined by line feeds they stand between
 /// these, if there is a line; no lines have the text of one empty line. Where each is followed by a
 /// line feed, an empty text stands after the last one.
@@ -83,12 +72,6 @@ pub fn tables_without_controls_have_no_escape()
 /// columns touch. Where a row has a greatest height, no text joins the indicator.
 pub fn tables_of_fitting_characters_are_straight()
     ensures { (table : TableValue) (lines : List Text) → FittingTablesAreStraight table lines }
-{}
-
-/// Without their sequences the lines of a straight table are equally wide too, where no shown text
-/// as it is measured, no indicator and no style holds ESC.
-pub fn visible_lines_are_straight()
-    ensures { (table : TableValue) (lines : List Text) → VisibleLinesAreStraight table lines }
 {}
 
 /// The truncation indicator of a new table adds one terminal column after any printable ASCII text.

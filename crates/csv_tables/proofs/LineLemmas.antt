@@ -11,7 +11,6 @@ use Rattle.comfy_parts.specs.CellValue.{RowValue}
 use Rattle.comfy_parts.specs.Columns.{style_characters}
 use Rattle.comfy_parts.specs.Text.{Text, measure}
 use Rattle.comfy_parts.specs.declared.style.table.ContentArrangement.TheVariants.{Dynamic, DynamicFullWidth}
-use Rattle.comfy_table.proofs.HeadlineLemmas.{drawing_fills_width, drawing_keeps_to_width}
 use Rattle.comfy_table.proofs.PartLemmas.{all_rows_are_the_table, part_has_lines_of_table}
 use Rattle.comfy_table.specs.Drawing.{drawing, drawing_of_infos, terminated_text_of}
 use Rattle.comfy_table.specs.Headline.{LineWidthsSatisfy, IsTableDrawing}
@@ -161,7 +160,7 @@ module _ (w : ℕ) (look : Look) (content : ContentValue) (table : TableValue) (
       width = ap table_width looks ∙ rw wide refl
 
       by_room : (known.columns ≡ known.plain.columns) ⊎ HasRoom w table → LineWidthsSatisfy (IsWithin w table) table drawn.widths
-      by_room (inl none) = drawing_keeps_to_width table w lines drawn (unconstrained-drawn look Any content table known none) dynamic width
+      by_room (inl none) = drawn.known_width.keeps_to_width w (unconstrained-drawn look Any content table known none) dynamic width
       by_room (inr room) =
           let found = drawn.known_width.keeps_to_wider_total w dynamic width in
           let fits = wider-fits w table room false found.0 (shown_contents table drawn.widths) found.1 in
@@ -177,7 +176,7 @@ module _ (w : ℕ) (look : Look) (content : ContentValue) (table : TableValue) (
       width = ap table_width looks ∙ rw wide refl
 
       by_room : (known.columns ≡ known.plain.columns) ⊎ HasRoom w table → 0 < shown_count table → LineWidthsSatisfy (λ n. n ≡ max w (least_total table)) table drawn.widths
-      by_room (inl none) some = drawing_fills_width table w lines drawn (unconstrained-drawn look Any content table known none) full width some
+      by_room (inl none) some = drawn.known_width.fills_width w (unconstrained-drawn look Any content table known none) full width some
       by_room (inr room) some =
           let found = drawn.known_width.fills_wider_total w full width some in
           let fits = wider-fits w table room true found.0 (shown_contents table drawn.widths) found.1 in

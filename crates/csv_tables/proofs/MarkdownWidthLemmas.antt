@@ -17,7 +17,6 @@ use Rattle.comfy_parts.specs.declared.style.table_style.TableStyle.{TableStyle}
 use Rattle.comfy_table.proofs.BuiltTableLemmas.{IsNewColumn, built_is_straight}
 use Rattle.comfy_table.proofs.ControlLemmas.{free_of_escapes}
 use Rattle.comfy_table.proofs.DrawnWidthLemmas.{sum-outer_widths}
-use Rattle.comfy_table.proofs.HeadlineLemmas.{visible_lines_are_straight}
 use Rattle.comfy_table.proofs.MeasuredLemmas.{measured_rows-is, row_measured}
 use Rattle.comfy_table.specs.Arrangement.{IsArranged, is_full_width, room_beside_borders, width_kept, widths_at}
 use Rattle.comfy_table.specs.Drawing.{drawing, drawing_of_infos, drawn_header, drawn_row, drawn_rows, infos_of}
@@ -251,7 +250,7 @@ module _ (look : Look) (content : ContentValue) where
           (rows_of_texts IsShort empty_is_short (markdown_look look) IsShortRow (short_rows (markdown_look look) refl) (markdown_content content) each) (one_column_characters markdown_style refl) no_width
 
       by_kind : (kind : Bool) → IsSeenTable kind (markdown_look look) table → All (Is kind) lines
-      by_kind true free = visible_lines_are_straight table lines drawing (free_of_escapes table free) straight
+      by_kind true free = drawing.sequences.straight_without_sequences (free_of_escapes table free) straight
       by_kind false plain =
           subst (All (Is false)) (sym (drawing.edges.unstyled_lines (ap should_style known.is) (ap (λ (t : TableValue). t.custom_styling) known.is))) (drawing.edges.straight straight)
 

@@ -15,7 +15,6 @@ use Rattle.comfy_parts.specs.declared.style.table.ContentArrangement.TheVariants
 use Rattle.comfy_parts.specs.VisibleText.{visible_text}
 use Rattle.comfy_table.proofs.ControlLemmas.{free_of_escapes}
 use Rattle.comfy_table.proofs.FittingTableLemmas.{fitting_tables_are_straight}
-use Rattle.comfy_table.proofs.HeadlineLemmas.{visible_lines_are_straight}
 use Rattle.comfy_table.proofs.InfoLemmas.{infos-known}
 use Rattle.comfy_table.proofs.MeasuredLemmas.{All-measured}
 use Rattle.comfy_table.proofs.OneDrawingLemmas.{arranged_is_one}
@@ -222,5 +221,5 @@ shown_equally_wide table lines drawn free is =
     let clear = free_of_controls table free in (
       line_total table drawn.widths,
       λ k line below.
-          (visible_text (slice_index_or lines k line), line_shows (slice_index_or lines k line) (drawn.controls.without_controls clear k line below), visible_lines_are_straight table lines drawn (free_of_escapes table clear) is k line below),
+          (visible_text (slice_index_or lines k line), line_shows (slice_index_or lines k line) (drawn.controls.without_controls clear k line below), drawn.sequences.straight_without_sequences (free_of_escapes table clear) is k line below),
     )

@@ -9,7 +9,6 @@ use Rattle.comfy_parts.specs.Text.{Text, measure}
 use Rattle.comfy_parts.specs.declared.style.table.ContentArrangement.{ContentArrangement}
 use Rattle.comfy_parts.specs.declared.style.table.ContentArrangement.TheVariants.{Dynamic, DynamicFullWidth}
 use Rattle.comfy_parts.specs.declared.style.table_style.TableStyle.{TableStyle}
-use Rattle.comfy_table.proofs.HeadlineLemmas.{drawing_fills_width, drawing_keeps_to_width}
 use Rattle.comfy_table.proofs.InfoLemmas.{columns_from}
 use Rattle.comfy_table.specs.Frame.{border_count, draws_left_border, draws_right_border, draws_vertical_lines}
 use Rattle.comfy_table.specs.Headline.{IsTableDrawing}
@@ -84,7 +83,7 @@ module _ (old new : TableValue) (w : ℕ) (lines : List Text) where
       let straight = narrow table (same_frame old (Some w) Dynamic frame)
       (plain_stay table plain.no_sequences) lines drawn each in
       let known : All (λ line. measure line ≤ max w (least_total table)) lines =
-      subst (All (λ line. measure line ≤ max w (least_total table))) (sym (drawn.edges.unstyled_lines plain.no_styles plain.no_sequences)) ((drawing_keeps_to_width table w lines drawn (unconstrained table free.1) refl refl).straight_lines straight) in
+      subst (All (λ line. measure line ≤ max w (least_total table))) (sym (drawn.edges.unstyled_lines plain.no_styles plain.no_sequences)) ((drawn.known_width.keeps_to_width w (unconstrained table free.1) refl refl).straight_lines straight) in
       let enough : least_total table ≤ frame_room table = least table free in
       All-weaker (λ line. measure line ≤ max w (least_total table)) (λ line. measure line ≤ max w (frame_room old)) (λ line is. omega (arith, is, enough)) lines known)
 
@@ -98,7 +97,7 @@ module _ (old new : TableValue) (w : ℕ) (lines : List Text) where
       (plain_stay table plain.no_sequences) lines drawn each in
       let some : 0 < shown_count table = omega (arith, (counted 0 old.columns).1, free.0) in
       let known : All (λ line. measure line ≡ max w (least_total table)) lines =
-      subst (All (λ line. measure line ≡ max w (least_total table))) (sym (drawn.edges.unstyled_lines plain.no_styles plain.no_sequences)) ((drawing_fills_width table w lines drawn (unconstrained table free.1) refl refl some).straight_lines straight) in
+      subst (All (λ line. measure line ≡ max w (least_total table))) (sym (drawn.edges.unstyled_lines plain.no_styles plain.no_sequences)) ((drawn.known_width.fills_width w (unconstrained table free.1) refl refl some).straight_lines straight) in
       let enough : least_total table ≤ frame_room table = least table free in
       All-weaker (λ line. measure line ≡ max w (least_total table)) (λ line. measure line ≡ w) (λ line is. omega (arith, is, enough, room)) lines known)
 
@@ -108,6 +107,6 @@ pub fitting_within : (table : TableValue) (w : ℕ) (lines : List Text) (drawn :
 fitting_within table w lines drawn plain free is dynamic width =
     let known : All (λ line. measure line ≤ max w (least_total table)) lines =
     subst (All (λ line. measure line ≤ max w (least_total table))) (sym (drawn.edges.unstyled_lines plain.no_styles plain.no_sequences))
-    ((drawing_keeps_to_width table w lines drawn (unconstrained table free.1) dynamic (ap (λ (o : Option ℕ). width_or_terminal o (is_tty table) table.terminal.width) width)).straight_lines is) in
+    ((drawn.known_width.keeps_to_width w (unconstrained table free.1) dynamic (ap (λ (o : Option ℕ). width_or_terminal o (is_tty table) table.terminal.width) width)).straight_lines is) in
     let enough : least_total table ≤ frame_room table = least table free in
     All-weaker (λ line. measure line ≤ max w (least_total table)) (λ line. measure line ≤ max w (frame_room table)) (λ line own. omega (arith, own, enough)) lines known

@@ -3,17 +3,16 @@ use Rattle.std.proofs.Common.{◌≡◌, ◌==◌, ◌||◌, ◌<◌, ◌≤◌,
 use Rattle.std.specs.Char.{IsScalar}
 use Rattle.std.specs.List.{All, AllZip, concat, join_by, slice_get}
 use Rattle.std.specs.Int.{is_in_range}
-use Rattle.std.proofs.lemmas.Str.{chars-nil}
-use Rattle.std.specs.Prelude.{chars, nat_lt, if◌then◌else◌, option_to_list, slice_index, MatchOption}
+use Rattle.std.specs.Prelude.{if◌then◌else◌, option_to_list, slice_index, MatchOption}
 use Rattle.std.specs.Str.{IsUtf8}
 use Rattle.std.proofs.lemmas.Bool.{and_parts, cond_both, or_parts}
 use Rattle.std.proofs.lemmas.Bool.Decides.{nat_tests}
 use Rattle.std.proofs.lemmas.List.{length-map, take-map}
-use Rattle.std.proofs.lemmas.List.Elements.{All-cons, All-from_recursion, All-head, All-nil, All-tail, All-take, All-weaker}
+use Rattle.std.proofs.lemmas.List.Elements.{All-cons, All-from_recursion, All-head, All-map, All-nil, All-tail, All-take, All-weaker}
 use Rattle.std.proofs.lemmas.Simd.{map-map}
-use Rattle.comfy_parts.proofs.CallerLemmas.{All-every, All-of_map, All-others, Shows-clear, join_by-map, lines_keep_the_text, lines_visible, measure-nil, measure-printable, visible-closed, visible_text-is, wrapped_is_wrapped}
+use Rattle.comfy_parts.proofs.CallerLemmas.{All-of_map, All-others, Shows-clear, join_by-map, lines_keep_the_text, lines_visible, measure-nil, visible-closed, visible_text-is, wrapped_is_wrapped}
 use Rattle.comfy_parts.specs.CellValue.{CellValue, ColumnInfo, ColumnValue, RowValue, info_of, info_width}
-use Rattle.comfy_parts.specs.Text.{AddsOneColumnEach, Text, greatest, is_printable_ascii, measure, spaces}
+use Rattle.comfy_parts.specs.Text.{Text, greatest, is_printable_ascii, measure, spaces}
 use Rattle.comfy_parts.specs.VisibleLines.{CellLine, line_texts}
 use Rattle.comfy_parts.specs.VisibleText.{closed, visible_text}
 use Rattle.comfy_parts.specs.Wrapping.{IsSlicesWhere, lines_of_text, wrapped}
@@ -38,7 +37,7 @@ use Rattle.promises.proofs.FrameLemmas.{shown_columns-count}
 use Rattle.promises.proofs.DrawnColumnLemmas.{IsWholeAt, columns-drawn, drawn_column, whole_at}
 use Rattle.promises.proofs.KeptLemmas.{height, line_is, piece_in}
 use Rattle.promises.proofs.ShownLemmas.{shows_both, shows_visible}
-use Rattle.promises.specs.Headline.{AreLinesOfCell, AreLinesOfHeader, AreLinesOfRow, AreSlicesOf, IsHeadline, IsPiece, IsWritten, drawn_count, flattened, framed, no_line, whole_count, whole_width, widths_shown}
+use Rattle.promises.specs.Headline.{AreLinesOfCell, AreLinesOfHeader, AreLinesOfRow, AreSlicesOf, HasEvenIndicator, IsEvenWhereWritten, IsHeadline, IsPiece, IsWritten, drawn_count, flattened, framed, no_line, whole_count, whole_width, widths_shown}
 use Rattle.promises.specs.Kept.{AreSameBut, StandIn}
 use Rattle.promises.specs.Shown.{Shows}
 use Rattle.promises.specs.Shown.Shows.{nothing, byte, sequence}
@@ -343,22 +342,15 @@ module _ (table : TableValue) (widths : List ℕ) (long : length widths ≡ leng
 
 -- ---- what every drawing promises
 
--- no text at all adds nothing
-nothing_adds : AddsOneColumnEach []
-nothing_adds p printable = ap measure (append-nil p) ∙ measure-printable p printable ∙ omega (arith, none)
-  where
-    none : length (chars []) ≡ 0
-    none = ap length chars-nil
-
--- an indicator that adds one column each does so wherever it is written
-even_table : (table : TableValue) (widths : List ℕ) → HasPrintableCells table → AddsOneColumnEach table.indicator → IsPrintableTable table widths
-even_table table widths printable even =
+-- an indicator that is even wherever it is written is so in the drawn columns
+even_table : (table : TableValue) (widths : List ℕ) (long : length widths ≡ length table.columns) → HasPrintableCells table → HasEvenIndicator table (content_at table widths long) → IsPrintableTable table widths
+even_table table widths long printable even =
     record {
       printable_cells = printable;
       indicator_adds_one_column_each =
-          All-every (λ (row : RowValue). All (AddsOneColumnEachWhereWritten table row) (shown_infos (infos_of table widths))) (measured_rows table)
-          (λ row. All-every (AddsOneColumnEachWhereWritten table row) (shown_infos (infos_of table widths))
-          (λ p cell h found limit cut. cond_both (nat_lt p.1.content_width (measure table.indicator)) [] table.indicator AddsOneColumnEach (λ _. nothing_adds) (λ _. even)));
+          All-weaker (λ (row : RowValue). All (IsEvenWhereWritten table (content_at table widths long) row) (shown_columns table)) (λ (row : RowValue). All (AddsOneColumnEachWhereWritten table row) (shown_infos (infos_of table widths)))
+          (λ row each. subst (All (AddsOneColumnEachWhereWritten table row)) (sym (columns-drawn table widths long))
+          (All-map (AddsOneColumnEachWhereWritten table row) (drawn_column widths) (shown_columns table) each)) (measured_rows table) even;
     }
 
 -- printable ASCII has no ESC
@@ -391,10 +383,10 @@ headline table lines drawn =
       total = line_total table drawn.widths;
       frame_total = λ line. ap (λ ws. count (frame_line table.style line ws)) (sym (widths_are table drawn.widths long)) ∙ frame_counts table drawn.widths line long;
       rows_total = λ printable even plain.
-          subst (All (λ line. count line ≡ line_total table drawn.widths)) (sym (drawn.edges.unstyled_lines plain.no_styles plain.no_sequences)) (drawn.edges.equal_counts (even_table table drawn.widths printable even));
+          subst (All (λ line. count line ≡ line_total table drawn.widths)) (sym (drawn.edges.unstyled_lines plain.no_styles plain.no_sequences)) (drawn.edges.equal_counts (even_table table drawn.widths long printable even));
       styled_total = λ printable even style.
           All-of_map (λ text. count text ≡ line_total table drawn.widths) visible_text lines
-          (subst (All (λ line. count line ≡ line_total table drawn.widths)) (sym (drawn.sequences.without_sequences (printable_free table printable style))) (drawn.edges.equal_counts (even_table table drawn.widths printable even)));
+          (subst (All (λ line. count line ≡ line_total table drawn.widths)) (sym (drawn.sequences.without_sequences (printable_free table printable style))) (drawn.edges.equal_counts (even_table table drawn.widths long printable even)));
       keeps_to_width = λ w known free dynamic. keeps_to_width table w drawn.widths (unconstrained table free) dynamic known drawn.arranged;
       fills_width = λ w known free full some.
           let one : 0 < shown_count table = omega (arith, shown_columns-count table, some) in

@@ -10,8 +10,8 @@ use Rattle.comfy_parts.specs.declared.style.table_style.ContentLineStyle.{Conten
 use Rattle.comfy_parts.specs.declared.style.table_style.LineStyle.{LineStyle}
 use Rattle.comfy_table.specs.Frame.{content_line, frame_line, optional_frame_line}
 use Rattle.comfy_table.specs.Laws.{HasPrintableCells, HasStyleWithout, count, least_total}
-use Rattle.comfy_table.specs.Lines.{cell_delimiter}
-use Rattle.comfy_table.specs.TableValue.{TableValue, measured_cell, shown_columns, table_width}
+use Rattle.comfy_table.specs.Lines.{cell_delimiter, cell_lines, fitting_indicator}
+use Rattle.comfy_table.specs.TableValue.{TableValue, measured_cell, measured_rows, shown_columns, table_width}
 use Rattle.promises.specs.Kept.{AreSameBut, StandIn}
 use Rattle.promises.specs.Shown.{Shows}
 use Rattle.promises.specs.Tables.{IsPlain, IsUnconstrained, shown}
@@ -114,6 +114,20 @@ AreLinesOfHeader table width (Some header) lines =
     (block : List Text) × AreLinesOfRow table table.style.header_lines width header block
     × (lines ≡ block ++ framed table width table.style.header_separator)
 
+-- where a row cuts the cell of this column, the indicator that is written adds one column for each
+-- of its characters
+abbrev pub IsEvenWhereWritten : TableValue → (ℕ → ℕ) → RowValue → ℕ × ColumnValue → Type 0
+IsEvenWhereWritten table width row p =
+    (cell : CellValue) (h : ℕ) → slice_get row.cells p.0 ≡ Some cell → row.max_height ≡ Some h
+    → h < length (cell_lines (width p.0) (cell_delimiter table p.1.delimiter cell) cell)
+    → AddsOneColumnEach (fitting_indicator (width p.0) table.indicator)
+
+-- wherever it is written
+abbrev pub HasEvenIndicator : TableValue → (ℕ → ℕ) → Type 0
+HasEvenIndicator table width =
+    All (λ (row : RowValue). All (IsEvenWhereWritten table width row) (shown_columns table))
+    (measured_rows table)
+
 -- the header, if there is one, and all rows stand between frame lines over the same widths, and
 -- the lines count as many characters
 pub record IsHeadline (table : TableValue) (lines : List Text) : Type 0 where
@@ -130,10 +144,10 @@ pub record IsHeadline (table : TableValue) (lines : List Text) : Type 0 where
   pub frame_total : (line : LineStyle)
       → count (frame_line table.style line (widths_shown table width)) ≡ total
   -- and each line of printable ASCII, where the indicator adds one column for each character
-  pub rows_total : HasPrintableCells table → AddsOneColumnEach table.indicator → IsPlain table
+  pub rows_total : HasPrintableCells table → HasEvenIndicator table width → IsPlain table
       → All (λ line. count line ≡ total) lines
   -- colours not counted, where no other ESC is drawn
-  pub styled_total : HasPrintableCells table → AddsOneColumnEach table.indicator
+  pub styled_total : HasPrintableCells table → HasEvenIndicator table width
       → HasStyleWithout 0x1B table
       → All (λ line. count (visible_text line) ≡ total) lines
   -- the width that was set, or the terminal's, holds where it has room for borders, paddings and

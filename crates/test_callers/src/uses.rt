@@ -24,7 +24,6 @@ pub mod settings;
 pub mod texts;
 
 use comfy_run::run::{MemorySink, MemorySource, RunError, Settings, run};
-use comfy_table::laws::drawings_keep_to_the_width;
 use comfy_table::presets::ASCII_FULL;
 use comfy_table::{Cell, ContentArrangement, IntoRow, Lines, Row, Table};
 use std::alloc::Global;
@@ -89,7 +88,6 @@ pub fn drawn_over_width(table: &mut Table, width: u16) -> comfy_table::Result<Li
     ensures frame { IfOk result (λ lines. 0 < shown_count table.old → NoConstraints table.old
         → HasFrameOf (max width (least_total table.old)) table.new lines) }
 {
-    drawings_keep_to_the_width();
     table
         .set_width(width)
         .set_content_arrangement(ContentArrangement::DynamicFullWidth);

@@ -234,7 +234,7 @@ long_frame_line : ¬ (count (codes "+----+") ≤ max 5 (least_total table))
 unfolding wrapping
 long_frame_line fits = let is : 6 ≤ 5 = fits in omega (arith, is)
 
--- false: comfy_table::laws::drawings_keep_to_the_width
+-- nor does a drawing over that width keep to 5, as `known_width` of `IsTableDrawing` promises
 wide_drawing : ¬ (LineWidthsSatisfy (λ n. n ≤ max 5 (least_total table)) table (2 ∷ []))
 unfolding wrapping
 wide_drawing counts = let is : 6 ≤ 5 = counts.frame_lines ascii_full.top_border in omega (arith, is)
@@ -327,7 +327,7 @@ number_sign_in_a_table straight =
 abbrev IsVisiblyStraight : Text → Type 0
 IsVisiblyStraight line = measure (visible_text line) ≡ line_total table (2 ∷ [])
 
--- false: comfy_table::laws::visible_lines_are_straight
+-- as `sequences` of `IsTableDrawing` promises for a straight table
 short_line_in_bold : ¬ (All IsVisiblyStraight (codes "\u{1b}[1m+---+" ∷ []))
 unfolding wrapping
 short_line_in_bold all =

@@ -16,14 +16,19 @@ pub fn outcome_of(alloc: Global, source: &mut Table, call: &str) -> Result<Outco
     fill_full(alloc, source)?;
     // A copy has no room to spare, so that a further row or column takes memory.
     let mut table = source.clone()?;
-    outcome_on(&mut table, source, call)
+    outcome_on(alloc, &mut table, source, call)
 }
 
-fn outcome_on(table: &mut Table, source: &mut Table, call: &str) -> Result<Outcome> {
+fn outcome_on(
+    alloc: Global,
+    table: &mut Table,
+    source: &mut Table,
+    call: &str,
+) -> Result<Outcome> {
     match change(table, call) {
         Some(true) => Ok(Outcome::Succeeded),
         Some(false) => Ok(Outcome::refused(difference(table, source)?)),
-        None => several_rows::outcome_on(table, source, call),
+        None => several_rows::outcome_on(alloc, table, source, call),
     }
 }
 

@@ -4,6 +4,7 @@
 use crate::comparison::difference;
 use crate::outcome::Outcome;
 use comfy_table::{Result, Table};
+use std::alloc::Global;
 
 // Three rows, each of which needs one more column.
 const ROWS: [&[&str]; 3] = [
@@ -13,8 +14,13 @@ const ROWS: [&[&str]; 3] = [
 ];
 
 /// What came of the call of this name on a table that is like `source`.
-pub fn outcome_on(table: &mut Table, source: &mut Table, call: &str) -> Result<Outcome> {
-    match add(table, call) {
+pub fn outcome_on(
+    alloc: Global,
+    table: &mut Table,
+    source: &mut Table,
+    call: &str,
+) -> Result<Outcome> {
+    match add(table, Vec::from_array(alloc, ROWS)?, call) {
         Some(true) => Ok(Outcome::Succeeded),
         Some(false) => outcome_after(table, source),
         None => Ok(Outcome::Unknown),
@@ -22,13 +28,11 @@ pub fn outcome_on(table: &mut Table, source: &mut Table, call: &str) -> Result<O
 }
 
 // Whether the call of this name succeeds; none where there is no such call.
-fn add(table: &mut Table, call: &str) -> Option<bool> {
-    let rows = ROWS;
+fn add(table: &mut Table, rows: Vec<&[&str]>, call: &str) -> Option<bool> {
     let succeeded = match call {
         "add_rows" => table.add_rows(rows).is_ok(),
-        "try_add_rows" => table.try_add_rows(rows).is_ok(),
+        "try_add_rows" => table.try_add_rows(&mut rows.into_iter()).is_ok(),
         "add_rows_if" => table.add_rows_if(always, rows).is_ok(),
-        "try_add_rows_if" => table.try_add_rows_if(always, rows).is_ok(),
         _ => return None,
     };
     Some(succeeded)

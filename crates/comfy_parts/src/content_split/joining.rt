@@ -1,9 +1,11 @@
 //! Which characters add one terminal column wherever they stand, and which join no other.
 
-ghost use Rattle.std.specs.Prelude.{◌≡◌, true};
-ghost use Rattle.comfy_parts.specs.Columns.{AddsOneColumn, adds_up, is_frame_character, joins_no_other};
+ghost use Rattle.std.specs.Prelude.{◌≡◌, true, unwrap_or};
+ghost use Rattle.std.specs.List.{list_all};
+ghost use Rattle.comfy_parts.specs.Columns.{AddsOneColumn, IsOneColumnStyle, adds_up, has_frame_characters, is_frame_character, joins_no_other};
 
 use crate::content_split::own_width::own_width;
+use crate::style::TableStyle;
 
 /// Whether the character adds one terminal column between any two texts, of every script. So do box
 /// and block characters, `…`, and printable ASCII but for `#`, `*` and the digits, which a
@@ -29,6 +31,27 @@ fn is_frame_character(character: char) -> bool
         ' '..='~' | '…' | '\u{2500}'..='\u{259f}' => true,
         _ => false,
     }
+}
+
+impl TableStyle {
+    /// Whether each of its characters adds one terminal column between any texts, as
+    /// `adds_one_column` tells. All presets say yes, rounded or with solid inner borders too. It is
+    /// one of the three things that straight right edges ask for.
+    pub fn is_one_column(&self) -> bool
+        ensures test { result ≡ has_frame_characters self.now }
+        ensures adds { result ≡ true → IsOneColumnStyle self.now }
+    {
+        are_one_column(&self.characters())
+    }
+}
+
+// Whether each of these characters adds one terminal column; a missing one is a space.
+fn are_one_column(characters: &[Option<char>]) -> bool
+    ensures { result ≡ list_all (λ c. is_frame_character (unwrap_or c 0x20)) characters.now }
+{
+    characters
+        .iter()
+        .all(|character| adds_one_column(character.unwrap_or(' ')))
 }
 
 /// Whether no character of the text is one that joins others, so that the widths of its characters

@@ -1,13 +1,10 @@
 //! The characters of a table's frame.
 
-ghost use Rattle.std.specs.Prelude.{◌≡◌, true, unwrap_or};
-ghost use Rattle.std.specs.List.{list_all};
+ghost use Rattle.std.specs.Prelude.{◌≡◌};
 ghost use Rattle.comfy_parts.specs.Borders.{draws_left_border, draws_right_border, draws_vertical_lines};
-ghost use Rattle.comfy_parts.specs.Columns.{IsOneColumnStyle, has_frame_characters, is_frame_character, style_characters};
+ghost use Rattle.comfy_parts.specs.Columns.{style_characters};
 ghost use Rattle.comfy_parts.specs.Presets.{nothing};
 ghost use Rattle.comfy_parts.specs.StyleModifiers.{with_rounded_corners, with_solid_inner_borders, RoundingTwiceIsOnce, SolidTwiceIsOnce};
-
-use crate::content_split::adds_one_column;
 
 /// A horizontal line of the frame. With no part set it isn't drawn.
 ///
@@ -333,18 +330,8 @@ impl TableStyle {
             || self.bottom_border.junction.is_some()
     }
 
-    /// Whether each of its characters adds one terminal column between any texts, as
-    /// `adds_one_column` tells. All presets say yes, rounded or with solid inner borders too. It is
-    /// one of the three things that straight right edges ask for.
-    pub fn is_one_column(&self) -> bool
-        ensures test { result ≡ has_frame_characters self.now }
-        ensures adds { result ≡ true → IsOneColumnStyle self.now }
-    {
-        are_one_column(&self.characters())
-    }
-
-    // All characters, line by line.
-    fn characters(&self) -> [Option<char>; 22]
+    /// All characters, line by line.
+    pub(crate) fn characters(&self) -> [Option<char>; 22]
         ensures { result ≡ style_characters self.now }
     {
         let (top, header, separator) = (self.top_border, self.header_lines, self.header_separator);
@@ -417,13 +404,4 @@ impl TableStyle {
             ..self
         }
     }
-}
-
-// Whether each of these characters adds one terminal column; a missing one is a space.
-fn are_one_column(characters: &[Option<char>]) -> bool
-    ensures { result ≡ list_all (λ c. is_frame_character (unwrap_or c 0x20)) characters.now }
-{
-    characters
-        .iter()
-        .all(|character| adds_one_column(character.unwrap_or(' ')))
 }

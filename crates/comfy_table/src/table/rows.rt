@@ -1,7 +1,9 @@
 //! Several rows added at once, and rows added on a condition.
 
-ghost use Rattle.std.specs.Prelude.{◌≡◌, Bool, true, IfOk, OnOk, OnErr, if◌then◌else◌, length, map};
+ghost use Rattle.std.specs.Prelude.{◌≡◌, ◌++◌, ◌∷◌, Bool, List, None, Some, true, IfOk, OnOk, OnErr, if◌then◌else◌, length, map};
 ghost use Rattle.std.specs.Borrow.{sem};
+ghost use Rattle.std.specs.Iterator.{IsFinite, YieldsThen};
+ghost use Rattle.std.specs.Vec.Iter.{into_iter_items};
 ghost use Rattle.comfy_table.specs.Predicate.{Answers};
 ghost use Rattle.comfy_table.specs.TableLoans.{TableHasFirstRowsIfErr, TableStaysIfErr};
 ghost use Rattle.comfy_table.specs.TableReference.{reference_of};
@@ -9,12 +11,12 @@ ghost use Rattle.comfy_table.specs.TableValue.{IsWithRowsBeforeOne, with_row, wi
 
 use crate::table::{Table, TableReference, into_reference};
 use comfy_parts::{IntoRow, Items, Result};
+use std::vec;
 
 impl Table {
     /// Appends rows in their order, each as `add_row` does. Returns the table for further calls.
     /// After `OutOfMemory` it has the rows before the refused one, which is dropped with those
-    /// after it. A caller's own proof knows only from `try_add_rows` that these are the first rows,
-    /// and not all.
+    /// after it. `try_add_rows` tells which one that was.
     ///
     /// ```
     /// table.add_rows([["17", "dock 3"], ["18", "rented"]])?;
@@ -55,9 +57,7 @@ impl Table {
 
     /// Asks the predicate once, with the number of rows and the new rows. On yes it appends them as
     /// `add_rows` does; on no it changes nothing and takes no memory, and they are dropped. Returns
-    /// the table for further calls. After `OutOfMemory` it has the rows before the refused one. A
-    /// caller's own proof knows only from `try_add_rows_if` that these are the first rows, and not
-    /// all.
+    /// the table for further calls. After `OutOfMemory` it has the rows before the refused one.
     pub fn add_rows_if<P, I>(&mut self, predicate: P, rows: I) -> Result<&mut Self>
     where
         P: Fn(usize, &I) -> bool + Drop,
@@ -79,24 +79,23 @@ impl Table {
         into_reference(self.with_rows_added_if(predicate, rows))
     }
 
-    /// Appends rows in their order, each as `add_row` does. This is for callers that go on with the
-    /// table after `OutOfMemory`. Then it has the rows before the refused one, with the columns
-    /// that these made. The caller's own proof can use that these are the first rows, not all, and
-    /// no other.
-    pub fn try_add_rows<I>(&mut self, rows: I) -> Result<()>
-    where
-        I: Items,
-        I::Item: IntoRow,
-        I::IntoIter: Drop,
+    /// Appends the rows that are left of a `Vec`, in their order, each as `add_row` does. This is
+    /// for callers that go on with the table after `OutOfMemory`. Then it has the rows before the
+    /// refused one, with the columns that these made; that one is dropped, and those after it are
+    /// still to come.
+    ///
+    /// ```
+    /// let mut rows = rows.into_iter();
+    /// let added = table.try_add_rows(&mut rows);
+    /// ```
+    pub fn try_add_rows<T: IntoRow>(&mut self, rows: &mut vec::IntoIter<T>) -> Result<()>
         ensures ok { OnOk result (self.new
-            ≡ with_rows (map I.Item.row_of (I.items_of rows)) self.old) }
-        ensures err { OnErr result (IsWithRowsBeforeOne
-            (map I.Item.row_of (I.items_of rows)) self.old self.new) }
+            ≡ with_rows (map T.row_of (into_iter_items rows.old)) self.old) }
+        ensures err { OnErr result ((added : List T) × (refused : T)
+            × (into_iter_items rows.old ≡ added ++ refused ∷ into_iter_items rows.new)
+            × (self.new ≡ with_rows (map T.row_of added) self.old)) }
     {
-        for row in rows {
-            self.try_add_row(row)?;
-        }
-        Ok(())
+        self.push_rows(rows)
     }
 
     /// Asks the predicate once, with the number of rows and the row, and appends the row on yes.
@@ -119,29 +118,38 @@ impl Table {
         self.try_add_row(row)
     }
 
-    /// Asks the predicate once, with the number of rows and the new rows, and appends them on yes.
-    /// This is for callers that go on with the table after `OutOfMemory`, which comes on yes alone.
-    /// Then it has the rows before the refused one. The caller's own proof can use that these are
-    /// the first rows, not all, and no other.
-    pub fn try_add_rows_if<P, I>(&mut self, predicate: P, rows: I) -> Result<()>
+    // Appends the rows that an iterator gives, until it ends or a row is refused.
+    fn push_rows<R>(&mut self, rows: &mut R) -> Result<()>
     where
-        P: Fn(usize, &I) -> bool + Drop,
-        I: Items + Drop,
+        R: Iterator,
+        R::Item: IntoRow,
+        requires { R.can_next rows.old × IsFinite (R.remaining rows.old) }
+        ensures ok { OnOk result ((added : List R.Item)
+            × YieldsThen R.next_gives rows.old added None rows.new
+            × (self.new ≡ with_rows (map R.Item.row_of added) self.old)) }
+        ensures err { OnErr result ((added : List R.Item) × (refused : R.Item)
+            × YieldsThen R.next_gives rows.old added (Some refused) rows.new
+            × (self.new ≡ with_rows (map R.Item.row_of added) self.old)) }
+    {
+        while let Some(row) = rows.next() {
+            self.try_add_row(row)?;
+        }
+        Ok(())
+    }
+
+    // Appends rows in their order.
+    fn push_items<I>(&mut self, rows: I) -> Result<()>
+    where
+        I: Items,
         I::Item: IntoRow,
         I::IntoIter: Drop,
-        requires { P.IsAlwaysCallable predicate }
-        ensures ok { OnOk result ((yes : Bool)
-            × Answers P.Fn predicate (length self.old.rows) rows yes
-            × (self.new ≡ (if yes
-            then with_rows (map I.Item.row_of (I.items_of rows)) self.old
-            else self.old))) }
-        ensures err { OnErr result (Answers P.Fn predicate (length self.old.rows) rows true
-            × IsWithRowsBeforeOne (map I.Item.row_of (I.items_of rows)) self.old self.new) }
+        ensures ok { OnOk result (self.new
+            ≡ with_rows (map I.Item.row_of (I.items_of rows)) self.old) }
+        ensures err { OnErr result (IsWithRowsBeforeOne
+            (map I.Item.row_of (I.items_of rows)) self.old self.new) }
     {
-        if !self.answer_of(&predicate, &rows) {
-            return Ok(());
-        }
-        self.try_add_rows(rows)
+        let mut rows = rows.into_iter();
+        self.push_rows(&mut rows)
     }
 
     // What a predicate returns for the number of rows and a value.
@@ -167,7 +175,7 @@ impl Table {
         ensures added { IfOk (reference_of result)
             (λ table. table.now ≡ with_rows (map I.Item.row_of (I.items_of rows)) self.old) }
     {
-        self.try_add_rows(rows)?;
+        self.push_items(rows)?;
         Ok(TableReference { table: self })
     }
 
@@ -210,7 +218,9 @@ impl Table {
         ensures refused_on_yes { OnErr (reference_of result)
             (Answers P.Fn predicate (length self.old.rows) rows true) }
     {
-        self.try_add_rows_if(predicate, rows)?;
+        if self.answer_of(&predicate, &rows) {
+            self.push_items(rows)?;
+        }
         Ok(TableReference { table: self })
     }
 }

@@ -12,7 +12,7 @@ ghost use Rattle.comfy_table.specs.TableValue.{header_and_rows, max_content_widt
 ghost use Rattle.test_callers.specs.Uses.{IsDrawnWhole, IsPrintedWithin, table_within, text_within};
 
 use comfy_table::laws::{
-    cells_keep_their_text, drawings_keep_to_the_width, lines_are_found_in_their_texts,
+    cells_keep_their_text, lines_are_found_in_their_texts,
     new_tables_are_straight, presets_have_columns_of_one,
 };
 use comfy_table::presets::UTF8_FULL;
@@ -106,7 +106,6 @@ pub fn printed_within(alloc: Global, header: Row, row: Row, width: u16) -> Resul
     ensures { IfOk result (λ text. IsPrintedWithin width (table_within width header row)
         (string_bytes text)) }
 {
-    drawings_keep_to_the_width();
     lines_are_found_in_their_texts();
     let mut table = Table::new(alloc);
     table

@@ -47,5 +47,6 @@ pub fn append_numbers(table: &mut Table, numbers: &[u64]) -> Result<()>
     ensures { OnOk result (table.new
         ≡ with_rows (map (λ number. plain_row (number_cell number ∷ [])) numbers.now) table.old) }
 {
-    table.try_add_rows(NumberRows { left: numbers })
+    table.add_rows(NumberRows { left: numbers })?;
+    Ok(())
 }

@@ -7,9 +7,7 @@ ghost use Rattle.comfy_table.specs.Headline.{TerminatesLines};
 ghost use Rattle.comfy_table.specs.Parts.{ArrangedValue, IsArrangedTable, row_heights};
 ghost use Rattle.test_callers.specs.Uses.{AppendsPageWithin};
 
-use comfy_table::laws::{
-    drawings_keep_to_the_width, lines_are_found_in_their_texts, parts_have_lines_of_the_table,
-};
+use comfy_table::laws::{lines_are_found_in_their_texts, parts_have_lines_of_the_table};
 use comfy_table::{Result, Table};
 
 /// Appends a page of a table. Cut at its line feeds the page has no line of more characters than
@@ -18,7 +16,6 @@ pub fn push_page(table: &Table, text: &mut String, first: usize, count: usize) -
     ensures { OnOk result (AppendsPageWithin table.now (string_bytes text.old)
         (string_bytes text.new)) }
 {
-    drawings_keep_to_the_width();
     parts_have_lines_of_the_table();
     lines_are_found_in_their_texts();
     table.arranged()?.push_rows(text, first, count)

@@ -1,10 +1,10 @@
 //! Callers that add, copy and read rows.
 
-ghost use Rattle.std.specs.Prelude.{◌≡◌, ◌==◌, IfOk, IfSome, List, None, OnErr, OnOk, Some, ℕ, if◌then◌else◌, length, max, nat_lt, option_map, slice_get, true};
+ghost use Rattle.std.specs.Prelude.{◌≡◌, ◌≤◌, ◌==◌, IfOk, IfSome, List, None, OnErr, OnOk, Some, ℕ, if◌then◌else◌, length, max, nat_lt, option_map, slice_get, take, true};
 ghost use Rattle.comfy_parts.specs.CellValue.{RowValue, with_cell, with_max_height};
 ghost use Rattle.comfy_table.specs.AddedRows.{AddsBelow, HasColumnsFor, IsWithinContents};
 ghost use Rattle.comfy_table.specs.Arrangement.{width_kept};
-ghost use Rattle.comfy_table.specs.TableValue.{IsWithRowsBeforeOne, table_width, with_header, with_row, with_rows};
+ghost use Rattle.comfy_table.specs.TableValue.{table_width, with_header, with_row, with_rows};
 
 use comfy_table::laws::shown_lines_stay;
 use comfy_table::{Cell, Lines, Result, Row, Table};
@@ -50,13 +50,17 @@ pub fn fill(table: &mut Table, rows: Vec<Row>) -> Result<()>
     Ok(())
 }
 
-/// Gives rows to a table without any. After `OutOfMemory` it has those before the refused one.
-pub fn fill_as_far_as_possible(table: &mut Table, rows: Vec<Row>) -> Result<()>
-    ensures ok { OnOk result (table.new
-        ≡ (if length table.old.rows == 0 then with_rows rows.items table.old else table.old)) }
-    ensures err { OnErr result (IsWithRowsBeforeOne rows.items table.old table.new) }
+/// Appends rows as far as there is memory for them, and says how many of them are in the table.
+pub fn added_count(table: &mut Table, rows: Vec<Row>) -> usize
+    ensures { (result ≤ length rows.items)
+        × (table.new ≡ with_rows (take result rows.items) table.old) }
 {
-    table.try_add_rows_if(|count, _rows| count == 0, rows)
+    let count = rows.len();
+    let mut rows = rows.into_iter();
+    match table.try_add_rows(&mut rows) {
+        Ok(()) => count,
+        Err(_) => count - rows.len() - 1,
+    }
 }
 
 /// Replaces the header. After `OutOfMemory` the table is unchanged.

@@ -14,7 +14,7 @@ use comfy_parts::content_split::leaves_sequence_open;
 use comfy_parts::for_tables::{has_escape, measured_lines, written_lines};
 use comfy_table::laws::{
     lines_are_found_in_their_texts, new_tables_leave_no_sequence_open,
-    tables_without_controls_have_no_escape, visible_lines_are_straight,
+    tables_without_controls_have_no_escape,
 };
 use comfy_table::utils::formatting::content_split::ColumnDisplayInfo;
 use comfy_table::{Cell, Lines, Result, Row, Table};
@@ -42,7 +42,6 @@ pub fn drawn_in_colour(table: &Table) -> Result<Lines>
         → ((widths : List ℕ) → IsStraightTable table.now widths)
         → AreEquallyWide (map visible_text lines)) }
 {
-    visible_lines_are_straight();
     table.lines()
 }
 

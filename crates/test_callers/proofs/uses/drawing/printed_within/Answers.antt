@@ -18,7 +18,7 @@ returns c =
     let table : TableValue = table_within w c.args.header c.args.row in
     let told : TerminatesLines table (string_bytes text) = subst (λ (t : TableValue). TerminatesLines t (string_bytes text)) (grind (arith, common_steps)) printed in
     let drawn : IsTableDrawing table told.0 = told.1 in
-    let few : All (λ line. count line ≤ max w (least_total table)) told.0 = subst (All (λ line. count line ≤ max w (least_total table))) (sym (drawn.edges.unstyled_lines refl refl)) ((c.drawings_keep_to_the_width.ensures.dynamic table w told.0 drawn free refl refl).printable_lines (plain drawn.widths)) in
+    let few : All (λ line. count line ≤ max w (least_total table)) told.0 = subst (All (λ line. count line ≤ max w (least_total table))) (sym (drawn.edges.unstyled_lines refl refl)) ((drawn.known_width.keeps_to_width w free refl refl).printable_lines (plain drawn.widths)) in
     let found = c.lines_are_found_in_their_texts.ensures.terminated told.0 (drawn.controls.without_breaks (record { indicator = refl; characters = refl })) in
     subst (All (λ line. count line ≤ w)) (sym (ap (slice_split (λ b. b == 0x0A)) told.2 ∙ found))
     (All-append (λ line. count line ≤ w) told.0 ([] ∷ [])

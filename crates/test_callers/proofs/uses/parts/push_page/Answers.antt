@@ -27,7 +27,7 @@ returns c =
       terminated_text_of part,
       appended ∙ ap (λ (t : TableValue). string_bytes c.args.text.now ++ terminated_text_of (drawing_of_infos (with_rows_alone c.args.first c.args.count t) arranged.infos)) known.of_table,
       λ w dynamic width off plain_texts unbroken free plain enough.
-          let few : All (λ line. count line ≤ max w (least_total table)) lines = subst (All (λ line. count line ≤ max w (least_total table))) (sym (known.headline.edges.unstyled_lines off plain_texts)) ((c.drawings_keep_to_the_width.ensures.dynamic table w lines known.headline free dynamic width).printable_lines (plain known.headline.widths)) in
+          let few : All (λ line. count line ≤ max w (least_total table)) lines = subst (All (λ line. count line ≤ max w (least_total table))) (sym (known.headline.edges.unstyled_lines off plain_texts)) ((known.headline.known_width.keeps_to_width w free dynamic width).printable_lines (plain known.headline.widths)) in
           let found = c.lines_are_found_in_their_texts.ensures.terminated part (carried HasNoBreak lines part own (known.headline.controls.without_breaks unbroken)) in
           subst (All (λ line. count line ≤ w)) (sym found)
           (All-append (λ line. count line ≤ w) part ([] ∷ [])

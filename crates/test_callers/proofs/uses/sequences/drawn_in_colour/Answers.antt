@@ -15,6 +15,6 @@ returns c =
     let table : TableValue = c.args.table.now in (
       line_total table drawn.widths,
       All-map (λ line. measure line ≡ line_total table drawn.widths) visible_text lines
-          (c.visible_lines_are_straight.ensures table lines drawn free (straight drawn.widths)),
+          (drawn.sequences.straight_without_sequences free (straight drawn.widths)),
     ))
     c.lines.ensures.headline
