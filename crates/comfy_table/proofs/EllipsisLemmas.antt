@@ -1,5 +1,5 @@
 -- The indicator of a new table adds one terminal column.
-use Rattle.std.proofs.Common.{◌≡◌, ◌+◌, ◌++◌, [], ◌∷◌, length, refl, sym, ap, ◌∙◌, arith, append-nil}
+use Rattle.std.proofs.Common.{◌≡◌, ◌+◌, ◌++◌, [], length, refl, sym, ap, ◌∙◌, arith, append-nil}
 use Rattle.std.specs.Prelude.{chars, encode_utf8}
 use Rattle.comfy_parts.proofs.CallerLemmas.{IsUtf8-printable, frame_adds, measure-nil, measure-printable, one_character}
 use Rattle.comfy_parts.proofs.Computing.{wrapping}

@@ -1,5 +1,5 @@
 -- What a drawing over the table's infos promises.
-use Rattle.std.proofs.Common.{◌≡◌, ◌≤◌, ℕ, ◌+◌, true, false, not, List, [], ◌∷◌, Option, Some, None, map, zip, slice_index_or, unwrap_or, max, String, refl, ap, sym, subst, ◌∙◌, arith}
+use Rattle.std.proofs.Common.{◌≡◌, ◌≤◌, ℕ, ◌+◌, not, List, [], ◌∷◌, Option, Some, None, map, zip, slice_index_or, unwrap_or, max, String, refl, ap, sym, subst, ◌∙◌, arith}
 use Rattle.std.proofs.lemmas.List.Elements.{All-filter, All-head, All-nil, All-tail, All-weaker}
 use Rattle.std.proofs.lemmas.Str.{IsUtf8-string_bytes}
 use Rattle.std.specs.Char.{IsScalar}

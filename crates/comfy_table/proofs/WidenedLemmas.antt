@@ -1,13 +1,13 @@
 -- Contents of columns, row by row.
-use Rattle.std.proofs.Common.{◌≡◌, ℕ, zero, suc, ◌+◌, ◌<◌, List, [], ◌∷◌, ◌++◌, Option, Some, None, length, map, max, take, replicate, arith, refl, ap, subst, sym, ◌∙◌}
-use Rattle.std.specs.List.{range_with_len, slice_get, slice_index_or, slice_set}
+use Rattle.std.proofs.Common.{◌≡◌, ℕ, zero, suc, ◌<◌, List, [], ◌∷◌, Option, Some, None, length, map, max, take, replicate, arith, refl, ap, subst, sym, ◌∙◌}
+use Rattle.std.specs.List.{slice_get, slice_index_or, slice_set}
 use Rattle.std.specs.Prelude.{option_and_then}
 use Rattle.std.proofs.lemmas.List.{ext_get_or, get_or-replicate, length-replicate}
 use Rattle.std.proofs.lemmas.List.FromFn.{get_or-map-range_with_len, length-map-range_with_len}
 use Rattle.comfy_parts.specs.CellValue.{CellValue, RowValue}
 use Rattle.comfy_parts.specs.Text.{greatest}
 use Rattle.comfy_table.proofs.ColumnCellLemmas.{greatest_measured, of_measured}
-use Rattle.comfy_table.specs.TableValue.{TableValue, cell_content_width, cells_at, cells_with_header, column_content_width, max_content_widths, measured_cell, widened}
+use Rattle.comfy_table.specs.TableValue.{TableValue, cell_content_width, cells_at, column_content_width, max_content_widths, measured_cell, widened}
 
 module _ (table : TableValue) where
   -- one cell more

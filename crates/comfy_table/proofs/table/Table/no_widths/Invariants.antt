@@ -1,4 +1,4 @@
-use Rattle.std.proofs.Common.{◌≡◌, ◌-◌, replicate}
+use Rattle.std.proofs.Common.{◌≡◌, replicate}
 use Rattle.comfy_table.proofs.table.Table.no_widths.Given as goal
 
 abbrev pub invariant-loop : goal.invariant-loop
