@@ -14,6 +14,7 @@
   of a caller.
 - Each mutation changes a function that exists.
 - Each definition of specs/ and proofs/ is reached (tools/check/reach.py).
+- The head comment of each file of specs/ of a library ends with a line that says where its rules come from.
 - No line of src/ and specs/ has more than 100 characters, but `use` lines and `#[tactic(..)]`, which `rt fmt` doesn't break.
 - The crate of documented examples is what the doc comments say.
 - csvtable's man page and completions are what tools/make/manual.py makes of its table of words.
@@ -140,6 +141,13 @@ def wrong_lines():
     return wrong
 
 
+def without_source():
+    """The files of specs/ whose head comment doesn't end with the source of their rules."""
+    paths = (path for crate in LIBRARIES for path in files_of(crate, "specs/**/*.antt"))
+    source = r"(?:-- .*\n)+-- Source: .*\.\n(?!--)"
+    return [it for it in paths if not it.endswith("/Lib.antt") and not re.match(source, text_of(it))]
+
+
 def anchor_of(heading):
     """What a link names a heading by."""
     return re.sub(r"[^\w\- ]", "", heading.lower()).replace(" ", "-")
@@ -190,6 +198,7 @@ def main():
     wrong += [f"comfy_table::laws doesn't pass on {it}" for it in set(of_parts) ^ set(re.findall(r"\w+", passed_on))]
     wrong += unreached()
     wrong += wrong_lines()
+    wrong += [f"{path} doesn't say where its rules come from" for path in without_source()]
     print("\n".join(wrong) or f"{len(labels)} labels: all found")
     return 1 if wrong else 0
 

@@ -1,4 +1,5 @@
 -- What a text measures, and what its clusters measure by themselves.
+-- Source: UAX 29 for clusters, unicode-width 0.2.3 for what they measure.
 use Rattle.std.specs.Prelude.{◌≡◌, ℕ, ◌≤◌, Bool, true, false, not, ◌&&◌, ◌||◌, ◌==◌, chars, List, [], ◌∷◌, ◌++◌, ◌+◌, take, sum_by, IsUtf8}
 use Rattle.std.specs.List.{All, concat}
 use Rattle.unicode_segmentation.specs.Grapheme.{graphemes}

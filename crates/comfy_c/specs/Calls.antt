@@ -1,4 +1,5 @@
 -- What numbers and arguments mean that a caller passes, and what is made of its buffer.
+-- Source: this library's own.
 use Rattle.std.specs.Prelude.{◌≡◌, ◌⊎◌, ◌-◌, ℕ, nat_le, ◌==◌, List, [], ◌∷◌, ◌++◌, All, Option, Some, None, IsUtf8, codes, drop, flat_map, length, slice_get, slice_index, string_bytes, if◌then◌else◌}
 use Rattle.comfy_parts.specs.Presets.{preset_at}
 use Rattle.comfy_parts.specs.Text.{HasNo, Text}

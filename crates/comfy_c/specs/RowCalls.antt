@@ -1,4 +1,5 @@
 -- What settings and columns of a table of rows mean, and what is drawn of its texts.
+-- Source: this library's own.
 use Rattle.std.specs.Prelude.{◌≡◌, ◌⊎◌, ◌+◌, ◌-◌, ◌^◌, ◌==◌, ◌&&◌, not, nat_le, ℕ, Bool, true, false, List, [], ◌∷◌, All, Option, Some, None, Err, IsUtf8, decimal, is_some, length, map, slice_get, string_bytes, if◌then◌else◌}
 use Rattle.std.specs.List.{enumerate_from, filter, list_all}
 use Rattle.comfy_parts.specs.Presets.{preset_at}

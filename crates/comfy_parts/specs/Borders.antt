@@ -1,4 +1,5 @@
 -- Which borders a style draws: those of which any of its six lines has a character.
+-- Source: has_left_border, has_right_border and has_vertical_lines of comfy-table 8.0.1.
 use Rattle.std.specs.Prelude.{ℕ, Bool, List, [], ◌∷◌, Option, is_some}
 use Rattle.std.specs.List.{list_any}
 use Rattle.comfy_parts.specs.declared.style.table_style.TableStyle.{TableStyle}

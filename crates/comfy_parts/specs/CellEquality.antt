@@ -1,5 +1,6 @@
 -- What `==` and a hash read of a cell: its value. They are std's tests and writes of the fields, in
 -- order, and so have their laws.
+-- Source: the derived PartialEq, Eq and Hash of Cell of comfy-table 8.0.1.
 use Rattle.std.specs.Prelude.{◌≡◌, ◌&&◌, ◌++◌, pos, Bool, true, Option, Some, None, nat_eq}
 use Rattle.std.specs.Cmp.{IsEquivalence, and_equiv, on_equiv, nat_eq_equiv, unsigned_Decides}
 use Rattle.std.specs.Cmp.Lexicographic.{pointwise, pointwise_decides, lists_equiv, options_equiv, nat_list_eq_equiv}

@@ -1,4 +1,5 @@
 -- What cells, rows, columns and drawn columns are, as values.
+-- Source: Cell, Row, Column and ColumnDisplayInfo of comfy-table 8.0.1.
 use Rattle.std.specs.Prelude.{ℕ, ℤ, ◌+◌, ◌-◌, Bool, true, false, not, List, [], ◌∷◌, ◌++◌, Option, Some, None, map, filter, length, max, min, codes, decimal, encode_utf8, if◌then◌else◌, ◌≡◌, ◌<◌, ◌≤◌, ◌==◌, All, IfSome, IsUtf8}
 use Rattle.std.specs.Char.{IsScalar}
 use Rattle.std.specs.Fmt.{signed_decimal}

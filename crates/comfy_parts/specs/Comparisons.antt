@@ -1,5 +1,6 @@
 -- What `==`, the order and a hash read of attributes, alignments and colours, and what the
 -- comparisons promise.
+-- Source: the derived traits of Attribute, Color and CellAlignment of comfy-table 8.0.1.
 use Rattle.std.specs.Prelude.{◌≡◌, ◌↔◌, ◌&&◌, ℕ, Bool, true, List, [], ◌∷◌}
 use Rattle.std.specs.Hash.{HashWrites}
 use Rattle.std.specs.Ordering.{is_lt}

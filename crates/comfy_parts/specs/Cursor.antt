@@ -1,5 +1,6 @@
 -- Private: a cursor over the parts of a cell's text lines: what it passes, and the sequences that
 -- are open where it stands.
+-- Source: this library's own.
 use Rattle.std.specs.Prelude.{◌≡◌, ◌<◌, ℕ, zero, suc, Bool, true, false, Option, None, Some, List, [], ◌∷◌, ◌++◌, map, length, flat_map, encode_utf8, if◌then◌else◌}
 use Rattle.comfy_parts.specs.Text.{Text, IsOnly, begins_with}
 use Rattle.comfy_parts.specs.declared.content_split.sequences.TextPart.{TextPart}

@@ -1,4 +1,5 @@
 -- Private: an element at a text's front, and what follows it.
+-- Source: this library's own.
 use Rattle.std.specs.Prelude.{◌≡◌, ◌⊎◌, ℕ, ◌+◌, ◌<◌, ◌≤◌, List, [], ◌∷◌, ◌++◌, length, take, drop, sum_by, false, encode_utf8, IsUtf8}
 use Rattle.std.specs.List.{concat}
 use Rattle.std.specs.Str.{IsCharBoundary}

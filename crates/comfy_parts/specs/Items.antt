@@ -1,4 +1,5 @@
 -- What an iterator over some items does.
+-- Source: this library's own.
 use Rattle.std.specs.Prelude.{List, Option}
 use Rattle.std.specs.Iterator.{AlwaysYields, Count, IsFinite}
 

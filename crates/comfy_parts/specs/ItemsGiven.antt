@@ -1,4 +1,5 @@
 -- Private: what the library's lists and iterators give: the laws of their impls.
+-- Source: this library's own.
 use Rattle.std.specs.Prelude.{◌≡◌, ⊤, ℕ, zero, suc, List, [], ◌∷◌, Option, Some, None, length}
 use Rattle.std.specs.Array.Iter.{array_into_iter_items, array_steps}
 use Rattle.std.specs.Iterator.{AlwaysYields}

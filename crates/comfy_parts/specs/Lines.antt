@@ -1,4 +1,5 @@
 -- Private: what is known where a line begins.
+-- Source: this library's own.
 use Rattle.std.specs.Prelude.{◌≡◌, ℕ, false}
 use Rattle.comfy_parts.specs.Following.{IsAtLine}
 use Rattle.comfy_parts.specs.Laws.{IsPrintable}

@@ -1,4 +1,5 @@
 -- Private: the columns of a character that joins no other.
+-- Source: this library's own.
 use Rattle.std.specs.Prelude.{ℕ, Option, None, false, if◌then◌else◌}
 use Rattle.unicode_width.specs.Width.{char_width}
 use Rattle.comfy_parts.specs.Columns.{joins_no_other}

@@ -1,5 +1,6 @@
 -- The thirteen presets. A part of a style is written as its characters: left, fill, junction and
 -- right of a frame line, left, junction and right of a content line; `_` is one that isn't set.
+-- Source: style::presets of comfy-table 8.0.1.
 use Rattle.std.specs.Prelude.{ℕ, ◌==◌, List, [], ◌∷◌, Option, Some, None, option_map, find, slice_get, slice_index, codes, bytes_eq, if◌then◌else◌}
 use Prim.Native.String.{String}
 use Rattle.comfy_parts.specs.Text.{Text}

@@ -1,4 +1,5 @@
 -- What a row ends as, once a call that lends it on has returned.
+-- Source: this library's own.
 use Rattle.std.specs.Prelude.{Result}
 use Rattle.std.specs.Borrow.{Fml, MutBor, LendsIfOk}
 use Rattle.comfy_parts.specs.CellValue.{RowValue}

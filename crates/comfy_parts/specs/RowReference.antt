@@ -1,4 +1,5 @@
 -- Private: a reference to a row inside a struct.
+-- Source: this library's own.
 use Rattle.std.specs.Prelude.{Result, Ok, Err}
 use Rattle.std.specs.Borrow.{MutBor}
 use Rattle.comfy_parts.specs.CellValue.{RowValue}

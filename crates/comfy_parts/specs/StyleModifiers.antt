@@ -1,4 +1,5 @@
 -- The two modifiers of a style: each sets some characters, and nothing else.
+-- Source: with_rounded_corners and with_solid_inner_borders of comfy-table 8.0.1.
 use Rattle.std.specs.Prelude.{◌≡◌, Some}
 use Rattle.comfy_parts.specs.declared.style.table_style.TableStyle.{TableStyle}
 

@@ -1,4 +1,5 @@
 -- Private: the text lines of a cell, as its code keeps them.
+-- Source: this library's own.
 use Rattle.std.specs.Prelude.{◌≡◌, ◌==◌, ℕ, true, false, List, [], ◌∷◌, Option, Some, None, map, string_bytes}
 use Rattle.std.specs.List.{list_any}
 use Rattle.comfy_parts.specs.Text.{Text, measure}

@@ -1,5 +1,6 @@
 -- The lines of a cell whose text holds SGR sequences: what is visible of it decides where lines
 -- end, and each line resumes and closes the sequences of its part of the cell.
+-- Source: this library's own, in place of custom_styling of comfy-table 8.0.1.
 use Rattle.std.specs.Prelude.{ℕ, zero, suc, ◌+◌, ◌-◌, List, [], ◌∷◌, ◌++◌, map, length, nat_le, zip, if◌then◌else◌}
 use Rattle.comfy_parts.specs.Text.{Text, measure, begins_with}
 use Rattle.comfy_parts.specs.VisibleText.{visible_text, line_text}

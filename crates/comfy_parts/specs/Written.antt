@@ -1,5 +1,6 @@
 -- Private: what is written for the lines of a cell with SGR sequences, from a cursor that passes
 -- each of its text lines once.
+-- Source: this library's own.
 use Rattle.std.specs.Prelude.{ℕ, ◌==◌, List, [], ◌++◌, map, zip, length, if◌then◌else◌}
 use Rattle.std.specs.List.{concat}
 use Rattle.comfy_parts.specs.Cursor.{CursorValue, at_byte, behind_bytes, bytes_up_to, visible_ahead}

@@ -1,5 +1,6 @@
 -- The table that an input text stands for: a line for the header, a line for each row, and a TAB
 -- between cells.
+-- Source: this library's own.
 use Rattle.std.specs.Prelude.{ℕ, List, [], ◌∷◌, Option, fold}
 use Rattle.std.specs.Str.Lines.{lines}
 use Rattle.comfy_parts.specs.Text.{Text}

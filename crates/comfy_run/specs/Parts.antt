@@ -1,4 +1,5 @@
 -- Private: where the first part of a line ends.
+-- Source: this library's own.
 use Rattle.std.specs.Prelude.{ℕ, ◌≡◌, ◌<◌, ◌≤◌, ◌==◌, false, length, nat_lt, take}
 use Rattle.std.specs.List.{list_any, slice_index}
 use Rattle.comfy_parts.specs.Text.{Text}

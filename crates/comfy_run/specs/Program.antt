@@ -1,4 +1,5 @@
 -- What the program returns and reports, by the result of its run.
+-- Source: this library's own.
 use Rattle.std.specs.Prelude.{◌≡◌, ℕ, Bool, false, [], ◌++◌, Option, Some, Result, Ok, Err, codes}
 use Rattle.comfy_parts.specs.Text.{Text}
 use Rattle.comfy_parts.specs.declared.error.TableError.TheVariants.{OutOfMemory}

@@ -1,4 +1,5 @@
 -- The row of a line of input: a TAB stands between cells.
+-- Source: this library's own.
 use Rattle.std.specs.Prelude.{ℕ, ◌==◌, List, map, if◌then◌else◌}
 use Rattle.std.specs.List.{slice_split}
 use Rattle.comfy_parts.specs.CellValue.{CellValue, RowValue, plain_cell, plain_row}

@@ -1,4 +1,5 @@
 -- What a call of `run` ensures, by its result.
+-- Source: this library's own.
 use Rattle.std.specs.Prelude.{Bool, true, false, Result, Ok, Err, IsUtf8}
 use Rattle.comfy_parts.specs.Text.{Text}
 use Rattle.comfy_parts.specs.declared.error.TableError.TheVariants as memory

@@ -1,4 +1,5 @@
 -- When the lines of an output are equally wide in terminal columns.
+-- Source: this library's own.
 use Rattle.std.specs.Prelude.{◌≡◌, ℕ, ◌≤◌, List, Option, None, All}
 use Rattle.std.specs.Str.Lines.{lines}
 use Rattle.comfy_parts.specs.CellValue.{CellValue}

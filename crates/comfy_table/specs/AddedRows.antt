@@ -1,5 +1,6 @@
 -- What is one in all drawings of a table, and what a row that is added at the end of a table leaves
 -- as it was.
+-- Source: this library's own.
 use Rattle.std.specs.Prelude.{◌≡◌, ℕ, ◌≤◌, List, [], ◌++◌, None, Some, length, nat_lt, slice_get, if◌then◌else◌}
 use Rattle.comfy_parts.specs.CellValue.{CellValue, ColumnInfo, RowValue}
 use Rattle.comfy_parts.specs.Text.{Text}

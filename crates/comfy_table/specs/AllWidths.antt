@@ -1,4 +1,5 @@
 -- Private: the widths of all columns, where those of the visible ones are given.
+-- Source: this library's own.
 use Rattle.std.specs.Prelude.{ℕ, List, [], ◌∷◌, drop, max, slice_index_or, if◌then◌else◌}
 use Rattle.std.specs.List.{enumerate_from}
 use Rattle.comfy_parts.specs.CellValue.{ColumnValue, is_hidden_column}

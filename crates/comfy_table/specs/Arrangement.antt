@@ -1,4 +1,5 @@
 -- The content widths of all columns of a table.
+-- Source: arrange_content of comfy-table 8.0.1.
 use Rattle.std.specs.Prelude.{◌≡◌, ℕ, ◌-◌, Bool, true, false, List, Option, None, map, length, filter, slice_index, max}
 use Rattle.std.specs.List.{enumerate_from}
 use Rattle.std.specs.Prelude.{MatchOption}

@@ -1,4 +1,5 @@
 -- Private: a cell of a row and its lines as they are kept.
+-- Source: this library's own.
 use Rattle.std.specs.Prelude.{ℕ, List, [], ◌∷◌, Option, Some, None, option_map, slice_get}
 use Rattle.comfy_parts.specs.CellValue.{CellValue}
 use Rattle.comfy_table.specs.DrawnLines.{DrawnLine}

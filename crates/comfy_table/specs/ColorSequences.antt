@@ -1,4 +1,5 @@
 -- Private: the sequence of a colour, by what begins and what resets such.
+-- Source: this library's own.
 use Rattle.std.specs.Prelude.{[], ◌++◌, Option, Some, None, codes}
 use Rattle.comfy_parts.specs.Text.{Text}
 use Rattle.comfy_parts.specs.declared.style.color.Color.{Color}

@@ -1,4 +1,5 @@
 -- Private: the dynamic widths while they are decided, one column after another.
+-- Source: this library's own.
 use Rattle.std.specs.Prelude.{◌≡◌, ℕ, ◌+◌, ◌-◌, ◌/◌, ◌<◌, ◌≤◌, ◌==◌, ◌&&◌, All, Bool, List, [], ◌∷◌, Option, Some, None, drop, fold, filter, is_none, length, map, max, nat_lt, option_and_then, slice_get, slice_index_or, slice_set, unwrap_or, if◌then◌else◌}
 use Rattle.comfy_parts.specs.CellValue.{column_padding}
 use Rattle.comfy_table.specs.Dynamic.{IsLevel, IsTakenInOrder, Positioned, Claim, added, lower_of_boundary, places_of, settled_claims, shrunk_at, total, without_claims}

@@ -1,4 +1,5 @@
 -- Private: the widths where no table width is kept, column by column.
+-- Source: arrangement::disabled of comfy-table 8.0.1.
 use Rattle.std.specs.Prelude.{ℕ, List, map, max, if◌then◌else◌}
 use Rattle.std.specs.List.{enumerate_from}
 use Rattle.comfy_parts.specs.CellValue.{ColumnValue, is_hidden_column}

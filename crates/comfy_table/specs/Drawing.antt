@@ -1,4 +1,5 @@
 -- The drawing of a table over given widths.
+-- Source: draw_borders and draw_rows of formatting::borders, and trim_fmt, of comfy-table 8.0.1.
 use Rattle.std.specs.Prelude.{ℕ, List, [], ◌∷◌, ◌++◌, Option, Some, None, flat_map, map, zip}
 use Rattle.std.specs.List.{join_by, join_with_byte}
 use Rattle.std.specs.Str.{trim_end}

@@ -1,4 +1,5 @@
 -- Private: the lines of a cell as they are drawn.
+-- Source: this library's own.
 use Rattle.std.specs.Prelude.{ℕ, List, [], ◌∷◌}
 use Rattle.comfy_parts.specs.Text.{Text, measure}
 use Rattle.comfy_parts.specs.VisibleLines.{CellLine}

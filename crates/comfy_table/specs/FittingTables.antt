@@ -1,4 +1,5 @@
 -- Tables whose characters fit their columns.
+-- Source: this library's own.
 use Rattle.std.specs.Prelude.{◌≡◌, ◌⊎◌, List, None, All}
 use Rattle.comfy_parts.specs.CellValue.{CellValue, ColumnInfo, RowValue}
 use Rattle.comfy_parts.specs.Columns.{AddsOneColumn, CharactersFit, IsApart, IsOneColumnStyle}

@@ -1,4 +1,5 @@
 -- The frame of a table: which borders are drawn, and what its lines look like.
+-- Source: formatting::borders and helper::count_border_columns of comfy-table 8.0.1.
 use Rattle.std.specs.Prelude.{ℕ, ◌+◌, ◌-◌, ◌^◌, min, Bool, ◌||◌, List, [], ◌∷◌, ◌++◌, Option, is_some, unwrap_or, map, encode_utf8, if◌then◌else◌}
 use Rattle.std.specs.List.{repeat, join_by}
 pub use Rattle.comfy_parts.specs.Borders.{draws_left_border, draws_right_border, draws_vertical_lines, junction_characters, left_characters, right_characters}

@@ -1,4 +1,5 @@
 -- Private: the lines of a row as pieces between gaps.
+-- Source: this library's own.
 use Rattle.std.specs.Prelude.{ℕ, Bool, List, [], ◌++◌, Option, Some, None, map, if◌then◌else◌}
 use Rattle.std.specs.List.{join_by}
 use Rattle.comfy_parts.specs.CellValue.{CellValue, ColumnInfo, RowValue}

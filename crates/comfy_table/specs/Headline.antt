@@ -1,4 +1,5 @@
 -- What every drawing of a table promises.
+-- Source: this library's own.
 use Rattle.std.specs.Prelude.{◌≡◌, ◌⊎◌, ℕ, ◌<◌, ◌≤◌, Bool, true, false, List, [], ◌∷◌, Some, map, max, All, IsUtf8}
 use Rattle.std.specs.Char.{IsScalar}
 use Rattle.comfy_parts.specs.CellValue.{CellValue, ColumnInfo, RowValue}

@@ -1,4 +1,5 @@
 -- A table without its hidden columns, and what these tell of a drawing.
+-- Source: this library's own.
 use Rattle.std.specs.Prelude.{◌≡◌, Bool, not, List, map, filter, option_map, zip}
 use Rattle.comfy_parts.specs.CellValue.{ColumnValue, RowValue, is_hidden_column}
 use Rattle.comfy_parts.specs.Text.{Text}

@@ -1,4 +1,5 @@
 -- What drawings and widths promise beyond their definitions. Each is a statement at given values.
+-- Source: this library's own.
 use Rattle.std.specs.Prelude.{◌≡◌, ◌⊎◌, ℕ, ◌+◌, ◌-◌, ◌<◌, ◌≤◌, Bool, true, false, List, [], ◌∷◌, ◌++◌, Option, Some, None, take, drop, length, max, sum, sum_by, All, chars, slice_get, map, IsUtf8, unwrap_or, ◌==◌}
 use Rattle.std.specs.Char.{IsScalar, is_control}
 use Rattle.std.specs.Int.{is_in_range}

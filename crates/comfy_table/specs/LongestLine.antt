@@ -1,4 +1,5 @@
 -- Private: the longest line of a cell.
+-- Source: this library's own.
 use Rattle.std.specs.Prelude.{ℕ, map}
 use Rattle.comfy_parts.specs.CellValue.{CellValue, ColumnInfo}
 use Rattle.comfy_parts.specs.Text.{Text, greatest, measure}

@@ -1,5 +1,6 @@
 -- Tables to which nothing but a style, a header and rows was given: the widths of their lines, and
 -- the sequences in them.
+-- Source: this library's own.
 use Rattle.std.specs.Prelude.{◌≡◌, ℕ, ◌≤◌, List, None, All, true}
 use Rattle.comfy_parts.specs.CellValue.{CellValue, RowValue}
 use Rattle.comfy_parts.specs.Columns.{IsOneColumnStyle}

@@ -1,5 +1,6 @@
 -- Private: the drawn lines of a table as they are kept: each as a text of its own, or all in one
 -- text.
+-- Source: this library's own.
 use Rattle.std.specs.Prelude.{◌≡◌, List, [], ◌∷◌, ◌++◌, flat_map, length, take}
 use Rattle.std.specs.Str.{trim_end}
 use Rattle.comfy_parts.specs.CellValue.{ColumnInfo}

@@ -1,5 +1,6 @@
 -- A table whose widths are found, and its parts: some of its rows, drawn at the widths of the
 -- whole.
+-- Source: this library's own.
 use Rattle.std.specs.Prelude.{◌≡◌, ◌≤◌, ℕ, List, All, Contains, drop, length, map, take}
 use Rattle.comfy_parts.specs.CellValue.{ColumnInfo}
 use Rattle.comfy_parts.specs.Text.{Text}

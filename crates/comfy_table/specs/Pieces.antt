@@ -1,4 +1,5 @@
 -- A line of a cell as it stands in its column: aligned, padded and styled.
+-- Source: format_row and align_line of content_format of comfy-table 8.0.1.
 use Rattle.std.specs.Prelude.{ℕ, ◌+◌, ◌-◌, ◌/◌, not, List, [], ◌∷◌, ◌++◌, Option, Some, None, unwrap_or, map, length, filter, slice_get, slice_index_or, if◌then◌else◌}
 use Rattle.std.specs.List.{enumerate_from, range_with_len}
 use Rattle.comfy_parts.specs.CellValue.{CellValue, RowValue, ColumnInfo, info_width}

@@ -1,4 +1,5 @@
 -- What a predicate returns for a number of rows and a value.
+-- Source: add_row_if and add_rows_if of comfy-table 8.0.1.
 use Rattle.std.specs.Prelude.{◌≡◌, ℕ, Bool}
 use Rattle.std.specs.Borrow.{Bor}
 use Rattle.std.specs.Fn.{FnReturns}

@@ -1,5 +1,6 @@
 -- When the edges of a table are straight in terminal columns. Rows and cells are as they are
 -- measured.
+-- Source: this library's own.
 use Rattle.std.specs.Prelude.{◌≡◌, ◌⊎◌, ℕ, ◌≤◌, ◌<◌, true, length, List, Some, None, slice_get, All}
 use Rattle.comfy_parts.specs.CellValue.{CellValue, RowValue, ColumnInfo, ColumnValue}
 use Rattle.comfy_parts.specs.Columns.{IsApart, IsOneColumnStyle, SelectorsAgree, TextFits}

@@ -1,4 +1,5 @@
 -- Colours and attributes as the sequences that a terminal takes them in: ESC, `[`, a code, `m`.
+-- Source: style_line of comfy-table 8.0.1 over crossterm: SGR sequences of ECMA-48 (ISO 6429).
 use Rattle.std.specs.Prelude.{Bool, List, [], ◌∷◌, ◌++◌, Option, Some, None, length, filter, flat_map, codes, decimal, bytes_eq, if◌then◌else◌, is_some, ◌==◌}
 use Rattle.std.specs.List.{list_any}
 use Rattle.comfy_parts.specs.CellValue.{CellValue}

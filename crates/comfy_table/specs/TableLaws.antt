@@ -1,5 +1,6 @@
 -- The laws of frame lines and of dynamic widths, said of whole tables. Each is a statement at given
 -- values: `widths` are the content widths of all columns, w is the table's width.
+-- Source: this library's own.
 use Rattle.std.specs.Prelude.{◌≡◌, ℕ, ◌+◌, ◌<◌, ◌≤◌, true, false, List, Some, map, length, max, min, sum, sum_by, nat_lt, All}
 use Rattle.std.specs.List.{AllZip, list_any}
 use Rattle.comfy_parts.specs.CellValue.{CellValue, ColumnValue}

@@ -1,4 +1,5 @@
 -- What a table ends as, once a call that lends it on, or a part of it, has returned.
+-- Source: this library's own.
 use Rattle.std.specs.Prelude.{ℕ, List, Option, Result, length, slice_set}
 use Rattle.std.specs.Borrow.{Fml, MutBor, Array, Lends, LendsIf, LendsIfOk, RestsIfErr, follows}
 use Rattle.std.specs.List.{refill}

@@ -1,4 +1,5 @@
 -- Private: a mutable reference to a table, in a struct of its own.
+-- Source: this library's own.
 use Rattle.std.specs.Prelude.{Result, Ok, Err}
 use Rattle.std.specs.Borrow.{MutBor}
 use Rattle.comfy_table.specs.TableValue.{TableValue}

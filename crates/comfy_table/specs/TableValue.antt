@@ -1,4 +1,5 @@
 -- What a table is, as a value, and what its settings say.
+-- Source: Table of comfy-table 8.0.1.
 use Rattle.std.specs.Prelude.{◌≡◌, ℕ, ◌<◌, ◌≤◌, Bool, false, not, ◌&&◌, ◌||◌, List, [], ◌∷◌, ◌++◌, Option, Some, None, option_to_list, option_and_then, option_map, map, fold, length, take, filter, filter_map, slice_get, max, min, All, IfSome, if◌then◌else◌, String, string_bytes}
 use Rattle.std.specs.List.{enumerate_from, range_with_len}
 use Rattle.comfy_parts.specs.CellValue.{CellValue, RowValue, ColumnValue, IsColumn, IsDelimiter, IsRow, columns_grown_to, is_hidden_column}

@@ -1,5 +1,6 @@
 -- The widths of columns: fixed ones, those without a known table width, and what the dynamic widths
 -- are asked from.
+-- Source: arrangement: constraint, helper, disabled and even_widths of comfy-table 8.0.1.
 use Rattle.std.specs.Prelude.{ℕ, ◌+◌, ◌-◌, ◌*◌, ◌/◌, ◌%◌, List, Option, Some, None, unwrap_or, option_map, map, length, nat_lt, nat_le, max, min, if◌then◌else◌}
 use Rattle.std.specs.List.{range_with_len}
 use Rattle.comfy_parts.specs.CellValue.{ColumnValue, column_padding}

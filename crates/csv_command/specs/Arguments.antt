@@ -1,4 +1,5 @@
 -- What arguments on the command line ask for.
+-- Source: this library's own; POSIX for COLUMNS, no-color.org for NO_COLOR.
 use Rattle.std.specs.Prelude.{◌≡◌, ◌≢◌, ◌⊎◌, ◌-◌, ℕ, Bool, true, false, not, ◌==◌, ◌&&◌, ◌||◌, nat_le, nat_lt, List, [], ◌∷◌, Option, Some, None, bytes_eq, codes, drop, is_some, length, map, option_and_then, option_map, string_bytes, unwrap_or, if◌then◌else◌}
 use Rattle.std.specs.List.{find, slice_split}
 use Rattle.std.specs.Option.{option_map_or, option_or}

@@ -1,4 +1,5 @@
 -- How the program ends: its status, and what it says.
+-- Source: this library's own.
 use Rattle.std.specs.Prelude.{◌≡◌, ℕ, ◌==◌, Bool, true, false, ◌++◌, [], MatchResult, Option, Some, None, chars, codes, decimal, if◌then◌else◌, option_map, string_bytes}
 use Rattle.std.specs.Char.{encode_utf8}
 use Rattle.std.specs.List.{list_any}

@@ -1,4 +1,5 @@
 -- What is so of all that arguments ask for.
+-- Source: this library's own.
 use Rattle.std.specs.Prelude.{◌≡◌, false, List, option_map, string_bytes}
 use Rattle.comfy_parts.specs.Text.{Text}
 use Rattle.comfy_parts.specs.VisibleText.{visible_text}

@@ -1,4 +1,5 @@
 -- What is said of options that exclude each other, and of words that are no numbers.
+-- Source: this library's own.
 use Rattle.std.specs.Prelude.{ℕ, ◌-◌, ◌^◌, Bool, false, ◌||◌, nat_le, List, [], ◌∷◌, ◌++◌, Option, Some, None, bytes_eq, codes, decimal, option_and_then, if◌then◌else◌}
 use Rattle.std.specs.Option.{option_map_or, option_or}
 use Rattle.std.specs.Str.Parse.{without_leading_plus}

@@ -1,4 +1,5 @@
 -- The arguments that `csvtable` knows, as clap has them.
+-- Source: this library's own, in the words of the crate clap.
 use Rattle.std.specs.Prelude.{◌≡◌, ℕ, ◌-◌, ◌^◌, pos, true, List, [], ◌∷◌, Option, Some, None, codes, map}
 use Rattle.clap.specs.Words.{App, Rule, new_app, new_rule}
 use Rattle.clap.specs.declared.builder.action.ArgAction.TheVariants.{SetTrue}

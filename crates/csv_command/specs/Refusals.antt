@@ -1,5 +1,6 @@
 -- What comes of arguments and an input, the output going to no terminal: a drawing, or why there is
 -- none.
+-- Source: this library's own.
 use Rattle.std.specs.Prelude.{◌≡◌, ◌≢◌, ◌⊎◌, false, List, None, string_bytes}
 use Rattle.clap.specs.declared.error.kind.ErrorKind.{ErrorKind}
 use Rattle.clap.specs.declared.error.kind.ErrorKind.TheVariants as kind

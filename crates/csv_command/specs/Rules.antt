@@ -1,4 +1,5 @@
 -- Private: what an argument of the program's table is for clap.
+-- Source: this library's own, in the words of the crate clap.
 use Rattle.std.specs.Prelude.{ℕ, ◌-◌, ◌^◌, pos, true, List, [], Option, Some, None}
 use Rattle.clap.specs.Words.{Rule, new_rule}
 use Rattle.clap.specs.declared.builder.action.ArgAction.TheVariants.{SetTrue}

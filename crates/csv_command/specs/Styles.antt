@@ -1,4 +1,5 @@
 -- The styles that arguments name.
+-- Source: this library's own.
 use Rattle.std.specs.Prelude.{Bool, true, ◌||◌, List, [], ◌∷◌, ◌++◌, Option, Some, None, codes, find, map, option_map, unwrap_or}
 use Rattle.std.specs.Option.{option_or}
 use Rattle.std.specs.Str.{str_eq_ignore_ascii_case}

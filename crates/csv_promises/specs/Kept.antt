@@ -1,4 +1,5 @@
 -- Where the fields of records stand in the lines of their table.
+-- Source: this library's own.
 use Rattle.std.specs.Prelude.{◌≡◌, ◌<◌, ◌≤◌, true, false, List, [], ◌∷◌, None, All, length, map}
 use Rattle.std.specs.List.{AllZip}
 use Rattle.comfy_parts.specs.Text.{Text, is_printable_ascii}

@@ -1,4 +1,5 @@
 -- Lines that show the same number of terminal columns.
+-- Source: this library's own.
 use Rattle.std.specs.Prelude.{◌≡◌, ◌⊎◌, ◌||◌, ◌≤◌, ℕ, false, List, [], ◌++◌, Option, All, chars, codes, decimal}
 use Rattle.std.specs.Char.{is_control}
 use Rattle.std.specs.List.{list_any}

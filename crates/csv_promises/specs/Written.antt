@@ -1,4 +1,5 @@
 -- Private: what is written of an input for arguments.
+-- Source: this library's own.
 use Rattle.std.specs.Prelude.{◌≡◌, false, List}
 use Rattle.comfy_parts.specs.Text.{Text}
 use Rattle.csv_command.specs.Arguments.{IsParsed}

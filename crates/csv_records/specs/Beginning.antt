@@ -1,4 +1,5 @@
 -- A beginning of an input that is enough for its first records.
+-- Source: this library's own.
 use Rattle.std.specs.Prelude.{ℕ, ◌≡◌, ◌≢◌, ◌<◌, true, List, [], ◌∷◌, ◌++◌, length, take}
 use Rattle.comfy_parts.specs.Text.{Text}
 use Rattle.csv_records.specs.Delimiter.{below_lines, doubtful_delimiter, shows_delimiter}

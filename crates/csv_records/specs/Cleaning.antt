@@ -1,4 +1,5 @@
 -- Fields without control characters, and without those that turn the direction of text.
+-- Source: this library's own; UAX 9 for the directions of text.
 use Rattle.std.specs.Prelude.{◌≡◌, ℕ, Bool, false, not, ◌%◌, ◌==◌, ◌&&◌, ◌||◌, [], ◌∷◌, ◌++◌, List, fold, map, chars, codes, encode_utf8, IsUtf8, if◌then◌else◌}
 use Rattle.std.specs.Char.{is_control}
 use Rattle.std.specs.Int.{is_in_range}

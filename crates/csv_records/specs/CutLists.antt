@@ -1,4 +1,5 @@
 -- Lists cut into parts.
+-- Source: this library's own.
 use Rattle.std.specs.Prelude.{ℕ, List, [], ◌∷◌, drop, sum_by, take}
 
 -- the parts of a list that have these lengths, one behind another

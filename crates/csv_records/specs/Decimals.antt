@@ -1,4 +1,5 @@
 -- Decimal marks of a column of numbers, and what its fractions lack to stand below each other.
+-- Source: this library's own.
 use Rattle.std.specs.Prelude.{ℕ, Bool, true, ◌+◌, ◌-◌, ◌==◌, ◌&&◌, ◌||◌, not, List, length, map, max, fold, Option, Some, None, chars, if◌then◌else◌}
 use Rattle.std.specs.Char.{is_ascii_digit}
 use Rattle.std.specs.List.{list_all, list_any}

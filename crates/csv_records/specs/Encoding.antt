@@ -1,4 +1,5 @@
 -- An input's encoding, and the text that its bytes are.
+-- Source: the Unicode Standard for UTF-16, its mapping CP1252.TXT for Windows-1252.
 use Rattle.std.specs.Prelude.{ℕ, ◌≡◌, ◌-◌, ◌%◌, ◌==◌, ◌&&◌, nat_le, nat_lt, true, List, [], ◌∷◌, ◌++◌, map, drop, length, Option, Some, None, IsUtf8, encode_utf8_all, is_some, if◌then◌else◌, slice_index}
 use Rattle.std.specs.Char.Escape.{encode_utf16}
 use Rattle.std.specs.Char.Utf16.{utf16_chars}

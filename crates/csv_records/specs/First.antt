@@ -1,4 +1,5 @@
 -- The first records of a text.
+-- Source: this library's own.
 use Rattle.std.specs.Prelude.{ℕ, ◌≡◌, List, length, take}
 use Rattle.comfy_parts.specs.Text.{Text}
 use Rattle.csv_records.specs.declared.records.FirstRecords.{FirstRecords}

@@ -1,4 +1,5 @@
 -- Signs that an input is another thing than a text in UTF-8.
+-- Source: this library's own; RFC 1952 for gzip, PKWARE's APPNOTE for zip.
 use Rattle.std.specs.Prelude.{ℕ, Bool, ◌==◌, ◌||◌, [], ◌∷◌, Option, Some, None, bytes_eq, is_some, map, option_map, take, if◌then◌else◌}
 use Rattle.std.specs.List.{position}
 use Rattle.comfy_parts.specs.Text.{Text}

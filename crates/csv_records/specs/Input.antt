@@ -1,4 +1,5 @@
 -- The text of an input, and its records, and why there are none.
+-- Source: this library's own; RFC 4180, as the crate csv reads it, for records.
 use Rattle.std.specs.Prelude.{ℕ, ◌≡◌, ◌+◌, ◌-◌, ◌^◌, ◌<◌, ◌≤◌, ◌==◌, ◌&&◌, ◌||◌, min, nat_lt, not, Bool, false, List, [], ◌∷◌, Some, All, IsUtf8, take, if◌then◌else◌}
 use Rattle.std.specs.List.{list_all}
 use Rattle.std.specs.Str.Lossy.{utf8_valid_len}

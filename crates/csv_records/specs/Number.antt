@@ -1,4 +1,5 @@
 -- Which fields are numbers.
+-- Source: this library's own; ISO 4217 and Unicode's category Sc for currencies.
 use Prim.Native.String.{String}
 use Rattle.std.specs.Prelude.{ℕ, Bool, true, false, ◌+◌, ◌-◌, ◌==◌, ◌&&◌, ◌||◌, not, nat_lt, List, [], ◌∷◌, length, map, take, drop, Option, Some, None, option_map, bytes_eq, chars, codes, is_some, if◌then◌else◌}
 use Rattle.std.specs.Char.{is_ascii_digit, to_ascii_lowercase}

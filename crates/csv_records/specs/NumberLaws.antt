@@ -1,4 +1,5 @@
 -- What is so of every number.
+-- Source: this library's own.
 use Rattle.std.specs.Prelude.{◌≡◌, ◌==◌, ◌||◌, ◌++◌, ℕ, Bool, true, IsUtf8, List, [], ◌∷◌, chars, codes, encode_utf8}
 use Rattle.std.specs.Char.{is_ascii_digit, is_ascii_uppercase}
 use Rattle.std.specs.List.{list_all, list_any}

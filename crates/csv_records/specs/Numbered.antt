@@ -1,4 +1,5 @@
 -- Records behind their numbers.
+-- Source: this library's own.
 use Rattle.std.specs.Prelude.{ℕ, ◌+◌, Bool, true, false, List, [], ◌∷◌, codes, decimal}
 use Rattle.comfy_parts.specs.Text.{Text}
 

@@ -1,4 +1,5 @@
 -- Numbers of digits alone.
+-- Source: this library's own.
 use Rattle.std.specs.Prelude.{ℕ, ◌^◌, Bool, ◌&&◌, nat_lt, Option, Some, None, length, if◌then◌else◌}
 use Rattle.std.specs.Char.{is_ascii_digit}
 use Rattle.std.specs.List.{list_all}

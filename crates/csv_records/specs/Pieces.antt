@@ -1,4 +1,5 @@
 -- Private: the pieces of a field, as they are found.
+-- Source: this library's own.
 use Rattle.comfy_parts.specs.Cursor.{sequence_part, visible_part}
 use Rattle.comfy_parts.specs.VisibleText.{Part}
 use Rattle.csv_records.specs.declared.cleaning.Piece.{Piece}

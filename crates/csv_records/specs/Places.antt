@@ -1,4 +1,5 @@
 -- Private: where the fields of a record stand among those of all records.
+-- Source: this library's own.
 use Rattle.std.specs.Prelude.{◌+◌, ◌-◌, ◌^◌, ◌<◌, ◌≤◌, ℕ, List, [], ◌∷◌, drop, length, take}
 use Rattle.comfy_parts.specs.Text.{Text}
 use Rattle.csv_records.specs.declared.records.Place.{Place}

@@ -1,4 +1,5 @@
 -- Private: a walk from quote to quote.
+-- Source: this library's own.
 use Rattle.std.specs.Prelude.{ℕ, zero, suc, Bool, true, false, ◌≡◌, ◌<◌, ◌≤◌, ◌==◌, ◌||◌, length, slice_index, take}
 use Rattle.comfy_parts.specs.Text.{Text}
 use Rattle.csv.specs.declared.parser.State.TheVariants as st

@@ -1,4 +1,5 @@
 -- Quotes that are never closed.
+-- Source: RFC 4180, as the crate csv reads it.
 use Rattle.std.specs.Prelude.{ℕ, Bool, true, false, ◌≡◌, ◌≤◌, ◌∷◌, ◌++◌, fold, length, take}
 use Rattle.comfy_parts.specs.Text.{Text}
 use Rattle.csv.specs.Machine.{step}

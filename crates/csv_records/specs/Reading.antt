@@ -1,4 +1,5 @@
 -- The records of an input, by what is asked for, and why there are none.
+-- Source: this library's own.
 use Rattle.std.specs.Prelude.{ℕ, ◌≡◌, ◌≢◌, Bool, true, false, List, ◌++◌, MatchOption, None}
 use Rattle.comfy_parts.specs.Text.{Text}
 use Rattle.csv.specs.Reading.{strip_bom}

@@ -1,4 +1,5 @@
 -- Texts for messages.
+-- Source: this library's own.
 use Rattle.std.specs.Prelude.{ℕ, Bool, ◌==◌, ◌&&◌, chars, map, if◌then◌else◌}
 use Rattle.std.specs.Str.{encode_utf8_all}
 use Rattle.comfy_parts.specs.Text.{Text}

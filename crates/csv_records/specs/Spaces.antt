@@ -1,4 +1,5 @@
 -- Texts whose fields stand between runs of spaces and TABs.
+-- Source: this library's own.
 use Rattle.std.specs.Prelude.{ℕ, ◌≡◌, zero, suc, ◌+◌, ◌-◌, ◌==◌, ◌&&◌, ◌||◌, not, Bool, false, List, [], ◌∷◌, ◌++◌, drop, flat_map, map, max, min, take, if◌then◌else◌, length}
 use Rattle.std.specs.List.{filter, position_or_len, prefix_len, slice_split, suffix_len}
 use Rattle.std.specs.Char.{is_ascii_whitespace}

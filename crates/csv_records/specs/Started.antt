@@ -1,4 +1,5 @@
 -- Private: a reader of records that has read none.
+-- Source: this library's own.
 use Rattle.std.specs.Borrow.{Bor}
 use Rattle.std.specs.Prelude.{◌≡◌, ℕ, Bool, true, Some}
 use Rattle.comfy_parts.specs.Text.{Text}

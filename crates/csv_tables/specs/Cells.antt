@@ -1,4 +1,5 @@
 -- The cells and rows of records.
+-- Source: this library's own.
 use Rattle.std.specs.Prelude.{ℕ, Bool, ◌==◌, ◌||◌, false, List, [], ◌∷◌, ◌++◌, Option, None, chars, filter, length, map, nat_lt, option_map, unwrap_or, max, if◌then◌else◌}
 use Rattle.std.specs.List.{list_all, list_any}
 use Rattle.std.specs.Str.{encode_utf8_all}

@@ -1,4 +1,5 @@
 -- What is so of the columns that words choose.
+-- Source: this library's own.
 use Rattle.std.specs.Prelude.{◌≡◌, ◌≢◌, ◌⊎◌, ◌↔◌, ◌<◌, ◌≤◌, ℕ, List, [], Contains, IfOk, Some, String, All, string_bytes}
 use Rattle.std.specs.List.{AllPairs, Any}
 use Rattle.comfy_parts.specs.Text.{Text}

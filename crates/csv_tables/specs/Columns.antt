@@ -1,4 +1,5 @@
 -- Which columns are drawn, and how their cells are aligned.
+-- Source: this library's own.
 use Rattle.std.specs.Prelude.{ℕ, Bool, true, false, ◌≡◌, ◌+◌, ◌-◌, ◌==◌, ◌&&◌, nat_le, nat_lt, not, List, [], ◌∷◌, ◌++◌, Option, Some, None, Result, Ok, Err, String, bytes_eq, decimal, drop, find, fold, get_or, length, map, max, ok_or, option_map, string_bytes, take, unwrap_or, if◌then◌else◌}
 use Rattle.std.specs.Option.{option_or}
 use Rattle.std.specs.List.{filter, list_any, position_from, range_with_len}

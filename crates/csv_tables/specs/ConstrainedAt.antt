@@ -1,4 +1,5 @@
 -- Private: columns, one of which is as wide as its content.
+-- Source: this library's own.
 use Rattle.std.specs.Prelude.{ℕ, zero, suc, true, List, [], ◌∷◌}
 use Rattle.comfy_parts.specs.CellValue.{ColumnValue}
 use Rattle.csv_tables.specs.Unbroken.{constrained_column}

@@ -1,4 +1,5 @@
 -- Texts and styles without control characters.
+-- Source: this library's own; Unicode's category Cc for control characters.
 use Rattle.std.specs.Prelude.{◌≡◌, ◌==◌, ◌&&◌, ℕ, Bool, false, not, Option, unwrap_or}
 use Rattle.std.specs.Char.{is_control}
 use Rattle.std.specs.List.{list_any}

@@ -1,4 +1,5 @@
 -- Decimal points below each other: the spaces behind the fields of a column.
+-- Source: this library's own.
 use Rattle.std.specs.Prelude.{ℕ, Bool, ◌==◌, ◌&&◌, ◌+◌, List, [], ◌∷◌, ◌++◌, Option, Some, None, length, nat_le, if◌then◌else◌}
 use Rattle.std.specs.List.{list_all, list_any, slice_index_or}
 use Rattle.comfy_parts.specs.Text.{Text, is_printable_ascii, spaces}

@@ -1,4 +1,5 @@
 -- What is doubtful of an input that was drawn: the delimiter that was found for it.
+-- Source: this library's own.
 use Rattle.std.specs.Prelude.{ℕ, ◌≡◌, List, Option}
 use Rattle.comfy_parts.specs.Text.{Text}
 use Rattle.csv_records.specs.Delimiter.{doubtful_delimiter}

@@ -1,4 +1,5 @@
 -- What a message tells where a word chooses no column that is there.
+-- Source: this library's own.
 use Rattle.std.specs.Prelude.{ℕ, Bool, false, ◌+◌, ◌-◌, ◌==◌, nat_lt, List, [], ◌++◌, Option, Some, None, codes, decimal, flat_map, length, min, if◌then◌else◌}
 use Rattle.std.specs.List.{position_from, range_with_len}
 use Rattle.comfy_parts.specs.Text.{Text}

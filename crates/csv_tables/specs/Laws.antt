@@ -1,4 +1,5 @@
 -- What is so of every output.
+-- Source: this library's own.
 use Rattle.std.specs.Prelude.{◌≡◌, ◌⊎◌, ℕ, ◌+◌, ◌<◌, ◌≤◌, Bool, true, false, List, [], ◌∷◌, ◌++◌, Option, Some, None, Ok, All, Contains, flat_map, length, map, max, slice_get, slice_index, unwrap_or}
 use Rattle.std.specs.List.{AllZip, range_with_len}
 use Rattle.comfy_parts.specs.CellValue.{CellValue, plain_cell}

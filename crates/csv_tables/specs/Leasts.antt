@@ -1,4 +1,5 @@
 -- The least positions of columns, from each column on.
+-- Source: this library's own.
 use Rattle.std.specs.Prelude.{ℕ, ◌-◌, ◌^◌, List, [], ◌∷◌, min}
 use Rattle.csv_tables.specs.declared.options.DrawnColumn.{DrawnColumn}
 

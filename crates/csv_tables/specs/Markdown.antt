@@ -1,5 +1,6 @@
 -- What makes a table one for Markdown: texts of cells, as characters, and the line below the
 -- header.
+-- Source: this library's own; CommonMark for what is markup, GitHub's tables and links beside it.
 use Rattle.std.specs.Prelude.{ℕ, Bool, true, false, not, ◌≡◌, ◌+◌, ◌==◌, ◌&&◌, ◌||◌, List, [], ◌∷◌, ◌++◌, Option, Some, None, codes, flat_map, slice_get, zip, if◌then◌else◌}
 use Rattle.std.specs.Char.Unicode.Alphabetic.{is_alphabetic}
 use Rattle.std.specs.Char.Unicode.Numeric.{is_numeric}

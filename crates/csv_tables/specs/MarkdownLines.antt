@@ -1,4 +1,5 @@
 -- What is read back from the lines of an output for Markdown.
+-- Source: this library's own; CommonMark for backslashes, GitHub for tables.
 use Rattle.std.specs.Prelude.{◌≡◌, ℕ, ◌<◌, ◌≤◌, Bool, true, false, not, ◌==◌, ◌&&◌, List, [], ◌∷◌, ◌++◌, Ok, All, chars, length, map, unwrap_or, if◌then◌else◌}
 use Rattle.std.specs.List.{AllZip}
 use Rattle.comfy_parts.specs.Text.{Text, measure}

@@ -1,4 +1,5 @@
 -- One output: what options have in common that draw the same, and that they draw it.
+-- Source: this library's own.
 use Rattle.std.specs.Prelude.{◌≡◌, List, map, string_bytes}
 use Rattle.comfy_parts.specs.Text.{Text}
 use Rattle.csv_tables.specs.declared.options.Options.{Options}

@@ -1,4 +1,5 @@
 -- Character references of Markdown, as `&amp;`, `&#42;` and `&#x2a;`.
+-- Source: CommonMark, entity and numeric character references.
 use Rattle.std.specs.Prelude.{ℕ, Bool, false, ◌==◌, ◌&&◌, ◌||◌, List, [], ◌∷◌, if◌then◌else◌}
 use Rattle.std.specs.Char.{is_ascii_alphabetic, is_ascii_alphanumeric, is_ascii_digit, is_ascii_hexdigit}
 use Rattle.csv_tables.specs.declared.references.Part.{Part}

@@ -1,4 +1,5 @@
 -- Private: a table, with the lines between its rows or without them.
+-- Source: this library's own.
 use Rattle.std.specs.Prelude.{◌≡◌, Bool, false}
 use Rattle.comfy_table.specs.TableValue.{TableValue}
 use Rattle.csv_tables.specs.Drawn.{HasSeparators, HasTallRow, separated_table}

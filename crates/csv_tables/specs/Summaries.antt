@@ -1,4 +1,5 @@
 -- The fields of columns, and what those of each say together.
+-- Source: this library's own.
 use Rattle.std.specs.Prelude.{ℕ, List, [], ◌≡◌, map}
 use Rattle.std.specs.List.{filter_map, slice_index_or}
 use Rattle.comfy_parts.specs.Text.{Text}

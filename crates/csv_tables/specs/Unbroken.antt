@@ -1,5 +1,6 @@
 -- Columns and fields that aren't broken over lines: which they are, and where a width has room for
 -- them.
+-- Source: this library's own.
 use Rattle.std.specs.Prelude.{ℕ, ◌+◌, ◌-◌, Bool, ◌==◌, ◌&&◌, ◌||◌, true, false, List, [], ◌∷◌, Option, Some, None, chars, codes, length, map, max, min, nat_le, nat_lt, not, slice_index, sum_by, if◌then◌else◌}
 use Rattle.std.specs.Char.{is_ascii_digit}
 use Rattle.std.specs.List.{list_all, list_any}

@@ -1,4 +1,5 @@
 -- What calls of a device return.
+-- Source: this library's own.
 use Rattle.std.specs.Prelude.{ℕ, ◌-◌, ◌==◌, Bool, false, ◌&&◌, ◌||◌, nat_lt, List, [], ◌++◌, Option, Some, None, Result, Ok, Err, length, take, drop, min, unwrap_or, if◌then◌else◌}
 
 abbrev pub Bytes : Type 0

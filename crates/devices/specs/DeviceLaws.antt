@@ -1,4 +1,5 @@
 -- What every source over memory keeps.
+-- Source: this library's own.
 use Rattle.std.specs.Prelude.{◌≡◌, true, List, ℕ, [], Option, Some, None, is_none}
 use Rattle.devices.specs.Device.{MemorySourceValue, left_in}
 

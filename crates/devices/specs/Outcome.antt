@@ -1,4 +1,5 @@
 -- What happens in a run, and what is said of it by what its devices tell before and after it.
+-- Source: this library's own.
 use Rattle.std.specs.Prelude.{◌≡◌, ◌<◌, ◌⊎◌, Bool, true, false, [], ◌++◌, Some, length}
 use Rattle.devices.specs.Device.{Bytes}
 use Rattle.devices.specs.declared.device.Sink as sink

@@ -1,4 +1,5 @@
 -- What a run ensures, by its result.
+-- Source: this library's own.
 use Rattle.std.specs.Prelude.{◌≡◌, ⊤, Bool, true, false, [], Result, Ok, Err, IfOk}
 use Rattle.devices.specs.Device.{Bytes}
 use Rattle.devices.specs.Outcome.{Extent, Beginning, IsByExtent, OfWhole, IsAfterFault, IsAfterOk, IsAfterOutOfMemory, IsAfterRead, IsAfterWrite, RunFacts}

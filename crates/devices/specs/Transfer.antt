@@ -1,4 +1,5 @@
 -- What reading a source returns, to its end or up to a place.
+-- Source: this library's own.
 use Rattle.std.specs.Prelude.{◌≡◌, Bool, true, false, ◌++◌, Option, Some, Result, Err, MatchResult, string_bytes}
 use Rattle.devices.specs.Device.{Bytes}
 use Rattle.devices.specs.Outcome.{Beginning, Extent, Whole}

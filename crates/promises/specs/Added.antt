@@ -1,4 +1,5 @@
 -- Tables beside others: what a further row leaves as it was, and what hidden columns tell.
+-- Source: this library's own.
 use Rattle.std.specs.Prelude.{◌≡◌, ℕ, ◌≤◌, false, List, ◌++◌, Contains, Some, length, slice_get}
 use Rattle.comfy_parts.specs.CellValue.{CellValue, RowValue}
 use Rattle.comfy_parts.specs.Text.{Text}

@@ -1,4 +1,5 @@
 -- What every table draws: frame lines, and rows of padded pieces, slices of the cells' texts.
+-- Source: this library's own.
 use Rattle.std.specs.Prelude.{◌≡◌, ℕ, ◌+◌, ◌-◌, ◌<◌, ◌≤◌, Bool, List, [], ◌∷◌, ◌++◌, Option, Some, None, All, EachIndex, MatchOption, flat_map, length, map, max, min, nat_le, slice_get, slice_index_or, take, if◌then◌else◌}
 use Rattle.std.specs.List.{AllZip, concat, join_by}
 use Rattle.comfy_parts.specs.CellValue.{CellValue, ColumnValue, RowValue}

@@ -1,4 +1,5 @@
 -- Where the texts of a table stand in its lines.
+-- Source: this library's own.
 use Rattle.std.specs.Prelude.{◌≡◌, ℕ, ◌≤◌, false, List, [], ◌++◌, ◌∷◌, Some, None, All, EachIndex, flat_map, length, map, option_to_list, slice_get, slice_index_or}
 use Rattle.std.specs.List.{AllZip, concat}
 use Rattle.comfy_parts.specs.CellValue.{CellValue, ColumnValue, RowValue}

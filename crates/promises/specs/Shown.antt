@@ -1,4 +1,5 @@
 -- What a terminal is told by a text.
+-- Source: this library's own.
 use Rattle.std.specs.Prelude.{◌≡◌, ◌==◌, ◌&&◌, ℕ, true, false, not, List, [], ◌∷◌, ◌++◌, Option, All, unwrap_or}
 use Rattle.std.specs.Char.{is_control}
 use Rattle.std.specs.List.{list_all, list_any}

@@ -1,4 +1,5 @@
 -- Lines that are equally wide.
+-- Source: this library's own.
 use Rattle.std.specs.Prelude.{◌≡◌, List}
 use Rattle.comfy_parts.specs.CellValue.{ColumnInfo}
 use Rattle.comfy_parts.specs.Text.{Text}

@@ -1,4 +1,5 @@
 -- Tables as callers make them, and how wide their lines are shown.
+-- Source: this library's own.
 use Rattle.std.specs.Prelude.{◌≡◌, ◌==◌, ◌&&◌, ℕ, ◌≤◌, true, false, not, None, Some, List, All, chars, encode_utf8, filter, nat_le, slice_get}
 use Rattle.std.specs.List.{list_all}
 use Rattle.comfy_parts.specs.CellValue.{CellValue, ColumnInfo, ColumnValue, RowValue, is_hidden_column}

@@ -1,4 +1,5 @@
 -- Lines that keep to a width.
+-- Source: this library's own.
 use Rattle.std.specs.Prelude.{◌≡◌, ℕ, ◌+◌, ◌<◌, ◌≤◌, List, Some, All, length, max, sum_by}
 use Rattle.comfy_parts.specs.CellValue.{ColumnInfo, ColumnValue}
 use Rattle.comfy_parts.specs.Text.{Text, measure}
