@@ -12,6 +12,7 @@
 - README.md: each label that it cites is a heading of PROVED.md, and what it prints is the output of the stored run.
 - CALLING.md: each clause and signature that it quotes stands in the source of the library, of one that it tells of too, or
   of a caller.
+- docs/DIFFERENCES.md: each name that only one of the original and this library has is there (tools/check/new_items.py).
 - Each mutation changes a function that exists.
 - Each definition of specs/ and proofs/ is reached (tools/check/reach.py).
 - The head comment of each file of specs/ of a library ends with a line that says where its rules come from.
@@ -27,6 +28,7 @@ import sys
 
 from definitions import LIBRARIES, PROMISES, TOP, files_of, functions_of, sources_of, text_of
 from mutations import must_fail_of, mutations_of
+from new_items import unlisted
 from reach import unreached
 from what_is_believed import fields_of_drawing, updated
 
@@ -196,6 +198,7 @@ def main():
     passed_on = re.search(r"^pub use comfy_parts::laws::\{(.*?)\};", text_of("crates/comfy_table/src/laws.rt"), re.M | re.S)[1]
     of_parts = re.findall(r"^pub fn (\w+)", text_of("crates/comfy_parts/src/laws.rt"), re.M)
     wrong += [f"comfy_table::laws doesn't pass on {it}" for it in set(of_parts) ^ set(re.findall(r"\w+", passed_on))]
+    wrong += unlisted()
     wrong += unreached()
     wrong += wrong_lines()
     wrong += [f"{path} doesn't say where its rules come from" for path in without_source()]
