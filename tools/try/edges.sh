@@ -20,12 +20,14 @@ ended=0
 case $name in
   csvtable)
     misused="csvtable: an argument isn't UTF-8"
+    misused_status=2
     unread=
     unreadable="csvtable: standard input: can't be read"
     folder='csvtable: standard input: is a directory'
     ;;
   *)
-    misused='usage: ctable [WIDTH|- [disabled|dynamic|full [STYLE]]]'
+    misused='ctable: out of memory'
+    misused_status=1
     unread="$name: the output can't be written"
     unreadable="$name: the input can't be read"
     folder=$unreadable
@@ -90,7 +92,7 @@ status=$?
 compare 'a folder as input, and a closed standard error' $status 1 ''
 
 # Arguments that aren't UTF-8: a byte that no text has, one behind letters, and a character that ends too early. Reading the
-# folder would end with another status: the arguments alone decide.
+# folder would end with another line: the arguments alone decide.
 byte=$(printf '\377')
 behind=$(printf 'dynamic\377')
 early=$(printf 'UTF8_FULL\342\202')
@@ -98,7 +100,7 @@ misuse() {
   run=$1
   shift
   "$program" "$@" < "$work" > "$work/out" 2> "$work/err"
-  compare "$run" $? 2 "$misused"
+  compare "$run" $? $misused_status "$misused"
 }
 misuse 'a width that is no text' "$byte"
 misuse 'an arrangement that is no text' 40 "$behind"
