@@ -9,8 +9,8 @@ pub use crate::error::RunError;
 pub use crate::settings::Settings;
 pub use command::program;
 pub use devices::{
-    DeviceFault, FromReader, MemorySink, MemorySource, ReadError, Sink, Source, ToWriter,
-    arguments_of_process, read_all, write_all,
+    DeviceFault, FromReader, MemorySink, MemorySource, Sink, Source, ToWriter,
+    arguments_of_process, write_all,
 };
 pub use process::run_with_arguments;
 pub use transfer::{render_tsv, run};

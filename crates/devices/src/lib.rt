@@ -1,5 +1,5 @@
-//! Where bytes come from and where they go to: readers, writers and memory; all that a source has
-//! left, all of a piece for a sink, and a run from one to the other; a process's arguments.
+//! Where bytes come from and where they go to: readers, writers and memory; all of a piece for a
+//! sink, and a run from a source to a sink; a process's arguments.
 #![tactic(auto)]
 
 mod device;
@@ -13,5 +13,5 @@ pub use device::{DeviceFault, Sink, Source};
 pub use memory::{MemorySink, MemorySource};
 pub use process::arguments_of_process;
 pub use stream::{FromReader, ToWriter};
-pub use transfer::{ReadError, Render, Rendered, Stop, read_all, run, write_all};
+pub use transfer::{Render, Rendered, Stop, run, write_all};
 pub use uninterrupted::Uninterrupted;

@@ -1,5 +1,4 @@
-//! Whole inputs and outputs: all that a source has left, all of a piece for a sink, and a run that
-//! reads the one and writes the other.
+//! Whole outputs: all of a piece for a sink; and a run that reads a source and writes a sink.
 
 ghost use Rattle.std.specs.Prelude.{◌≡◌, ◌≤◌, ◌++◌, ◌⊎◌, List, ℕ, [], true, false, Ok, Some, OnOk, OnErr, IfOk, IfErr, IfSome, vec_len};
 ghost use Rattle.devices.specs.Outcome.{Between, Extent, IsBeginningOnly};
@@ -94,23 +93,6 @@ pub trait Render {
         ensures { IfSome result
             (IsForBeginning (IsRenderedBy (is_output self.now) (is_note self.now))
             (is_refusal self.now) read.now) };
-}
-
-/// All that the source has left. After an error its end was read only if it was before.
-pub fn read_all<R: Source>(alloc: Global, source: &mut R) -> Result<Vec<u8>, ReadError>
-    ensures ended { OnOk result (R.end_was_read source.new ≡ true) }
-    ensures fault { R.has_failed source.new ≡ is_source_fault result }
-    ensures input { IfOk result (λ bytes. (input : List ℕ) → R.remaining source.old ≡ Some input
-        → bytes.items ≡ input) }
-    ensures unread { OnErr result (R.end_was_read source.new ≡ R.end_was_read source.old) }
-{
-    let mut bytes = Vec::new(alloc);
-    if read_up_to(source, &mut bytes, usize::MAX)? {
-        Ok(bytes)
-    } else {
-        // No memory holds so many.
-        Err(ReadError::OutOfMemory)
-    }
 }
 
 // Appends what the source gives, until there are at least so many bytes, or to its end. Returns

@@ -2,4 +2,5 @@
 
 mod columns;
 mod conversions;
+mod shown;
 mod wrapping;
