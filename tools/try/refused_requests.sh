@@ -4,7 +4,8 @@
 # itself. Each such run of the first three must end with status 1, print nothing, and say that there is no memory. One of
 # test_refused must say that the call was refused as promised, or end with status 3 and print nothing, where the request
 # wasn't the call's. Of a call that adds three rows it must also say how many are kept: 0 at first, then 1, then 2, as
-# later requests are refused.
+# later requests are refused. And format_row must make fewer than 300 requests for a cell of 100 lines, arrange_content as
+# many for 1,000 rows as for one.
 #
 # usage: tools/try/refused_requests.sh
 # It builds the programs where they aren't, which proves them. CC is the compiler of refuse.c, which refuses the requests
@@ -94,4 +95,13 @@ refuse test_cases "$work/two.cases" 'Error: out of memory'
 build test_refused
 while IFS= read -r call; do
   refuse_call "$call"
+  case $call in
+    utils::format_row) formatted=$own ;;
+    'utils::arrange_content of 1 row') one=$own ;;
+    'utils::arrange_content of 1000 rows') thousand=$own ;;
+  esac
 done < "$crates/test_refused/stdin"
+if [ "$formatted" -ge 300 ] || [ "$one" -ne "$thousand" ]; then
+  echo "$0: format_row or arrange_content makes other numbers of requests: $formatted, $one, $thousand" >&2
+  exit 1
+fi

@@ -1,5 +1,6 @@
 //! The calls that take memory and only read the table.
 
+use crate::comparison::difference;
 use crate::fixtures::{WORKED, fill_worked};
 use crate::outcome::{Outcome, succeeded};
 use comfy_table::{Lines, Result, Table};
@@ -11,12 +12,14 @@ pub fn outcome_of(alloc: Global, table: &mut Table, call: &str) -> Result<Outcom
     outcome_on(table, WORKED, call)
 }
 
-/// What came of the call of this name: after a refusal these lines are drawn as ever.
+/// What came of the call of this name: after a refusal the table is as it was, and these lines are
+/// drawn as ever.
 pub fn outcome_on(table: &Table, wanted: &str, call: &str) -> Result<Outcome> {
+    let copy = table.clone()?;
     match read(table, call) {
         Some(true) => Ok(Outcome::Succeeded),
-        Some(false) if are_lines(table.lines()?, wanted) => Ok(Outcome::AsPromised),
-        Some(false) => Ok(Outcome::Broken("the next lines")),
+        Some(false) if !are_lines(table.lines()?, wanted) => Ok(Outcome::Broken("the next lines")),
+        Some(false) => Ok(Outcome::refused(difference(table, &copy)?)),
         None => Ok(Outcome::Unknown),
     }
 }

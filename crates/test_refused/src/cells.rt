@@ -1,5 +1,4 @@
-//! The calls of a cell. They own it or only read it, so after a refusal there is nothing to look
-//! at.
+//! The calls of a cell. After a refusal those that own it leave nothing to look at.
 
 use crate::outcome::{Outcome, succeeded};
 use comfy_table::{Attribute, Cell, Result};
@@ -13,20 +12,25 @@ pub fn outcome_of(alloc: Global, call: &str) -> Result<Outcome> {
         "new" => succeeded(Cell::new(alloc, TEXT)),
         "new_owned" => succeeded(Cell::new_owned(alloc, String::from_str(alloc, TEXT)?)),
         "add_attributes" => add_attributes(alloc)?,
-        _ => return Ok(outcome_on(Cell::new(alloc, TEXT)?, call)),
+        "add_attribute" => succeeded(Cell::new(alloc, TEXT)?.add_attribute(Attribute::Bold)),
+        _ => return outcome_on(&Cell::new(alloc, TEXT)?, call),
     };
     Ok(Outcome::of(result))
 }
 
-// What came of a call that is made on a cell.
-fn outcome_on(cell: Cell, call: &str) -> Outcome {
+// What came of a call that only reads a cell: after a refusal the cell is as it was.
+fn outcome_on(cell: &Cell, call: &str) -> Result<Outcome> {
+    let copy = cell.clone()?;
     let is_done = match call {
         "content" => succeeded(cell.content()),
-        "add_attribute" => succeeded(cell.add_attribute(Attribute::Bold)),
         "clone" => succeeded(cell.clone()),
-        _ => return Outcome::Unknown,
+        _ => return Ok(Outcome::Unknown),
     };
-    Outcome::of(is_done)
+    if is_done {
+        return Ok(Outcome::Succeeded);
+    }
+    let differs = *cell != copy;
+    Ok(Outcome::refused(differs.then_some("the cell")))
 }
 
 fn add_attributes(alloc: Global) -> Result<bool> {

@@ -11,6 +11,7 @@ mod cells;
 mod changes;
 mod comparison;
 mod conversions;
+mod counted;
 mod fixtures;
 mod outcome;
 mod parts;
@@ -67,6 +68,7 @@ fn outcome_with(alloc: Global, table: &mut Table, name: &str) -> Result<Outcome>
         "Row" => rows::outcome_of(alloc, call),
         "Table" => outcome_on_table(alloc, table, call),
         "ArrangedTable" => parts::outcome_of(alloc, table, call),
+        "utils" => counted::outcome_of(alloc, table, call),
         "sequences" => sequences::outcome_of(alloc, table, call),
         _ => conversions::outcome_of(alloc, name),
     }
