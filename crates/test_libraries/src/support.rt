@@ -7,6 +7,19 @@ use std::alloc::{Alloc, Global};
 use std::fmt::Debug;
 use std::process::Abort;
 
+/// The drawing of the README's table, as the program writes it.
+pub const README_DRAWN: &str = "\
++----------------------+----------------------+------------------------+
+| Header1              | Header2              | Header3                |
++======================================================================+
+| This is a text       | This is another text | This is the third text |
+|----------------------+----------------------+------------------------|
+| This is another text | Now                  | This is awesome        |
+|                      | add some             |                        |
+|                      | multi line stuff     |                        |
++----------------------+----------------------+------------------------+
+";
+
 /// Compares two numbers.
 pub fn assert_number(rt: &impl Abort, number: usize, wanted: usize) {
     assert_eq!(rt; number, wanted);

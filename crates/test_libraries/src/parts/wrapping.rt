@@ -2,7 +2,9 @@
 
 use crate::support::assert_given;
 use comfy_parts::Column;
-use comfy_parts::content_split::{ColumnDisplayInfo, split_line_by_delimiter, split_line_ref};
+use comfy_parts::content_split::{
+    ColumnDisplayInfo, split_line, split_line_by_delimiter, split_line_ref,
+};
 use std::alloc::{Alloc, Global};
 use std::process::Abort;
 
@@ -24,7 +26,8 @@ const WRAPPED: [(&str, u16, char, &str); 9] = [
     ("ab cd", 0, ' ', "a|b|c|d"),
 ];
 
-// The lines of a text at a content width, which may be 0, joined by bars, are these.
+// The lines of a text at a content width, which may be 0, joined by bars, are these: those borrowed
+// from it, and those that are copied.
 fn assert_wrapped(
     rt: &(impl Abort + Alloc<A = Global>),
     text: &str,
@@ -35,6 +38,8 @@ fn assert_wrapped(
     let mut info = ColumnDisplayInfo::new(&Column::new(0), width);
     info.content_width = width;
     let lines = split_line_ref(rt.alloc(), text, &info, delimiter).expect(rt, "memory");
+    assert_given(rt, lines.join(rt.alloc(), "|"), expected);
+    let lines = split_line(rt.alloc(), text, &info, delimiter).expect(rt, "memory");
     assert_given(rt, lines.join(rt.alloc(), "|"), expected);
 }
 

@@ -1,6 +1,6 @@
 //! What the program writes and reports, and its statuses.
 
-use crate::support::{assert_bytes, assert_given, assert_number, sink_of};
+use crate::support::{README_DRAWN, assert_bytes, assert_given, assert_number, sink_of};
 use comfy_run::run::{MemorySource, RunError, program};
 use comfy_table::TableError;
 use std::alloc::{Alloc, Global};
@@ -8,23 +8,10 @@ use std::process::Abort;
 
 const USAGE: &str = "usage: ctable [WIDTH|- [disabled|dynamic|full [STYLE]]]\n";
 
-// The table of the README, as the program reads it.
-const README: &[u8] = b"Header1\tHeader2\tHeader3
+/// The table of the README, as the program reads it.
+pub const README: &[u8] = b"Header1\tHeader2\tHeader3
 This is a text\tThis is another text\tThis is the third text
 This is another text\tNow\x0badd some\x0bmulti line stuff\tThis is awesome
-";
-
-// The drawing of the README's table.
-const DRAWN: &str = "\
-+----------------------+----------------------+------------------------+
-| Header1              | Header2              | Header3                |
-+======================================================================+
-| This is a text       | This is another text | This is the third text |
-|----------------------+----------------------+------------------------|
-| This is another text | Now                  | This is awesome        |
-|                      | add some             |                        |
-|                      | multi line stuff     |                        |
-+----------------------+----------------------+------------------------+
 ";
 
 // The picture that the README has of the words `40 dynamic UTF8_FULL`.
@@ -112,7 +99,7 @@ fn assert_ends(rt: &(impl Abort + Alloc<A = Global>), wanted: Ended) {
 type Drawn = (&'static [&'static str], &'static [u8], &'static str);
 
 const DRAWINGS: [Drawn; 15] = [
-    (&[], README, DRAWN),
+    (&[], README, README_DRAWN),
     (&["40", "dynamic", "UTF8_FULL"], README, DRAWN_IN_40),
     // no input is an empty table
     (&[], b"", "++\n++\n"),
@@ -198,14 +185,7 @@ const ENDED: [Ended; 9] = [
     // the drawing is one write
     (&[], README, (0, 1, 0, 4096), 1, "", UNWRITTEN),
     // a sink with room for ten bytes takes the first ten
-    (
-        &[],
-        b"a\tb\nc\td\n",
-        (0, 0, 0, 10),
-        1,
-        "+---+---+\n",
-        UNWRITTEN,
-    ),
+    (&[], README, (0, 0, 0, 10), 1, "+---------", UNWRITTEN),
     // a fault of the sink for reports changes no status
     (&[], b"a\tb\nc\td\n", (0, 0, 1, 4096), 0, SMALL, ""),
     (&[], b"\xff", (0, 0, 1, 4096), 1, "", ""),

@@ -1,7 +1,7 @@
 //! Devices over readers and writers, some of which fail, and what a run leaves then.
 
-use super::program::SMALL;
-use crate::support::{assert_bytes, assert_given, sink_of};
+use super::program::{README, SMALL};
+use crate::support::{README_DRAWN, assert_bytes, assert_given, sink_of};
 use comfy_run::run::{
     FromReader, MemorySink, MemorySource, RunError, Settings, Sink, Source, ToWriter, render_tsv,
     run,
@@ -28,7 +28,7 @@ fn assert_run_from<R: Source>(
     wanted: &Result<(), RunError>,
     output: &str,
 ) {
-    let mut sink = sink_of(rt, 200, 0);
+    let mut sink = sink_of(rt, 4096, 0);
     assert!(rt; run(rt.alloc(), source, &mut sink, PLAIN) == *wanted);
     assert_bytes(rt, sink.bytes(), output);
 }
@@ -45,7 +45,16 @@ fn assert_run_into<W: Sink>(
     sink: &mut W,
     wanted: &Result<(), RunError>,
 ) {
-    let mut source = MemorySource::new(INPUT, 0);
+    assert_run(rt, INPUT, sink, wanted);
+}
+
+fn assert_run<W: Sink>(
+    rt: &(impl Abort + Alloc<A = Global>),
+    input: &[u8],
+    sink: &mut W,
+    wanted: &Result<(), RunError>,
+) {
+    let mut source = MemorySource::new(input, 0);
     assert!(rt; run(rt.alloc(), &mut source, sink, PLAIN) == *wanted);
 }
 
@@ -66,6 +75,37 @@ fn a_text_in_memory_is_drawn(rt: HostRuntime) {
 fn a_sink_with_too_much_room_is_refused(rt: HostRuntime) {
     let refused = MemorySink::new(rt.alloc(), usize::MAX, 0);
     assert!(rt; matches!(&refused, Err(TableError::OutOfMemory)));
+}
+
+// One read gives the input, and one shows its end; there is no third.
+#[test]
+fn a_source_in_memory_fails_at_each_read(rt: HostRuntime) {
+    assert_unread(&rt, &mut MemorySource::new(README, 1));
+    assert_unread(&rt, &mut MemorySource::new(README, 2));
+    assert_run_from(
+        &rt,
+        &mut MemorySource::new(README, 3),
+        &Ok(()),
+        README_DRAWN,
+    );
+}
+
+// The room of a sink, the call at which it fails, how a run into it ends, and what it has then.
+const SINKS: [(usize, u64, Result<(), RunError>, &str); 3] = [
+    (4096, 1, Err(RunError::Write), ""),
+    // the drawing is one write
+    (4096, 2, Ok(()), README_DRAWN),
+    // without more room there is a second one
+    (10, 0, Err(RunError::Write), "+---------"),
+];
+
+#[test]
+fn a_sink_in_memory_fails_at_each_write(rt: HostRuntime) {
+    for (room, failing_write, wanted, output) in &SINKS {
+        let mut sink = sink_of(&rt, *room, *failing_write);
+        assert_run(&rt, README, &mut sink, wanted);
+        assert_bytes(&rt, sink.bytes(), output);
+    }
 }
 
 // A reader that gives one byte at a call, and whose call `fails_at` is an error.

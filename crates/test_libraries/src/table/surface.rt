@@ -1,7 +1,7 @@
-//! Several rows at once, and rows on a condition: that the calls succeed, and how often a predicate
-//! is asked.
+//! Several rows at once, and rows on a condition: that the calls succeed, how often a predicate is
+//! asked, and with which number.
 
-use crate::support::{assert_drawn, assert_number, row_of};
+use crate::support::{assert_drawn, row_of};
 use comfy_table::{IntoRow, Items, Row, Table};
 use std::alloc::{Alloc, Global};
 use std::cell::Cell;
@@ -41,41 +41,55 @@ fn rows_of_several_kinds_are_added(rt: HostRuntime) {
     assert_added(&rt, two_rows(&rt).into_iter());
 }
 
-// What a predicate answers, that counts how often it was asked.
-fn answer(invocation: &Cell<usize>, yes: bool) -> bool {
-    invocation.set(invocation.get().saturating_add(1));
+// What a predicate answers that is asked with a number of rows. It keeps that number, and a greater
+// one where it is asked again.
+fn answer(asked: &Cell<Option<usize>>, rows: usize, yes: bool) -> bool {
+    asked.set(Some(asked.get().map_or(rows, |_| usize::MAX)));
     yes
 }
 
-// Offers a row to a new table. The predicate is asked once.
-fn offer_row(rt: &(impl Abort + Alloc<A = Global>), yes: bool, wanted: &str) {
-    let invocation = Cell::new(0);
+// A table of two rows.
+fn table_of_two(rt: &(impl Abort + Alloc<A = Global>)) -> Table {
     let mut table = Table::new(rt.alloc());
+    table.try_add_rows(two_rows(rt)).expect(rt, "memory");
     table
-        .add_row_if(|_count, _row| answer(&invocation, yes), ["a"])
+}
+
+// Offers a row to a table of two rows. The predicate is asked once, with 2.
+fn offer_row(rt: &(impl Abort + Alloc<A = Global>), yes: bool, wanted: &str) {
+    let asked = Cell::new(None);
+    let mut table = table_of_two(rt);
+    table
+        .add_row_if(|rows, _row| answer(&asked, rows, yes), ["e", "f"])
         .expect(rt, "memory");
-    assert_number(rt, invocation.get(), 1);
+    assert!(rt; asked.get() == Some(2));
     assert_drawn(rt, &table, wanted);
 }
 
-// Offers rows to a new table. The predicate is asked once.
+// Offers the same row in a list.
 fn offer_rows(rt: &(impl Abort + Alloc<A = Global>), yes: bool, wanted: &str) {
-    let invocation = Cell::new(0);
-    let mut table = Table::new(rt.alloc());
+    let asked = Cell::new(None);
+    let mut table = table_of_two(rt);
     table
-        .add_rows_if(
-            |_count, _rows| answer(&invocation, yes),
-            [["a", "b"], ["c", "d"]],
-        )
+        .add_rows_if(|rows, _rows| answer(&asked, rows, yes), [["e", "f"]])
         .expect(rt, "memory");
-    assert_number(rt, invocation.get(), 1);
+    assert!(rt; asked.get() == Some(2));
     assert_drawn(rt, &table, wanted);
 }
+
+const THREE_ROWS: &str = "\
++---+---+
+| a | b |
+|---+---|
+| c | d |
+|---+---|
+| e | f |
++---+---+";
 
 #[test]
 fn a_predicate_is_asked_once(rt: HostRuntime) {
-    offer_row(&rt, true, "+---+\n| a |\n+---+");
-    offer_row(&rt, false, "++\n++");
-    offer_rows(&rt, true, TWO_ROWS);
-    offer_rows(&rt, false, "++\n++");
+    offer_row(&rt, true, THREE_ROWS);
+    offer_row(&rt, false, TWO_ROWS);
+    offer_rows(&rt, true, THREE_ROWS);
+    offer_rows(&rt, false, TWO_ROWS);
 }

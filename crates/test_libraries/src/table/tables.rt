@@ -1,35 +1,92 @@
-//! Tables: the calls that `lines` makes, parts that are lent, and the widest paddings.
+//! Tables: the calls that `lines` makes, cells of a column, parts that are lent, and the widest
+//! paddings.
 
-use crate::support::{assert_drawn, assert_number, row_of, table_of};
+use crate::support::{
+    README_DRAWN, assert_drawn, assert_given, assert_lines, assert_number, row_of, table_of,
+};
 use comfy_table::utils::arrangement::arrange_content;
 use comfy_table::utils::build_table;
 use comfy_table::utils::formatting::content_format::{format_content, format_row};
-use comfy_table::{Lines, Table};
+use comfy_table::{Cell, ColumnCellIter, Table};
 use std::alloc::{Alloc, Global};
 use std::process::Abort;
 
+// The table of the README.
+fn readme_table(rt: &(impl Abort + Alloc<A = Global>)) -> Table {
+    let header = ["Header1", "Header2", "Header3"];
+    let first = [
+        "This is a text",
+        "This is another text",
+        "This is the third text",
+    ];
+    let second = [
+        "This is another text",
+        "Now\nadd some\nmulti line stuff",
+        "This is awesome",
+    ];
+    let mut table = Table::new(rt.alloc());
+    table.try_set_header(header).expect(rt, "memory");
+    table.try_add_row(first).expect(rt, "memory");
+    table.try_add_row(second).expect(rt, "memory");
+    table
+}
+
 #[test]
 fn each_step_of_a_drawing_succeeds(rt: HostRuntime) {
-    let table = table_of(&rt, ["ab\ncd"]);
+    let table = readme_table(&rt);
     assert_formatted(&rt, &table);
     let lines = build_table(&table).expect(&rt, "memory");
-    assert_number(&rt, height_of(lines), 4);
+    assert_lines(&rt, lines, README_DRAWN.trim_end());
 }
 
-// How many lines these are.
-fn height_of(lines: Lines) -> usize {
-    lines.count()
-}
-
-// The table has one row; another row has two lines there, and its second cell lies behind the last
-// column.
+// The header and the first row have a line, the second row has three. Another row has two there,
+// and its fourth cell lies behind the last column.
 fn assert_formatted(rt: &(impl Abort + Alloc<A = Global>), table: &Table) {
     let infos = arrange_content(table).expect(rt, "memory");
     let content = format_content(table, infos.as_slice()).expect(rt, "memory");
-    assert_number(rt, content.len(), 1);
-    let row = row_of(rt, ["ab cd", "behind the last column"]);
+    assert_number(rt, content.len(), 3);
+    for (lines, wanted) in content.iter().zip([1, 1, 3]) {
+        assert_number(rt, lines.len(), wanted);
+    }
+    let row = row_of(rt, ["a", "b\nc", "d", "behind the last column"]);
     let lines = format_row(&row, infos.as_slice(), table).expect(rt, "memory");
     assert_number(rt, lines.len(), 2);
+}
+
+// The second column's cells in the rows, of which the second row has none.
+const SECOND_CELLS: [Option<&str>; 3] = [Some("Second"), None, Some("Fifth")];
+
+#[test]
+fn cells_of_a_column_stand_behind_that_of_the_header(rt: HostRuntime) {
+    let mut table = table_of(&rt, ["First", "Second"]);
+    table.try_add_row(["Third"]).expect(&rt, "memory");
+    table.try_add_row(["Fourth", "Fifth"]).expect(&rt, "memory");
+    assert_cells(&rt, table.column_cells_iter(1));
+    assert_cells_behind(&rt, &table, None);
+    table.try_set_header(["A", "B"]).expect(&rt, "memory");
+    assert_cells_behind(&rt, &table, Some("B"));
+}
+
+fn assert_cells_behind(rt: &impl Abort, table: &Table, header: Option<&str>) {
+    let mut cells = table.column_cells_with_header_iter(1);
+    assert_cell(rt, cells.next(), header);
+    assert_cells(rt, cells);
+}
+
+fn assert_cells(rt: &impl Abort, mut cells: ColumnCellIter<'_>) {
+    for wanted in SECOND_CELLS {
+        assert_cell(rt, cells.next(), wanted);
+    }
+    assert!(rt; cells.next().is_none());
+}
+
+// An item, which is a cell of this content, or none.
+fn assert_cell(rt: &impl Abort, item: Option<Option<&Cell>>, content: Option<&str>) {
+    match (item, content) {
+        (Some(Some(cell)), Some(text)) => assert_given(rt, cell.content(), text),
+        (Some(None), None) => {}
+        _ => panic!(rt; "another item"),
+    }
 }
 
 // Sets the height of each row, and the left padding of the first column alone.
@@ -58,7 +115,7 @@ fn pad_widely(table: &mut Table) {
 }
 
 // Each drawn line has so many characters.
-fn assert_lines(rt: &impl Abort, table: &Table, count: usize) {
+fn assert_counts(rt: &impl Abort, table: &Table, count: usize) {
     for line in table.lines().expect(rt, "memory") {
         assert_number(rt, line.chars().count(), count);
     }
@@ -68,5 +125,5 @@ fn assert_lines(rt: &impl Abort, table: &Table, count: usize) {
 fn the_widest_paddings_are_drawn(rt: HostRuntime) {
     let mut table = table_of(&rt, ["a"]);
     pad_widely(&mut table);
-    assert_lines(&rt, &table, 131073);
+    assert_counts(&rt, &table, 131073);
 }

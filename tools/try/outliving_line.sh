@@ -1,0 +1,57 @@
+#!/bin/sh
+# A program in which a line of split_line_ref outlives its text doesn't compile; one in which the line ends first does, and
+# prints it. Nothing is proved.
+#
+# usage: tools/try/outliving_line.sh
+set -u
+top=$(cd "$(dirname "$0")/../.." && pwd) || exit 2
+work=$(mktemp -d) || exit 2
+trap 'rm -rf "$work"' EXIT
+mkdir -p "$work/crates/line/src" || exit 2
+for name in cluster_width comfy_parts; do
+  mkdir "$work/crates/$name" || exit 2
+  cp -R "$top/crates/$name/src" "$top/crates/$name/specs" "$work/crates/$name" || exit 2
+  grep "^$name:" "$top/crates.txt" >> "$work/crates.txt" || exit 2
+done
+echo 'line: comfy_parts' >> "$work/crates.txt"
+
+# Tries a program that drops the text of a line before the line is printed, or behind that.
+try() {
+  cat > "$work/crates/line/src/main.rt" << END
+//! A line that is borrowed from its text.
+#![tactic(auto)]
+
+use comfy_parts::Column;
+use comfy_parts::content_split::{ColumnDisplayInfo, split_line_ref};
+use std::io;
+
+fn main(rt: HostRuntime) -> io::Result<()> {
+    let info = ColumnDisplayInfo::new(&Column::new(0), 2);
+    let text = String::from_str(rt.alloc(), "ab cd")?;
+    let Ok(lines) = split_line_ref(rt.alloc(), text.as_str(), &info, ' ') else {
+        return Ok(());
+    };
+    $1
+    for line in lines {
+        println!(rt; "line {line}")?;
+    }
+    $2
+    Ok(())
+}
+END
+  (cd "$work/crates/line" && rt try < /dev/null > "$work/said" 2>&1)
+}
+
+try '' 'drop(text);'
+if [ "$(grep '^line ' "$work/said" | tr '\n' ' ')" != 'line ab line cd ' ]; then
+  echo "$0: a line that ends before its text isn't printed" >&2
+  cat "$work/said" >&2
+  exit 1
+fi
+try 'drop(text);' ''
+if ! grep -q 'error\[borrow-e0505\].*`text`' "$work/said"; then
+  echo "$0: a line that outlives its text isn't refused" >&2
+  cat "$work/said" >&2
+  exit 1
+fi
+grep 'error\[' "$work/said"
