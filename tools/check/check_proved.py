@@ -41,7 +41,7 @@ LAWS_ALONE = ["cluster_width"]  # libraries without code
 WORDS = {"IsAfter", "IsTableDrawing", "input_table"}  # definitions, not functions
 # public calls of a few words over functions that have mutations
 OVER_OTHERS = set(
-    "build_table trim_fmt format_row style has_custom_styling visible_lines settings_of "
+    "build_table trim_fmt format_row add_rows_if style has_custom_styling visible_lines settings_of "
     "should_draw_left_border should_draw_right_border should_draw_vertical_lines".split()
 )
 CALLERS = ["test_callers", "test_csv_cases"]

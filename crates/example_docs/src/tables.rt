@@ -25,11 +25,11 @@ fn silent_1(alloc: Global, table: &mut Table) -> Result<()> {
     lines_example(table)?;
     table_to_text_example(table)?;
     table_add_rows_example(table)?;
-    table_load_style_example(table);
-    Ok(())
+    table_try_add_rows_example(alloc, table)
 }
 
 fn silent_2(table: &mut Table) -> Result<()> {
+    table_load_style_example(table);
     table_set_width_example(table);
     Ok(())
 }
@@ -124,6 +124,12 @@ fn table_to_text_example(table: &mut Table) -> Result<()> {
 
 fn table_add_rows_example(table: &mut Table) -> Result<()> {
     table.add_rows([["17", "dock 3"], ["18", "rented"]])?;
+    Ok(())
+}
+
+fn table_try_add_rows_example(alloc: Global, table: &mut Table) -> Result<()> {
+    let mut rows = vec![in alloc; ["17", "dock 3"], ["18", "rented"]]?.into_iter();
+    let added = table.try_add_rows(&mut rows);
     Ok(())
 }
 

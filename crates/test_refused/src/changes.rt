@@ -19,12 +19,7 @@ pub fn outcome_of(alloc: Global, source: &mut Table, call: &str) -> Result<Outco
     outcome_on(alloc, &mut table, source, call)
 }
 
-fn outcome_on(
-    alloc: Global,
-    table: &mut Table,
-    source: &mut Table,
-    call: &str,
-) -> Result<Outcome> {
+fn outcome_on(alloc: Global, table: &mut Table, source: &mut Table, call: &str) -> Result<Outcome> {
     match change(table, call) {
         Some(true) => Ok(Outcome::Succeeded),
         Some(false) => Ok(Outcome::refused(difference(table, source)?)),

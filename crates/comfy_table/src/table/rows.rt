@@ -85,7 +85,7 @@ impl Table {
     /// still to come.
     ///
     /// ```
-    /// let mut rows = rows.into_iter();
+    /// let mut rows = vec![in alloc; ["17", "dock 3"], ["18", "rented"]]?.into_iter();
     /// let added = table.try_add_rows(&mut rows);
     /// ```
     pub fn try_add_rows<T: IntoRow>(&mut self, rows: &mut vec::IntoIter<T>) -> Result<()>

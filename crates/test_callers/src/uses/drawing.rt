@@ -12,8 +12,8 @@ ghost use Rattle.comfy_table.specs.TableValue.{header_and_rows, max_content_widt
 ghost use Rattle.test_callers.specs.Uses.{IsDrawnWhole, IsPrintedWithin, table_within, text_within};
 
 use comfy_table::laws::{
-    cells_keep_their_text, lines_are_found_in_their_texts,
-    new_tables_are_straight, presets_have_columns_of_one,
+    cells_keep_their_text, lines_are_found_in_their_texts, new_tables_are_straight,
+    presets_have_columns_of_one,
 };
 use comfy_table::presets::UTF8_FULL;
 use comfy_table::utils::arrangement::{arrange_content, longest_line};
