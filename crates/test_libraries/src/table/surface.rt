@@ -51,7 +51,7 @@ fn answer(asked: &Cell<Option<usize>>, rows: usize, yes: bool) -> bool {
 // A table of two rows.
 fn table_of_two(rt: &(impl Abort + Alloc<A = Global>)) -> Table {
     let mut table = Table::new(rt.alloc());
-    table.try_add_rows(two_rows(rt)).expect(rt, "memory");
+    table.add_rows(two_rows(rt)).expect(rt, "memory");
     table
 }
 
