@@ -1,4 +1,5 @@
 pub mod AddedLemmas
+pub mod ConditionLemmas
 pub mod DrawnColumnLemmas
 pub mod FittingLemmas
 pub mod FrameLemmas

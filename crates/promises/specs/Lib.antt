@@ -1,4 +1,5 @@
 pub mod Added
+pub mod Conditions
 pub mod Headline
 pub mod Kept
 pub mod Shown

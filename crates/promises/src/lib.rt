@@ -4,6 +4,7 @@
 //! are wrapped isn't among them.
 #![tactic(auto)]
 
+pub mod conditions;
 pub mod harmless;
 pub mod headline;
 pub mod kept;

@@ -2,6 +2,7 @@ mod AddedRowTrials
 mod ArgumentTrials
 mod ClosedLineTrials
 mod ColumnTrials
+mod ConditionTrials
 mod ControlTrials
 mod CsvPromiseTrials
 mod DecimalTrials

@@ -200,7 +200,7 @@ texts_in_line = (codes "| ", codes " | b |", refl, (codes " | ", codes " |", ref
 -- ---- what is refused
 
 -- a character of two columns where one is allowed
-wide_is_refused : ¬ (HasCharactersWithin 1 (utf8 "京"))
+pub wide_is_refused : ¬ (HasCharactersWithin 1 (utf8 "京"))
 unfolding wrapping encode
 wide_is_refused is = cc is
 

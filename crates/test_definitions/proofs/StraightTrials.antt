@@ -3,7 +3,8 @@ use Rattle.std.proofs.Common.{◌≡◌, ◌≤◌, ℕ, List, true, false, inl,
 use Rattle.std.specs.List.{All}
 use Rattle.std.specs.Prelude.{encode_utf8_all}
 use Rattle.std.proofs.lemmas.List.Elements.{All-cons, All-nil}
-use Rattle.std.proofs.lemmas.Str.{IsUtf8-nil}
+use Rattle.std.proofs.lemmas.Str.{IsUtf8-from_is_utf8, IsUtf8-nil}
+use Rattle.std.specs.Str.{IsUtf8}
 use Rattle.comfy_parts.proofs.Computing.{wrapping}
 use Rattle.comfy_parts.proofs.CallerLemmas.{frame_apart, one_column_characters}
 use Rattle.comfy_parts.specs.CellValue.{CellValue, ColumnValue, RowValue, new_column, plain_cell, plain_row}
@@ -40,6 +41,20 @@ pub number_sign_adds_two : ¬ (AddsOneColumn 0x23)
 number_sign_adds_two adds =
     let one = adds [] (encode_utf8_all (0xFE0F ∷ [])) IsUtf8-nil in
     omega (arith, one, wide_number_sign_measures_two, nothing_measures_nothing, selector_measures_nothing)
+
+number_sign_measures_one : measure (utf8 "#") ≡ 1
+unfolding wrapping
+number_sign_measures_one = refl
+
+number_sign_is_text : IsUtf8 (utf8 "#")
+number_sign_is_text = IsUtf8-from_is_utf8 (utf8 "#") refl
+
+-- nor does a variation selector stand apart
+-- false: promises::the_ellipsis_stands_apart
+selector_joins : ¬ (IsApart (encode_utf8_all (0xFE0F ∷ [])))
+selector_joins apart =
+    let two = apart (utf8 "#") number_sign_is_text in
+    omega (arith, two, wide_number_sign_measures_two, number_sign_measures_one, selector_measures_nothing)
 
 -- no text joins the indicator of a new table
 pub ellipsis_is_apart : IsApart (utf8 "…")
