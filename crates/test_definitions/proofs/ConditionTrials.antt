@@ -1,5 +1,5 @@
 -- Values of which the laws on conditions of promises are false.
-use Rattle.std.proofs.Common.{◌≡◌, ◌<◌, ◌≤◌, ℕ, true, List, [], ◌∷◌, None, Some, ap, arith, length}
+use Rattle.std.proofs.Common.{◌≡◌, ◌≤◌, ℕ, false, true, [], ◌∷◌, Some, ap, arith, length}
 use Rattle.std.specs.List.{All}
 use Rattle.std.proofs.lemmas.List.Elements.{All-head}
 use Rattle.comfy_parts.proofs.Computing.{wrapping}
@@ -8,7 +8,7 @@ use Rattle.comfy_parts.specs.Columns.{IsOneColumnStyle}
 use Rattle.comfy_parts.specs.Presets.{ascii_full}
 use Rattle.comfy_parts.specs.Text.{is_printable_ascii}
 use Rattle.comfy_parts.specs.declared.style.table_style.TableStyle.{TableStyle}
-use Rattle.comfy_table.specs.Drawing.{drawing_of_infos, drawn_rows, infos_of}
+use Rattle.comfy_table.specs.Drawing.{drawing_of_infos, infos_of}
 use Rattle.comfy_table.specs.TableValue.{TableValue, new_table}
 use Rattle.promises.specs.Conditions.{IsOfRows, framed}
 use Rattle.promises.specs.Tables.{HasCharactersWithin, HasPlainFrame}
@@ -22,7 +22,8 @@ wide_text all = wide_is_refused (All-head (HasCharactersWithin 1) (utf8 "京") [
 
 -- false: promises::numbers_are_printable
 half : ¬ (is_printable_ascii (utf8 "½") ≡ true)
-half is = cc is
+unfolding wrapping
+half is = let wrong : false ≡ true = is in cc wrong
 
 -- a border that a variation selector after it makes wide
 abbrev numbered : TableStyle

@@ -1,12 +1,12 @@
 -- Terminal columns of every script, computed: characters that add one column and some that don't, texts that add up, texts whose characters fit, and a table that is shown whole.
-use Rattle.std.proofs.Common.{◌≡◌, ◌≤◌, ℕ, List, true, false, inl, inr, [], ◌∷◌, Some, None, map, refl, sum_by, arith}
+use Rattle.std.proofs.Common.{◌≡◌, ◌≤◌, ℕ, List, true, false, inl, inr, [], ◌∷◌, ◌++◌, Some, None, map, refl, sum_by, arith}
 use Rattle.std.specs.List.{All}
 use Rattle.std.specs.Prelude.{encode_utf8_all}
 use Rattle.std.proofs.lemmas.List.Elements.{All-cons, All-nil}
-use Rattle.std.proofs.lemmas.Str.{IsUtf8-from_is_utf8, IsUtf8-nil}
+use Rattle.std.proofs.lemmas.Str.{IsUtf8-nil}
 use Rattle.std.specs.Str.{IsUtf8}
 use Rattle.comfy_parts.proofs.Computing.{wrapping}
-use Rattle.comfy_parts.proofs.CallerLemmas.{frame_apart, one_column_characters}
+use Rattle.comfy_parts.proofs.CallerLemmas.{frame_apart, one_character, one_column_characters}
 use Rattle.comfy_parts.specs.CellValue.{CellValue, ColumnValue, RowValue, new_column, plain_cell, plain_row}
 use Rattle.comfy_parts.specs.Columns.{AddsOneColumn, IsApart, WordFits, adds_up, characters_fit, has_frame_characters}
 use Rattle.comfy_parts.specs.Presets.{nothing, utf8_full}
@@ -47,14 +47,19 @@ unfolding wrapping
 number_sign_measures_one = refl
 
 number_sign_is_text : IsUtf8 (utf8 "#")
-number_sign_is_text = IsUtf8-from_is_utf8 (utf8 "#") refl
+unfolding wrapping
+number_sign_is_text = (one_character 0x23 refl).0
+
+with_selector_measures_two : measure (utf8 "#" ++ encode_utf8_all (0xFE0F ∷ [])) ≡ 2
+unfolding wrapping
+with_selector_measures_two = refl
 
 -- nor does a variation selector stand apart
 -- false: promises::the_ellipsis_stands_apart
 selector_joins : ¬ (IsApart (encode_utf8_all (0xFE0F ∷ [])))
 selector_joins apart =
     let two = apart (utf8 "#") number_sign_is_text in
-    omega (arith, two, wide_number_sign_measures_two, number_sign_measures_one, selector_measures_nothing)
+    omega (arith, two, with_selector_measures_two, number_sign_measures_one, selector_measures_nothing)
 
 -- no text joins the indicator of a new table
 pub ellipsis_is_apart : IsApart (utf8 "…")
