@@ -1,3 +1,4 @@
-pub mod Kept
+pub mod Fields
+pub mod Messages
 pub mod Straight
 pub mod Written

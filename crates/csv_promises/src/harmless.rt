@@ -1,12 +1,13 @@
 //! No file speaks to your terminal.
 
 ghost use Rattle.std.specs.Prelude.{IfOk, IfSome, string_bytes};
+ghost use Rattle.csv_promises.specs.Messages.{IsTame};
 ghost use Rattle.csv_tables.specs.Drawn.{IsDrawnOf};
 ghost use Rattle.promises.specs.Shown.{IsHarmless};
 
 use comfy_run::run::{MemorySink, MemorySource};
 use csv_command::laws::drawings_hold_no_controls;
-use csv_command::{OutputContext, parse, render_csv};
+use csv_command::{OutputContext, Refusal, parse, render_csv};
 use csv_tables::{CsvError, Options, draw};
 use std::alloc::Global;
 
@@ -51,6 +52,19 @@ pub fn harmless_drawing(alloc: Global, arguments: &[&str], input: &[u8]) -> Opti
         return None;
     }
     render_csv(alloc, arguments, input).ok()
+}
+
+/// The line that `csvtable` writes on standard error where these bytes can't be drawn as these
+/// arguments ask: nothing where they can, or where the arguments ask for no drawing. Whatever the
+/// bytes, the names in them and the name of the file are, it holds no control character but the
+/// line feed at its end, and none that turns the direction of text.
+pub fn harmless_message(alloc: Global, arguments: &[&str], input: &[u8]) -> Option<String>
+    ensures { IfSome result (λ message. IsTame (string_bytes message)) }
+{
+    match render_csv(alloc, arguments, input) {
+        Err(Refusal::Input(message)) => Some(message),
+        _ => None,
+    }
 }
 
 /// A sink that holds the output for an input.

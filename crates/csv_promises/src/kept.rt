@@ -1,24 +1,58 @@
 //! No field is lost.
 
-ghost use Rattle.std.specs.Prelude.{IfOk};
-ghost use Rattle.csv_promises.specs.Kept.{ShowRecords};
+ghost use Rattle.std.specs.Prelude.{ℕ, List, IfSome, map};
+ghost use Rattle.csv_promises.specs.Fields.{ShowsRecords, StaysAsItIs};
+ghost use Rattle.csv_records.specs.Cleaning.{cleaned};
+ghost use Rattle.csv_records.specs.declared.cleaning.CleanOptions.{CleanOptions};
+ghost use Rattle.csv_tables.specs.Cells.{kept_by};
 
-use comfy_table::Lines;
+use crate::straight::written;
+use comfy_run::run::MemorySink;
+use csv_command::{Invocation, OutputContext};
 use csv_records::Records;
-use csv_tables::{ColumnsError, Options, table_of};
+use csv_tables::Expansion;
 use std::alloc::Global;
 
-/// The lines of a table of these records, without spaces that put decimal points below each other.
-/// Where nothing is asked for but a style, a header in bold or not, raw fields and sides for
-/// columns, each record of printable ASCII has a line of its own, in which its fields stand
-/// unchanged, but for those of spaces alone, which are empty. Records may differ in how many fields
-/// they have.
-pub fn lines_of_records(
+/// What the arguments ask for, the records of a file's bytes, and what the program writes of them:
+/// nothing where the arguments ask for raw fields, for sequences in fields or for Markdown; where
+/// records may be expanded, or columns, rows or lines are left out, chosen or numbered; or for no
+/// drawing, or where it can't be drawn so. Whatever the width and the script, each record is shown
+/// below the one before, and its fields from left to right, as they are cleaned: between and around
+/// them stand only spaces, characters of the style and the SGR sequences of a bold header, and they
+/// lose only spaces and line breaks.
+pub fn output_with_all_fields(
     alloc: Global,
-    records: Records,
-    options: &Options,
-) -> Result<Lines, ColumnsError>
-    ensures { IfOk result (λ lines. ShowRecords options.now records lines) }
+    arguments: &[&str],
+    context: OutputContext<'_>,
+    input: &[u8],
+    room: usize,
+) -> Option<(Invocation, Records, MemorySink)>
+    ensures { IfSome result (λ drawn.
+        ShowsRecords drawn.0.options.look
+        (map (map (cleaned (kept_by drawn.0.options.look))) drawn.1) drawn.2.bytes) }
 {
-    Ok(table_of(alloc, records, options)?.lines()?)
+    let (invocation, records, sink) = written(alloc, arguments, context, input, room)?;
+    let look = invocation.options.look;
+    let may_be_expanded = match look.expansion {
+        Expansion::Never => false,
+        Expansion::Auto => look.width.is_some(),
+        Expansion::Always => true,
+    };
+    if may_be_expanded || look.max_height.is_some() {
+        return None;
+    }
+    let selection = &invocation.options.selection;
+    if selection.limit.is_some() || selection.is_numbered {
+        return None;
+    }
+    if !selection.columns.is_empty() || !selection.dropped.is_empty() {
+        return None;
+    }
+    Some((invocation, records, sink))
 }
+
+/// Cleaning leaves a field as it is that has no character to replace: no control character and,
+/// unless these are kept, none that turns the direction of text.
+pub fn plain_fields_stay()
+    ensures { (kept : CleanOptions) (field : List ℕ) → StaysAsItIs kept field }
+{}

@@ -58,7 +58,7 @@ pub fn straight_whole_output(
 }
 
 // What the arguments ask for, the records of an input, and what is written of them.
-fn written(
+pub(crate) fn written(
     alloc: Global,
     arguments: &[&str],
     context: OutputContext<'_>,

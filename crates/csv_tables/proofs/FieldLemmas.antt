@@ -112,18 +112,6 @@ fields_stay look field printable = one_line (field_text look field) (by_flags lo
     by_flags false true = unless_blank-keeps (λ text. is_printable_ascii text ≡ true) field refl printable
     by_flags false false = unless_blank-keeps (λ text. is_printable_ascii text ≡ true) (cleaned (kept_by look) field) refl (clean (kept_by look))
 
--- where it isn't for Markdown, such a field is drawn as it is, in one text line, and empty where it is blank
-pub drawn_in_one_line : (look : Look) → look.is_markdown ≡ false → (field : Text) → is_printable_ascii field ≡ true → (plain_cell (field_text look field)).text_lines ≡ unless_blank field ∷ []
-drawn_in_one_line look none field printable =
-    ap (λ (text : Text). (plain_cell text).text_lines) same ∙ whole_line (unless_blank field) (unless_blank-keeps (λ text. is_printable_ascii text ≡ true) field refl printable)
-  where
-    by_raw : (is_raw : Bool) → (if is_raw then unless_blank field else unless_blank (cleaned (kept_by look) field)) ≡ unless_blank field
-    by_raw true = refl
-    by_raw false = ap unless_blank (sym (drawn_so (kept_by look) field (IsUtf8-printable field printable) (none_replaced (kept_by look) field printable)))
-
-    same : field_text look field ≡ unless_blank field
-    same = rw none (by_raw look.is_raw)
-
 -- ---- short fields
 
 -- a text of printable ASCII of at most so many characters

@@ -1,8 +1,8 @@
 -- Columns as they are drawn, and what stands in them.
-use Rattle.std.proofs.Common.{◌≡◌, ℕ, ◌+◌, Bool, true, false, not, cond, List, [], ◌∷◌, ◌++◌, Some, length, map, refl, sym, ap, ap₂, ◌∙◌, subst, arith, append_assoc, length-append, slice_index_or}
+use Rattle.std.proofs.Common.{◌≡◌, ℕ, ◌+◌, Bool, true, false, not, cond, List, [], ◌∷◌, ◌++◌, Some, length, map, refl, sym, ap, ap₂, ◌∙◌, subst, arith, append_assoc, length-append, max, slice_index_or}
 use Rattle.std.specs.Char.{IsScalar}
-use Rattle.std.specs.List.{All, slice_get}
-use Rattle.std.specs.Prelude.{option_map, slice_index}
+use Rattle.std.specs.List.{All, enumerate_from, slice_get}
+use Rattle.std.specs.Prelude.{slice_index, zip}
 use Rattle.std.specs.Str.{IsUtf8}
 use Rattle.std.proofs.Math.Seq.{get_or-append_seam}
 use Rattle.std.proofs.lemmas.List.Elements.{All-weaker}
@@ -10,12 +10,11 @@ use Rattle.comfy_parts.proofs.CallerLemmas.{All-at, All-of_map}
 use Rattle.comfy_parts.specs.CellValue.{CellValue, ColumnInfo, ColumnValue, RowValue, info_of, is_hidden_column}
 use Rattle.comfy_parts.specs.Text.{Text}
 use Rattle.comfy_table.proofs.InfoLemmas.{columns_from, infos_from}
-use Rattle.comfy_table.proofs.MeasuredLemmas.{cell_measured, get_measured, measured_rows-is, row_measured}
 use Rattle.comfy_table.specs.Drawing.{infos_of}
 use Rattle.comfy_table.specs.Headline.{IsTableDrawing}
 use Rattle.comfy_table.specs.Lines.{cell_delimiter}
 use Rattle.comfy_table.specs.Pieces.{shown_infos}
-use Rattle.comfy_table.specs.TableValue.{TableValue, header_and_rows, measured_cell, shown_columns}
+use Rattle.comfy_table.specs.TableValue.{TableValue, measured_rows, shown_columns}
 
 -- with the width at its position
 abbrev pub drawn_column : List ℕ → ℕ × ColumnValue → ℕ × ColumnInfo
@@ -42,40 +41,42 @@ drawn_from all front n (column ∷ columns) (w ∷ widths) splits at long =
     by_test true rest = rest
     by_test false rest = ap₂ (λ (v : ℕ) (more : List (ℕ × ColumnInfo)). (n, info_of column v) ∷ more) here rest
 
+-- all columns from a position on, with their contents
+all_from : (all front : List ℕ) (n : ℕ) (columns : List ColumnValue) (widths : List ℕ) → all ≡ front ++ widths → length front ≡ n → length widths ≡ length columns
+    → map (λ (p : ColumnValue × ℕ). info_of p.0 p.1) (zip columns widths) ≡ map (λ (p : ℕ × ColumnValue). info_of p.1 (max 1 (slice_index all p.0))) (enumerate_from n columns)
+all_from all front n [] [] splits at long = refl
+all_from all front n [] (w ∷ widths) splits at long = absurd (omega (arith, long))
+all_from all front n (column ∷ columns) [] splits at long = absurd (omega (arith, long))
+all_from all front n (column ∷ columns) (w ∷ widths) splits at long =
+    ap₂ (λ (v : ℕ) (more : List ColumnInfo). record (info_of column 0) { content_width = v } ∷ more) here
+    (all_from all (front ++ w ∷ []) (n + 1) columns widths (splits ∙ sym (append_assoc front (w ∷ []) widths)) (omega (arith, length-append front (w ∷ []), at)) (omega (arith, long)))
+  where
+    own : w ≡ slice_index all n
+    own = sym (ap (λ xs. slice_index xs n) splits ∙ ap (slice_index (front ++ w ∷ widths)) (sym at) ∙ get_or-append_seam front w widths _)
+
+    here : max 1 w ≡ max 1 (max 1 (slice_index all n))
+    here = omega (arith, own)
+
 module _ (table : TableValue) (widths : List ℕ) (long : length widths ≡ length table.columns) where
+  pub infos-are : infos_of table widths ≡ map (λ (p : ℕ × ColumnValue). info_of p.1 (max 1 (slice_index widths p.0))) (enumerate_from 0 table.columns)
+  infos-are = all_from widths [] 0 table.columns widths refl refl long
+
   pub columns-drawn : shown_infos (infos_of table widths) ≡ map (drawn_column widths) (shown_columns table)
   columns-drawn = drawn_from widths [] 0 table.columns widths refl refl long
 
 -- what stands in a column of a row is whole characters, and so is the delimiter
 abbrev pub IsWholeAt : TableValue → RowValue → ℕ × ColumnValue → Type 0
-IsWholeAt table row p = (cell : CellValue) → slice_get row.cells p.0 ≡ Some cell → IsScalar (cell_delimiter table p.1.delimiter cell) × All IsUtf8 (measured_cell table cell).text_lines
+IsWholeAt table row p = (cell : CellValue) → slice_get row.cells p.0 ≡ Some cell → IsScalar (cell_delimiter table p.1.delimiter cell) × All IsUtf8 cell.text_lines
 
 -- delimiters and texts in shown columns are whole characters
-pub whole_at : (table : TableValue) (lines : List Text) (drawn : IsTableDrawing table lines) → All (λ (row : RowValue). All (IsWholeAt table row) (shown_columns table)) (header_and_rows table)
+pub whole_at : (table : TableValue) (lines : List Text) (drawn : IsTableDrawing table lines) → All (λ (row : RowValue). All (IsWholeAt table row) (shown_columns table)) (measured_rows table)
 whole_at table lines drawn k default under =
-    All-weaker (λ (p : ℕ × ColumnValue). HasScalar (row_measured custom row) (drawn_column drawn.widths p)) (IsWholeAt table row)
-    (λ p own cell found.
-    let measured : slice_get (row_measured custom row).cells p.0 ≡ Some (cell_measured custom cell) = get_measured custom row.cells p.0 ∙ ap (option_map (cell_measured custom)) found in
-    (own (cell_measured custom cell) measured, All-at (λ (c : CellValue). All IsUtf8 c.text_lines) (row_measured custom row).cells p.0 (cell_measured custom cell) (texts k default under) measured))
-    (shown_columns table)
-    (All-of_map (HasScalar (row_measured custom row)) (drawn_column drawn.widths) (shown_columns table)
-    (subst (All (HasScalar (row_measured custom row))) (columns-drawn table drawn.widths drawn.arranged.one_for_each) (scalars k default under)))
+    All-weaker (λ (p : ℕ × ColumnValue). HasScalar (drawn_column drawn.widths p)) (IsWholeAt table row)
+    (λ p own cell found. (own cell found, All-at (λ (c : CellValue). All IsUtf8 c.text_lines) row.cells p.0 cell (drawn.texts.whole_texts k default under) found)) (shown_columns table)
+    (All-of_map HasScalar (drawn_column drawn.widths) (shown_columns table) (subst (All HasScalar) (columns-drawn table drawn.widths drawn.arranged.one_for_each) (drawn.texts.scalar_delimiters k default under)))
   where
-    custom : Bool
-    custom = table.custom_styling
-
     row : RowValue
-    row = slice_index_or (header_and_rows table) k default
+    row = slice_index_or (measured_rows table) k default
 
-    HasScalar : RowValue → ℕ × ColumnInfo → Type 0
-    HasScalar r p = (cell : CellValue) → slice_get r.cells p.0 ≡ Some cell → IsScalar (cell_delimiter table p.1.delimiter cell)
-
-    scalars : All (λ (r : RowValue). All (HasScalar (row_measured custom r)) (shown_infos (infos_of table drawn.widths))) (header_and_rows table)
-    scalars =
-        All-of_map (λ (r : RowValue). All (HasScalar r) (shown_infos (infos_of table drawn.widths))) (row_measured custom) (header_and_rows table)
-        (subst (All (λ (r : RowValue). All (HasScalar r) (shown_infos (infos_of table drawn.widths)))) (measured_rows-is table) drawn.texts.scalar_delimiters)
-
-    texts : All (λ (r : RowValue). All (λ (c : CellValue). All IsUtf8 c.text_lines) (row_measured custom r).cells) (header_and_rows table)
-    texts =
-        All-of_map (λ (r : RowValue). All (λ (c : CellValue). All IsUtf8 c.text_lines) r.cells) (row_measured custom) (header_and_rows table)
-        (subst (All (λ (r : RowValue). All (λ (c : CellValue). All IsUtf8 c.text_lines) r.cells)) (measured_rows-is table) drawn.texts.whole_texts)
+    HasScalar : ℕ × ColumnInfo → Type 0
+    HasScalar p = (cell : CellValue) → slice_get row.cells p.0 ≡ Some cell → IsScalar (cell_delimiter table p.1.delimiter cell)

@@ -17,7 +17,7 @@ use Rattle.comfy_table.specs.Straight as straight
 use Rattle.comfy_table.specs.TableValue.{is_tty, width_or_terminal, TableValue}
 use Rattle.comfy_table.specs.Widths.{shown_count}
 use Rattle.promises.proofs.FittingLemmas.{narrow, plain_stay, unconstrained}
-use Rattle.promises.specs.Tables.{EachText, HasCharactersWithin, HasPlainFrame, IsPlain, shown}
+use Rattle.promises.specs.Tables.{EachText, HasCharactersWithin, HasPlainFrame, IsPlain}
 use Rattle.promises.specs.Widths.{IsFree, frame_room}
 
 -- borders at both sides, and one between each two columns
@@ -57,9 +57,6 @@ counted n (column ∷ columns) = by_test (is_hidden_column column) (counted (n +
     by_test true rest = rest
     by_test false rest =
         (omega (arith, rest.0, sum_by-cons (λ (p : ℕ × ColumnValue). column_padding p.1) (n, column) later, sum_by-cons part column others), omega (arith, rest.1))
-
-pub shown_columns-count : (table : TableValue) → shown_count table ≡ length (shown table)
-shown_columns-count table = (counted 0 table.columns).1
 
 -- borders, paddings and one terminal column for each shown column have room in it
 least : (table : TableValue) → IsFree table → least_total table ≤ frame_room table

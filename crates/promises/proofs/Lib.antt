@@ -1,4 +1,5 @@
 pub mod AddedLemmas
+pub mod AmongLemmas
 pub mod ConditionLemmas
 pub mod DrawnColumnLemmas
 pub mod FittingLemmas
@@ -6,4 +7,6 @@ pub mod FrameLemmas
 pub mod HeadlineLemmas
 pub mod KeptLemmas
 pub mod PlacedLemmas
+mod PromiseLemmas
+pub mod RowLemmas
 pub mod ShownLemmas

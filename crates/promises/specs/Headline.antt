@@ -1,60 +1,44 @@
--- What every table draws: frame lines, and rows of padded pieces, slices of the cells' texts.
+-- What a table draws: frame lines, and rows of padded lines of its cells' texts.
 -- Source: this library's own.
-use Rattle.std.specs.Prelude.{◌≡◌, ℕ, ◌+◌, ◌-◌, ◌<◌, ◌≤◌, Bool, List, [], ◌∷◌, ◌++◌, Option, Some, None, All, EachIndex, MatchOption, flat_map, length, map, max, min, nat_le, slice_get, slice_index_or, take, if◌then◌else◌}
-use Rattle.std.specs.List.{AllZip, concat, join_by}
-use Rattle.comfy_parts.specs.CellValue.{CellValue, ColumnValue, RowValue}
-use Rattle.comfy_parts.specs.Text.{AddsOneColumnEach, Text, greatest, measure, spaces}
-use Rattle.comfy_parts.specs.VisibleLines.{CellLine}
-use Rattle.comfy_parts.specs.VisibleText.{visible_text}
-use Rattle.comfy_parts.specs.declared.style.table.ContentArrangement.TheVariants.{Dynamic, DynamicFullWidth}
+use Rattle.std.specs.Prelude.{◌≡◌, ◌⊎◌, ℕ, ◌+◌, ◌<◌, ◌≤◌, true, false, List, [], ◌∷◌, ◌++◌, Option, Some, None, All, EachIndex, filter_map, flat_map, length, map, max, option_map, slice_get, slice_index_or, sum, unwrap_or}
+use Rattle.std.specs.Int.{is_in_range}
+use Rattle.std.specs.List.{AllZip, enumerate_from, join_by}
+use Rattle.comfy_parts.specs.CellValue.{CellValue, ColumnInfo, ColumnValue, RowValue, info_of}
+use Rattle.comfy_parts.specs.Columns.{AddsOneColumn}
+use Rattle.comfy_parts.specs.Text.{AddsOneColumnEach, Text, greatest, is_printable_ascii, measure, spaces}
+use Rattle.comfy_parts.specs.Wrapping.{IsWrapped}
+use Rattle.comfy_parts.specs.declared.style.table.ContentArrangement.TheVariants.{Disabled, Dynamic, DynamicFullWidth}
 use Rattle.comfy_parts.specs.declared.style.table_style.ContentLineStyle.{ContentLineStyle}
 use Rattle.comfy_parts.specs.declared.style.table_style.LineStyle.{LineStyle}
-use Rattle.comfy_table.specs.Frame.{content_line, frame_line, optional_frame_line}
-use Rattle.comfy_table.specs.Laws.{HasPrintableCells, HasStyleWithout, count, least_total}
-use Rattle.comfy_table.specs.Lines.{cell_delimiter, cell_lines, fitting_indicator}
-use Rattle.comfy_table.specs.TableValue.{TableValue, measured_cell, measured_rows, shown_columns, table_width}
-use Rattle.promises.specs.Kept.{AreSameBut, StandIn}
-use Rattle.promises.specs.Shown.{Shows}
-use Rattle.promises.specs.Tables.{IsPlain, IsUnconstrained, shown}
+use Rattle.comfy_table.specs.Frame.{border_count, content_line, frame_line, optional_frame_line}
+use Rattle.comfy_table.specs.Laws.{NoConstraints, count, least_total}
+use Rattle.comfy_table.specs.Lines.{cell_delimiter, cut_text, cut_to_limit, fitting_indicator}
+use Rattle.comfy_table.specs.TableValue.{TableValue, cell_content_width, header_and_rows, measured_table, should_style, shown_columns, table_width}
+use Rattle.promises.specs.Shown.{IsStyled}
+use Rattle.promises.specs.Tables.{HasCharactersWithin}
 
 -- ---- the lines of a cell
 
--- the slices stand in the text, one behind the other, and leave out nothing but the character d
-pub record AreSlicesOf (d : ℕ) (text : Text) (slices : List Text) : Type 0 where
-  pub stand : StandIn slices text
-  pub keep : AreSameBut d text (concat slices)
+-- the lines of a text line in a column of w terminal columns: the text itself where it fits, else
+-- slices of it, which end where lines end and leave out only delimiters d; none is wider where each
+-- character fits
+pub record AreLinesOfText (w d : ℕ) (text : Text) (lines : List Text) : Type 0 where
+  pub whole : measure text ≤ w → lines ≡ text ∷ []
+  pub slices : w < measure text → IsWrapped w d text lines
+  pub fit : AddsOneColumn d → HasCharactersWithin w text → All (λ line. measure line ≤ w) lines
 
--- the slices of all text lines
-abbrev pub flattened : List (List Text) → List Text
-flattened slices = flat_map (λ (of_text : List Text). of_text) slices
+-- those of all text lines of a cell, from top to bottom
+abbrev pub AreLinesOfCell : ℕ → ℕ → CellValue → List Text → Type 0
+AreLinesOfCell w d cell lines =
+    (of_texts : List (List Text)) × AllZip (AreLinesOfText w d) cell.text_lines of_texts
+    × (lines ≡ flat_map (λ (of_text : List Text). of_text) of_texts)
 
--- of n lines so many are drawn under a greatest height, which is at least 1
-abbrev pub drawn_count : Option ℕ → ℕ → ℕ
-drawn_count None n = n
-drawn_count (Some h) n = min n (max 1 h)
-
--- and so many of these are whole: where not all are drawn, the last one is cut
-abbrev pub whole_count : Option ℕ → ℕ → ℕ
-whole_count None n = n
-whole_count (Some h) n = if nat_le n h then n else h - 1
-
--- a line is written as it is measured; with custom styling, that is what is visible of it
-abbrev pub IsWritten : Bool → CellLine → Type 0
-IsWritten custom line = (if custom then visible_text line.written else line.written) ≡ line.measured
-
--- the lines of a cell in a row: slices of what is measured of each text line, whole until a
--- greatest height cuts
-pub record AreLinesOfCell (table : TableValue) (row : RowValue) (column : ColumnValue)
-    (cell : CellValue) (lines : List CellLine) : Type 0 where
-  pub slices : List (List Text)
-  pub are_slices : AllZip (AreSlicesOf (cell_delimiter table column.delimiter cell))
-      (measured_cell table cell).text_lines slices
-  pub drawn : length lines ≡ drawn_count row.max_height (length (flattened slices))
-  pub whole : map (λ line. line.measured)
-      (take (whole_count row.max_height (length (flattened slices))) lines)
-      ≡ take (whole_count row.max_height (length (flattened slices))) (flattened slices)
-  pub written : All (IsWritten table.custom_styling)
-      (take (whole_count row.max_height (length (flattened slices))) lines)
+-- P holds of each cell in a shown column, with its row
+abbrev pub EachShownCell : (RowValue → ℕ × ColumnValue → CellValue → Type 0) → TableValue → Type 0
+EachShownCell P table =
+    All (λ (row : RowValue). All (λ (p : ℕ × ColumnValue). (cell : CellValue)
+    → slice_get row.cells p.0 ≡ Some cell → P row p cell) (shown_columns table))
+    (header_and_rows table)
 
 -- ---- the lines of a row
 
@@ -64,40 +48,12 @@ whole_width column w = column.padding.0 + w + column.padding.1
 
 -- a line between spaces, at least the column's paddings, as wide as the column unless the line
 -- is wider
-pub record IsPiece (column : ColumnValue) (w : ℕ) (line : CellLine) (piece : Text) : Type 0 where
-  pub before : Text
-  pub after : Text
-  pub joined : piece ≡ before ++ (line.written ++ after)
+pub record IsPiece (column : ColumnValue) (w : ℕ) (line piece : Text) : Type 0 where
   pub left : ℕ
   pub right : ℕ
-  pub shows_left : Shows before (spaces left)
-  pub shows_right : Shows after (spaces right)
+  pub drawn : piece ≡ spaces left ++ (line ++ spaces right)
   pub padded : (column.padding.0 ≤ left) × (column.padding.1 ≤ right)
-  pub wide : left + measure line.measured + right
-      ≡ whole_width column (max w (measure line.measured))
-
--- an empty line, which stands where a row has no cell, or a cell no further line
-abbrev pub no_line : CellLine
-no_line = record { measured = []; written = [] }
-
--- the lines of a row: in each, the pieces of the shown columns stand side by side between these
--- borders; there are as many as the highest cell has
-pub record AreLinesOfRow (table : TableValue) (borders : ContentLineStyle) (width : ℕ → ℕ)
-    (row : RowValue) (lines : List Text) : Type 0 where
-  pub cells : ℕ × ColumnValue → List CellLine
-  pub are_lines : All (λ (p : ℕ × ColumnValue). MatchOption (slice_get row.cells p.0)
-      (cells p ≡ no_line ∷ []) (λ cell. AreLinesOfCell table row p.1 cell (cells p)))
-      (shown_columns table)
-  pub as_high : length lines
-      ≡ greatest (map (λ (p : ℕ × ColumnValue). length (cells p)) (shown_columns table))
-  pub pieces : ℕ → List Text
-  pub are_pieces : EachIndex lines (λ k. AllZip
-      (λ (p : ℕ × ColumnValue). IsPiece p.1 (width p.0) (slice_index_or (cells p) k no_line))
-      (shown_columns table) (pieces k))
-  pub drawn : EachIndex lines
-      (λ k. slice_index_or lines k [] ≡ content_line table.style borders (pieces k))
-
--- ---- the lines of a table
+  pub wide : left + measure line + right ≡ whole_width column (max w (measure line))
 
 -- the whole widths of the shown columns
 abbrev pub widths_shown : TableValue → (ℕ → ℕ) → List ℕ
@@ -108,55 +64,102 @@ widths_shown table width =
 abbrev pub framed : TableValue → (ℕ → ℕ) → LineStyle → List Text
 framed table width line = optional_frame_line table.style line (widths_shown table width)
 
--- the lines of the header, and the frame line below them
-abbrev pub AreLinesOfHeader : TableValue → (ℕ → ℕ) → Option RowValue → List Text → Type 0
-AreLinesOfHeader table width None lines = lines ≡ []
-AreLinesOfHeader table width (Some header) lines =
-    (block : List Text) × AreLinesOfRow table table.style.header_lines width header block
-    × (lines ≡ block ++ framed table width table.style.header_separator)
+-- in a table whose columns have these widths, and whose cells these lines
+module _ (table : TableValue) (width : ℕ → ℕ)
+    (cell_lines : ℕ × ColumnValue → CellValue → List Text) where
+  -- the lines of a row's cell, cut at the row's greatest height; an empty one, if it has no cell
+  abbrev pub lines_in : RowValue → ℕ × ColumnValue → List Text
+  lines_in row p =
+      unwrap_or (option_map (λ (cell : CellValue). cut_to_limit
+      (cut_text (width p.0) table.indicator) row.max_height (cell_lines p cell))
+      (slice_get row.cells p.0)) ([] ∷ [])
 
--- where a row cuts the cell of this column, the indicator that is written adds one column for each
--- of its characters
-abbrev pub IsEvenWhereWritten : TableValue → (ℕ → ℕ) → RowValue → ℕ × ColumnValue → Type 0
-IsEvenWhereWritten table width row p =
-    (cell : CellValue) (h : ℕ) → slice_get row.cells p.0 ≡ Some cell → row.max_height ≡ Some h
-    → h < length (cell_lines (width p.0) (cell_delimiter table p.1.delimiter cell) cell)
-    → AddsOneColumnEach (fitting_indicator (width p.0) table.indicator)
+  -- the lines of a row: as many as its highest cell has, in each the pieces of the shown columns,
+  -- side by side between these borders
+  pub record AreLinesOfRow (borders : ContentLineStyle) (row : RowValue) (lines : List Text)
+      : Type 0 where
+    pub as_high : length lines
+        ≡ greatest (map (λ (p : ℕ × ColumnValue). length (lines_in row p)) (shown_columns table))
+    pub drawn : EachIndex lines (λ k. (pieces : List Text) × AllZip (λ (p : ℕ × ColumnValue).
+        IsPiece p.1 (width p.0) (slice_index_or (lines_in row p) k [])) (shown_columns table) pieces
+        × (slice_index_or lines k [] ≡ content_line table.style borders pieces))
 
--- wherever it is written
-abbrev pub HasEvenIndicator : TableValue → (ℕ → ℕ) → Type 0
-HasEvenIndicator table width =
-    All (λ (row : RowValue). All (IsEvenWhereWritten table width row) (shown_columns table))
-    (measured_rows table)
+  -- the lines of the header, and the frame line below them
+  abbrev pub AreLinesOfHeader : Option RowValue → List Text → Type 0
+  AreLinesOfHeader None lines = lines ≡ []
+  AreLinesOfHeader (Some header) lines =
+      (block : List Text) × AreLinesOfRow table.style.header_lines header block
+      × (lines ≡ block ++ framed table width table.style.header_separator)
 
--- the header, if there is one, and all rows stand between frame lines over the same widths, and
--- the lines count as many characters
-pub record IsHeadline (table : TableValue) (lines : List Text) : Type 0 where
+-- the text lines and the delimiter of each shown cell are printable ASCII
+abbrev pub IsPrintable : TableValue → Type 0
+IsPrintable table =
+    EachShownCell (λ row p cell. All (λ text. is_printable_ascii text ≡ true) cell.text_lines
+    × (is_in_range 0x20 0x7E (cell_delimiter table p.1.delimiter cell) ≡ true)) table
+
+-- the terminal columns of the widest text in a column, at least 1
+abbrev pub widest : TableValue → ℕ → ℕ
+widest table i =
+    max 1 (greatest (map cell_content_width (filter_map (λ (row : RowValue). slice_get row.cells i)
+    (header_and_rows table))))
+
+-- the lines of a table without styles: the header, if there is one, and all rows stand between
+-- frame lines over the same widths
+pub record IsPlainDrawing (table : TableValue) (lines : List Text) : Type 0 where
   pub width : ℕ → ℕ
+  pub cell_lines : ℕ × ColumnValue → CellValue → List Text
+  pub are_cell_lines : EachShownCell (λ row p cell. AreLinesOfCell (width p.0)
+      (cell_delimiter table p.1.delimiter cell) cell (cell_lines p cell)) table
   pub header : List Text
   pub rows : List (List Text)
-  pub is_header : AreLinesOfHeader table width table.header header
-  pub are_rows : AllZip (AreLinesOfRow table table.style.content_lines width) table.rows rows
-  pub drawn : lines ≡ framed table width table.style.top_border
-      ++ (header ++ (join_by (λ block. block) (framed table width table.style.row_separator) rows
+  pub is_header : AreLinesOfHeader table width cell_lines table.header header
+  pub are_rows :
+      AllZip (AreLinesOfRow table width cell_lines table.style.content_lines) table.rows rows
+  pub drawn : lines ≡ framed table width table.style.top_border ++ (header
+      ++ (join_by (λ block. block) (framed table width table.style.row_separator) rows
       ++ framed table width table.style.bottom_border))
-  -- each frame line, whatever the texts
+  -- without a width to keep to, a column is as wide as its widest text
+  pub by_content : (table.arrangement ≡ Disabled) ⊎ (table_width table ≡ None)
+      → All (λ (p : ℕ × ColumnValue). p.1.constraint ≡ None → width p.0 ≡ widest table p.0)
+      (shown_columns table)
+  -- so are all under `Dynamic`, where they have room
+  pub keeps_contents : (w : ℕ) → table_width table ≡ Some w → NoConstraints table
+      → table.arrangement ≡ Dynamic
+      → border_count table.style (length (shown_columns table))
+      + sum (widths_shown table (widest table)) ≤ w
+      → All (λ (p : ℕ × ColumnValue). width p.0 ≡ widest table p.0) (shown_columns table)
+  -- each frame line counts as many characters, whatever the texts
   pub total : ℕ
   pub frame_total : (line : LineStyle)
       → count (frame_line table.style line (widths_shown table width)) ≡ total
-  -- and each line of printable ASCII, where the indicator adds one column for each character
-  pub rows_total : HasPrintableCells table → HasEvenIndicator table width → IsPlain table
+  -- so does each line of printable ASCII, where the indicator adds one column for each character
+  -- wherever it is written
+  pub plain_total : IsPrintable table
+      → EachShownCell (λ row p cell. (h : ℕ) → row.max_height ≡ Some h
+      → h < length (cell_lines p cell)
+      → AddsOneColumnEach (fitting_indicator (width p.0) table.indicator)) table
       → All (λ line. count line ≡ total) lines
-  -- colours not counted, where no other ESC is drawn
-  pub styled_total : HasPrintableCells table → HasEvenIndicator table width
-      → HasStyleWithout 0x1B table
-      → All (λ line. count (visible_text line) ≡ total) lines
   -- the width that was set, or the terminal's, holds where it has room for borders, paddings and
   -- one column for each
-  pub keeps_to_width : (w : ℕ) → table_width table ≡ Some w → IsUnconstrained table
+  pub keeps_to_width : (w : ℕ) → table_width table ≡ Some w → NoConstraints table
       → table.arrangement ≡ Dynamic
       → total ≤ max w (least_total table)
   -- or is filled, where a column is shown
-  pub fills_width : (w : ℕ) → table_width table ≡ Some w → IsUnconstrained table
-      → table.arrangement ≡ DynamicFullWidth → 0 < length (shown table)
+  pub fills_width : (w : ℕ) → table_width table ≡ Some w → NoConstraints table
+      → table.arrangement ≡ DynamicFullWidth → 0 < length (shown_columns table)
       → total ≡ max w (least_total table)
+
+-- such are the lines of a table as it is measured, with custom styling of what is visible of its
+-- texts, but for SGR sequences where styles are written or stand in texts
+pub record IsHeadline (table : TableValue) (lines : List Text) : Type 0 where
+  pub plain : List Text
+  pub is_plain : IsPlainDrawing (measured_table table) plain
+  pub styled : AllZip IsStyled plain lines
+  pub unstyled : should_style table ≡ false → table.custom_styling ≡ false → lines ≡ plain
+
+-- the columns of a headline, as wide as there
+abbrev pub AreColumnsOf : TableValue → List Text → List ColumnInfo → Type 0
+AreColumnsOf table lines columns =
+    (drawing : IsHeadline table lines)
+    × (columns ≡ map (λ (p : ℕ × ColumnValue). info_of p.1 (drawing.is_plain.width p.0))
+    (enumerate_from 0 table.columns))

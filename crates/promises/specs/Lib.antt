@@ -2,6 +2,7 @@ pub mod Added
 pub mod Conditions
 pub mod Headline
 pub mod Kept
+pub mod Promises
 pub mod Shown
 pub mod Straight
 pub mod Tables

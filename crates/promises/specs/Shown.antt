@@ -19,6 +19,13 @@ pub data Shows : Text → Text → Type 0 where
   sequence : (code text shown : Text) → list_all is_parameter code ≡ true
       → Shows text shown → Shows (0x1B ∷ 0x5B ∷ (code ++ 0x6D ∷ text)) shown
 
+-- a line, and the same line with SGR sequences, which set colours and attributes
+pub data IsStyled : Text → Text → Type 0 where
+  nothing : IsStyled [] []
+  byte : (b : ℕ) (line styled : Text) → IsStyled line styled → IsStyled (b ∷ line) (b ∷ styled)
+  sequence : (code line styled : Text) → list_all is_parameter code ≡ true
+      → IsStyled line styled → IsStyled line (0x1B ∷ 0x5B ∷ (code ++ 0x6D ∷ styled))
+
 -- all that a terminal is told are characters, line ends, colours and attributes
 abbrev pub IsHarmless : Text → Type 0
 IsHarmless text =

@@ -6,6 +6,7 @@ use Rattle.comfy_parts.specs.Text.{Text}
 use Rattle.comfy_parts.specs.declared.style.table.ContentArrangement.TheVariants.{Disabled}
 use Rattle.comfy_table.specs.NewTables.{AreEquallyWide}
 use Rattle.comfy_table.specs.TableValue.{TableValue}
+use Rattle.promises.specs.Headline.{AreColumnsOf}
 use Rattle.promises.specs.Shown.{AreShownEquallyWide, HasNoControls}
 use Rattle.promises.specs.Tables.{CharactersFit, EachText, HasCharactersWithin, HasPlainFrame, IsPlain, IsShownWhole}
 
@@ -21,10 +22,11 @@ AreStraightWhole table lines =
     IsPlain table → HasPlainFrame table → table.arrangement ≡ Disabled → IsShownWhole table
     → AreEquallyWide lines
 
--- where each character fits its column, one of these
+-- these are the columns of the drawing; where each character fits its column
 abbrev pub AreStraightWhereCharactersFit : TableValue → List ColumnInfo → List Text → Type 0
 AreStraightWhereCharactersFit table columns lines =
-    IsPlain table → HasPlainFrame table → CharactersFit table columns → AreEquallyWide lines
+    AreColumnsOf table lines columns
+    × (IsPlain table → HasPlainFrame table → CharactersFit table columns → AreEquallyWide lines)
 
 -- with colours and attributes, by what the lines show
 abbrev pub AreShownStraight : TableValue → List Text → Type 0

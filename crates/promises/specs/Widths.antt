@@ -5,6 +5,7 @@ use Rattle.comfy_parts.specs.CellValue.{ColumnInfo, ColumnValue}
 use Rattle.comfy_parts.specs.Text.{Text, measure}
 use Rattle.comfy_parts.specs.declared.style.table.ContentArrangement.TheVariants.{Dynamic}
 use Rattle.comfy_table.specs.TableValue.{TableValue}
+use Rattle.promises.specs.Headline.{AreColumnsOf}
 use Rattle.promises.specs.Tables.{CharactersFit, EachText, HasCharactersWithin, HasPlainFrame, IsPlain, IsUnconstrained, shown}
 
 -- a border at each side of each shown column, its paddings, and one terminal column for texts
@@ -31,9 +32,10 @@ abbrev pub FillWidth : TableValue → ℕ → List Text → Type 0
 FillWidth table w lines =
     IsNarrow table → frame_room table ≤ w → All (λ line. measure line ≡ w) lines
 
--- no line is wider where each character fits its column, one of these
+-- these are the columns of the drawing; no line is wider where each character fits its column
 abbrev pub KeepToWidthWhereCharactersFit : TableValue → List ColumnInfo → List Text → Type 0
 KeepToWidthWhereCharactersFit table columns lines =
-    (w : ℕ) → table.set_width ≡ Some w → table.arrangement ≡ Dynamic
+    AreColumnsOf table lines columns
+    × ((w : ℕ) → table.set_width ≡ Some w → table.arrangement ≡ Dynamic
     → IsPlain table → HasPlainFrame table → IsFree table → CharactersFit table columns
-    → All (λ line. measure line ≤ max w (frame_room table)) lines
+    → All (λ line. measure line ≤ max w (frame_room table)) lines)

@@ -5,8 +5,9 @@ ghost use Rattle.promises.specs.Kept.{ShowAllTexts, ShowWholeTexts};
 
 use comfy_table::{Lines, Result, Table};
 
-/// All texts stand in the lines, each row's below the one before, broken only where a character at
-/// which they may break is left out.
+/// All texts stand in the lines, each row's below the one before, among spaces and characters of
+/// the style alone, SGR sequences aside: as they are, or in slices, which leave out nothing but the
+/// characters at which they may break.
 pub fn lines_with_all_texts(table: &Table) -> Result<Lines>
     ensures { IfOk result (λ lines. ShowAllTexts table.now lines) }
 {
@@ -14,7 +15,7 @@ pub fn lines_with_all_texts(table: &Table) -> Result<Lines>
 }
 
 /// Without a width to keep to, all texts stand in the lines unchanged, each row's below the one
-/// before.
+/// before, among spaces and characters of the style alone, SGR sequences aside.
 pub fn lines_with_whole_texts(table: &Table) -> Result<Lines>
     ensures { IfOk result (λ lines. ShowWholeTexts table.now lines) }
 {

@@ -21,7 +21,7 @@ pub fn straight_whole_lines(table: &Table) -> Result<Lines>
 }
 
 /// Where each character has room in its column, all lines are equally wide, whatever the script.
-/// The columns are returned with the lines.
+/// The columns of the drawing are returned with the lines.
 pub fn straight_fitting_lines(table: &Table) -> Result<(ArrangedTable<'_>, Lines)>
     ensures { IfOk result (λ drawn. AreStraightWhereCharactersFit table.now drawn.0.infos drawn.1) }
 {

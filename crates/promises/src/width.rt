@@ -27,7 +27,8 @@ pub fn lines_over(table: &mut Table, width: u16) -> Result<Lines>
 }
 
 /// Where each character has room in its column, no line is wider than the width that was set, or
-/// than the frame takes, whatever the script. The columns are returned with the lines.
+/// than the frame takes, whatever the script. The columns of the drawing are returned with the
+/// lines.
 pub fn fitting_lines_within(table: &Table) -> Result<(ArrangedTable<'_>, Lines)>
     ensures { IfOk result (λ drawn. KeepToWidthWhereCharactersFit table.now drawn.0.infos drawn.1) }
 {

@@ -1,22 +1,30 @@
 -- Lines that the promises on files refuse, and records for which one is made.
-use Rattle.std.proofs.Common.{◌≡◌, ◌⊎◌, inl, inr, ◌+◌, ◌<◌, ◌≤◌, ℕ, List, [], None, Option, ◌∷◌, ◌++◌, arith, codes, decimal, length, length-append, refl, sym, ap, ◌∙◌, subst, true, false}
-use Rattle.std.specs.List.{All, AllByRecursion}
-use Rattle.std.proofs.lemmas.List.Elements.{All-from_recursion, All-head, All-tail}
-use Rattle.std.specs.Global.{Vec}
+use Rattle.std.proofs.Common.{◌≡◌, ◌==◌, ◌&&◌, ◌||◌, not, ◌⊎◌, inl, inr, ◌+◌, ◌≤◌, ℕ, List, [], None, Option, ◌∷◌, ◌++◌, arith, codes, append-nil, decimal, length, length-append, map, refl, slice_index_or, sym, ap, ◌∙◌, subst, true, false}
+use Rattle.std.specs.Char.{is_control}
+use Rattle.std.specs.List.{All, AllZip, concat}
+use Rattle.std.specs.Str.{chars}
+use Rattle.std.proofs.lemmas.Bool.{and_parts}
+use Rattle.std.proofs.lemmas.Bool.Decides.{nat_tests}
+use Rattle.std.proofs.lemmas.Str.{NoCharPasses-byte}
+use Rattle.std.proofs.lemmas.List.Elements.{All-head, All-tail}
 use lib.Utf8.{encode}
 use Rattle.comfy_parts.proofs.Computing.{wrapping}
-use Rattle.comfy_parts.specs.Presets.{utf8_full}
-use Rattle.comfy_parts.specs.Text.{Text, is_printable_ascii, measure}
+use Rattle.comfy_parts.specs.Presets.{nothing, utf8_full}
+use Rattle.comfy_parts.specs.Text.{Text, measure}
 use Rattle.csv_tables.specs.declared.options.Expansion.TheVariants.{Auto}
 use Rattle.csv_tables.specs.declared.options.Look.{Look}
-use Rattle.csv_tables.specs.declared.options.Options.{Options}
 use Rattle.csv_tables.specs.declared.options.RowSeparators.TheVariants.{Styled}
 use Rattle.promises.specs.Shown.{ShowsColumns}
 use Rattle.csv_tables.specs.Drawn.{count_text}
-use Rattle.csv_promises.specs.Kept.{AsksForNothing, EachHasALine, IsPlainRecord}
+use Rattle.comfy_table.specs.Drawing.{terminated_text_of}
+use Rattle.comfy_table.specs.Laws.{AreLinesOf}
+use Rattle.csv_promises.specs.Fields.{AreFields, ShowsRecord, ShowsRecords, filled}
+use Rattle.csv_promises.specs.Messages.{IsTame}
+use Rattle.csv_records.specs.Cleaning.{cleaned, nothing_kept, turns_direction}
+use Rattle.promises.specs.Kept.{IsFrame, StandAmong}
 use Rattle.csv_promises.specs.Straight.{CountsRecords, IsStraight, counted}
 use Rattle.test_definitions.proofs.OutputLineTrials.{found, two_lines}
-use Rattle.test_definitions.proofs.PromiseTrials.{none_in_nothing, shows_itself, turned_round}
+use Rattle.test_definitions.proofs.PromiseTrials.{none_in_nothing, shows_itself, spaces_alone}
 
 -- ---- straight edges
 
@@ -65,55 +73,102 @@ two_widths_are_not_straight is =
         sym second.2 ∙ ap measure (shows_itself second.1 refl) ∙ one_column in
         absurd (omega (arith, wide, narrow))
 
--- ---- records
+-- ---- fields
 
 -- the look of a table with a header in bold
 abbrev bold : Look
 bold = record { style = utf8_full; separators = Styled; expansion = Auto; width = None; fills_width = false; max_height = None; has_bold_header = true; aligns_decimals = true; has_sequences = false; keeps_bidi = false; is_raw = false; is_markdown = false }
 
--- no words choose columns, or leave some out
-abbrev no_words : {X : Type 0} → Vec X → Vec X
-no_words words = record words { len = 0; items = []; ok = (refl, omega arith) }
+-- a look without a bold header
+abbrev unbold : Look
+unbold = record bold { has_bold_header = false }
 
--- options that ask for a header in bold, and for nothing else of a table
-abbrev asking : Options → Options
-asking options =
-    let own = options.selection in
-    record options {
-      selection = record own { has_header = true; limit = None; is_numbered = false; columns = no_words own.columns; dropped = no_words own.dropped };
-      look = bold;
-    }
-
-asks_for_nothing : (options : Options) → AsksForNothing (asking options)
-asks_for_nothing options = record { all_records = refl; unnumbered = refl; none_chosen = refl; none_dropped = refl; no_width = refl; uncut = refl; no_markdown = refl; no_sequences = refl }
-
--- a header, and a record that is shorter
-are_plain : All IsPlainRecord ((codes "day" ∷ codes "text" ∷ []) ∷ (codes "3 mai" ∷ []) ∷ [])
-are_plain = All-from_recursion IsPlainRecord ((codes "day" ∷ codes "text" ∷ []) ∷ (codes "3 mai" ∷ []) ∷ []) (is_plain (codes "day" ∷ codes "text" ∷ []) (omega arith) (refl, (refl, tt)) (omega arith, (omega arith, tt)), (is_plain (codes "3 mai" ∷ []) (omega arith) (refl, tt) (omega arith, tt), tt))
+-- a text without lines
+no_text_lines : (lines : List Text) → AreLinesOf [] lines → lines ≡ []
+no_text_lines [] are = refl
+no_text_lines (line ∷ lines) are = by_line line are.joined
   where
-    is_plain : (fields : List Text) → 0 < length fields → AllByRecursion (λ field. is_printable_ascii field ≡ true) fields → AllByRecursion (λ field. length field ≤ 65535) fields → IsPlainRecord fields
-    is_plain fields some printable short = record { some_field = some; printable = All-from_recursion (λ field. is_printable_ascii field ≡ true) fields printable; short = All-from_recursion (λ field. length field ≤ 65535) fields short }
+    by_line : (line : Text) → [] ≡ (line ++ 0x0A ∷ []) ++ terminated_text_of lines → line ∷ lines ≡ []
+    by_line [] same = absurd (cc same)
+    by_line (b ∷ line) same = absurd (cc same)
 
--- false: csv_promises::lines_of_records
-fields_are_turned_round : ¬ (EachHasALine ((codes "a" ∷ codes "b" ∷ []) ∷ []) (codes "ba" ∷ []))
-fields_are_turned_round ([], stand, each) = each
-fields_are_turned_round (line ∷ drawn, (before, behind, made, later), (fields, more)) = by_before before made
+-- a field has pieces
+some_piece : (pieces : List (List Text)) → AreFields (codes "a" ∷ []) pieces → All (λ (column : List Text). length column ≤ 0) pieces → ⊥
+some_piece [] fields short = fields
+some_piece (column ∷ others) fields short = by_column column fields.0 (All-head (λ (column : List Text). length column ≤ 0) column others short)
   where
-    other : ¬ (◌≡◌ {A = ℕ} 0x62 0x61)
-    other is = omega (arith, is)
+    by_column : (column : List Text) → filled (concat column) ≡ filled (codes "a") → length column ≤ 0 → ⊥
+    by_column [] same few = absurd (cc same)
+    by_column (piece ∷ more) same few = absurd (omega (arith, few))
 
-    by_before : (before : List Text) → ¬ (codes "ba" ∷ [] ≡ before ++ (line ∷ behind))
-    by_before [] same =
-        let own : codes "ba" ≡ line = cc same in
-        turned_round 0x62 0x61 line other (sym own) fields
-    by_before (x ∷ before) same = none_in_nothing before [] behind line (let end : [] ≡ before ++ (line ∷ behind) = cc same in end)
-
--- two records claim a line
-records_claim_a_line : ¬ (EachHasALine ((codes "a" ∷ []) ∷ (codes "b" ∷ []) ∷ []) (codes "ab" ∷ []))
-records_claim_a_line ([], stand, each) = each
-records_claim_a_line (one ∷ [], stand, each) = each.1
-records_claim_a_line (one ∷ other ∷ drawn, (before, behind, made, (between, rest, are, later)), each) = by_before before made
+-- nothing shows no field
+-- false: csv_promises::output_with_all_fields
+nothing_shows_no_field : ¬ (ShowsRecords unbold ((codes "a" ∷ []) ∷ []) [])
+nothing_shows_no_field is =
+    by_blocks is.blocks (subst (StandAmong (All (IsFrame unbold.style)) is.blocks) (sym (is.unstyled refl) ∙ no_text_lines is.lines is.are) is.stand) is.show
   where
-    by_before : (before : List Text) → ¬ (codes "ab" ∷ [] ≡ before ++ (one ∷ behind))
-    by_before [] same = let gone : [] ≡ behind = cc same in none_in_nothing between [] rest other (gone ∙ are)
-    by_before (x ∷ before) same = none_in_nothing before [] behind one (let end : [] ≡ before ++ (one ∷ behind) = cc same in end)
+    by_blocks : (blocks : List (List Text)) → StandAmong (All (IsFrame unbold.style)) blocks [] → ¬ (AllZip (ShowsRecord unbold.style) ((codes "a" ∷ []) ∷ []) blocks)
+    by_blocks [] stand show = show
+    by_blocks ([] ∷ blocks) stand show = some_piece show.0.pieces show.0.are_fields show.0.enough_lines
+    by_blocks ((line ∷ block) ∷ blocks) (before, behind, inside, around, rest) show = none_in_nothing before block behind line inside
+
+-- pieces that lack a letter aren't those of a field, those that lack a space are
+pub lost_space : AreFields (codes "a b" ∷ []) ((codes "a" ∷ codes "b" ∷ []) ∷ [])
+lost_space = (refl, tt)
+
+lost_letter : ¬ (AreFields (codes "ab" ∷ []) ((codes "a" ∷ []) ∷ []))
+lost_letter are = let same : ◌≡◌ {A = Text} (codes "a") (codes "ab") = are.0 in cc same
+
+-- nor are those of another column
+other_column : ¬ (AreFields (codes "a" ∷ codes "b" ∷ []) ((codes "b" ∷ []) ∷ (codes "a" ∷ []) ∷ []))
+other_column are = let same : ◌≡◌ {A = Text} (codes "b") (codes "a") = are.0 in let letter : ◌≡◌ {A = ℕ} 0x62 0x61 = cc same in absurd (omega (arith, letter))
+
+-- a record isn't shown by another amount and another word
+-- false: csv_promises::output_with_all_fields
+another_amount : ¬ (ShowsRecord nothing (codes "12.80" ∷ codes "Rent" ∷ []) (codes " -912.8099  No Rental " ∷ []))
+another_amount is = by_pieces is.pieces is.are_fields is.enough_lines (is.stand 0 (omega arith))
+  where
+    minus : (x : ℕ) (rest : Text) → 0x2D ≡ x → ¬ (filled (x ∷ rest) ≡ codes "12.80")
+    minus x rest is same =
+        let own : 0x2D ∷ filled rest ≡ codes "12.80" = subst (λ (y : ℕ). filled (y ∷ rest) ≡ codes "12.80") (sym is) same in
+        let letter : ◌≡◌ {A = ℕ} 0x2D 0x31 = cc own in absurd (omega (arith, letter))
+
+    by_before : (before piece behind : Text) → IsFrame nothing before → filled piece ≡ codes "12.80" → ¬ (codes " -912.8099  No Rental " ≡ before ++ (piece ++ behind))
+    by_before [] [] behind frame same made = cc same
+    by_before [] (x ∷ []) behind frame same made = let own : filled (0x20 ∷ []) ≡ codes "12.80" = subst (λ (y : ℕ). filled (y ∷ []) ≡ codes "12.80") (sym (let letter : 0x20 ≡ x = cc made in letter)) same in cc own
+    by_before [] (x ∷ y ∷ piece) behind frame same made =
+        let space : 0x20 ≡ x = cc made in
+        let letter : 0x2D ≡ y = cc made in
+        minus y piece letter (subst (λ (z : ℕ). filled (z ∷ y ∷ piece) ≡ codes "12.80") (sym space) same)
+    by_before (b ∷ []) [] behind frame same made = cc same
+    by_before (b ∷ []) (x ∷ piece) behind frame same made = minus x piece (cc made) same
+    by_before (b ∷ c ∷ before) piece behind frame same made =
+        let all = spaces_alone (b ∷ c ∷ before) frame in
+        let letter : 0x2D ≡ c = cc made in
+        let blank : (c == 0x20) ≡ true = (and_parts (c == 0x20) _ (and_parts (b == 0x20) _ all).1).0 in
+        let space_is : c ≡ 0x20 = grind (arith, nat_tests, blank) in absurd (omega (arith, letter, space_is))
+
+    by_column : (column : List Text) → filled (concat column) ≡ codes "12.80" → length column ≤ 1 → filled (slice_index_or column 0 []) ≡ codes "12.80"
+    by_column [] same few = cc same
+    by_column (piece ∷ []) same few = ap filled (sym (append-nil piece)) ∙ same
+    by_column (piece ∷ other ∷ column) same few = absurd (omega (arith, few))
+
+    by_pieces : (pieces : List (List Text)) → AreFields (codes "12.80" ∷ codes "Rent" ∷ []) pieces → All (λ (column : List Text). length column ≤ 1) pieces
+        → ¬ (StandAmong (IsFrame nothing) (map (λ (column : List Text). slice_index_or column 0 []) pieces) (codes " -912.8099  No Rental "))
+    by_pieces [] fields few stand = fields
+    by_pieces (column ∷ others) fields few (before, behind, made, frame, rest) =
+        by_before before (slice_index_or column 0 []) behind frame (by_column column fields.0 (All-head (λ (column : List Text). length column ≤ 1) column others few)) made
+
+-- ---- messages
+
+-- false: csv_promises::harmless_message
+bell_is_wild : ¬ (IsTame (0x07 ∷ []))
+bell_is_wild own =
+    let is : true ≡ false = NoCharPasses-byte (λ c. (is_control c && not (c == 0x0A)) || turns_direction c) (0x07 ∷ []) 0 own (omega arith) (omega arith) in
+    cc is
+
+-- false: csv_promises::plain_fields_stay
+-- a control character is replaced
+control_is_replaced : ¬ (cleaned nothing_kept (0x07 ∷ []) ≡ 0x07 ∷ [])
+unfolding chars encode
+control_is_replaced same = cc same

@@ -8,6 +8,7 @@ mod CsvPromiseTrials
 mod DecimalTrials
 mod DrawingTrials
 mod EncodingTrials
+mod HeadlineTrials
 mod HiddenColumnTrials
 mod InputTrials
 mod LawTrials

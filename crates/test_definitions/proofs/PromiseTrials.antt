@@ -1,27 +1,31 @@
 -- Tables for which the premises of the promises hold, and texts that these promises refuse.
-use Rattle.std.proofs.Common.{◌≡◌, ◌==◌, ◌&&◌, ◌≤◌, ◌<◌, ℕ, zero, suc, Bool, true, false, not, List, [], ◌∷◌, ◌++◌, ◌∙◌, length, max, Contains, Some, None, codes, refl, sym, ap, subst, arith, slice_index_or}
-use Rattle.std.specs.List.{All, AllZip, concat, slice_get}
+use Rattle.std.proofs.Common.{◌≡◌, ◌==◌, ◌&&◌, ◌⊎◌, inl, inr, ◌≤◌, ◌<◌, ℕ, zero, suc, Bool, true, false, not, List, [], ◌∷◌, ◌++◌, ◌∙◌, length, max, flat_map, append-nil, Contains, Option, Some, None, codes, refl, sym, ap, subst, arith, slice_index_or}
+use Rattle.std.specs.List.{All, AllZip, list_all, slice_get}
 use Rattle.std.specs.Char.{is_control}
-use Rattle.std.specs.Prelude.{encode_utf8_all}
+use Rattle.std.specs.Prelude.{encode_utf8_all, replicate, slice_index}
 use Rattle.std.specs.Str.{NoCharPasses, chars}
 use Prim.Native.String.{String}
 use lib.Utf8.{encode}
-use Rattle.std.proofs.lemmas.Bool.{or_parts}
+use Rattle.std.proofs.lemmas.Bool.{and_parts, or_parts}
+use Rattle.std.proofs.lemmas.Bool.Decides.{nat_tests}
 use Rattle.std.proofs.lemmas.List.Elements.{All-from_recursion, All-head}
 use Rattle.std.proofs.lemmas.Option.{same_Some}
 use Rattle.std.proofs.lemmas.Str.{NoCharPasses-byte}
 use Rattle.comfy_parts.proofs.CallerLemmas.{All-at, All-every, frame_adds, one_column_characters}
 use Rattle.comfy_parts.proofs.Computing.{wrapping}
 use Rattle.comfy_parts.specs.CellValue.{ColumnInfo, info_of, new_column, CellValue, ColumnValue, RowValue, plain_cell, plain_row}
-use Rattle.comfy_parts.specs.Columns.{IsOneColumn}
+use Rattle.comfy_parts.specs.Columns.{IsOneColumn, style_characters}
+use Rattle.comfy_parts.specs.Presets as presets
 use Rattle.comfy_parts.specs.Presets.{utf8_full}
-use Rattle.comfy_parts.specs.Text.{HasNo, Text, measure}
+use Rattle.comfy_parts.specs.Text.{HasNo, IsOnly, Text, measure}
+use Rattle.comfy_parts.specs.Wrapping.{IsSlicesWhere}
 use Rattle.comfy_parts.specs.declared.style.column.ColumnConstraint.TheVariants.{Hidden}
 use Rattle.comfy_table.specs.HiddenColumns.{without_hidden}
-use Rattle.comfy_table.specs.TableValue.{cell_content_width, TableValue, header_and_rows, shown_columns, constrained}
+use Rattle.comfy_table.specs.TableValue.{cell_content_width, TableValue, header_and_rows, new_table, shown_columns, constrained, with_rows}
 use Rattle.promises.specs.Added.{HasRoomFor, Stay}
 use Rattle.promises.specs.Headline.{IsHeadline}
-use Rattle.promises.specs.Kept.{AreSameBut, AreShown, ShowsRow, ShowsWholeRow, StandIn}
+use Rattle.promises.specs.Kept.{AreShown, AreSlicesOf, IsFrame, ShowsRow, ShowsWholeRow, StandAmong}
+use Rattle.promises.specs.Kept.IsFrame.{nothing as no_frame, space as frame_space, character as frame_character}
 use Rattle.promises.specs.Shown.{AreShownEquallyWide, HasNoControls, IsHarmless, Shows}
 use Rattle.promises.specs.Shown.Shows.{nothing, byte, sequence}
 use Rattle.promises.specs.Tables.{CharactersFit, EachShownText, EachText, HasCharactersWithin, HasPlainFrame, IsPlain, IsShownWhole}
@@ -193,9 +197,9 @@ has_room = record { columns = omega arith; widths = λ i cell found. at i cell f
     at (suc zero) cell found = (row_of "day" "text", cell, header, found, omega arith)
     at (suc (suc i)) cell found = absurd (cc found)
 
--- two texts in a line, from left to right
-texts_in_line : StandIn (codes "a" ∷ codes "b" ∷ []) (codes "| a | b |")
-texts_in_line = (codes "| ", codes " | b |", refl, (codes " | ", codes " |", refl, tt))
+-- a text in a line, among spaces
+text_in_line : StandAmong (IsFrame presets.nothing) (codes "12.80" ∷ []) (codes " 12.80 ")
+text_in_line = (codes " ", codes " ", refl, frame_space [] no_frame, frame_space [] no_frame)
 
 -- ---- what is refused
 
@@ -258,14 +262,38 @@ bell_is_harmful (shown, shows, none) =
     NoCharPasses-byte speaks (0x07 ∷ []) 0 own (omega arith) (omega arith) in
     cc is
 
--- a text that lost a character isn't the same, one that lost a space is
-lost_space : AreSameBut 0x20 (codes "ab") (codes "a b")
-unfolding chars
-lost_space = refl
+-- ---- texts among a frame
 
-lost_letter : ¬ (AreSameBut 0x20 (codes "a") (codes "a b"))
-unfolding chars
-lost_letter is = let same : 0x61 ∷ [] ≡ 0x61 ∷ 0x62 ∷ [] = is in absurd (cc same)
+-- a style without characters
+none_set : All (λ (c : Option ℕ). c ≡ None) (style_characters presets.nothing)
+none_set = All-from_recursion (λ (c : Option ℕ). c ≡ None) (style_characters presets.nothing) (refl, (refl, (refl, (refl, (refl, (refl, (refl, (refl, (refl, (refl, (refl, (refl, (refl, (refl, (refl, (refl, (refl, (refl, (refl, (refl, (refl, (refl, tt))))))))))))))))))))))
+
+-- its frame is spaces
+pub spaces_alone : (text : Text) → IsFrame presets.nothing text → list_all (λ b. b == 0x20) text ≡ true
+spaces_alone _ no_frame = refl
+spaces_alone _ (frame_space text own) = spaces_alone text own
+spaces_alone _ (frame_character c text (k, below, is) own) = absurd (cc (sym is ∙ none_set k (Some c) below))
+
+-- so a text that begins otherwise doesn't stand behind them
+not_behind : (x y : ℕ) (rest more : Text) → ¬ (x ≡ 0x20) → ¬ (x ≡ y) → ¬ (0x20 ≡ y) → (before : Text) → IsFrame presets.nothing before → ¬ (0x20 ∷ x ∷ rest ≡ before ++ (y ∷ more))
+not_behind x y rest more shown other third [] frame made = let same : 0x20 ≡ y = cc made in third same
+not_behind x y rest more shown other third (a ∷ []) frame made = let same : x ≡ y = cc made in other same
+not_behind x y rest more shown other third (a ∷ b ∷ before) frame made =
+    let all = spaces_alone (a ∷ b ∷ before) frame in
+    let same : x ≡ b = cc made in
+    let blank : (b == 0x20) ≡ true = (and_parts (b == 0x20) _ (and_parts (a == 0x20) _ all).1).0 in
+    let space_is : b ≡ 0x20 = grind (arith, nat_tests, blank) in
+    shown (same ∙ space_is)
+
+-- 12.80 isn't the amount in -912.8099
+another_amount : ¬ (StandAmong (IsFrame presets.nothing) (codes "12.80" ∷ []) (codes " -912.8099 "))
+another_amount (before, behind, made, frame, rest) =
+    not_behind 0x2D 0x31 (codes "912.8099 ") (codes "2.80" ++ behind) (λ is. omega (arith, is)) (λ is. omega (arith, is)) (λ is. omega (arith, is)) before frame made
+
+-- nor 1 that in 91.50
+other_amount : ¬ (StandAmong (IsFrame presets.nothing) (codes "1" ∷ []) (codes " 91.50 "))
+other_amount (before, behind, made, frame, rest) =
+    not_behind 0x39 0x31 (codes "1.50 ") behind (λ is. omega (arith, is)) (λ is. omega (arith, is)) (λ is. omega (arith, is)) before frame made
 
 -- nothing stands in an empty list
 pub none_in_nothing : {A : Type 0} (before part behind : List A) (x : A)
@@ -273,18 +301,21 @@ pub none_in_nothing : {A : Type 0} (before part behind : List A) (x : A)
 none_in_nothing [] part behind x is = cc is
 none_in_nothing (b ∷ before) part behind x is = cc is
 
--- letters that stand the other way round aren't those of the line
-pub turned_round : (x y : ℕ) (line : Text) → ¬ (x ≡ y) → line ≡ x ∷ y ∷ []
-    → ¬ (StandIn ((y ∷ []) ∷ (x ∷ []) ∷ []) line)
-turned_round x y line other is (before, behind, made, (between, rest, are, end)) =
-    by_before before (sym is ∙ made)
+-- nor does `b` stand before `a` where it should stand behind it
+turned_round : ¬ (StandAmong (IsFrame presets.nothing) (codes "a" ∷ codes "b" ∷ []) (codes " b a "))
+turned_round (before, behind, made, frame, rest) =
+    not_behind 0x62 0x61 (codes " a ") behind (λ is. omega (arith, is)) (λ is. omega (arith, is)) (λ is. omega (arith, is)) before frame made
+
+-- nor does a row that belongs below another stand above it
+rows_turned_round : ¬ (StandAmong (All (IsFrame presets.nothing)) ((codes " a " ∷ []) ∷ (codes " b " ∷ []) ∷ []) (codes " b " ∷ codes " a " ∷ []))
+rows_turned_round (before, behind, made, frame, rest) = by_before before frame made
   where
-    by_before : (before : Text) → ¬ (x ∷ y ∷ [] ≡ before ++ (y ∷ behind))
-    by_before [] same = other (cc same)
-    by_before (a ∷ []) same =
-        let gone : [] ≡ behind = cc same in none_in_nothing between [] rest x (gone ∙ are)
-    by_before (a ∷ b ∷ more) same =
-        none_in_nothing more [] behind y (let end : [] ≡ more ++ (y ∷ behind) = cc same in end)
+    by_before : (before : List Text) → All (IsFrame presets.nothing) before → ¬ (codes " b " ∷ codes " a " ∷ [] ≡ before ++ ((codes " a " ∷ []) ++ behind))
+    by_before [] frame made = let letter : 0x62 ≡ 0x61 = ap (λ (ls : List Text). slice_index (slice_index_or ls 0 []) 1) made in absurd (omega (arith, letter))
+    by_before (x ∷ before) frame made =
+        let line : codes " b " ≡ x = cc made in
+        let blank : false ≡ true = spaces_alone (codes " b ") (subst (IsFrame presets.nothing) (sym line) (All-head (IsFrame presets.nothing) x before frame)) in
+        cc blank
 
 -- ---- what no call returns
 
@@ -326,30 +357,167 @@ no_longer (x ∷ xs) ys none short = let zero_long = ap length none in absurd (o
 first_column : 0 < length (shown_columns (table_of "3 mai" "oats"))
 first_column = omega arith
 
+-- a text has a slice
+some_slice : (own : List Text) → AreSlicesOf 0x20 (codes "day") own → ¬ (own ≡ [])
+unfolding encode
+some_slice own (inl whole) none = cc (sym none ∙ whole)
+some_slice own (inr cut) none = no_spaces (subst (IsSlicesWhere (λ line tail. Unit {0}) 0x20 (codes "day")) none cut)
+  where
+    no_spaces : ¬ (IsOnly 0x20 (codes "day"))
+    no_spaces (zero, is) = cc is
+    no_spaces (suc n, is) = let letter : ◌≡◌ {A = ℕ} 0x64 0x20 = cc is in absurd (omega (arith, letter))
+
 -- false: promises::lines_with_all_texts
 no_lines_lose_texts : ¬ (AreShown (ShowsRow (table_of "3 mai" "oats")) (table_of "3 mai" "oats") [])
 unfolding chars encode
-no_lines_lose_texts is = by_blocks is.blocks is.stand is.show
+no_lines_lose_texts is = by_blocks is.blocks (subst (StandAmong (All (IsFrame utf8_full)) is.blocks) (sym (is.unstyled refl)) is.stand) is.show
   where
-    by_blocks : (blocks : List (List Text)) → StandIn blocks [] → ¬ (AllZip (ShowsRow (table_of "3 mai" "oats")) (row_of "day" "text" ∷ row_of "3 mai" "oats" ∷ []) blocks)
+    by_blocks : (blocks : List (List Text)) → StandAmong (All (IsFrame utf8_full)) blocks [] → ¬ (AllZip (ShowsRow (table_of "3 mai" "oats")) (row_of "day" "text" ∷ row_of "3 mai" "oats" ∷ []) blocks)
     by_blocks [] stand show = show
-    by_blocks (block ∷ blocks) (before, behind, inside, later) show =
+    by_blocks (block ∷ blocks) (before, behind, inside, around, later) show =
         let header = show.0 in
         let none = nothing_inside before block behind inside in
         let short : length (header.slices (0, new_column 0)) ≤ length block = header.stand.enough_lines 0 (0, new_column 0) first_column in
         let gone = no_longer (header.slices (0, new_column 0)) block none short in
-        let same : AreSameBut 0x20 (concat (header.slices (0, new_column 0))) (codes "day") = header.are_texts refl 0 (0, new_column 0) first_column (plain_cell (utf8 "day")) refl in
-        let lost : AreSameBut 0x20 [] (codes "day") = subst (λ (slices : List Text). AreSameBut 0x20 (concat slices) (codes "day")) gone same in
-        cc lost
+        let own = header.are_slices refl 0 (0, new_column 0) first_column in
+        by_texts own.0 own.1 (sym own.2 ∙ gone)
+      where
+        by_texts : (of_texts : List (List Text)) → AllZip (AreSlicesOf 0x20) (codes "day" ∷ []) of_texts → ¬ (flat_map (λ (of_text : List Text). of_text) of_texts ≡ [])
+        by_texts [] zip same = zip
+        by_texts (own ∷ other ∷ more) zip same = zip.1
+        by_texts (own ∷ []) zip same = some_slice own zip.0 (sym (append-nil own) ∙ same)
+
+-- ---- a word that is shown, and a whole text
+
+-- a table of one text, without a frame
+abbrev word_table : Text → TableValue
+word_table text = with_rows (plain_row (plain_cell text ∷ []) ∷ []) (new_table presets.nothing)
+
+-- some lines of one line are this one, or none
+alone : (before block behind : List Text) (line : Text) → line ∷ [] ≡ before ++ (block ++ behind) → (block ≡ []) ⊎ (block ≡ line ∷ [])
+alone before [] behind line made = inl refl
+alone [] (x ∷ []) behind line made = inr (cc made)
+alone [] (x ∷ y ∷ block) behind line made = absurd (cc made)
+alone (b ∷ before) (x ∷ block) behind line made =
+    absurd (none_in_nothing before block behind x (let rest : [] ≡ before ++ ((x ∷ block) ++ behind) = cc made in rest))
+
+-- a slice that is all of a word is the word
+only_slice : (slice : Text) → AreSlicesOf 0x20 (codes "ab") (slice ∷ []) → slice ≡ codes "ab"
+unfolding encode
+only_slice slice (inl whole) = cc whole
+only_slice slice (inr (tail, is, ends, (n, only))) = by_gap is.gap is.gap_is_delimiters is.splits
+  where
+    by_tail : (n : ℕ) (slice tail : Text) → tail ≡ encode_utf8_all (replicate n 0x20) → codes "ab" ≡ slice ++ tail → slice ≡ codes "ab"
+    by_tail zero slice tail none made = sym (made ∙ ap (λ (t : Text). slice ++ t) none ∙ append-nil slice)
+    by_tail (suc n) [] tail some made = let letter : ◌≡◌ {A = ℕ} 0x61 0x20 = cc (made, some) in absurd (omega (arith, letter))
+    by_tail (suc n) (x ∷ []) tail some made = let letter : ◌≡◌ {A = ℕ} 0x62 0x20 = cc (made, some) in absurd (omega (arith, letter))
+    by_tail (suc n) (x ∷ y ∷ []) tail some made = cc (made, some)
+    by_tail (suc n) (x ∷ y ∷ z ∷ slice) tail some made = cc made
+
+    by_gap : (gap : Text) → IsOnly 0x20 gap → codes "ab" ≡ gap ++ (slice ++ tail) → slice ≡ codes "ab"
+    by_gap [] none made = by_tail n slice tail only made
+    by_gap (g ∷ gap) (zero, none) made = cc none
+    by_gap (g ∷ gap) (suc m, some) made = let letter : ◌≡◌ {A = ℕ} 0x61 0x20 = cc (made, some) in absurd (omega (arith, letter))
+
+no_slice : ¬ (AreSlicesOf 0x20 (codes "ab") [])
+unfolding encode
+no_slice (inl whole) = cc whole
+no_slice (inr (zero, only)) = cc only
+no_slice (inr (suc n, only)) = let letter : ◌≡◌ {A = ℕ} 0x61 0x20 = cc only in absurd (omega (arith, letter))
+
+-- in a line that shows the word alone it stands among spaces
+word_stands : (line : Text) → AreShown (ShowsRow (word_table (codes "ab"))) (word_table (codes "ab")) (line ∷ []) → StandAmong (IsFrame presets.nothing) (codes "ab" ∷ []) line
+word_stands line is = by_blocks is.blocks (subst (StandAmong (All (IsFrame presets.nothing)) is.blocks) (sym (is.unstyled refl)) is.stand) is.show
+  where
+    by_slices : (slices : List Text) → length slices ≤ 1 → (of_texts : List (List Text)) → AllZip (AreSlicesOf 0x20) (codes "ab" ∷ []) of_texts → slices ≡ flat_map (λ (of_text : List Text). of_text) of_texts → slices ≡ codes "ab" ∷ []
+    by_slices slices few [] zip same = absurd zip
+    by_slices slices few (own ∷ other ∷ more) zip same = absurd zip.1
+    by_slices slices few ([] ∷ []) zip same = absurd (no_slice zip.0)
+    by_slices slices few ((slice ∷ []) ∷ []) zip same = same ∙ ap (λ (t : Text). t ∷ []) (only_slice slice zip.0)
+    by_slices slices few ((slice ∷ other ∷ own) ∷ []) zip same = let long = ap length same in absurd (omega (arith, few, long))
+
+    by_blocks : (blocks : List (List Text)) → StandAmong (All (IsFrame presets.nothing)) blocks (line ∷ []) → AllZip (ShowsRow (word_table (codes "ab"))) (plain_row (plain_cell (codes "ab") ∷ []) ∷ []) blocks → StandAmong (IsFrame presets.nothing) (codes "ab" ∷ []) line
+    by_blocks [] stand show = absurd show
+    by_blocks (block ∷ other ∷ blocks) stand show = absurd show.1
+    by_blocks (block ∷ []) (before, behind, made, around, rest) show = by_lines (alone before block behind line made)
+      where
+        row : ShowsRow (word_table (codes "ab")) (plain_row (plain_cell (codes "ab") ∷ [])) block
+        row = show.0
+
+        enough : length (row.slices (0, new_column 0)) ≤ length block
+        enough = row.stand.enough_lines 0 (0, new_column 0) (omega arith)
+
+        are : length block ≤ 1 → row.slices (0, new_column 0) ≡ codes "ab" ∷ []
+        are few = let own = row.are_slices refl 0 (0, new_column 0) (omega arith) in by_slices (row.slices (0, new_column 0)) (omega (arith, enough, few)) own.0 own.1 own.2
+
+        by_lines : (block ≡ []) ⊎ (block ≡ line ∷ []) → StandAmong (IsFrame presets.nothing) (codes "ab" ∷ []) line
+        by_lines (inl none) =
+            let short = ap length none in
+            let long = ap length (are (omega (arith, short))) in absurd (omega (arith, enough, short, long))
+        by_lines (inr own) =
+            let long = ap length own in
+            let stand = row.stand.stand 0 (omega (arith, long)) in
+            subst (λ (slices : List Text). StandAmong (IsFrame presets.nothing) (slice_index_or slices 0 [] ∷ []) line) (are (omega (arith, long)))
+            (subst (λ (lines : List Text). StandAmong (IsFrame presets.nothing) (slice_index_or (row.slices (0, new_column 0)) 0 [] ∷ []) (slice_index_or lines 0 [])) own stand)
+
+-- it isn't torn
+torn_word : ¬ (AreShown (ShowsRow (word_table (codes "ab"))) (word_table (codes "ab")) (codes " a      b " ∷ []))
+torn_word is = by_before stands.0 stands.3 stands.2
+  where
+    stands : StandAmong (IsFrame presets.nothing) (codes "ab" ∷ []) (codes " a      b ")
+    stands = word_stands (codes " a      b ") is
+
+    by_before : (before : Text) → IsFrame presets.nothing before → ¬ (codes " a      b " ≡ before ++ (codes "ab" ++ stands.1))
+    by_before [] frame made = let letter : ◌≡◌ {A = ℕ} 0x20 0x61 = cc made in absurd (omega (arith, letter))
+    by_before (b ∷ []) frame made = let letter : ◌≡◌ {A = ℕ} 0x20 0x62 = cc made in absurd (omega (arith, letter))
+    by_before (b ∷ c ∷ before) frame made =
+        let all = spaces_alone (b ∷ c ∷ before) frame in
+        let letter : 0x61 ≡ c = cc made in
+        let blank : (c == 0x20) ≡ true = (and_parts (c == 0x20) _ (and_parts (b == 0x20) _ all).1).0 in
+        let space_is : c ≡ 0x20 = grind (arith, nat_tests, blank) in absurd (omega (arith, letter, space_is))
+
+-- nor has it another letter beside it
+word_with_more : ¬ (AreShown (ShowsRow (word_table (codes "ab"))) (word_table (codes "ab")) (codes " abs " ∷ []))
+word_with_more is = by_before stands.0 stands.2
+  where
+    stands : StandAmong (IsFrame presets.nothing) (codes "ab" ∷ []) (codes " abs ")
+    stands = word_stands (codes " abs ") is
+
+    letter_behind : ¬ (stands.1 ≡ codes "s ")
+    letter_behind same = let none : false ≡ true = spaces_alone (codes "s ") (subst (IsFrame presets.nothing) same stands.4) in cc none
+
+    by_before : (before : Text) → ¬ (codes " abs " ≡ before ++ (codes "ab" ++ stands.1))
+    by_before [] made = let letter : ◌≡◌ {A = ℕ} 0x20 0x61 = cc made in absurd (omega (arith, letter))
+    by_before (b ∷ []) made = letter_behind (cc made)
+    by_before (b ∷ c ∷ []) made = let letter : ◌≡◌ {A = ℕ} 0x62 0x61 = cc made in absurd (omega (arith, letter))
+    by_before (b ∷ c ∷ d ∷ []) made = let letter : ◌≡◌ {A = ℕ} 0x73 0x61 = cc made in absurd (omega (arith, letter))
+    by_before (b ∷ c ∷ d ∷ e ∷ []) made = let letter : ◌≡◌ {A = ℕ} 0x20 0x61 = cc made in absurd (omega (arith, letter))
+    by_before (b ∷ c ∷ d ∷ e ∷ f ∷ before) made = none_in_nothing before (codes "b") stands.1 0x61 (let rest : [] ≡ before ++ (codes "ab" ++ stands.1) = cc made in rest)
+
+-- and 1 isn't shown by 91.50
+other_whole_text : ¬ (AreShown (ShowsWholeRow (word_table (codes "1"))) (word_table (codes "1")) (codes " 91.50 " ∷ []))
+other_whole_text is = by_blocks is.blocks (subst (StandAmong (All (IsFrame presets.nothing)) is.blocks) (sym (is.unstyled refl)) is.stand) is.show
+  where
+    by_blocks : (blocks : List (List Text)) → StandAmong (All (IsFrame presets.nothing)) blocks (codes " 91.50 " ∷ []) → ¬ (AllZip (ShowsWholeRow (word_table (codes "1"))) (plain_row (plain_cell (codes "1") ∷ []) ∷ []) blocks)
+    by_blocks [] stand show = show
+    by_blocks (block ∷ other ∷ blocks) stand show = show.1
+    by_blocks (block ∷ []) (before, behind, made, around, rest) show = by_lines (alone before block behind (codes " 91.50 ") made)
+      where
+        enough : 1 ≤ length block
+        enough = show.0.enough_lines 0 (0, new_column 0) (omega arith)
+
+        by_lines : ¬ ((block ≡ []) ⊎ (block ≡ codes " 91.50 " ∷ []))
+        by_lines (inl none) = let short = ap length none in absurd (omega (arith, enough, short))
+        by_lines (inr own) = other_amount (subst (λ (lines : List Text). StandAmong (IsFrame presets.nothing) (codes "1" ∷ []) (slice_index_or lines 0 [])) own (show.0.stand 0 (omega (arith, enough))))
 
 -- false: promises::lines_with_whole_texts
 no_lines_lose_whole_texts : ¬ (AreShown (ShowsWholeRow (table_of "3 mai" "oats")) (table_of "3 mai" "oats") [])
 unfolding chars encode
-no_lines_lose_whole_texts is = by_blocks is.blocks is.stand is.show
+no_lines_lose_whole_texts is = by_blocks is.blocks (subst (StandAmong (All (IsFrame utf8_full)) is.blocks) (sym (is.unstyled refl)) is.stand) is.show
   where
-    by_blocks : (blocks : List (List Text)) → StandIn blocks [] → ¬ (AllZip (ShowsWholeRow (table_of "3 mai" "oats")) (row_of "day" "text" ∷ row_of "3 mai" "oats" ∷ []) blocks)
+    by_blocks : (blocks : List (List Text)) → StandAmong (All (IsFrame utf8_full)) blocks [] → ¬ (AllZip (ShowsWholeRow (table_of "3 mai" "oats")) (row_of "day" "text" ∷ row_of "3 mai" "oats" ∷ []) blocks)
     by_blocks [] stand show = show
-    by_blocks (block ∷ blocks) (before, behind, inside, later) show =
+    by_blocks (block ∷ blocks) (before, behind, inside, around, later) show =
         let none = ap length (nothing_inside before block behind inside) in
         let short : 1 ≤ length block = show.0.enough_lines 0 (0, new_column 0) first_column in
         absurd (omega (arith, short, none))
@@ -374,4 +542,4 @@ changed_line (above, last, added, short, before, after) = by_above above last ad
 
 -- false: promises::headline
 no_lines_are_no_table : ¬ (IsHeadline (table_of "3 mai" "oats") [])
-no_lines_are_no_table is = cc is.drawn
+no_lines_are_no_table is = cc (is.unstyled refl refl ∙ is.is_plain.drawn)

@@ -1,5 +1,5 @@
 -- Texts whose fields stand between spaces, as other programs write them.
-use Rattle.std.proofs.Common.{◌≡◌, ◌∷◌, ◌++◌, [], codes, refl}
+use Rattle.std.proofs.Common.{◌≡◌, [], codes, refl}
 use Rattle.csv_records.specs.Spaces.{tabbed_text, without_blanks}
 
 -- the header has a word more than any record, so its last name is both words

@@ -1,14 +1,13 @@
 //! The functions of `csv_promises`, each called on a file of two records: no clause says that they
 //! return what they speak of.
 
-use super::large::options;
-use crate::support::{assert_bytes, assert_lines};
+use crate::support::assert_bytes;
 use comfy_run::run::MemorySink;
 use csv_command::OutputContext;
-use csv_promises::harmless::{harmless_drawing, harmless_output};
-use csv_promises::kept::lines_of_records;
+use csv_promises::harmless::{harmless_drawing, harmless_message, harmless_output};
+use csv_promises::kept::output_with_all_fields;
 use csv_promises::straight::{straight_output, straight_whole_output};
-use csv_records::{Records, read_records};
+use csv_records::Records;
 use std::alloc::{Alloc, Global};
 use std::process::Abort;
 
@@ -62,9 +61,11 @@ fn promised_outputs_are_those_of_the_program(rt: HostRuntime) {
 }
 
 #[test]
-fn promised_lines_are_those_of_the_records(rt: HostRuntime) {
-    let options = options(rt.alloc(), None, false);
-    let records = read_records(rt.alloc(), FILE, &options.input).expect(&rt, "records");
-    let lines = lines_of_records(rt.alloc(), records, &options).expect(&rt, "a table");
-    assert_lines(&rt, lines, DRAWN.trim_end());
+fn promised_fields_are_those_of_the_records(rt: HostRuntime) {
+    let input = FILE.as_bytes();
+    let drawn = output_with_all_fields(rt.alloc(), &WORDS, TERMINAL, input, 200);
+    let (_invocation, records, sink) = drawn.expect(&rt, "a drawing");
+    assert_written(&rt, Some((records, sink)));
+    assert!(rt; harmless_message(rt.alloc(), &WORDS, input).is_none());
+    assert!(rt; harmless_message(rt.alloc(), &WORDS, b"\xff").is_some());
 }

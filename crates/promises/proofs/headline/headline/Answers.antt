@@ -1,6 +1,6 @@
 use Rattle.std.proofs.lemmas.Result.{IfOk-weaker}
-use Rattle.promises.proofs.HeadlineLemmas.{headline}
+use Rattle.promises.proofs.PromiseLemmas.{keeps_promises}
 use Rattle.promises.proofs.headline.headline.Goals as goal
 
 pub returns : goal.returns
-returns c = IfOk-weaker c.lines.result _ _ (λ lines. headline c.args.table.now lines) c.lines.ensures.headline
+returns c = IfOk-weaker c.lines.result _ _ (λ lines drawn. (keeps_promises c.args.table.now lines drawn).headline) c.lines.ensures.headline

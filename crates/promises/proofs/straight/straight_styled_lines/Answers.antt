@@ -1,11 +1,6 @@
 use Rattle.std.proofs.lemmas.Result.{IfOk-weaker}
-use Rattle.promises.proofs.FittingLemmas.{free_stay, narrow, shown_equally_wide}
+use Rattle.promises.proofs.PromiseLemmas.{keeps_promises}
 use Rattle.promises.proofs.straight.straight_styled_lines.Goals as goal
 
 pub returns : goal.returns
-returns c =
-    let table = c.args.table.now in
-    IfOk-weaker c.lines.result _ _
-    (λ lines drawn free frame each. shown_equally_wide table lines drawn free
-    (narrow table frame (free_stay table free.texts) lines drawn each))
-    c.lines.ensures.headline
+returns c = IfOk-weaker c.lines.result _ _ (λ lines drawn. (keeps_promises c.args.table.now lines drawn).straight_styled) c.lines.ensures.headline

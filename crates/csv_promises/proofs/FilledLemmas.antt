@@ -1,0 +1,139 @@
+-- What of texts is no space and no line feed.
+use Rattle.std.proofs.Common.{◌≡◌, ◌==◌, ◌&&◌, ◌||◌, inl, inr, ℕ, zero, suc, Bool, true, false, not, List, [], ◌∷◌, ◌++◌, flat_map, chars, encode_utf8, refl, sym, ap, ap₂, ◌∙◌, arith, append-nil, append_assoc, cond}
+use Rattle.std.specs.List.{AllZip, concat, join_with_byte, slice_split}
+use Rattle.std.specs.Prelude.{fold, if◌then◌else◌, replicate, slice_index, ◌<◌}
+use Rattle.std.proofs.lemmas.List.{map-append}
+use Rattle.comfy_parts.specs.VisibleText.{Part}
+use Rattle.std.specs.Str.{IsUtf8, encode_utf8_all}
+use Rattle.std.proofs.lemmas.Bool.{and_parts}
+use Rattle.std.proofs.lemmas.List.Elements.{filter-append}
+use Rattle.std.proofs.lemmas.List.Splits.{join_with_byte-slice_split}
+use Rattle.std.proofs.lemmas.List.Sums.{fold-append}
+use Rattle.std.proofs.lemmas.Str.{chars-append, chars-IsAscii, encode_ascii}
+use Rattle.comfy_parts.specs.Text.{IsOnly, Text, spaces}
+use Rattle.comfy_parts.specs.CellValue.{plain_cell}
+use Rattle.comfy_parts.specs.Wrapping.{IsSlicesWhere}
+use Rattle.csv_records.specs.Cleaning.{CleanedText, after_character, after_piece, cleaned, is_replaced, pieces, start, turns_direction}
+use Rattle.csv_records.specs.declared.cleaning.CleanOptions.{CleanOptions}
+use Rattle.csv_tables.specs.Cells.{field_text, is_blank, kept_by, kept_for_markdown, marked, unless_blank}
+use Rattle.csv_tables.specs.declared.options.Look.{Look}
+use Rattle.promises.specs.Kept.{AreSlicesOf}
+use Rattle.csv_promises.specs.Fields.{filled}
+
+abbrev is_filled : ℕ → Bool
+is_filled b = not ((b == 0x20) || (b == 0x0A))
+
+pub filled-append : (xs ys : Text) → filled (xs ++ ys) ≡ filled xs ++ filled ys
+filled-append xs ys = filter-append is_filled xs ys
+
+filled-spaces : (n : ℕ) → filled (spaces n) ≡ []
+filled-spaces zero = refl
+filled-spaces (suc n) = filled-spaces n
+
+spaces-only : (n : ℕ) → encode_utf8_all (replicate n 0x20) ≡ spaces n
+spaces-only zero = refl
+spaces-only (suc n) = ap₂ (λ (a b : Text). a ++ b) (encode_ascii 0x20 (omega arith)) (spaces-only n)
+
+filled-only : (gap : Text) → IsOnly 0x20 gap → filled gap ≡ []
+filled-only gap (n, is) = ap filled (is ∙ spaces-only n) ∙ filled-spaces n
+
+-- ---- slices
+
+concat-append : (xs ys : List Text) → concat (xs ++ ys) ≡ concat xs ++ concat ys
+concat-append [] ys = refl
+concat-append (x ∷ xs) ys = ap (λ (t : Text). x ++ t) (concat-append xs ys) ∙ sym (append_assoc x (concat xs) (concat ys))
+
+filled-wrapped : (text : Text) (slices : List Text) → IsSlicesWhere (λ line tail. Unit {0}) 0x20 text slices → filled (concat slices) ≡ filled text
+filled-wrapped text [] only = sym (filled-only text only)
+filled-wrapped text (line ∷ slices) (tail, slice, ends, more) =
+    filled-append line (concat slices) ∙ ap (λ (t : Text). filled line ++ t) (filled-wrapped tail slices more)
+    ∙ sym (ap filled slice.splits ∙ filled-append slice.gap (line ++ tail) ∙ ap (λ (t : Text). t ++ filled (line ++ tail)) (filled-only slice.gap slice.gap_is_delimiters) ∙ filled-append line tail)
+
+filled-slices : (text : Text) (slices : List Text) → AreSlicesOf 0x20 text slices → filled (concat slices) ≡ filled text
+filled-slices text slices (inl whole) = ap (λ (ls : List Text). filled (concat ls)) whole ∙ ap filled (append-nil text)
+filled-slices text slices (inr cut) = filled-wrapped text slices cut
+
+pub filled-texts : (texts : List Text) (of_texts : List (List Text)) → AllZip (AreSlicesOf 0x20) texts of_texts → filled (concat (flat_map (λ (of_text : List Text). of_text) of_texts)) ≡ filled (concat texts)
+filled-texts [] [] zip = refl
+filled-texts [] (own ∷ of_texts) zip = absurd zip
+filled-texts (text ∷ texts) [] zip = absurd zip
+filled-texts (text ∷ texts) (own ∷ of_texts) zip =
+    ap filled (concat-append own (flat_map (λ (of_text : List Text). of_text) of_texts)) ∙ filled-append (concat own) (concat (flat_map (λ (of_text : List Text). of_text) of_texts))
+    ∙ ap₂ (λ (a b : Text). a ++ b) (filled-slices text own zip.0) (filled-texts texts of_texts zip.1) ∙ sym (filled-append text (concat texts))
+
+-- ---- cells
+
+filled-joined : (texts : List Text) → filled (concat texts) ≡ filled (join_with_byte 0x0A texts)
+filled-joined [] = refl
+filled-joined (text ∷ []) = ap filled (append-nil text)
+filled-joined (text ∷ next ∷ texts) =
+    filled-append text (concat (next ∷ texts)) ∙ ap (λ (t : Text). filled text ++ t) (filled-joined (next ∷ texts)) ∙ sym (filled-append text (0x0A ∷ join_with_byte 0x0A (next ∷ texts)))
+
+filled-cell : (text : Text) → filled (concat (plain_cell text).text_lines) ≡ filled text
+filled-cell text = filled-joined (slice_split (λ b. b == 0x0A) text) ∙ ap filled (join_with_byte-slice_split 0x0A text)
+
+filled-blank : (text : Text) → is_blank text ≡ true → filled text ≡ []
+filled-blank [] blank = refl
+filled-blank (b ∷ rest) blank =
+    let both = and_parts ((b == 0x20) || (b == 0x0A)) (is_blank rest) blank in
+    ap (λ (is : Bool). cond (not is) (b ∷ filled rest) (filled rest)) both.0 ∙ filled-blank rest both.1
+
+filled-unless : (text : Text) → filled (unless_blank text) ≡ filled text
+filled-unless text = by_test (is_blank text) refl
+  where
+    by_test : (b : Bool) → is_blank text ≡ b → filled (if b then [] else text) ≡ filled text
+    by_test true blank = sym (filled-blank text blank)
+    by_test false some = refl
+
+-- ---- spaces behind a field
+
+module _ (kept : CleanOptions) (none : kept.sequences ≡ false) where
+  stays : is_replaced kept 0x20 ≡ false
+  stays = by_test kept.directions
+    where
+      by_test : (b : Bool) → (false || (not b && turns_direction 0x20)) ≡ false
+      by_test true = refl
+      by_test false = refl
+
+  after_spaces : (n : ℕ) (s : CleanedText) → (fold (after_piece kept) s (pieces false (spaces n))).text ≡ s.text ++ spaces n
+  after_spaces zero s = sym (append-nil s.text)
+  after_spaces (suc n) s =
+      let here : (after_character kept s 0x20).text ≡ s.text ++ 0x20 ∷ [] = ap (λ (b : Bool). s.text ++ encode_utf8 (if b then 0xFFFD else 0x20)) stays ∙ ap (λ (t : Text). s.text ++ t) (encode_ascii 0x20 (omega arith)) in
+      after_spaces n (after_character kept s 0x20) ∙ ap (λ (t : Text). t ++ spaces n) here ∙ append_assoc s.text (0x20 ∷ []) (spaces n)
+
+  space_below : (n i : ℕ) → slice_index (spaces n) i < 128
+  space_below zero i = omega arith
+  space_below (suc n) zero = omega arith
+  space_below (suc n) (suc i) = space_below n i
+
+  abbrev single : ℕ → Part
+  single c = record { is_sequence = false; bytes = c ∷ [] }
+
+  abbrev folded : CleanedText → List ℕ → CleanedText
+  folded s cs = fold (after_piece kept) s (pieces false cs)
+
+  as_folded : (field : Text) → cleaned kept field ≡ (folded start (chars field)).text
+  as_folded field = ap (λ (b : Bool). (fold (after_piece kept) start (pieces b (chars field))).text) none
+
+  pub cleaned-spaced : (field : Text) (n : ℕ) → IsUtf8 field → cleaned kept (field ++ spaces n) ≡ cleaned kept field ++ spaces n
+  cleaned-spaced field n utf8 =
+      as_folded (field ++ spaces n)
+      ∙ ap (λ (cs : List ℕ). (folded start cs).text) (chars-append field (spaces n) utf8 ∙ ap (λ (cs : List ℕ). chars field ++ cs) (chars-IsAscii (spaces n) (space_below n)))
+      ∙ ap (λ (ps : List Part). (fold (after_piece kept) start ps).text) (map-append single (chars field) (spaces n))
+      ∙ ap (λ (s : CleanedText). s.text) (fold-append (after_piece kept) start (pieces false (chars field)) (pieces false (spaces n)))
+      ∙ after_spaces n (folded start (chars field))
+      ∙ ap (λ (t : Text). t ++ spaces n) (sym (as_folded field))
+
+-- ---- a field as its cell has it
+
+module _ (look : Look) (tidy : look.is_raw ≡ false) (unkept : look.has_sequences ≡ false) (table : look.is_markdown ≡ false) where
+  pub filled-field : (field : Text) → filled (concat (plain_cell (field_text look field)).text_lines) ≡ filled (cleaned (kept_by look) field)
+  filled-field field =
+      filled-cell (field_text look field)
+      ∙ ap₂ (λ (m r : Bool). filled (if m then marked (cleaned (kept_for_markdown look) field) else if r then unless_blank field else unless_blank (cleaned (kept_by look) field))) table tidy
+      ∙ filled-unless (cleaned (kept_by look) field)
+
+  -- spaces behind it are none of it
+  pub filled-spaced : (field : Text) (n : ℕ) → IsUtf8 field → filled (cleaned (kept_by look) (field ++ spaces n)) ≡ filled (cleaned (kept_by look) field)
+  filled-spaced field n utf8 =
+      ap filled (cleaned-spaced (kept_by look) unkept field n utf8) ∙ filled-append (cleaned (kept_by look) field) (spaces n) ∙ ap (λ (t : Text). filled (cleaned (kept_by look) field) ++ t) (filled-spaces n) ∙ append-nil (filled (cleaned (kept_by look) field))

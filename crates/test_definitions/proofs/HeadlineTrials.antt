@@ -1,0 +1,434 @@
+-- Drawings that are near a headline, and none.
+use Rattle.std.proofs.Common.{◌≡◌, ◌==◌, ◌<◌, ◌≤◌, ℕ, suc, ◌+◌, true, false, List, [], ◌∷◌, ◌++◌, Option, Some, None, zero, codes, length, map, max, inl, refl, sym, ap, ap₂, ◌∙◌, subst, arith, append-nil, slice_index_or}
+use Rattle.std.specs.Prelude.{slice_index}
+use Rattle.std.specs.List.{All, AllZip, flat_map, join_by}
+use Rattle.std.proofs.lemmas.Bool.{or_parts}
+use Rattle.std.proofs.lemmas.List.Elements.{All-from_recursion, All-head, All-tail}
+use Rattle.comfy_parts.proofs.Computing.{wrapping}
+use Rattle.comfy_parts.proofs.WrappingLemmas.{wrapped_is_one}
+use Rattle.comfy_parts.specs.CellValue.{CellValue, ColumnInfo, ColumnValue, RowValue, info_of, new_column, plain_cell}
+use Rattle.comfy_parts.specs.Presets.{nothing}
+use Rattle.comfy_parts.specs.Text.{HasNo, Text, greatest, measure, spaces}
+use Rattle.comfy_parts.specs.Wrapping.{wrapped}
+use Rattle.comfy_parts.specs.declared.style.table.ContentArrangement.{ContentArrangement}
+use Rattle.comfy_parts.specs.declared.style.table.ContentArrangement.TheVariants.{Disabled, Dynamic, DynamicFullWidth}
+use Rattle.comfy_table.proofs.CountLemmas.{frame_lines_count}
+use Rattle.comfy_table.specs.Laws.{NoConstraints, least_total}
+use Rattle.comfy_table.specs.Lines.{cut_text, cut_to_limit}
+use Rattle.comfy_table.specs.TableValue.{TableValue, ellipsis, measured_table, new_table, shown_columns, width_or_terminal, with_rows}
+use Rattle.promises.specs.Headline.{AreColumnsOf, AreLinesOfRow, AreLinesOfText, IsHeadline, IsPiece, IsPlainDrawing, lines_in}
+use Rattle.promises.specs.Promises.{KeepsPromises}
+use Rattle.promises.specs.Shown.{IsStyled}
+use Rattle.promises.specs.Shown.IsStyled.{nothing as no_byte, byte, sequence}
+
+-- a table of one cell, without a frame
+abbrev cell_of : List Text → CellValue
+cell_of texts = record (plain_cell []) { text_lines = texts }
+
+abbrev row_of : Option ℕ → List Text → RowValue
+row_of limit texts = record { cells = cell_of texts ∷ []; max_height = limit }
+
+abbrev one_cell : ContentArrangement → Option ℕ → Text → Option ℕ → List Text → TableValue
+one_cell arrangement width indicator limit texts = with_rows (row_of limit texts ∷ []) (record (new_table nothing) { arrangement = arrangement; set_width = width; indicator = indicator })
+
+-- in which no width is kept to
+abbrev free_cell : Option ℕ → List Text → TableValue
+free_cell limit texts = one_cell Disabled None ellipsis limit texts
+
+-- which is w terminal columns wide
+abbrev wide_cell : ℕ → List Text → TableValue
+wide_cell w texts = one_cell DynamicFullWidth (Some w) ellipsis None texts
+
+abbrev place : ℕ × ColumnValue
+place = (0, new_column 0)
+
+unconstrained : (arrangement : ContentArrangement) (width : Option ℕ) (indicator : Text) (limit : Option ℕ) (texts : List Text) → NoConstraints (one_cell arrangement width indicator limit texts)
+unconstrained arrangement width indicator limit texts = All-from_recursion (λ (p : ℕ × ColumnValue). p.1.constraint ≡ None) (shown_columns (one_cell arrangement width indicator limit texts)) (refl, tt)
+
+-- a text between spaces, as wide as its column of this width
+pub record IsPadded (w : ℕ) (text line : Text) : Type 0 where
+  pub left : ℕ
+  pub right : ℕ
+  pub drawn : line ≡ spaces left ++ (text ++ spaces right)
+  pub padded : (1 ≤ left) × (1 ≤ right)
+  pub wide : left + measure text + right ≡ 1 + max w (measure text) + 1
+
+-- lines, each of which is one of these texts, padded
+abbrev pub ArePadded : ℕ → List Text → List Text → Type 0
+ArePadded w texts lines = AllZip (IsPadded w) texts lines
+
+module _ (arrangement : ContentArrangement) (kept : Option ℕ) (indicator : Text) (limit : Option ℕ) (texts lines : List Text) (is : IsPlainDrawing (one_cell arrangement kept indicator limit texts) lines) where
+  -- the lines of the cell, cut
+  abbrev cut_lines : List Text
+  cut_lines = lines_in (one_cell arrangement kept indicator limit texts) is.width is.cell_lines (row_of limit texts) place
+
+  abbrev IsBlock : List Text → Type 0
+  IsBlock block = AreLinesOfRow (one_cell arrangement kept indicator limit texts) is.width is.cell_lines nothing.content_lines (row_of limit texts) block
+
+  -- without a width the column is as wide as its widest text
+  pub width_is : arrangement ≡ Disabled → greatest (map measure texts) ≤ 65535 → is.width 0 ≡ max 1 (greatest (map measure texts))
+  width_is disabled short = let own = is.by_content (inl disabled) 0 place (omega arith) refl in omega (arith, own, short)
+
+  -- else it fills the width
+  pub room_is : (w : ℕ) → arrangement ≡ DynamicFullWidth → kept ≡ Some w → 3 ≤ w → 1 + is.width 0 + 1 ≡ w
+  room_is w full known room =
+      let all = is.fills_width w (ap (λ (o : Option ℕ). width_or_terminal o false None) known) (unconstrained arrangement kept indicator limit texts) full (omega arith) in
+      let least : least_total (one_cell arrangement kept indicator limit texts) ≡ 3 = refl in
+      let line = is.frame_total nothing.top_border in
+      let counts = frame_lines_count nothing nothing.top_border (record (info_of (new_column 0) 0) { content_width = is.width 0 } ∷ []) in
+      omega (arith, all, least, line, counts, room)
+
+  -- each line of the block is one of its texts, padded
+  block_is : (block : List Text) → IsBlock block → (cut : List Text) → cut_lines ≡ cut → ArePadded (is.width 0) cut block
+  block_is block own cut same = by_lines block cut (own.as_high ∙ ap (λ (ls : List Text). max (length ls) 0) same) (λ k below. at k below)
+    where
+      one_piece : (k : ℕ) (line : Text) (pieces : List Text) → AllZip (λ (p : ℕ × ColumnValue). IsPiece p.1 (is.width p.0) (slice_index_or cut_lines k [])) (place ∷ []) pieces → line ≡ join_by (λ (piece : Text). piece) [] pieces ++ [] → IsPadded (is.width 0) (slice_index_or cut k []) line
+      one_piece k line [] zip is_line = absurd zip
+      one_piece k line (piece ∷ other ∷ pieces) zip is_line = absurd zip.1
+      one_piece k line (piece ∷ []) zip is_line =
+          let joined : line ≡ piece = is_line ∙ append-nil (piece ++ []) ∙ append-nil piece in
+          subst (λ (ls : List Text). IsPadded (is.width 0) (slice_index_or ls k []) line) same
+          (record { left = zip.0.left; right = zip.0.right; drawn = joined ∙ zip.0.drawn; padded = zip.0.padded; wide = zip.0.wide })
+
+      at : (k : ℕ) → k < length block → IsPadded (is.width 0) (slice_index_or cut k []) (slice_index_or block k [])
+      at k below = let here = own.drawn k below in one_piece k (slice_index_or block k []) here.0 here.1 here.2
+
+      by_lines : (block cut : List Text) → length block ≡ max (length cut) 0 → ((k : ℕ) → k < length block → IsPadded (is.width 0) (slice_index_or cut k []) (slice_index_or block k [])) → ArePadded (is.width 0) cut block
+      by_lines [] [] long each = tt
+      by_lines [] (x ∷ cut) long each = absurd (omega (arith, long))
+      by_lines (line ∷ block) [] long each = absurd (omega (arith, long))
+      by_lines (line ∷ block) (x ∷ cut) long each = (each 0 (omega arith), by_lines block cut (omega (arith, long)) (λ k below. each (suc k) (omega (arith, below))))
+
+  -- so are the lines of the drawing
+  pub lines_are : (cut : List Text) → cut_lines ≡ cut → ArePadded (is.width 0) cut lines
+  lines_are cut same = by_rows is.rows is.are_rows is.drawn
+    where
+      by_rows : (rows : List (List Text)) → AllZip (AreLinesOfRow (one_cell arrangement kept indicator limit texts) is.width is.cell_lines nothing.content_lines) (row_of limit texts ∷ []) rows → lines ≡ is.header ++ (join_by (λ block. block) [] rows ++ []) → ArePadded (is.width 0) cut lines
+      by_rows [] each drawn = absurd each
+      by_rows (block ∷ other ∷ rows) each drawn = absurd each.1
+      by_rows (block ∷ []) each drawn =
+          let all : lines ≡ block = drawn ∙ ap (λ (header : List Text). header ++ ((block ++ []) ++ [])) is.is_header ∙ append-nil (block ++ []) ∙ append-nil block in
+          subst (λ (ls : List Text). ArePadded (is.width 0) cut ls) (sym all) (block_is block each.0 cut same)
+
+  -- the lines of texts that all fit are these texts
+  pub texts_stay : All (λ text. measure text ≤ is.width 0) texts → is.cell_lines place (cell_of texts) ≡ texts
+  texts_stay fit = let own = is.are_cell_lines 0 (row_of limit texts) (omega arith) 0 place (omega arith) (cell_of texts) refl in own.2 ∙ by_texts texts own.0 fit own.1
+    where
+      by_texts : (texts : List Text) (of_texts : List (List Text)) → All (λ text. measure text ≤ is.width 0) texts → AllZip (AreLinesOfText (is.width 0) 0x20) texts of_texts → flat_map (λ (of_text : List Text). of_text) of_texts ≡ texts
+      by_texts [] [] fit zip = refl
+      by_texts [] (own ∷ of_texts) fit zip = absurd zip
+      by_texts (text ∷ texts) [] fit zip = absurd zip
+      by_texts (text ∷ texts) (own ∷ of_texts) fit zip =
+          ap₂ (λ (a b : List Text). a ++ b) (zip.0.whole (All-head (λ (t : Text). measure t ≤ is.width 0) text texts fit)) (by_texts texts of_texts (All-tail (λ (t : Text). measure t ≤ is.width 0) text texts fit) zip.1)
+
+-- ---- drawings that are none
+
+-- a text of two bytes that measures two
+two : measure (codes "ab") ≡ 2
+unfolding wrapping
+two = refl
+
+-- what a drawing of such a text is, where nothing cuts it
+pub of_two : (text : Text) → measure text ≡ 2 → (limit : Option ℕ) → ((cut : Text → Text) → cut_to_limit {A = Text} cut limit (text ∷ []) ≡ text ∷ []) → (lines : List Text) → IsPlainDrawing (free_cell limit (text ∷ [])) lines → ArePadded 2 (text ∷ []) lines
+of_two text wide limit uncut lines is =
+    let width : is.width 0 ≡ 2 = let own = width_is Disabled None ellipsis limit (text ∷ []) lines is refl (omega (arith, wide)) in omega (arith, own, wide) in
+    let stay = texts_stay Disabled None ellipsis limit (text ∷ []) lines is (All-from_recursion (λ text. measure text ≤ is.width 0) (text ∷ []) (omega (arith, width, wide), tt)) in
+    subst (λ (w : ℕ). ArePadded w (text ∷ []) lines) width
+    (lines_are Disabled None ellipsis limit (text ∷ []) lines is (text ∷ []) (ap (cut_to_limit (cut_text (is.width 0) ellipsis) limit) stay ∙ uncut _))
+
+ab_is : (limit : Option ℕ) → ((cut : Text → Text) → cut_to_limit {A = Text} cut limit (codes "ab" ∷ []) ≡ codes "ab" ∷ []) → (lines : List Text) → IsPlainDrawing (free_cell limit (codes "ab" ∷ [])) lines → ArePadded 2 (codes "ab" ∷ []) lines
+ab_is limit uncut lines is = of_two (codes "ab") two limit uncut lines is
+
+-- a padded `ab` is ` ab `
+ab_padded : (line : Text) → IsPadded 2 (codes "ab") line → line ≡ codes " ab "
+ab_padded line is =
+    let wide = is.wide in
+    let left : is.left ≡ 1 = omega (arith, is.padded, wide, two) in
+    let right : is.right ≡ 1 = omega (arith, is.padded, wide, two) in
+    is.drawn ∙ ap (λ n. spaces n ++ (codes "ab" ++ spaces is.right)) left ∙ ap (λ n. spaces 1 ++ (codes "ab" ++ spaces n)) right
+
+-- so it is the drawing
+ab_drawn : (limit : Option ℕ) → ((cut : Text → Text) → cut_to_limit {A = Text} cut limit (codes "ab" ∷ []) ≡ codes "ab" ∷ []) → (lines : List Text) → IsPlainDrawing (free_cell limit (codes "ab" ∷ [])) lines → lines ≡ codes " ab " ∷ []
+ab_drawn limit uncut [] is = absurd (ab_is limit uncut [] is)
+ab_drawn limit uncut (line ∷ other ∷ lines) is = absurd (ab_is limit uncut (line ∷ other ∷ lines) is).1
+ab_drawn limit uncut (line ∷ []) is = ap (λ (t : Text). t ∷ []) (ab_padded line (ab_is limit uncut (line ∷ []) is).0)
+
+-- without styles a headline is that drawing
+plain_of : (arrangement : ContentArrangement) (kept : Option ℕ) (indicator : Text) (limit : Option ℕ) (texts lines : List Text) → IsHeadline (one_cell arrangement kept indicator limit texts) lines → IsPlainDrawing (one_cell arrangement kept indicator limit texts) lines
+plain_of arrangement kept indicator limit texts lines is = subst (IsPlainDrawing (one_cell arrangement kept indicator limit texts)) (sym (is.unstyled refl refl)) is.is_plain
+
+ab_headline : (limit : Option ℕ) → ((cut : Text → Text) → cut_to_limit {A = Text} cut limit (codes "ab" ∷ []) ≡ codes "ab" ∷ []) → (lines : List Text) → IsHeadline (free_cell limit (codes "ab" ∷ [])) lines → lines ≡ codes " ab " ∷ []
+ab_headline limit uncut lines is = ab_drawn limit uncut lines (plain_of Disabled None ellipsis limit (codes "ab" ∷ []) lines is)
+
+-- which none of these is
+abbrev the_drawing : List Text
+the_drawing = codes " ab " ∷ []
+
+-- another text, in a row of at most one line
+another_text-differs : ¬ (codes " XY " ∷ [] ≡ the_drawing)
+another_text-differs same = let own : 88 ≡ 97 = ap (λ (ls : List Text). slice_index (slice_index_or ls 0 []) 1) same in absurd (omega (arith, own))
+
+-- false: promises::headline
+another_text : ¬ (IsHeadline (free_cell (Some 1) (codes "ab" ∷ [])) (codes " XY " ∷ []))
+another_text is = another_text-differs (ab_headline (Some 1) (λ cut. refl) (codes " XY " ∷ []) is)
+
+-- false: promises::laws::drawings_keep_the_promises
+another_text_keeps_nothing : ¬ (KeepsPromises (free_cell (Some 1) (codes "ab" ∷ [])) (codes " XY " ∷ []))
+another_text_keeps_nothing kept = another_text kept.headline
+
+-- a character a line
+torn-differs : ¬ (codes " a " ∷ codes " b " ∷ [] ≡ the_drawing)
+torn-differs same = cc same
+
+torn : ¬ (IsHeadline (free_cell None (codes "ab" ∷ [])) (codes " a " ∷ codes " b " ∷ []))
+torn is = torn-differs (ab_headline None (λ cut. refl) (codes " a " ∷ codes " b " ∷ []) is)
+
+-- a space in the text
+spaced-differs : ¬ (codes " a b " ∷ [] ≡ the_drawing)
+spaced-differs same = cc same
+
+spaced : ¬ (IsHeadline (free_cell None (codes "ab" ∷ [])) (codes " a b " ∷ []))
+spaced is = spaced-differs (ab_headline None (λ cut. refl) (codes " a b " ∷ []) is)
+
+-- blinking on red
+blinking-differs : ¬ (codes "\u{1b}[5;41m ab " ∷ [] ≡ the_drawing)
+blinking-differs same = cc same
+
+blinking : ¬ (IsHeadline (free_cell None (codes "ab" ∷ [])) (codes "\u{1b}[5;41m ab " ∷ []))
+blinking is = blinking-differs (ab_headline None (λ cut. refl) (codes "\u{1b}[5;41m ab " ∷ []) is)
+
+-- without a padding
+unpadded-differs : ¬ (codes "ab " ∷ [] ≡ the_drawing)
+unpadded-differs same = cc same
+
+unpadded : ¬ (IsHeadline (free_cell None (codes "ab" ∷ [])) (codes "ab " ∷ []))
+unpadded is = unpadded-differs (ab_headline None (λ cut. refl) (codes "ab " ∷ []) is)
+
+-- with a space too many
+too_wide-differs : ¬ (codes " ab  " ∷ [] ≡ the_drawing)
+too_wide-differs same = cc same
+
+too_wide : ¬ (IsHeadline (free_cell None (codes "ab" ∷ [])) (codes " ab  " ∷ []))
+too_wide is = too_wide-differs (ab_headline None (λ cut. refl) (codes " ab  " ∷ []) is)
+
+-- twice
+twice-differs : ¬ (codes " ab " ∷ codes " ab " ∷ [] ≡ the_drawing)
+twice-differs same = cc same
+
+twice : ¬ (IsHeadline (free_cell None (codes "ab" ∷ [])) (codes " ab " ∷ codes " ab " ∷ []))
+twice is = twice-differs (ab_headline None (λ cut. refl) (codes " ab " ∷ codes " ab " ∷ []) is)
+
+-- below a frame line that the style doesn't have
+framed_line-differs : ¬ (codes "----" ∷ codes " ab " ∷ [] ≡ the_drawing)
+framed_line-differs same = cc same
+
+framed_line : ¬ (IsHeadline (free_cell None (codes "ab" ∷ [])) (codes "----" ∷ codes " ab " ∷ []))
+framed_line is = framed_line-differs (ab_headline None (λ cut. refl) (codes "----" ∷ codes " ab " ∷ []) is)
+
+-- nor is `éa` drawn a character a line, blinking on red or not
+e_a : Text
+e_a = 0xC3 ∷ 0xA9 ∷ 0x61 ∷ []
+
+two_characters : measure e_a ≡ 2
+unfolding wrapping e_a
+two_characters = refl
+
+in_two_lines : (first second : Text) → ¬ (IsHeadline (free_cell None (e_a ∷ [])) (first ∷ second ∷ []))
+in_two_lines first second is = (of_two e_a two_characters None (λ cut. refl) (first ∷ second ∷ []) (plain_of Disabled None ellipsis None (e_a ∷ []) (first ∷ second ∷ []) is)).1
+
+-- columns that the table doesn't have make no crooked lines straight: one of one terminal column
+-- for a character of two
+wide : Text
+wide = 0xE5 ∷ 0xB9 ∷ 0xB4 ∷ []
+
+wide_measures_two : measure wide ≡ 2
+unfolding wrapping wide
+wide_measures_two = refl
+
+-- false: promises::straight_fitting_lines, promises::fitting_lines_within
+crooked : (columns : List ColumnInfo) → ¬ (AreColumnsOf (free_cell None (wide ∷ [])) (codes "abc" ∷ codes "a" ∷ []) columns)
+crooked columns (is, are) = (of_two wide wide_measures_two None (λ cut. refl) (codes "abc" ∷ codes "a" ∷ []) (plain_of Disabled None ellipsis None (wide ∷ []) (codes "abc" ∷ codes "a" ∷ []) is)).1
+
+-- ---- a row that is cut
+
+a_and_mark : Text
+a_and_mark = 0x61 ∷ 0xE2 ∷ 0x80 ∷ 0xA6 ∷ []
+
+two_more : measure (codes "cd") ≡ 2
+unfolding wrapping
+two_more = refl
+
+-- of two lines the first is cut, with the indicator
+cut_of_two : cut_to_limit {A = Text} (cut_text 2 ellipsis) (Some 1) (codes "ab" ∷ codes "cd" ∷ []) ≡ a_and_mark ∷ []
+unfolding wrapping a_and_mark
+cut_of_two = refl
+
+cut_is : (lines : List Text) → IsHeadline (free_cell (Some 1) (codes "ab" ∷ codes "cd" ∷ [])) lines → ArePadded 2 (a_and_mark ∷ []) lines
+cut_is lines headline =
+    let texts : List Text = codes "ab" ∷ codes "cd" ∷ [] in
+    let is = plain_of Disabled None ellipsis (Some 1) texts lines headline in
+    let width : is.width 0 ≡ 2 = let own = width_is Disabled None ellipsis (Some 1) texts lines is refl (omega (arith, two, two_more)) in omega (arith, own, two, two_more) in
+    let stay = texts_stay Disabled None ellipsis (Some 1) texts lines is (All-from_recursion (λ text. measure text ≤ is.width 0) texts (omega (arith, width, two), (omega (arith, width, two_more), tt))) in
+    let cut : cut_lines Disabled None ellipsis (Some 1) texts lines is ≡ a_and_mark ∷ [] =
+    ap (cut_to_limit (cut_text (is.width 0) ellipsis) (Some 1)) stay ∙ ap (λ w. cut_to_limit {A = Text} (cut_text w ellipsis) (Some 1) texts) width ∙ cut_of_two in
+    subst (λ (w : ℕ). ArePadded w (a_and_mark ∷ []) lines) width (lines_are Disabled None ellipsis (Some 1) texts lines is (a_and_mark ∷ []) cut)
+
+-- so it isn't drawn as if nothing were cut
+uncut : ¬ (IsHeadline (free_cell (Some 1) (codes "ab" ∷ codes "cd" ∷ [])) (codes " ab " ∷ []))
+unfolding a_and_mark
+uncut is = by_left own.left own.padded.0 own.drawn
+  where
+    own : IsPadded 2 a_and_mark (codes " ab ")
+    own = (cut_is (codes " ab " ∷ []) is).0
+
+    by_left : (left : ℕ) → 1 ≤ left → ¬ (codes " ab " ≡ spaces left ++ (a_and_mark ++ spaces own.right))
+    by_left zero some same = absurd (omega (arith, some))
+    by_left (suc zero) some same = let letter : 0x62 ≡ 0xE2 = ap (λ (t : Text). slice_index t 2) same in absurd (omega (arith, letter))
+    by_left (suc (suc n)) some same = let letter : 0x61 ≡ 0x20 = ap (λ (t : Text). slice_index t 1) same in absurd (omega (arith, letter))
+
+-- an indicator that is wider than its column isn't drawn
+abbrev dots : Text
+dots = codes "..."
+
+one : (measure (codes "a") ≡ 1) × (measure (codes "b") ≡ 1)
+unfolding wrapping
+one = (refl, refl)
+
+cut_of_one : cut_to_limit {A = Text} (cut_text 1 dots) (Some 1) (codes "a" ∷ codes "b" ∷ []) ≡ codes "a" ∷ []
+unfolding wrapping
+cut_of_one = refl
+
+narrow_is : (lines : List Text) → IsHeadline (one_cell Disabled None dots (Some 1) (codes "a" ∷ codes "b" ∷ [])) lines → ArePadded 1 (codes "a" ∷ []) lines
+narrow_is lines headline =
+    let texts : List Text = codes "a" ∷ codes "b" ∷ [] in
+    let is = plain_of Disabled None dots (Some 1) texts lines headline in
+    let width : is.width 0 ≡ 1 = let own = width_is Disabled None dots (Some 1) texts lines is refl (omega (arith, one)) in omega (arith, own, one) in
+    let stay = texts_stay Disabled None dots (Some 1) texts lines is (All-from_recursion (λ text. measure text ≤ is.width 0) texts (omega (arith, width, one), (omega (arith, width, one), tt))) in
+    let cut : cut_lines Disabled None dots (Some 1) texts lines is ≡ codes "a" ∷ [] =
+    ap (cut_to_limit (cut_text (is.width 0) dots) (Some 1)) stay ∙ ap (λ w. cut_to_limit {A = Text} (cut_text w dots) (Some 1) texts) width ∙ cut_of_one in
+    subst (λ (w : ℕ). ArePadded w (codes "a" ∷ []) lines) width (lines_are Disabled None dots (Some 1) texts lines is (codes "a" ∷ []) cut)
+
+-- nor a part of it
+part_of_an_indicator : ¬ (IsHeadline (one_cell Disabled None dots (Some 1) (codes "a" ∷ codes "b" ∷ [])) (codes " . " ∷ []))
+part_of_an_indicator is = by_left own.left own.padded.0 own.drawn
+  where
+    own : IsPadded 1 (codes "a") (codes " . ")
+    own = (narrow_is (codes " . " ∷ []) is).0
+
+    by_left : (left : ℕ) → 1 ≤ left → ¬ (codes " . " ≡ spaces left ++ (codes "a" ++ spaces own.right))
+    by_left zero some same = absurd (omega (arith, some))
+    by_left (suc zero) some same = let letter : 0x2E ≡ 0x61 = ap (λ (t : Text). slice_index t 1) same in absurd (omega (arith, letter))
+    by_left (suc (suc n)) some same = let letter : 0x2E ≡ 0x20 = ap (λ (t : Text). slice_index t 1) same in absurd (omega (arith, letter))
+
+-- an empty text has a line
+nothing_measures : measure [] ≡ 0
+unfolding wrapping
+nothing_measures = refl
+
+no_line_for_nothing : ¬ (IsHeadline (free_cell None ([] ∷ [])) [])
+no_line_for_nothing headline =
+    let is = plain_of Disabled None ellipsis None ([] ∷ []) [] headline in
+    let stay = texts_stay Disabled None ellipsis None ([] ∷ []) [] is (All-from_recursion (λ text. measure text ≤ is.width 0) ([] ∷ []) (omega (arith, nothing_measures), tt)) in
+    lines_are Disabled None ellipsis None ([] ∷ []) [] is ([] ∷ []) stay
+
+-- ---- a text that is wider than its column
+
+-- it is cut where texts wrap
+wrapped_is : (w : ℕ) (text : Text) (lines : List Text) → w < measure text → 1 ≤ w → IsHeadline (wide_cell (w + 2) (text ∷ [])) lines → ArePadded w (wrapped w 0x20 text) lines
+wrapped_is w text lines wide some headline =
+    let is = plain_of DynamicFullWidth (Some (w + 2)) ellipsis None (text ∷ []) lines headline in
+    let room = room_is DynamicFullWidth (Some (w + 2)) ellipsis None (text ∷ []) lines is (w + 2) refl refl (omega (arith, some)) in
+    let width : is.width 0 ≡ w = omega (arith, room) in
+    let own = is.are_cell_lines 0 (row_of None (text ∷ [])) (omega arith) 0 place (omega arith) (cell_of (text ∷ [])) refl in
+    subst (λ (n : ℕ). ArePadded n (wrapped w 0x20 text) lines) width
+    (lines_are DynamicFullWidth (Some (w + 2)) ellipsis None (text ∷ []) lines is (wrapped w 0x20 text) (own.2 ∙ by_texts (is.width 0) width own.0 own.1))
+  where
+    by_texts : (n : ℕ) → n ≡ w → (of_texts : List (List Text)) → AllZip (AreLinesOfText n 0x20) (text ∷ []) of_texts → flat_map (λ (of_text : List Text). of_text) of_texts ≡ wrapped w 0x20 text
+    by_texts n same [] zip = absurd zip
+    by_texts n same (own ∷ other ∷ of_texts) zip = absurd zip.1
+    by_texts n same (own ∷ []) zip =
+        append-nil own ∙ wrapped_is_one n 0x20 text own refl (zip.0.slices (omega (arith, wide, same))) ∙ ap (λ (m : ℕ). wrapped m 0x20 text) same
+
+nine : measure (codes "ab cdefgh") ≡ 9
+unfolding wrapping
+nine = refl
+
+at_the_space : wrapped 6 0x20 (codes "ab cdefgh") ≡ codes "ab" ∷ codes "cdefgh" ∷ []
+unfolding wrapping
+at_the_space = refl
+
+-- so it isn't cut elsewhere
+cut_elsewhere : ¬ (IsHeadline (wide_cell 8 (codes "ab cdefgh" ∷ [])) (codes " ab cde " ∷ codes " fgh    " ∷ []))
+cut_elsewhere is = by_left own.left own.padded.0 own.drawn
+  where
+    lines : List Text
+    lines = codes " ab cde " ∷ codes " fgh    " ∷ []
+
+    own : IsPadded 6 (codes "ab") (codes " ab cde ")
+    own = (subst (λ (cut : List Text). ArePadded 6 cut (codes " ab cde " ∷ codes " fgh    " ∷ [])) at_the_space (wrapped_is 6 (codes "ab cdefgh") (codes " ab cde " ∷ codes " fgh    " ∷ []) (omega (arith, nine)) (omega arith) is)).0
+
+    by_left : (left : ℕ) → 1 ≤ left → ¬ (codes " ab cde " ≡ spaces left ++ (codes "ab" ++ spaces own.right))
+    by_left zero some same = absurd (omega (arith, some))
+    by_left (suc zero) some same = by_right own.right same
+      where
+        by_right : (right : ℕ) → ¬ (codes " ab cde " ≡ spaces 1 ++ (codes "ab" ++ spaces right))
+        by_right zero same = cc same
+        by_right (suc zero) same = cc same
+        by_right (suc (suc n)) same = let letter : 0x63 ≡ 0x20 = ap (λ (t : Text). slice_index t 4) same in absurd (omega (arith, letter))
+    by_left (suc (suc n)) some same = let letter : 0x61 ≡ 0x20 = ap (λ (t : Text). slice_index t 1) same in absurd (omega (arith, letter))
+
+-- nor is a text cut that has room
+torn_in_a_wide_table : ¬ (IsHeadline (one_cell Dynamic (Some 80) ellipsis None (codes "ab" ∷ [])) (codes " a " ∷ codes " b " ∷ []))
+torn_in_a_wide_table headline = by_lines.1
+  where
+    is : IsPlainDrawing (one_cell Dynamic (Some 80) ellipsis None (codes "ab" ∷ [])) (codes " a " ∷ codes " b " ∷ [])
+    is = plain_of Dynamic (Some 80) ellipsis None (codes "ab" ∷ []) (codes " a " ∷ codes " b " ∷ []) headline
+
+    width : is.width 0 ≡ 2
+    width = let own = is.keeps_contents 80 refl (unconstrained Dynamic (Some 80) ellipsis None (codes "ab" ∷ [])) refl (omega (arith, two)) 0 place (omega arith) in omega (arith, own, two)
+
+    by_lines : ArePadded (is.width 0) (codes "ab" ∷ []) (codes " a " ∷ codes " b " ∷ [])
+    by_lines = lines_are Dynamic (Some 80) ellipsis None (codes "ab" ∷ []) (codes " a " ∷ codes " b " ∷ []) is (codes "ab" ∷ []) (texts_stay Dynamic (Some 80) ellipsis None (codes "ab" ∷ []) (codes " a " ∷ codes " b " ∷ []) is (All-from_recursion (λ text. measure text ≤ is.width 0) (codes "ab" ∷ []) (omega (arith, width, two), tt)))
+
+-- spaces alone have no line, not even a blank one
+three : measure (codes "   ") ≡ 3
+unfolding wrapping
+three = refl
+
+no_line_of_spaces : wrapped 2 0x20 (codes "   ") ≡ []
+unfolding wrapping
+no_line_of_spaces = refl
+
+blank_line : ¬ (IsHeadline (wide_cell 4 (codes "   " ∷ [])) (codes "    " ∷ []))
+blank_line is = subst (λ (cut : List Text). ArePadded 2 cut (codes "    " ∷ [])) no_line_of_spaces (wrapped_is 2 (codes "   ") (codes "    " ∷ []) (omega (arith, three)) (omega arith) is)
+
+-- ---- colours
+
+-- without a sequence a styled line is the line
+unstyled_same : {line styled : Text} → IsStyled line styled → HasNo 0x1B styled → line ≡ styled
+unstyled_same no_byte none = refl
+unstyled_same (byte b line styled rest) none = ap (λ (t : Text). b ∷ t) (unstyled_same rest (or_parts (b == 0x1B) _ none).1)
+unstyled_same (sequence code line styled all rest) none = absurd (cc none)
+
+-- a text in bold, where sequences in texts are looked at
+abbrev bold : Text
+bold = codes "\u{1b}[1mab\u{1b}[0m"
+
+abbrev bold_cell : TableValue
+bold_cell = record (free_cell None (bold ∷ [])) { custom_styling = true }
+
+-- it is drawn by what is visible, and sequences
+bold_measured : measured_table bold_cell ≡ free_cell None (codes "ab" ∷ [])
+bold_measured = refl
+
+bold_is : (lines : List Text) → IsHeadline bold_cell lines → AllZip IsStyled (the_drawing) lines
+bold_is lines is = subst (λ (plain : List Text). AllZip IsStyled plain lines) (ab_drawn None (λ cut. refl) is.plain (subst (λ (t : TableValue). IsPlainDrawing t is.plain) bold_measured is.is_plain)) is.styled
+
+bold_drawn : IsStyled (codes " ab ") (codes " \u{1b}[1mab\u{1b}[0m ")
+bold_drawn = byte 0x20 _ _ (sequence (codes "1") _ _ refl (byte 0x61 _ _ (byte 0x62 _ _ (sequence (codes "0") _ _ refl (byte 0x20 _ _ no_byte)))))
+
+another_text_in_bold : ¬ (IsHeadline bold_cell (codes " XY " ∷ []))
+another_text_in_bold is = let same = unstyled_same (bold_is (codes " XY " ∷ []) is).0 refl in let letter : 0x61 ≡ 0x58 = ap (λ (t : Text). slice_index t 1) same in absurd (omega (arith, letter))
+
+torn_in_bold : ¬ (IsHeadline bold_cell (codes " a " ∷ codes " b " ∷ []))
+torn_in_bold is = (bold_is (codes " a " ∷ codes " b " ∷ []) is).1
