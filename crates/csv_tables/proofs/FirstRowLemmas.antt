@@ -3,7 +3,6 @@ use Rattle.std.proofs.Common.{◌≡◌, ◌≢◌, ◌<◌, ◌+◌, ◌-◌, �
 use Rattle.std.specs.List.{slice_get}
 use Rattle.std.specs.Prelude.{if◌then◌else◌}
 use Rattle.std.proofs.lemmas.List.{length-take}
-use Rattle.std.proofs.lemmas.Str.{IsUtf8-nil}
 use Rattle.comfy_parts.specs.Text.{Text}
 use Rattle.csv_records.proofs.FirstLemmas.{all_of_few}
 use Rattle.csv_records.specs.Beginning.{AreFirstByBeginning}
@@ -21,8 +20,6 @@ use Rattle.csv_tables.specs.declared.error.CsvError.TheVariants as err
 use Rattle.csv_tables.specs.declared.options.DrawnColumn.{DrawnColumn}
 use Rattle.csv_tables.specs.declared.options.Options.{Options}
 use Rattle.devices.specs.Outcome.{Beginning}
-use Rattle.csv_tables.proofs.RunLemmas.{no_lines}
-use Rattle.std.specs.Str.{IsUtf8}
 
 -- ---- rows
 
@@ -125,13 +122,21 @@ module _ (options : Options) where
       let below = counted ∙ below_header options.selection.has_header (r ∷ all) in
       subst (λ (found : Result ContentValue ColumnFault). Renders found output) (same_counted options first (r ∷ all) alike (Some count) ∙ ap (λ (n : ℕ). content_counted (Some n) options (r ∷ all)) below ∙ counted_content options (r ∷ all)) made
 
-  module _ (read : Text) (most : ℕ) (first : List (List Text)) (uncounted : options.selection.counts_all ≡ false) (enough : option_map (most_drawn options.selection.has_header) options.selection.limit ≡ Some most) (found : AreFirstByBeginning options.input most read first) where
-    has_limit : (limit : Option ℕ) → options.selection.limit ≡ limit → option_map (most_drawn options.selection.has_header) limit ≡ Some most → (own : HasLimit options) × (most_drawn options.selection.has_header own.limit ≡ most)
-    has_limit None known is = absurd (cc is)
-    has_limit (Some limit) known is = (record { limit = limit; is = known; uncounted = uncounted }, cc is)
+  -- where records are read up to a number, there is a limit
+  limit_of : (most : ℕ) → options.selection.counts_all ≡ false → option_map (most_drawn options.selection.has_header) options.selection.limit ≡ Some most → (own : HasLimit options) × (most_drawn options.selection.has_header own.limit ≡ most)
+  limit_of most uncounted enough = by_limit options.selection.limit refl enough
+    where
+      by_limit : (limit : Option ℕ) → options.selection.limit ≡ limit → option_map (most_drawn options.selection.has_header) limit ≡ Some most → (own : HasLimit options) × (most_drawn options.selection.has_header own.limit ≡ most)
+      by_limit None known is = absurd (cc is)
+      by_limit (Some limit) known is = (record { limit = limit; is = known; uncounted = uncounted }, cc is)
 
+  -- no memory, before a beginning was looked at
+  pub no_memory : (most : ℕ) → options.selection.counts_all ≡ false → option_map (most_drawn options.selection.has_header) options.selection.limit ≡ Some most → IsRefusal options Beginning [] err.OutOfMemory
+  no_memory most uncounted enough = (limit_of most uncounted enough).0
+
+  module _ (read : Text) (most : ℕ) (first : List (List Text)) (uncounted : options.selection.counts_all ≡ false) (enough : option_map (most_drawn options.selection.has_header) options.selection.limit ≡ Some most) (found : AreFirstByBeginning options.input most read first) where
     own_limit : (own : HasLimit options) × (most_drawn options.selection.has_header own.limit ≡ most)
-    own_limit = has_limit options.selection.limit refl enough
+    own_limit = limit_of most uncounted enough
 
     alike : AreDrawnAlike options first found.records
     alike = limited_alike options first found.records most enough found.are_first
@@ -162,7 +167,7 @@ module _ (options : Options) where
     beginning_refused (NoColumn word hint) why = ((λ is. cc is), found.records, are_enough, same_refusal options first found.records alike (NoColumn word hint) why)
     beginning_refused NoneLeft why = ((λ is. cc is), found.records, are_enough, same_refusal options first found.records alike NoneLeft why)
     beginning_refused (TwoSides name) why = ((λ is. cc is), found.records, are_enough, same_refusal options first found.records alike (TwoSides name) why)
-    beginning_refused OutOfMemory why = λ wanted. (subst (λ (encoding : Encoding). IsDecoded encoding options.input.skip found.beginning found.is_enough.text) wanted found.is_enough.is_text.is_decoded).0
+    beginning_refused OutOfMemory why = own_limit.0
 
   -- there is no memory where an input is read as text
   pub whole_no_memory : (input text : Text) → IsDecodedBy options.input input text → IsInputRefusal options input err.OutOfMemory
@@ -184,7 +189,3 @@ module _ (options : Options) where
       by_error NoneLeft why = ((λ is. cc is), all, known, not_none, why)
       by_error (TwoSides name) why = ((λ is. cc is), all, known, not_none, why)
       by_error OutOfMemory why = whole_no_memory input text is_text
-
--- no memory, before a beginning was looked at
-pub no_memory : (options : Options) → IsRefusal options Beginning [] err.OutOfMemory
-no_memory options = λ wanted. subst IsUtf8 (sym (no_lines options.input.skip)) IsUtf8-nil

@@ -4,7 +4,7 @@ use Rattle.std.specs.Prelude.{◌≡◌, ◌≢◌, Bool, true, false, List, [],
 use Rattle.comfy_parts.specs.Text.{Text}
 use Rattle.devices.specs.Outcome.{Beginning, Extent, IsByExtent, OfWhole, Whole, IsAfterFault, IsAfterOk, IsAfterOutOfMemory, IsAfterRead, IsAfterWrite, RunFacts}
 use Rattle.csv_tables.specs.Columns.{IsColumnsRefusal}
-use Rattle.csv_tables.specs.Drawn.{AreEnough, RendersExtent, content_of}
+use Rattle.csv_tables.specs.Drawn.{AreEnough, HasLimit, RendersExtent, content_of}
 use Rattle.csv_records.specs.Delimiter.{below_lines}
 use Rattle.csv_records.specs.Encoding.{encoding_of}
 use Rattle.csv_records.specs.Reading.{AreRecordsFor, IsDecodedBy, IsTextWithoutRecords, IsWithoutText}
@@ -45,6 +45,12 @@ abbrev pub IsUtf8IfWanted : Options → Text → Type 0
 IsUtf8IfWanted options input =
     encoding_of options.input.encoding input ≡ Utf8 → IsUtf8 (below_lines options.input.skip input)
 
+-- what is known where there was no memory: of a beginning that there is a limit, for else the whole
+-- input is read
+abbrev pub IsFine : Options → Extent → Text → Type 0
+IsFine options Whole input = IsUtf8IfWanted options input
+IsFine options Beginning input = HasLimit options
+
 -- what makes it a beginning of one: columns of its records can't be drawn so
 abbrev pub IsBeginningFault : Options → Text → CsvError → Type 0
 IsBeginningFault options beginning (Columns e) =
@@ -58,7 +64,7 @@ IsFault options Beginning input e = IsBeginningFault options input e
 
 -- why an input, or a beginning of one, has no output: it can't be drawn, or there is no memory
 abbrev pub IsRefusal : Options → Extent → Text → CsvError → Type 0
-IsRefusal options extent input OutOfMemory = IsUtf8IfWanted options input
+IsRefusal options extent input OutOfMemory = IsFine options extent input
 IsRefusal options extent input e = IsFault options extent input e
 
 -- why an input that was read whole has none
@@ -71,7 +77,7 @@ IsAfterIn options (Ok _) extent facts = IsAfterOk (RendersExtent options extent)
 IsAfterIn options (Err Read) extent facts = OfWhole (IsAfterRead facts) extent
 IsAfterIn options (Err Write) extent facts = IsAfterWrite (RendersExtent options extent) facts
 IsAfterIn options (Err OutOfMemory) extent facts =
-    IsAfterOutOfMemory (IsUtf8IfWanted options) facts
+    IsAfterOutOfMemory (IsFine options extent) facts
 IsAfterIn options (Err e) extent facts =
     IsAfterFault (λ input. IsFault options extent input e) facts
 

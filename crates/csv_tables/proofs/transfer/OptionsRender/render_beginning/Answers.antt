@@ -31,4 +31,4 @@ returns-in-Err c =
     (first.beginning, first.behind, first.parts, rw same (beginning_refused options c.args.read.now most records c.if-self.false c.in_ok-most.ensures.some first c.in-Err.error c.in-Err.ensures.refused))
 
 pub returns-in_default : goal.returns-in_default
-returns-in_default c = ([], c.args.read.now, refl, no_memory c.args.self.now)
+returns-in_default c = ([], c.args.read.now, refl, no_memory c.args.self.now c.in_ok-most.most c.if-self.false c.in_ok-most.ensures.some)
