@@ -40,10 +40,7 @@ from pictures import wrong_pictures
 LAWS_ALONE = ["cluster_width"]  # libraries without code
 WORDS = {"IsAfter", "IsTableDrawing", "input_table"}  # definitions, not functions
 # public calls of a few words over functions that have mutations
-OVER_OTHERS = set(
-    "build_table trim_fmt format_row add_rows_if style has_custom_styling visible_lines settings_of "
-    "should_draw_left_border should_draw_right_border should_draw_vertical_lines".split()
-)
+OVER_OTHERS = set("add_rows_if style has_custom_styling visible_lines".split())
 CALLERS = ["test_callers", "test_csv_cases"]
 TOLD_WITH = {"comfy_run": ["devices"], "csv_tables": ["csv_records", "csv_command"]}  # by one CALLING.md
 STORED = ["csvtable/stdout"]
