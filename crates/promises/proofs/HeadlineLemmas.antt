@@ -1,7 +1,7 @@
 -- Every drawing is one of frame lines and of rows of padded lines.
 use Rattle.std.proofs.Common.{◌≡◌, ◌⊎◌, inl, inr, ◌<◌, ◌≤◌, ℕ, zero, suc, ◌+◌, ◌-◌, Bool, true, false, List, [], ◌∷◌, ◌++◌, Option, Some, None, length, map, flat_map, refl, sym, ap, ◌∙◌, subst, arith, append_assoc, append-nil, length-append, slice_index_or, unwrap_or, max, nat_le, codes, sum, sum_by}
 use Rattle.std.specs.Char.{IsScalar}
-use Rattle.std.specs.List.{All, AllZip, filter_map, join_by, slice_get}
+use Rattle.std.specs.List.{All, AllZip, filter_map, join_by, range_with_len, slice_get}
 use Rattle.std.specs.Prelude.{if◌then◌else◌, option_map, slice_index, MatchOption}
 use Rattle.std.specs.Str.{IsUtf8}
 use Rattle.std.proofs.lemmas.Bool.{cond_both}
@@ -32,18 +32,18 @@ use Rattle.comfy_table.proofs.TableLemmas.{frame_counts, table_keeps_contents}
 use Rattle.comfy_table.specs.Arrangement.{is_full_width, room_beside_borders, width_kept, widths_at}
 use Rattle.comfy_table.specs.Drawing.{drawing, drawn_header, drawn_row, infos_of, outer_widths}
 use Rattle.comfy_table.specs.Dynamic.{IsDynamicLayout}
-use Rattle.comfy_table.specs.Frame.{frame_line, optional_frame_line}
+use Rattle.comfy_table.specs.Frame.{content_line, frame_line, optional_frame_line}
 use Rattle.comfy_table.specs.Headline.{IsTableDrawing}
 use Rattle.comfy_table.specs.Laws.{AddsOneColumnEachWhereWritten, HasPrintableCells, IsPrintableCell, IsPrintableTable, count, line_total, unstyled}
 use Rattle.comfy_table.specs.Lines.{as_measured, cell_delimiter, cell_lines, cut_line, cut_text, cut_to_limit, fitting_indicator}
 use Rattle.comfy_table.specs.Parts.{ArrangedValue, IsArrangedTable}
-use Rattle.comfy_table.specs.Pieces.{blank_piece, cell_alignment, free_before, free_places, padded, piece, pieces_of_optional, row_cell_lines, shown_infos}
+use Rattle.comfy_table.specs.Pieces.{blank_piece, cell_alignment, free_before, free_places, padded, piece, pieces_of_optional, row_cell_lines, row_height, row_line, row_lines, shown_infos}
 use Rattle.comfy_table.specs.TableValue.{TableValue, column_content_width, column_cells, header_and_rows, measured_rows, measured_table, shown_columns, table_width}
 use Rattle.comfy_table.specs.Widths.{ColumnNeeds, disabled_width, needs_of, shown_needs}
 use Rattle.promises.proofs.DrawnColumnLemmas.{columns-drawn, drawn_column, infos-are, whole_at}
 use Rattle.promises.proofs.FittingLemmas.{text_fits}
 use Rattle.promises.proofs.RowLemmas.{height, line_is, piece_in, width_by_content}
-use Rattle.promises.specs.Headline.{AreColumnsOf, AreLinesOfCell, AreLinesOfHeader, AreLinesOfRow, AreLinesOfText, EachShownCell, IsHeadline, IsPiece, IsPrintable, framed, lines_in, whole_width, widths_shown}
+use Rattle.promises.specs.Headline.{AreColumnsOf, AreLinesOfCell, AreLinesOfHeader, AreLinesOfRow, AreLinesOfText, EachShownCell, IsContentLine, IsFramed, IsHeadline, IsPiece, IsPrintable, framed, lines_in, whole_width, widths_shown}
 use Rattle.promises.specs.Shown.{IsStyled}
 use Rattle.promises.specs.Shown.IsStyled.{nothing, byte, sequence}
 
@@ -250,6 +250,41 @@ module _ (table : TableValue) (widths : List ℕ) (long : length widths ≡ leng
       ++ (join_by (λ (block : List Text). block) (optional_frame_line table.style table.style.row_separator ws) (map (drawn_row (bare table) infos table.style.content_lines) table.rows) ++ optional_frame_line table.style table.style.bottom_border ws)))
       widths_are
 
+  -- ---- the table itself, with styles
+
+  content_is : (borders : ContentLineStyle) (row : RowValue) → All (IsContentLine table borders) (drawn_row table infos borders row)
+  content_is borders row =
+      All-map (IsContentLine table borders) (content_line table.style borders) (row_lines table infos row)
+      (All-map (λ (pieces : List Text). IsContentLine table borders (content_line table.style borders pieces)) (row_line table infos row) (range_with_len 0 (row_height table infos row))
+      (λ k default below. (row_line table infos row (slice_index_or (range_with_len 0 (row_height table infos row)) k default), length-map (shown_infos infos) _ ∙ ap length (columns-drawn table widths long) ∙ length-map (shown_columns table) (drawn_column widths), refl)))
+
+  styled_header : (header : Option RowValue) → MatchOption header (drawn_header table infos header ≡ []) (λ row. (block : List Text) × All (IsContentLine table table.style.header_lines) block × (drawn_header table infos header ≡ block ++ framed table content_at table.style.header_separator))
+  styled_header None = refl
+  styled_header (Some row) = (
+    drawn_row table infos table.style.header_lines row,
+    content_is table.style.header_lines row,
+    ap (λ ws. drawn_row table infos table.style.header_lines row ++ optional_frame_line table.style table.style.header_separator ws) widths_are,
+  )
+
+  styled_rows : (rows : List RowValue) → All (All (IsContentLine table table.style.content_lines)) (map (drawn_row table infos table.style.content_lines) rows)
+  styled_rows rows = All-map (All (IsContentLine table table.style.content_lines)) (drawn_row table infos table.style.content_lines) rows (λ k default below. content_is table.style.content_lines (slice_index_or rows k default))
+
+  pub frame_is : IsFramed table content_at (drawing table widths)
+  frame_is =
+      record {
+        header = drawn_header table infos table.header;
+        rows = map (drawn_row table infos table.style.content_lines) table.rows;
+        is_header = styled_header table.header;
+        as_many = length-map table.rows (drawn_row table infos table.style.content_lines);
+        are_rows = styled_rows table.rows;
+        drawn =
+            ap (λ (rows : List Text). optional_frame_line table.style table.style.top_border (outer_widths infos) ++ (drawn_header table infos table.header ++ (rows ++ optional_frame_line table.style table.style.bottom_border (outer_widths infos))))
+            (sym (join_by-map (λ (block : List Text). block) (drawn_row table infos table.style.content_lines) (optional_frame_line table.style table.style.row_separator (outer_widths infos)) table.rows))
+            ∙ ap (λ ws. optional_frame_line table.style table.style.top_border ws ++ (drawn_header table infos table.header
+            ++ (join_by (λ (block : List Text). block) (optional_frame_line table.style table.style.row_separator ws) (map (drawn_row table infos table.style.content_lines) table.rows) ++ optional_frame_line table.style table.style.bottom_border ws)))
+            widths_are;
+      }
+
   -- ---- printable ASCII
 
   -- what holds in a column of each row's cell holds of the column's cells
@@ -336,6 +371,7 @@ headline table lines drawn =
           subst (AllZip IsStyled (drawing (unstyled table) drawn.widths)) (sym drawn.drawn)
           (keeps_drawing Any IsStyled styled_kept table (infos_of table drawn.widths) tt (λ k default below. tt) drawn.texts.whole_texts (λ k default below j other under cell found i text inside. tt));
       unstyled = drawn.edges.unstyled_lines;
+      frame = subst (IsFramed table (content_at table drawn.widths long)) (sym drawn.drawn) (frame_is table drawn.widths long);
     }
   where
     measured : TableValue

@@ -1,6 +1,6 @@
 -- What a table draws: frame lines, and rows of padded lines of its cells' texts.
 -- Source: this library's own.
-use Rattle.std.specs.Prelude.{◌≡◌, ◌⊎◌, ℕ, ◌+◌, ◌<◌, ◌≤◌, true, false, List, [], ◌∷◌, ◌++◌, Option, Some, None, All, EachIndex, filter_map, flat_map, length, map, max, option_map, slice_get, slice_index_or, sum, unwrap_or}
+use Rattle.std.specs.Prelude.{◌≡◌, ◌⊎◌, ℕ, ◌+◌, ◌<◌, ◌≤◌, true, false, List, [], ◌∷◌, ◌++◌, Option, Some, None, All, EachIndex, MatchOption, filter_map, flat_map, length, map, max, option_map, slice_get, slice_index_or, sum, unwrap_or}
 use Rattle.std.specs.Int.{is_in_range}
 use Rattle.std.specs.List.{AllZip, enumerate_from, join_by}
 use Rattle.comfy_parts.specs.CellValue.{CellValue, ColumnInfo, ColumnValue, RowValue, info_of}
@@ -149,13 +149,33 @@ pub record IsPlainDrawing (table : TableValue) (lines : List Text) : Type 0 wher
       → table.arrangement ≡ DynamicFullWidth → 0 < length (shown_columns table)
       → total ≡ max w (least_total table)
 
+-- a line of pieces of the shown columns, side by side between these borders
+abbrev pub IsContentLine : TableValue → ContentLineStyle → Text → Type 0
+IsContentLine table borders line =
+    (pieces : List Text) × (length pieces ≡ length (shown_columns table))
+    × (line ≡ content_line table.style borders pieces)
+
+-- so are the lines of the header and of all rows, which stand between frame lines over these widths
+pub record IsFramed (table : TableValue) (width : ℕ → ℕ) (lines : List Text) : Type 0 where
+  pub header : List Text
+  pub rows : List (List Text)
+  pub is_header : MatchOption table.header (header ≡ []) (λ row. (block : List Text)
+      × All (IsContentLine table table.style.header_lines) block
+      × (header ≡ block ++ framed table width table.style.header_separator))
+  pub as_many : length rows ≡ length table.rows
+  pub are_rows : All (All (IsContentLine table table.style.content_lines)) rows
+  pub drawn : lines ≡ framed table width table.style.top_border ++ (header
+      ++ (join_by (λ block. block) (framed table width table.style.row_separator) rows
+      ++ framed table width table.style.bottom_border))
+
 -- such are the lines of a table as it is measured, with custom styling of what is visible of its
--- texts, but for SGR sequences where styles are written or stand in texts
+-- texts, but for SGR sequences in its pieces where styles are written or stand in texts
 pub record IsHeadline (table : TableValue) (lines : List Text) : Type 0 where
   pub plain : List Text
   pub is_plain : IsPlainDrawing (measured_table table) plain
   pub styled : AllZip IsStyled plain lines
   pub unstyled : should_style table ≡ false → table.custom_styling ≡ false → lines ≡ plain
+  pub frame : IsFramed table is_plain.width lines
 
 -- the columns of a headline, as wide as there
 abbrev pub AreColumnsOf : TableValue → List Text → List ColumnInfo → Type 0

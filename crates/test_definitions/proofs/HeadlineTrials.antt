@@ -2,12 +2,13 @@
 use Rattle.std.proofs.Common.{◌≡◌, ◌==◌, ◌<◌, ◌≤◌, ℕ, suc, ◌+◌, true, false, List, [], ◌∷◌, ◌++◌, Option, Some, None, zero, codes, length, map, max, inl, refl, sym, ap, ap₂, ◌∙◌, subst, arith, append-nil, slice_index_or}
 use Rattle.std.specs.Prelude.{slice_index}
 use Rattle.std.specs.List.{All, AllZip, flat_map, join_by}
+use lib.Utf8.{encode}
 use Rattle.std.proofs.lemmas.Bool.{or_parts}
 use Rattle.std.proofs.lemmas.List.Elements.{All-from_recursion, All-head, All-tail}
 use Rattle.comfy_parts.proofs.Computing.{wrapping}
 use Rattle.comfy_parts.proofs.WrappingLemmas.{wrapped_is_one}
 use Rattle.comfy_parts.specs.CellValue.{CellValue, ColumnInfo, ColumnValue, RowValue, info_of, new_column, plain_cell}
-use Rattle.comfy_parts.specs.Presets.{nothing}
+use Rattle.comfy_parts.specs.Presets.{ascii_full, nothing}
 use Rattle.comfy_parts.specs.Text.{HasNo, Text, greatest, measure, spaces}
 use Rattle.comfy_parts.specs.Wrapping.{wrapped}
 use Rattle.comfy_parts.specs.declared.style.table.ContentArrangement.{ContentArrangement}
@@ -432,3 +433,8 @@ another_text_in_bold is = let same = unstyled_same (bold_is (codes " XY " ∷ []
 
 torn_in_bold : ¬ (IsHeadline bold_cell (codes " a " ∷ codes " b " ∷ []))
 torn_in_bold is = (bold_is (codes " a " ∷ codes " b " ∷ []) is).1
+
+-- where styles are written no frame line blinks
+blinking_frame : ¬ (IsHeadline (record (new_table ascii_full) { enforce_styling = true }) (codes "\u{1b}[5m++" ∷ codes "++" ∷ []))
+unfolding encode
+blinking_frame is = let letter : 0x1B ≡ 0x2B = ap (λ (ls : List Text). slice_index (slice_index_or ls 0 []) 0) is.frame.drawn in absurd (omega (arith, letter))
