@@ -1,7 +1,7 @@
 -- Every drawing is one of frame lines and of rows of padded lines.
 use Rattle.std.proofs.Common.{◌≡◌, ◌⊎◌, inl, inr, ◌<◌, ◌≤◌, ℕ, zero, suc, ◌+◌, ◌-◌, Bool, true, false, List, [], ◌∷◌, ◌++◌, Option, Some, None, length, map, flat_map, refl, sym, ap, ◌∙◌, subst, arith, append_assoc, append-nil, length-append, slice_index_or, unwrap_or, max, nat_le, codes, sum, sum_by}
 use Rattle.std.specs.Char.{IsScalar}
-use Rattle.std.specs.List.{All, AllZip, filter_map, join_by, range_with_len, slice_get}
+use Rattle.std.specs.List.{All, AllZip, filter_map, join_by, slice_get}
 use Rattle.std.specs.Prelude.{if◌then◌else◌, option_map, slice_index, MatchOption}
 use Rattle.std.specs.Str.{IsUtf8}
 use Rattle.std.proofs.lemmas.Bool.{cond_both}
@@ -14,7 +14,7 @@ use Rattle.comfy_parts.proofs.CallerLemmas.{All-found, All-same_map, BeginsWithS
 use Rattle.comfy_parts.proofs.LinesFitLemmas.{IsFittingLine}
 use Rattle.comfy_parts.proofs.SequenceLemmas.{sequences_are_taken_out}
 use Rattle.comfy_parts.specs.CellValue.{CellValue, ColumnInfo, ColumnValue, RowValue, info_of, info_width}
-use Rattle.comfy_parts.specs.Text.{AddsOneColumnEach, Text, greatest, measure}
+use Rattle.comfy_parts.specs.Text.{AddsOneColumnEach, Text, greatest, measure, spaces}
 use Rattle.comfy_parts.specs.VisibleLines.{CellLine}
 use Rattle.comfy_parts.specs.VisibleText.{closed, visible_bytes, visible_text}
 use Rattle.comfy_parts.specs.Wrapping.{IsWrapped, lines_of_text, wrapped}
@@ -27,23 +27,24 @@ use Rattle.comfy_table.proofs.DrawnWidthLemmas.{fills_width, keeps_to_width}
 use Rattle.comfy_table.proofs.KeptDrawingLemmas.{keeps_drawing}
 use Rattle.comfy_table.proofs.OneDrawingLemmas.{arranged_is_one}
 use Rattle.comfy_table.proofs.SpaceLemmas.{free_before-le, padded-is, spaces-append}
-use Rattle.comfy_table.proofs.StyledLemmas.{KeptByDrawing}
+use Rattle.comfy_table.proofs.StyledLemmas.{KeptByDrawing, keeps_style_begin, keeps_style_end}
 use Rattle.comfy_table.proofs.TableLemmas.{frame_counts, table_keeps_contents}
 use Rattle.comfy_table.specs.Arrangement.{is_full_width, room_beside_borders, width_kept, widths_at}
 use Rattle.comfy_table.specs.Drawing.{drawing, drawn_header, drawn_row, infos_of, outer_widths}
 use Rattle.comfy_table.specs.Dynamic.{IsDynamicLayout}
-use Rattle.comfy_table.specs.Frame.{content_line, frame_line, optional_frame_line}
+use Rattle.comfy_table.specs.Frame.{frame_line, optional_frame_line}
 use Rattle.comfy_table.specs.Headline.{IsTableDrawing}
 use Rattle.comfy_table.specs.Laws.{AddsOneColumnEachWhereWritten, HasPrintableCells, IsPrintableCell, IsPrintableTable, count, line_total, unstyled}
-use Rattle.comfy_table.specs.Lines.{as_measured, cell_delimiter, cell_lines, cut_line, cut_text, cut_to_limit, fitting_indicator}
+use Rattle.comfy_table.specs.Lines.{as_measured, cell_delimiter, cell_lines, cut_line, cut_text, cut_to_limit, fitting_indicator, uncut_lines}
 use Rattle.comfy_table.specs.Parts.{ArrangedValue, IsArrangedTable}
-use Rattle.comfy_table.specs.Pieces.{blank_piece, cell_alignment, free_before, free_places, padded, piece, pieces_of_optional, row_cell_lines, row_height, row_line, row_lines, shown_infos}
-use Rattle.comfy_table.specs.TableValue.{TableValue, column_content_width, column_cells, header_and_rows, measured_rows, measured_table, shown_columns, table_width}
+use Rattle.comfy_table.specs.Pieces.{blank_piece, cell_alignment, free_before, free_places, padded, piece, pieces_of_optional, row_cell_lines, shown_infos}
+use Rattle.comfy_table.specs.Styling.{style_begin, style_end, styled}
+use Rattle.comfy_table.specs.TableValue.{TableValue, column_content_width, column_cells, header_and_rows, measured_rows, measured_table, should_style, shown_columns, table_width}
 use Rattle.comfy_table.specs.Widths.{ColumnNeeds, disabled_width, needs_of, shown_needs}
 use Rattle.promises.proofs.DrawnColumnLemmas.{columns-drawn, drawn_column, infos-are, whole_at}
 use Rattle.promises.proofs.FittingLemmas.{text_fits}
 use Rattle.promises.proofs.RowLemmas.{height, line_is, piece_in, width_by_content}
-use Rattle.promises.specs.Headline.{AreColumnsOf, AreLinesOfCell, AreLinesOfHeader, AreLinesOfRow, AreLinesOfText, EachShownCell, IsContentLine, IsFramed, IsHeadline, IsPiece, IsPrintable, framed, lines_in, whole_width, widths_shown}
+use Rattle.promises.specs.Headline.{AreColumnsOf, AreLinesOfCell, AreLinesOfHeader, AreLinesOfRow, AreLinesOfText, EachShownCell, AreContentLines, IsAround, IsFramed, IsHeadline, IsPiece, IsPrintable, framed, lines_in, whole_width, widths_shown}
 use Rattle.promises.specs.Shown.{IsStyled}
 use Rattle.promises.specs.Shown.IsStyled.{nothing, byte, sequence}
 
@@ -252,13 +253,95 @@ module _ (table : TableValue) (widths : List ℕ) (long : length widths ≡ leng
 
   -- ---- the table itself, with styles
 
-  content_is : (borders : ContentLineStyle) (row : RowValue) → All (IsContentLine table borders) (drawn_row table infos borders row)
-  content_is borders row =
-      All-map (IsContentLine table borders) (content_line table.style borders) (row_lines table infos row)
-      (All-map (λ (pieces : List Text). IsContentLine table borders (content_line table.style borders pieces)) (row_line table infos row) (range_with_len 0 (row_height table infos row))
-      (λ k default below. (row_line table infos row (slice_index_or (range_with_len 0 (row_height table infos row)) k default), length-map (shown_infos infos) _ ∙ ap length (columns-drawn table widths long) ∙ length-map (shown_columns table) (drawn_column widths), refl)))
+  -- the piece of a line
+  around_is : (p : ℕ × ColumnValue) (cell : CellValue) (line : Text) → IsAround line (piece table cell (info_at p) (as_measured line))
+  around_is p cell line = by_tests (should_style table) table.style_text_only
+    where
+      m : ℕ
+      m = measure line
 
-  styled_header : (header : Option RowValue) → MatchOption header (drawn_header table infos header ≡ []) (λ row. (block : List Text) × All (IsContentLine table table.style.header_lines) block × (drawn_header table infos header ≡ block ++ framed table content_at table.style.header_separator))
+      front : ℕ
+      front = free_before (cell_alignment cell (info_at p)) (free_places (info_at p) m)
+
+      left : ℕ
+      left = p.1.padding.0 + front
+
+      right : ℕ
+      right = free_places (info_at p) m - front + p.1.padding.1
+
+      padded_is : (text : Text) → spaces left ++ (text ++ spaces right) ≡ padded cell (info_at p) m text
+      padded_is text = padded-is cell (info_at p) m left right refl refl text
+
+      begin : IsStyled [] (style_begin cell)
+      begin = keeps_style_begin Any IsStyled styled_kept cell
+
+      end : IsStyled [] (style_end cell)
+      end = keeps_style_end Any IsStyled styled_kept cell
+
+      by_tests : (styles text_only : Bool) → IsAround line (if styles then (if text_only then padded cell (info_at p) m (styled cell line) else styled cell (padded cell (info_at p) m line)) else padded cell (info_at p) m line)
+      by_tests true true =
+          record {
+            before = spaces left ++ style_begin cell;
+            after = style_end cell ++ spaces right;
+            drawn =
+                sym (padded_is (styled cell line))
+                ∙ ap (λ (t : Text). spaces left ++ t) (append_assoc (style_begin cell) (line ++ style_end cell) (spaces right) ∙ ap (λ (t : Text). style_begin cell ++ t) (append_assoc line (style_end cell) (spaces right)))
+                ∙ sym (append_assoc (spaces left) (style_begin cell) (line ++ (style_end cell ++ spaces right)));
+            left = (left, subst (λ (t : Text). IsStyled t (spaces left ++ style_begin cell)) (append-nil (spaces left)) (styled_both [] (style_begin cell) (styled_same (spaces left)) begin));
+            right = (right, styled_both (spaces right) (spaces right) end (styled_same (spaces right)));
+          }
+      by_tests true false =
+          record {
+            before = style_begin cell ++ spaces left;
+            after = spaces right ++ style_end cell;
+            drawn =
+                ap (styled cell) (sym (padded_is line))
+                ∙ ap (λ (t : Text). style_begin cell ++ t) (append_assoc (spaces left) (line ++ spaces right) (style_end cell) ∙ ap (λ (t : Text). spaces left ++ t) (append_assoc line (spaces right) (style_end cell)))
+                ∙ sym (append_assoc (style_begin cell) (spaces left) (line ++ (spaces right ++ style_end cell)));
+            left = (left, styled_both (spaces left) (spaces left) begin (styled_same (spaces left)));
+            right = (right, subst (λ (t : Text). IsStyled t (spaces right ++ style_end cell)) (append-nil (spaces right)) (styled_both [] (style_end cell) (styled_same (spaces right)) end));
+          }
+      by_tests false text_only = record { before = spaces left; after = spaces right; drawn = sym (padded_is line); left = (left, styled_same (spaces left)); right = (right, styled_same (spaces right)) }
+
+  blank_around : (p : ℕ × ColumnValue) → IsAround [] (blank_piece (info_at p))
+  blank_around p =
+      record {
+        before = spaces (p.1.padding.0 + content_at p.0);
+        after = spaces p.1.padding.1;
+        drawn = sym (spaces-append (p.1.padding.0 + content_at p.0) p.1.padding.1);
+        left = (p.1.padding.0 + content_at p.0, styled_same _);
+        right = (p.1.padding.1, styled_same _);
+      }
+
+  -- without custom styling
+  around_at : table.custom_styling ≡ false → (row : RowValue) (p : ℕ × ColumnValue) (cell : Option CellValue) (k : ℕ) → IsAround (slice_index_or (cut_of row p cell) k []) (slice_index_or (pieces_of_optional table row (info_at p) cell) k (blank_piece (info_at p)))
+  around_at plain row p None zero = blank_around p
+  around_at plain row p None (suc k) = blank_around p
+  around_at plain row p (Some cell) k =
+      let d = cell_delimiter table p.1.delimiter cell in
+      let same : row_cell_lines table row (info_at p) cell ≡ map as_measured (cut_at row p cell) =
+      ap (λ (custom : Bool). cut_to_limit (cut_line custom (content_at p.0) table.indicator) row.max_height (uncut_lines custom (content_at p.0) d cell)) plain ∙ row_lines-are row p cell in
+      subst (λ (lines : List CellLine). IsAround (slice_index_or (cut_at row p cell) k []) (slice_index_or (map (piece table cell (info_at p)) lines) k (blank_piece (info_at p)))) (sym same) (by_lines (cut_at row p cell) k)
+    where
+      by_lines : (lines : List Text) (k : ℕ) → IsAround (slice_index_or lines k []) (slice_index_or (map (piece table cell (info_at p)) (map as_measured lines)) k (blank_piece (info_at p)))
+      by_lines [] k = blank_around p
+      by_lines (line ∷ lines) zero = around_is p cell line
+      by_lines (line ∷ lines) (suc k) = by_lines lines k
+
+  around_all : table.custom_styling ≡ false → (row : RowValue) (k : ℕ) (ps : List (ℕ × ColumnValue))
+      → AllZip (λ (p : ℕ × ColumnValue). IsAround (slice_index_or (lines_in table content_at lines_at row p) k [])) ps (map (piece_in table widths long table.style.content_lines row k) ps)
+  around_all plain row k [] = tt
+  around_all plain row k (p ∷ ps) = (around_at plain row p (slice_get row.cells p.0) k, around_all plain row k ps)
+
+  content_is : (borders : ContentLineStyle) (row : RowValue) → AreContentLines table content_at lines_at borders row (drawn_row table infos borders row)
+  content_is borders row k below = (
+    map (piece_in table widths long borders row k) (shown_columns table),
+    length-map (shown_columns table) (piece_in table widths long borders row k),
+    line_is table widths long borders row k below,
+    λ plain. around_all plain row k (shown_columns table),
+  )
+
+  styled_header : (header : Option RowValue) → MatchOption header (drawn_header table infos header ≡ []) (λ row. (block : List Text) × AreContentLines table content_at lines_at table.style.header_lines row block × (drawn_header table infos header ≡ block ++ framed table content_at table.style.header_separator))
   styled_header None = refl
   styled_header (Some row) = (
     drawn_row table infos table.style.header_lines row,
@@ -266,16 +349,16 @@ module _ (table : TableValue) (widths : List ℕ) (long : length widths ≡ leng
     ap (λ ws. drawn_row table infos table.style.header_lines row ++ optional_frame_line table.style table.style.header_separator ws) widths_are,
   )
 
-  styled_rows : (rows : List RowValue) → All (All (IsContentLine table table.style.content_lines)) (map (drawn_row table infos table.style.content_lines) rows)
-  styled_rows rows = All-map (All (IsContentLine table table.style.content_lines)) (drawn_row table infos table.style.content_lines) rows (λ k default below. content_is table.style.content_lines (slice_index_or rows k default))
+  styled_rows : (rows : List RowValue) → AllZip (AreContentLines table content_at lines_at table.style.content_lines) rows (map (drawn_row table infos table.style.content_lines) rows)
+  styled_rows [] = tt
+  styled_rows (row ∷ rows) = (content_is table.style.content_lines row, styled_rows rows)
 
-  pub frame_is : IsFramed table content_at (drawing table widths)
+  pub frame_is : IsFramed table content_at lines_at (drawing table widths)
   frame_is =
       record {
         header = drawn_header table infos table.header;
         rows = map (drawn_row table infos table.style.content_lines) table.rows;
         is_header = styled_header table.header;
-        as_many = length-map table.rows (drawn_row table infos table.style.content_lines);
         are_rows = styled_rows table.rows;
         drawn =
             ap (λ (rows : List Text). optional_frame_line table.style table.style.top_border (outer_widths infos) ++ (drawn_header table infos table.header ++ (rows ++ optional_frame_line table.style table.style.bottom_border (outer_widths infos))))
@@ -371,7 +454,7 @@ headline table lines drawn =
           subst (AllZip IsStyled (drawing (unstyled table) drawn.widths)) (sym drawn.drawn)
           (keeps_drawing Any IsStyled styled_kept table (infos_of table drawn.widths) tt (λ k default below. tt) drawn.texts.whole_texts (λ k default below j other under cell found i text inside. tt));
       unstyled = drawn.edges.unstyled_lines;
-      frame = subst (IsFramed table (content_at table drawn.widths long)) (sym drawn.drawn) (frame_is table drawn.widths long);
+      frame = subst (IsFramed table (content_at table drawn.widths long) (lines_at table drawn.widths long)) (sym drawn.drawn) (frame_is table drawn.widths long);
     }
   where
     measured : TableValue

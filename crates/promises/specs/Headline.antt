@@ -149,33 +149,47 @@ pub record IsPlainDrawing (table : TableValue) (lines : List Text) : Type 0 wher
       → table.arrangement ≡ DynamicFullWidth → 0 < length (shown_columns table)
       → total ≡ max w (least_total table)
 
--- a line of pieces of the shown columns, side by side between these borders
-abbrev pub IsContentLine : TableValue → ContentLineStyle → Text → Type 0
-IsContentLine table borders line =
-    (pieces : List Text) × (length pieces ≡ length (shown_columns table))
-    × (line ≡ content_line table.style borders pieces)
+-- a line between spaces, with SGR sequences in these alone
+pub record IsAround (line piece : Text) : Type 0 where
+  pub before : Text
+  pub after : Text
+  pub drawn : piece ≡ before ++ (line ++ after)
+  pub left : (n : ℕ) × IsStyled (spaces n) before
+  pub right : (n : ℕ) × IsStyled (spaces n) after
 
--- so are the lines of the header and of all rows, which stand between frame lines over these widths
-pub record IsFramed (table : TableValue) (width : ℕ → ℕ) (lines : List Text) : Type 0 where
-  pub header : List Text
-  pub rows : List (List Text)
-  pub is_header : MatchOption table.header (header ≡ []) (λ row. (block : List Text)
-      × All (IsContentLine table table.style.header_lines) block
-      × (header ≡ block ++ framed table width table.style.header_separator))
-  pub as_many : length rows ≡ length table.rows
-  pub are_rows : All (All (IsContentLine table table.style.content_lines)) rows
-  pub drawn : lines ≡ framed table width table.style.top_border ++ (header
-      ++ (join_by (λ block. block) (framed table width table.style.row_separator) rows
-      ++ framed table width table.style.bottom_border))
+-- in a table whose columns have these widths, and whose cells these lines
+module _ (table : TableValue) (width : ℕ → ℕ)
+    (cell_lines : ℕ × ColumnValue → CellValue → List Text) where
+  -- each line of a row is pieces of the shown columns, side by side between these borders; without
+  -- custom styling the texts stand in them unbroken
+  abbrev pub AreContentLines : ContentLineStyle → RowValue → List Text → Type 0
+  AreContentLines borders row lines =
+      EachIndex lines (λ k. (pieces : List Text) × (length pieces ≡ length (shown_columns table))
+      × (slice_index_or lines k [] ≡ content_line table.style borders pieces)
+      × (table.custom_styling ≡ false → AllZip (λ (p : ℕ × ColumnValue).
+      IsAround (slice_index_or (lines_in table width cell_lines row p) k []))
+      (shown_columns table) pieces))
+
+  -- so are those of the header and of all rows, which stand between frame lines
+  pub record IsFramed (lines : List Text) : Type 0 where
+    pub header : List Text
+    pub rows : List (List Text)
+    pub is_header : MatchOption table.header (header ≡ []) (λ row. (block : List Text)
+        × AreContentLines table.style.header_lines row block
+        × (header ≡ block ++ framed table width table.style.header_separator))
+    pub are_rows : AllZip (AreContentLines table.style.content_lines) table.rows rows
+    pub drawn : lines ≡ framed table width table.style.top_border ++ (header
+        ++ (join_by (λ block. block) (framed table width table.style.row_separator) rows
+        ++ framed table width table.style.bottom_border))
 
 -- such are the lines of a table as it is measured, with custom styling of what is visible of its
--- texts, but for SGR sequences in its pieces where styles are written or stand in texts
+-- texts, but for SGR sequences in its pieces, where styles are written or stand in texts
 pub record IsHeadline (table : TableValue) (lines : List Text) : Type 0 where
   pub plain : List Text
   pub is_plain : IsPlainDrawing (measured_table table) plain
   pub styled : AllZip IsStyled plain lines
   pub unstyled : should_style table ≡ false → table.custom_styling ≡ false → lines ≡ plain
-  pub frame : IsFramed table is_plain.width lines
+  pub frame : IsFramed table is_plain.width is_plain.cell_lines lines
 
 -- the columns of a headline, as wide as there
 abbrev pub AreColumnsOf : TableValue → List Text → List ColumnInfo → Type 0
