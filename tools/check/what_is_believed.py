@@ -16,9 +16,11 @@ declaration. What a model's fields hold is said by the clauses of calls, so thei
 followed; and an invariant is proved of each value. Where a promise names fields of
 `IsTableDrawing`, such as `edges` or `edges.straight`, these alone are followed.
 
-The promise's own file comes first. Comments count as lines; clauses and headings don't. Public
-types that are declared and have no model, which callers know, are counted apart, with the first
-paragraph of their doc comments. Other libraries are counted in a line for each.
+The promise's own file comes first. A function of `promises` or `csv_promises` is printed with its
+body, since what it returns is part of the promise. Comments count as lines; clauses, bodies and
+headings don't. Public types that are declared and have no model, which callers know, are counted
+apart, with the first paragraph of their doc comments. Other libraries are counted in a line for
+each.
 """
 import re
 import sys
@@ -191,6 +193,14 @@ def updated(page):
     return page
 
 
+def body_of(one):
+    """The body of a function that is a promise, on lines of its own; nothing for any other."""
+    if not is_function(one) or crate_of(one.path) not in PROMISES:
+        return ""
+    below = text_of(one.path).split("\n")[one.line :]
+    return "\n" + re.search(r"^\{(?:\}|.*?^\})", "\n".join(below), re.M | re.S)[0]
+
+
 def shown(starts):
     """What a reader must believe for a promise."""
     found, others = believed(starts)
@@ -199,7 +209,7 @@ def shown(starts):
         head = ""
         for one in sorted((it for it in found if it.path == path), key=lambda it: it.line):
             yield from [one.head] if one.head not in ("", head) else []
-            yield f"{one.text}\n"
+            yield f"{one.text}{body_of(one)}\n"
             head = one.head
     declared = sum(it.lines() for it in found if is_declared(it))
     yield f"{count_of(found)} lines of definitions, and {declared} that declare public types."
