@@ -86,6 +86,13 @@ impl Column {
         self.alignment
     }
 
+    /// The same by the name of its setter, `set_cell_alignment`.
+    pub fn cell_alignment(&self) -> Option<CellAlignment>
+        ensures { result ≡ self.now.alignment }
+    {
+        self.alignment
+    }
+
     /// The constraint on the column's width; none where its content alone decides.
     pub fn constraint(&self) -> Option<&ColumnConstraint>
         ensures { option_copied result ≡ self.now.constraint }

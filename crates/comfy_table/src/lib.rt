@@ -22,3 +22,16 @@ pub use table::arranged::ArrangedTable;
 pub use table::column_cells::ColumnCellIter;
 pub use table::output::Lines;
 pub use table::terminal::Terminal;
+
+/// A row of values of several types, as an array of their cells: of each value that a cell can be
+/// made of (`IntoCell`). It stands in a function that returns a `Result`.
+///
+/// ```
+/// table.add_row(row![alloc; "17", 12u32, true])?;
+/// ```
+#[macro_export]
+macro_rules! row {
+    ($alloc:expr; $($value:expr),+ $(,)?) => {
+        [$($crate::IntoCell::into_cell($value, $alloc)?),+]
+    };
+}

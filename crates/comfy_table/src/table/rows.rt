@@ -1,19 +1,42 @@
-//! Several rows added at once, and rows added on a condition.
+//! Several rows added at once, a table made of them, and rows added on a condition.
 
 ghost use Rattle.std.specs.Prelude.{◌≡◌, ◌++◌, ◌∷◌, Bool, List, None, Some, true, IfOk, OnOk, OnErr, if◌then◌else◌, length, map};
 ghost use Rattle.std.specs.Borrow.{sem};
 ghost use Rattle.std.specs.Iterator.{IsFinite, YieldsThen};
 ghost use Rattle.std.specs.Vec.Iter.{into_iter_items};
+ghost use Rattle.comfy_parts.specs.Presets.{ascii_full};
 ghost use Rattle.comfy_table.specs.Predicate.{Answers};
 ghost use Rattle.comfy_table.specs.TableLoans.{TableHasFirstRowsIfErr, TableStaysIfErr};
 ghost use Rattle.comfy_table.specs.TableReference.{reference_of};
-ghost use Rattle.comfy_table.specs.TableValue.{IsWithRowsBeforeOne, with_row, with_rows};
+ghost use Rattle.comfy_table.specs.TableValue.{IsWithRowsBeforeOne, new_table, with_header, with_row, with_rows};
 
 use crate::table::{Table, TableReference, into_reference};
 use comfy_parts::{IntoRow, Items, Result};
+use std::alloc::Global;
 use std::vec;
 
 impl Table {
+    /// A table with this header and these rows, in the style `ASCII_FULL`. It has as many columns as
+    /// the longest of them has cells.
+    ///
+    /// ```
+    /// let bikes = [["17", "dock 3"], ["18", "rented"]];
+    /// let table = Table::from_rows(alloc, ["Bike", "Where it stands"], bikes)?;
+    /// ```
+    pub fn from_rows<H, I>(alloc: Global, header: H, rows: I) -> Result<Table>
+    where
+        H: IntoRow,
+        I: Items + Drop,
+        I::Item: IntoRow,
+        I::IntoIter: Drop,
+        ensures { IfOk result (λ table. table ≡ with_rows (map I.Item.row_of (I.items_of rows))
+            (with_header (H.row_of header) (new_table ascii_full))) }
+    {
+        let mut table = Table::new(alloc);
+        table.set_header(header)?.add_rows(rows)?;
+        Ok(table)
+    }
+
     /// Appends rows in their order, each as `add_row` does. Returns the table for further calls.
     /// After `OutOfMemory` it has the rows before the refused one, which is dropped with those
     /// after it. `try_add_rows` tells which one that was.

@@ -2,9 +2,9 @@
 //! asked, and with which number.
 
 use crate::support::{assert_drawn, row_of};
-use comfy_table::{IntoRow, Items, Row, Table};
+use comfy_table::{Cell, IntoRow, Items, Result, Row, Table, row};
 use std::alloc::{Alloc, Global};
-use std::cell::Cell;
+use std::cell;
 use std::process::Abort;
 
 const TWO_ROWS: &str = "\
@@ -41,9 +41,33 @@ fn rows_of_several_kinds_are_added(rt: HostRuntime) {
     assert_added(&rt, two_rows(&rt).into_iter());
 }
 
+// A table of a header and two rows of mixed values.
+fn table_of_bikes(alloc: Global) -> Result<Table> {
+    let bikes = [
+        row![alloc; "17", 3u32, true],
+        row![alloc; "18", 'x', Cell::new(alloc, 1.5)?],
+    ];
+    Table::from_rows(alloc, ["Bike", "Dock", "Fit"], bikes)
+}
+
+#[test]
+fn a_table_is_made_of_rows_of_mixed_values(rt: HostRuntime) {
+    let table = table_of_bikes(rt.alloc()).expect(&rt, "memory");
+    assert_drawn(&rt, &table, BIKES);
+}
+
+const BIKES: &str = "\
++------+------+------+
+| Bike | Dock | Fit  |
++====================+
+| 17   | 3    | true |
+|------+------+------|
+| 18   | x    | 1.5  |
++------+------+------+";
+
 // What a predicate answers that is asked with a number of rows. It keeps that number, and a greater
 // one where it is asked again.
-fn answer(asked: &Cell<Option<usize>>, rows: usize, yes: bool) -> bool {
+fn answer(asked: &cell::Cell<Option<usize>>, rows: usize, yes: bool) -> bool {
     asked.set(Some(asked.get().map_or(rows, |_| usize::MAX)));
     yes
 }
@@ -57,7 +81,7 @@ fn table_of_two(rt: &(impl Abort + Alloc<A = Global>)) -> Table {
 
 // Offers a row to a table of two rows. The predicate is asked once, with 2.
 fn offer_row(rt: &(impl Abort + Alloc<A = Global>), yes: bool, wanted: &str) {
-    let asked = Cell::new(None);
+    let asked = cell::Cell::new(None);
     let mut table = table_of_two(rt);
     table
         .add_row_if(|rows, _row| answer(&asked, rows, yes), ["e", "f"])
@@ -68,7 +92,7 @@ fn offer_row(rt: &(impl Abort + Alloc<A = Global>), yes: bool, wanted: &str) {
 
 // Offers the same row in a list.
 fn offer_rows(rt: &(impl Abort + Alloc<A = Global>), yes: bool, wanted: &str) {
-    let asked = Cell::new(None);
+    let asked = cell::Cell::new(None);
     let mut table = table_of_two(rt);
     table
         .add_rows_if(|rows, _rows| answer(&asked, rows, yes), [["e", "f"]])
