@@ -16,8 +16,8 @@ use std::alloc::Global;
 use std::vec;
 
 impl Table {
-    /// A table with this header and these rows, in the style `ASCII_FULL`. It has as many columns as
-    /// the longest of them has cells.
+    /// A table with this header and these rows, in the style `ASCII_FULL`. It has as many columns
+    /// as the longest of them has cells.
     ///
     /// ```
     /// let bikes = [["17", "dock 3"], ["18", "rented"]];
