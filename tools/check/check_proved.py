@@ -4,8 +4,8 @@
     tools/check/check_proved.py
 
 - docs/PROVED.md: each function, type, clause and field that it names exists, and each public function has a mutation, one
-  of its `try_` form, or stands in OVER_OTHERS. It says how many lines of definitions a reader must believe, for each
-  promise and for all (tools/check/what_is_believed.py).
+  of its `try_` form, or stands in OVER_OTHERS, unless its clauses are equations, which no wrong value meets. The page says
+  how many lines of definitions a reader must believe, for each promise and for all (tools/check/what_is_believed.py).
 - The laws of comfy_table pass on all those of comfy_parts.
 - Each law, and each function of `promises` and `csv_promises`, has a trial that shows a value of which its conclusion is
   false, below a line `-- false: CRATE::laws::NAME` of a file of trials.
@@ -41,6 +41,8 @@ LAWS_ALONE = ["cluster_width"]  # libraries without code
 WORDS = {"IsAfter", "IsTableDrawing", "input_table"}  # definitions, not functions
 # public calls of a few words over functions that have mutations
 OVER_OTHERS = set("add_rows_if style has_custom_styling visible_lines".split())
+# a clause that is an equation of what a call returns, or of what it leaves
+EQUATION = r"(?:(?:\w+ )?result(?:\.\w+)?|self\.new|(?:IfOk|IfSome|OnOk|OnErr) result \((?:λ \w+\. )?[^→×⊎]+) ≡ [^→×⊎]*"
 CALLERS = ["test_callers", "test_csv_cases"]
 TOLD_WITH = {"comfy_run": ["devices"], "csv_tables": ["csv_records", "csv_command"]}  # by one CALLING.md
 STORED = ["csvtable/stdout"]
@@ -52,10 +54,17 @@ def mutated_in(crate):
     return {it.name.split("__")[0] for it in found}
 
 
+def is_exact(function):
+    """Whether the clauses of a function are equations, so that no mutation of it has to be tried."""
+    bodies = ((name, re.sub(r"^ensures\*?(?: \w+)? \{ (.*) \}$", r"\1", " ".join(it.split()))) for name, it in function.clauses)
+    return all(name == "same_reference" or re.fullmatch(EQUATION, body) for name, body in bodies)
+
+
 def wrong_in_section(crate, section):
     """What doesn't agree in the section of a crate: its promises name functions, clauses and fields."""
     wrong, functions, mutated = [], functions_of(crate), mutated_in(crate)
     fields = set(fields_of_drawing())
+    mutated |= {name for name, found in functions.items() if all(map(is_exact, found))}
     for promise in re.findall(r"^Clauses(?: \(\d+ lines\))?: (.*?)\.\n\n", section + "\n\n", re.M | re.S):
         clauses, _, more = " ".join(promise.split()).partition("; ")
         wrong += [f"no field {it}" for it in re.findall(r"`([\w.]+)`", more) if it not in fields | WORDS]
