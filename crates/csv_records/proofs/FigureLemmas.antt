@@ -1,19 +1,18 @@
 -- Spaces around a field, and its figure: where its first digit or decimal mark stands, and where its last one ends.
-use Rattle.std.proofs.Common.{◌≡◌, ◌⊎◌, inl, inr, ◌<◌, ◌≤◌, ◌+◌, ◌-◌, ◌==◌, ◌||◌, ℕ, zero, suc, Bool, true, false, List, [], ◌∷◌, ◌++◌, Option, IsUtf8, chars, drop, take, get_or, length, length-append, unwrap_or, refl, sym, ap, ◌∙◌, subst, arith, rules, tests}
-use Rattle.std.proofs.lemmas.Bool.{and_from, and_parts, cases_lt, cond_both, eqb-true}
-use Rattle.std.proofs.lemmas.List.{get_or-reverse, length-reverse, reverse-append, reverse-reverse, take-append-le, take_all}
-use Rattle.std.proofs.lemmas.List.Sums.{prefix_len-le-length, prefix_len_stops, suffix_len-le-length}
+use Rattle.std.proofs.Common.{◌≡◌, ◌⊎◌, inl, inr, ◌<◌, ◌≤◌, ◌+◌, ◌-◌, ◌==◌, ◌||◌, ℕ, zero, suc, Bool, true, false, List, [], ◌∷◌, ◌++◌, Option, IsUtf8, chars, take, get_or, length, length-append, unwrap_or, refl, sym, ap, ◌∙◌, subst, arith, rules, tests}
+use Rattle.std.proofs.lemmas.Bool.{and_from, and_parts, cases_lt}
+use Rattle.std.proofs.lemmas.List.{reverse-append, reverse-reverse, take-append-le, take_all}
+use Rattle.std.proofs.lemmas.List.Sums.{prefix_len-le-length, prefix_len_stops}
 use Rattle.std.proofs.lemmas.Slice.Eq.{bytes_eq-Decides}
 use Rattle.std.proofs.lemmas.Str.{IsCharBoundary-after_ascii, IsCharBoundary-before_ascii, IsCharBoundary-end, IsCharBoundary-start, scalars-chars}
 use lib.Dec.{eqb}
 use mathlib.Core.Bool.{cond}
 use mathlib.Core.List.{reverse}
-use Rattle.std.proofs.lemmas.List.Folds.{prefix_len-append}
 use Rattle.std.specs.Char.{is_ascii_uppercase}
 use Rattle.std.specs.List.{list_all, position, prefix_len, suffix_len}
 use Rattle.std.specs.Str.{IsCharBoundary, all_scalars, bytes_eq}
 use Rattle.comfy_parts.specs.Text.{Text}
-use Rattle.csv_records.specs.Number.{before, begins, currency_codes, ends, is_among, is_code, is_inner, is_one, is_outer, to_other, without_last}
+use Rattle.csv_records.specs.Number.{begins, currency_codes, is_among, is_code, is_inner, is_one, is_outer, to_other, without_last}
 use Rattle.csv_records.proofs.NumberLemmas.{chars-none}
 
 -- ---- the end of a list
@@ -35,21 +34,6 @@ module _ (p : ℕ → Bool) (xs : List ℕ) (c : ℕ) where
       let none : suffix_len p (xs ++ c ∷ []) ≡ 0 = ap (prefix_len p) reversed ∙ (rw is refl) in
       ap (λ (n : ℕ). take (length (xs ++ c ∷ []) - n) (xs ++ c ∷ [])) none ∙ take_all (length (xs ++ c ∷ []) - 0) (xs ++ c ∷ []) (omega arith)
 
--- before a first element that doesn't pass, as much is taken off as without it
-pub to_other-first : (p : ℕ → Bool) (x : ℕ) (xs : List ℕ) → p x ≡ false → to_other p (x ∷ xs) ≡ x ∷ to_other p xs
-to_other-first p x xs is =
-    let alone : prefix_len p (x ∷ []) ≡ 0 = rw is refl in
-    let same : suffix_len p (x ∷ xs) ≡ suffix_len p xs =
-    ap (prefix_len p) (reverse-append (x ∷ []) xs) ∙ prefix_len-append p (reverse xs) (x ∷ []) ∙ by_all (prefix_len p (x ∷ [])) alone in
-    let within = suffix_len-le-length p xs in
-    let more : length (x ∷ xs) - suffix_len p (x ∷ xs) ≡ suc (length xs - suffix_len p xs) = omega (arith, same, within) in
-    ap (λ (n : ℕ). take n (x ∷ xs)) more
-  where
-    by_all : (n : ℕ) → n ≡ 0 → cond (eqb (prefix_len p (reverse xs)) (length (reverse xs))) (length (reverse xs) + n) (prefix_len p (reverse xs)) ≡ prefix_len p (reverse xs)
-    by_all n none =
-        cond_both (eqb (prefix_len p (reverse xs)) (length (reverse xs))) (length (reverse xs) + n) (prefix_len p (reverse xs)) (λ (m : ℕ). m ≡ prefix_len p (reverse xs))
-        (λ all. omega (arith, none, eqb-true (prefix_len p (reverse xs)) (length (reverse xs)) all)) (λ other. refl)
-
 -- from the end back
 pub by_end : (P : List ℕ → Type 0) → P [] → ((xs : List ℕ) (c : ℕ) → P xs → P (xs ++ c ∷ [])) → (xs : List ℕ) → P xs
 by_end P none more xs = subst P (reverse-reverse xs) (over (reverse xs))
@@ -64,16 +48,8 @@ scalars-take zero cs is = refl
 scalars-take (suc n) [] is = refl
 scalars-take (suc n) (c ∷ cs) is = let parts = and_parts _ (all_scalars cs) is in and_from _ _ parts.0 (scalars-take n cs parts.1)
 
-pub scalars-drop : (n : ℕ) (cs : List ℕ) → all_scalars cs ≡ true → all_scalars (drop n cs) ≡ true
-scalars-drop zero cs is = is
-scalars-drop (suc n) [] is = refl
-scalars-drop (suc n) (c ∷ cs) is = scalars-drop n cs (and_parts _ (all_scalars cs) is).1
-
 pub utf8-without_last : (text : Text) → IsUtf8 text → IsUtf8 (without_last text)
 utf8-without_last text utf8 = (take (length (chars text) - 1) (chars text), (scalars-take (length (chars text) - 1) (chars text) (scalars-chars text utf8), refl))
-
-pub utf8-before : (p : ℕ → Bool) (text : Text) → IsUtf8 text → IsUtf8 (before p text)
-utf8-before p text utf8 = cond_both (ends p (chars text)) (without_last text) text IsUtf8 (λ is. utf8-without_last text utf8) (λ none. utf8)
 
 -- ---- where a figure begins and ends
 
@@ -105,17 +81,6 @@ boundary_behind text (suc n) utf8 within inner =
     let one : suc n - 1 ≡ n = omega arith in
     let more : n + 1 ≡ suc n = omega arith in
     subst (IsCharBoundary text) more (IsCharBoundary-after_ascii text n utf8 (omega (arith, within)) (inner_small (get_or text n 0) (ap (λ (k : ℕ). is_outer (get_or text k 0)) (sym one) ∙ inner (omega arith))))
-
--- the last element that isn't taken off doesn't pass
-last_stops : (p : ℕ → Bool) (xs : List ℕ) → 0 < length xs - suffix_len p xs → p (get_or xs (length xs - suffix_len p xs - 1) 0) ≡ false
-last_stops p xs some =
-    let same = length-reverse xs in
-    let below : suffix_len p xs < length xs = omega (arith, some) in
-    let place : length xs - 1 - suffix_len p xs ≡ length xs - suffix_len p xs - 1 = omega (arith, below) in
-    ap (λ (k : ℕ). p (get_or xs k 0)) (sym place) ∙ sym (ap p (get_or-reverse xs (suffix_len p xs) 0 below)) ∙ prefix_len_stops p (reverse xs) 0 (omega (arith, below, same))
-
-pub end_boundary : (text : Text) → IsUtf8 text → IsCharBoundary text (length text - suffix_len is_outer text)
-end_boundary text utf8 = boundary_behind text (length text - suffix_len is_outer text) utf8 (omega arith) (last_stops is_outer text)
 
 -- ---- single characters, and codes
 

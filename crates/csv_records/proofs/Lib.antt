@@ -5,7 +5,6 @@ pub mod ControlLemmas
 pub mod CutLemmas
 pub mod DecimalLemmas
 pub mod DelimiterLemmas
-pub mod EncodingLawLemmas
 pub mod EncodingLemmas
 pub mod FigureLemmas
 pub mod FirstLemmas
@@ -21,7 +20,6 @@ pub mod QuoteLemmas
 pub mod ReadTextLemmas
 pub mod RecordLemmas
 pub mod ShownLemmas
-pub mod SpacesLawLemmas
 pub mod SpacesLemmas
 pub mod TextLemmas
 pub mod WholeLemmas

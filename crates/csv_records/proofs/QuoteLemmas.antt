@@ -1,6 +1,6 @@
 -- A walk from quote to quote finds the one that opens a field which the text's end doesn't close.
 use Rattle.std.proofs.Common.{◌≡◌, ◌≢◌, ◌⊎◌, inl, inr, ◌+◌, ◌-◌, ◌<◌, ◌≤◌, ◌==◌, ◌||◌, ℕ, zero, suc, Bool, true, false, [], ◌∷◌, ◌++◌, ap, arith, drop, eqb-true, length, length-append, refl, subst, sym, take, ◌∙◌}
-use Rattle.std.proofs.Math.Seq.{drop-append_seam, take-add, take-append-add, take-append_seam}
+use Rattle.std.proofs.Math.Seq.{take-add}
 use Rattle.std.proofs.lemmas.Bool.{cases_lt}
 use Rattle.std.proofs.lemmas.List.{drop-drop, drop_more, get_or-drop, length-drop, length-take-le, take-append-drop, take_all, take_more}
 use Rattle.std.proofs.lemmas.List.Sums.{fold-append}
@@ -319,35 +319,6 @@ differs st.InEscape starts quoted = cc starts
 differs st.InComment starts quoted = cc starts
 
 module _ (delimiter : ℕ) (text : Text) where
-  none_later : (one other : Text) (a : IsUnclosed delimiter text one) (b : IsUnclosed delimiter text other) → length a.before < length b.before → ⊥
-  none_later one other a b later = differs (state_after delimiter b.before) b.opens (subst (λ (t : Text). is_in_quoted_field (state_after delimiter t) ≡ true) (sym before) (a.goes_on (length b.before - (length a.before + 1)) (omega (arith, lengths, later, bounds))))
-    where
-      whole : text ≡ a.before ++ 0x22 ∷ a.after
-      whole = a.parts ∙ ap (λ (t : Text). a.before ++ t) a.quote
-
-      lengths : length text ≡ length a.before + length (0x22 ∷ a.after)
-      lengths = ap length whole ∙ length-append a.before (0x22 ∷ a.after)
-
-      bounds : length text ≡ length b.before + length other
-      bounds = ap length b.parts ∙ length-append b.before other
-
-      count : length b.before ≡ length a.before + suc (length b.before - (length a.before + 1))
-      count = omega (arith, later)
-
-      before : b.before ≡ a.before ++ 0x22 ∷ take (length b.before - (length a.before + 1)) a.after
-      before =
-          sym (take-append_seam b.before other) ∙ ap (take (length b.before)) (sym b.parts ∙ whole) ∙ ap (λ (m : ℕ). take m (a.before ++ 0x22 ∷ a.after)) count
-          ∙ take-append-add a.before (0x22 ∷ a.after) (suc (length b.before - (length a.before + 1)))
-
-  pub only_one : (one other : Text) → IsUnclosed delimiter text one → IsUnclosed delimiter text other → one ≡ other
-  only_one one other a b = by_order (cases_lt (length a.before) (length b.before)) (cases_lt (length b.before) (length a.before))
-    where
-      by_order : (length a.before < length b.before) ⊎ (length b.before ≤ length a.before) → (length b.before < length a.before) ⊎ (length a.before ≤ length b.before) → one ≡ other
-      by_order (inl later) order = absurd (none_later one other a b later)
-      by_order (inr le) (inl later) = absurd (none_later other one b a later)
-      by_order (inr le) (inr ge) =
-          let same : length a.before ≡ length b.before = omega (arith, le, ge) in
-          sym (ap (drop (length a.before)) a.parts ∙ drop-append_seam a.before one) ∙ ap (λ (m : ℕ). drop m text) same ∙ ap (drop (length b.before)) b.parts ∙ drop-append_seam b.before other
 
 -- ---- a byte-order mark
 

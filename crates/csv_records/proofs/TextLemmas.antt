@@ -16,7 +16,7 @@ use Rattle.csv.specs.declared.parser.Action.{Action}
 use Rattle.csv.specs.declared.parser.Action.TheVariants as act
 use Rattle.csv.specs.declared.parser.State.{State}
 use Rattle.csv.specs.declared.parser.State.TheVariants as st
-use Rattle.csv_records.specs.Input.{RecordsAreText, config_for}
+use Rattle.csv_records.specs.Input.{config_for}
 
 -- ---- texts
 
@@ -178,9 +178,6 @@ module _ (delimiter : ℕ) (has_quotes : Bool) (ascii : delimiter < 128) where
       let first = next_is_text text s [] [] next read no_fields utf8 found in
       let others = reached_is_text records next.1 s2 next.2 rest first.outside first.rest more in
       (All-cons AllText fields records (subst AllText (sym is) first.fields) others.0, others.1, others.2)
-
-pub records_are_text : (delimiter : ℕ) (has_quotes : Bool) (input : Text) (records : List (List Text)) → RecordsAreText delimiter has_quotes input records
-records_are_text delimiter has_quotes input records ascii utf8 (s, rest, reached, none) = (reached_is_text delimiter has_quotes ascii records st.StartRecord s (strip_bom input) rest refl (without_bom input utf8) reached).0
 
 -- a record that is no text is so by the delimiter
 pub no_ascii : (delimiter : ℕ) (has_quotes : Bool) (input : Text) (before : List (List Text)) (s : State) (rest : Text) (next : FoundRecord) → IsUtf8 input → Reached (config_for delimiter has_quotes) st.StartRecord (strip_bom input) before s rest

@@ -1,12 +1,12 @@
 -- What stands between the fields of a text, and where its records begin.
 -- Source: this library's own; a line `sep=X` is Excel's.
-use Rattle.std.specs.Prelude.{ℕ, zero, suc, ◌≡◌, ◌≢◌, ◌<◌, ◌*◌, ◌==◌, ◌&&◌, ◌||◌, nat_lt, not, Bool, true, false, List, [], ◌∷◌, ◌++◌, Option, Some, None, bytes_eq, codes, drop, is_some, length, map, option_and_then, option_map, take, unwrap_or, if◌then◌else◌}
+use Rattle.std.specs.Prelude.{ℕ, zero, suc, ◌≡◌, ◌<◌, ◌*◌, ◌==◌, ◌&&◌, ◌||◌, nat_lt, not, Bool, true, false, List, [], ◌∷◌, ◌++◌, Option, Some, None, bytes_eq, codes, drop, is_some, length, map, option_and_then, option_map, take, unwrap_or, if◌then◌else◌}
 use Rattle.std.specs.Char.{to_ascii_lowercase}
 use Rattle.std.specs.List.{count_by, filter, find, list_all, position_or_len}
 use Rattle.comfy_parts.specs.Text.{Text, greatest}
 use Rattle.csv.specs.Reading.{records_from, strip_bom}
 use Rattle.csv.specs.declared.parser.State.TheVariants as st
-use Rattle.csv_records.specs.Input.{config_for, line_breaks}
+use Rattle.csv_records.specs.Input.{config_for}
 use Rattle.csv_records.specs.declared.delimiter.Delimiter.{Delimiter}
 use Rattle.csv_records.specs.declared.delimiter.Delimiter.TheVariants.{Auto, Byte, NamedOrTab, Spaces}
 
@@ -43,12 +43,6 @@ below_lines (suc count) text = below_lines count (below_line text)
 -- a text ends in this way
 abbrev pub EndsIn : Text → Text → Type 0
 EndsIn text end = (front : Text) × (text ≡ front ++ end)
-
--- where something follows that many lines, so many line breaks stand before it
-abbrev pub LeavesOutLines : ℕ → Text → Type 0
-LeavesOutLines count text =
-    below_lines count text ≢ []
-    → (front : Text) × (text ≡ front ++ below_lines count text) × (line_breaks front ≡ count)
 
 -- ---- a line that names the delimiter
 

@@ -1,12 +1,9 @@
 -- An input's encoding, and the text that its bytes are.
 -- Source: the Unicode Standard for UTF-16, its mapping CP1252.TXT for Windows-1252.
-use Rattle.std.specs.Prelude.{ℕ, ◌≡◌, ◌-◌, ◌%◌, ◌==◌, ◌&&◌, nat_le, nat_lt, true, List, [], ◌∷◌, ◌++◌, map, drop, length, Option, Some, None, IsUtf8, encode_utf8_all, is_some, if◌then◌else◌, slice_index}
-use Rattle.std.specs.Char.Escape.{encode_utf16}
+use Rattle.std.specs.Prelude.{ℕ, ◌≡◌, ◌-◌, ◌%◌, ◌==◌, ◌&&◌, nat_le, nat_lt, List, [], ◌∷◌, ◌++◌, map, drop, length, Option, Some, None, IsUtf8, encode_utf8_all, is_some, if◌then◌else◌, slice_index}
 use Rattle.std.specs.Char.Utf16.{utf16_chars}
-use Rattle.std.specs.Int.{from_be_bytes, from_le_bytes, to_be_bytes, to_le_bytes, w16}
-use Rattle.std.specs.List.{flat_map}
+use Rattle.std.specs.Int.{from_be_bytes, from_le_bytes, w16}
 use Rattle.std.specs.Option.{unwrap_or}
-use Rattle.std.specs.Str.{IsAscii, all_scalars}
 use Rattle.comfy_parts.specs.Text.{Text}
 use Rattle.csv_records.specs.Delimiter.{below_lines}
 use Rattle.csv_records.specs.Input.{IsTextRefusal, line_number}
@@ -123,23 +120,3 @@ IsRefusedIn Utf16 skip input e = IsUtf16Refusal (utf16_characters skip input) sk
 
 -- ---- laws
 
--- ASCII is its own text in UTF-8 and in Windows-1252
-abbrev pub IsItsOwnText : Text → Type 0
-IsItsOwnText input =
-    IsAscii input → IsDecoded Utf8 0 input input × IsDecoded Cp1252 0 input input
-
-abbrev pub unit_bytes : ByteOrder → ℕ → Text
-unit_bytes LittleEndian u = to_le_bytes w16 u
-unit_bytes BigEndian u = to_be_bytes w16 u
-
--- characters written in UTF-16, behind the byte-order mark
-abbrev pub written_utf16 : ByteOrder → List ℕ → Text
-written_utf16 order characters =
-    flat_map (unit_bytes order) (flat_map encode_utf16 (0xFEFF ∷ characters))
-
--- characters that are written in UTF-16 are found to be, and are read back
-abbrev pub IsReadBack : ByteOrder → List ℕ → Type 0
-IsReadBack order characters =
-    let input = written_utf16 order characters in
-    all_scalars characters ≡ true
-    → (encoding_of None input ≡ Utf16) × IsDecoded Utf16 0 input (encode_utf8_all characters)

@@ -1,6 +1,6 @@
 -- The text of an input, and its records, and why there are none.
 -- Source: this library's own; RFC 4180, as the crate csv reads it, for records.
-use Rattle.std.specs.Prelude.{ℕ, ◌≡◌, ◌+◌, ◌-◌, ◌^◌, ◌<◌, ◌≤◌, ◌==◌, ◌&&◌, ◌||◌, min, nat_lt, not, Bool, false, List, [], ◌∷◌, Some, All, IsUtf8, take, if◌then◌else◌}
+use Rattle.std.specs.Prelude.{ℕ, ◌≡◌, ◌+◌, ◌-◌, ◌^◌, ◌≤◌, ◌==◌, ◌&&◌, ◌||◌, min, nat_lt, not, Bool, false, List, [], ◌∷◌, Some, All, IsUtf8, take, if◌then◌else◌}
 use Rattle.std.specs.List.{list_all}
 use Rattle.std.specs.Str.Lossy.{utf8_valid_len}
 use Rattle.comfy_parts.specs.Text.{Text}
@@ -77,13 +77,6 @@ pub record AreRecordsOf (delimiter : ℕ) (has_quotes : Bool) (input : Text)
     (records : List (List Text)) : Type 0 where
   pub all : AreRecords (config_for delimiter has_quotes) st.StartRecord (strip_bom input) records
   pub are_text : All AllText records
-
--- the records of UTF-8 are UTF-8, where the delimiter is ASCII
-abbrev pub RecordsAreText : ℕ → Bool → Text → List (List Text) → Type 0
-RecordsAreText delimiter has_quotes input records =
-    delimiter < 128 → IsUtf8 input
-    → AreRecords (config_for delimiter has_quotes) st.StartRecord (strip_bom input) records
-    → All AllText records
 
 -- what is returned for a fault of csv's reader
 abbrev pub IsRecordRefusal : ErrorKind → RecordsError → Type 0

@@ -1,10 +1,9 @@
 -- What is so of every number.
 -- Source: this library's own.
-use Rattle.std.specs.Prelude.{◌≡◌, ◌==◌, ◌||◌, ◌++◌, ℕ, Bool, true, IsUtf8, List, [], ◌∷◌, chars, codes, encode_utf8}
+use Rattle.std.specs.Prelude.{◌==◌, ◌||◌, ℕ, Bool, [], ◌∷◌, codes}
 use Rattle.std.specs.Char.{is_ascii_digit, is_ascii_uppercase}
-use Rattle.std.specs.List.{list_all, list_any}
-use Rattle.comfy_parts.specs.Text.{Text}
-use Rattle.csv_records.specs.Number.{is_currency, is_number, is_sign, is_space}
+use Rattle.std.specs.List.{list_any}
+use Rattle.csv_records.specs.Number.{is_currency, is_sign, is_space}
 
 -- `.`, `,`, `_`, `'`, `%` and parentheses
 abbrev pub is_mark : ℕ → Bool
@@ -26,17 +25,3 @@ is_listed c =
     is_ascii_digit c
     || (is_sign c || (is_mark c || (is_letter c || (is_space c || is_currency c))))
 
--- a digit is among these characters, and each of them may stand in a number
-pub record AreOfNumber (characters : List ℕ) : Type 0 where
-  pub digit : list_any is_ascii_digit characters ≡ true
-  pub listed : list_all is_listed characters ≡ true
-
--- a number has a digit, and no characters but those
-abbrev pub IsOfDigits : Text → Type 0
-IsOfDigits text = IsUtf8 text → is_number text ≡ true → AreOfNumber (chars text)
-
--- with one sign at its front a text is a number exactly if it is one with another sign
-abbrev pub SignsAreAlike : ℕ → ℕ → Text → Type 0
-SignsAreAlike sign other text =
-    is_sign sign ≡ true → is_sign other ≡ true → IsUtf8 text
-    → is_number (encode_utf8 sign ++ text) ≡ is_number (encode_utf8 other ++ text)

@@ -1,6 +1,6 @@
 -- Texts whose fields stand between runs of spaces and TABs.
 -- Source: this library's own.
-use Rattle.std.specs.Prelude.{ℕ, ◌≡◌, zero, suc, ◌+◌, ◌-◌, ◌==◌, ◌&&◌, ◌||◌, not, Bool, false, List, [], ◌∷◌, ◌++◌, drop, flat_map, map, max, min, take, if◌then◌else◌, length}
+use Rattle.std.specs.Prelude.{ℕ, zero, suc, ◌+◌, ◌-◌, ◌==◌, ◌&&◌, ◌||◌, not, Bool, false, List, [], ◌∷◌, ◌++◌, drop, flat_map, map, max, min, take, if◌then◌else◌, length}
 use Rattle.std.specs.List.{filter, position_or_len, prefix_len, slice_split, suffix_len}
 use Rattle.std.specs.Char.{is_ascii_whitespace}
 use Rattle.comfy_parts.specs.Text.{Text}
@@ -64,10 +64,3 @@ tabbed_text text =
     flat_map (λ line. tabbed_line (column_gaps (filled_lines text)) line ++ 0x0A ∷ [])
     (filled_lines text)
 
--- a text without its blanks
-abbrev pub without_blanks : Text → Text
-without_blanks text = filter (λ b. not (is_ascii_whitespace b)) text
-
--- where spaces stand between fields, all is read but blanks, in order
-abbrev pub KeepsAllButBlanks : Text → Type 0
-KeepsAllButBlanks text = without_blanks (tabbed_text text) ≡ without_blanks text

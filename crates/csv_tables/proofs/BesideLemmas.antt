@@ -34,15 +34,6 @@ rows-beside true false limit records = limited_numbered limit records
 rows-beside true true limit [] = limited_numbered limit []
 rows-beside true true limit (names ∷ rows) = limited_numbered limit rows
 
--- there are as many
-numbered-length : (n : ℕ) (rows : List (List Text)) → length (numbered_from n rows) ≡ length rows
-numbered-length n [] = refl
-numbered-length n (fields ∷ rows) = ap suc (numbered-length (n + 1) rows)
-
-pub beside-length : (is_numbered : Bool) (rows : List (List Text)) → length (rows_beside is_numbered rows) ≡ length rows
-beside-length true rows = numbered-length 1 rows
-beside-length false rows = refl
-
 -- all but the first
 pub behind_first : {A : Type 0} (xs : List A) (n : ℕ) → n ≡ min (length xs) 1 → drop n xs ≡ drop 1 xs
 behind_first [] zero is = refl

@@ -11,18 +11,18 @@ use Rattle.comfy_table.specs.Laws.{AddsOneColumnEachWhereWritten, HasPrintableCe
 use Rattle.comfy_table.specs.Lines.{cell_delimiter, fitting_indicator}
 use Rattle.comfy_table.specs.Pieces.{shown_infos}
 use Rattle.comfy_table.specs.TableValue.{TableValue, column_cells, measured_rows, shown_columns}
-use Rattle.csv_tables.proofs.BuiltLemmas.{Built, EachOf, each_content, made_of, plain_table}
+use Rattle.csv_tables.proofs.BuiltLemmas.{Built, EachOf, each_content, plain_table}
 use Rattle.csv_tables.proofs.FieldLemmas.{fields_stay}
 use Rattle.csv_tables.proofs.FittingLemmas.{drawn_content, each_drawn}
 use Rattle.csv_tables.proofs.NumberedLemmas.{HoldsOfShort, lines_beside, number_drawn, short_drawn}
 use Rattle.csv_tables.proofs.LineLemmas.{kept_setting}
 use Rattle.csv_tables.proofs.SeenLemmas.{fitting_ellipsis_adds}
 use Rattle.csv_tables.proofs.StraightLemmas.{IsDefaultRowOf, IsSeenTable, default_rows_of, seen_all, seen_table}
-use Rattle.csv_tables.proofs.TextTableLemmas.{EachLine, rows_of_texts, table_of_texts}
+use Rattle.csv_tables.proofs.TextTableLemmas.{EachLine, table_of_texts}
 use Rattle.csv_tables.proofs.WholeColumnLemmas.{IsPaddedColumn}
-use Rattle.csv_tables.proofs.WholeTableLemmas.{IsDrawn, columns-drawn, drawn-is, drawn_plain, drawn_table-is, rows-drawn}
-use Rattle.csv_tables.specs.Drawn.{ContentValue, content_of, is_expanded_for, rows_table}
-use Rattle.csv_tables.specs.Laws.{IsDrawnTable, PrintableLinesHave, PrintableTextsMakePrintableTable, seen_lines}
+use Rattle.csv_tables.proofs.WholeTableLemmas.{IsDrawn, columns-drawn, drawn-is, drawn_table-is, rows-drawn}
+use Rattle.csv_tables.specs.Drawn.{ContentValue, is_expanded_for}
+use Rattle.csv_tables.specs.Laws.{IsDrawnTable, PrintableLinesHave, seen_lines}
 use Rattle.csv_tables.specs.declared.options.Look.{Look}
 use Rattle.csv_tables.specs.declared.options.Options.{Options}
 use Rattle.csv_tables.proofs.SeparatorLemmas.{separated}
@@ -67,17 +67,9 @@ module _ (look : Look) (no_sequences : look.has_sequences ≡ false) (content : 
   of_drawn table widths known = record { printable_cells = printable_cells look no_sequences content table known; indicator_adds_one_column_each = cut_cells look no_sequences content table known widths }
 
   module _ (each : EachOf (All (EachLine IsPrintable look)) content) where
-    printable_rows : (widths : List ℕ) → IsPrintableTable (rows_table look content) widths
-    printable_rows widths =
-        of_drawn (rows_table look content) widths (drawn_plain look IsBareRow content (rows_table look content) (rows_of_texts IsPrintable refl look IsBareRow (default_rows_of IsPrintable refl look) content each))
 
     built_output : (is_expanded : Bool) → Built look IsBareRow content (plain_table is_expanded look content)
     built_output is_expanded = table_of_texts IsPrintable refl look IsBareRow (default_rows_of IsPrintable refl look) content each (number_drawn IsPrintable gives look) is_expanded
-
-pub printable_table : (options : Options) (records : List (List Text)) (table : TableValue) (widths : List ℕ) → PrintableTextsMakePrintableTable options records table widths
-printable_table options records table widths no_sequences each is =
-    let made = made_of (rows_table options.look) (content_of options records) table is in
-    subst (λ t. IsPrintableTable t widths) made.2 (printable_rows options.look no_sequences made.0 (each_content (All (EachLine IsPrintable options.look)) (lines_beside IsPrintable gives options.look) options records made.0 made.1 each) widths)
 
 -- the lines of an output of such records are counted
 pub lines_have : (P : TableValue → ℕ → Type 0) (visible : Bool) (options : Options) (records : List (List Text)) (output : Text) → PrintableLinesHave P visible options records output

@@ -1,6 +1,6 @@
 -- What is so of every output.
 -- Source: this library's own.
-use Rattle.std.specs.Prelude.{◌≡◌, ◌⊎◌, ℕ, ◌+◌, ◌<◌, ◌≤◌, Bool, true, false, List, [], ◌∷◌, ◌++◌, Option, Some, None, Ok, All, Contains, flat_map, length, map, max, slice_get, slice_index, unwrap_or}
+use Rattle.std.specs.Prelude.{◌≡◌, ◌⊎◌, ℕ, ◌+◌, ◌<◌, ◌≤◌, Bool, true, false, List, [], ◌∷◌, ◌++◌, Option, Some, None, Ok, All, Contains, flat_map, length, map, max, slice_get, slice_index}
 use Rattle.std.specs.List.{AllZip, range_with_len}
 use Rattle.comfy_parts.specs.CellValue.{CellValue, plain_cell}
 use Rattle.comfy_parts.specs.Columns.{CharactersFit, IsOneColumnStyle, SelectorsAgree}
@@ -8,52 +8,28 @@ use Rattle.comfy_parts.specs.Text.{Text, is_printable_ascii, measure, spaces}
 use Rattle.comfy_parts.specs.VisibleText.{visible_text}
 use Rattle.comfy_parts.specs.Wrapping.{lines_of_text}
 use Rattle.comfy_table.specs.Arrangement.{IsArranged}
-use Rattle.comfy_table.specs.Drawing.{infos_of, terminated_text_of}
-use Rattle.comfy_table.specs.Pieces.{row_height, shown_infos}
+use Rattle.comfy_table.specs.Drawing.{terminated_text_of}
 use Rattle.comfy_table.specs.FittingTables.{CharactersFitColumn}
 use Rattle.comfy_table.specs.Headline.{LineWidthsSatisfy, IsTableDrawing}
-use Rattle.comfy_table.specs.Laws.{AreLinesOf, HasNoBreak, HasNoControl, IsPrintableTable, IsStyleWithout, count, least_total}
+use Rattle.comfy_table.specs.Laws.{AreLinesOf, HasNoBreak, HasNoControl, IsStyleWithout, count, least_total}
 use Rattle.comfy_table.specs.NewTables.{AreEquallyWide}
 use Rattle.comfy_table.specs.Straight.{EachCell}
 use Rattle.comfy_table.specs.TableValue.{TableValue, column_cells, column_content_width}
 use Rattle.comfy_table.specs.Widths.{shown_count}
-use Rattle.csv_tables.specs.Cells.{field_text, row_for}
+use Rattle.csv_tables.specs.Cells.{field_text}
 use Rattle.csv_records.specs.Cleaning.{visible_of}
 use Rattle.csv_records.specs.Decimals.{byte_of, digits_in, fraction_len, points_of, spaces_behind}
 use Rattle.csv_records.specs.Number.{halves, is_neutral}
 use Rattle.csv_records.specs.declared.decimals.Points.{Points}
-use Rattle.csv_tables.specs.Columns.{count_of, kept_columns}
 use Rattle.csv_tables.specs.Controls.{HasNoStrayControl, IsStyleWithoutControls}
-use Rattle.csv_tables.specs.Drawn.{ContentValue, RendersBeginning, RendersInput, RendersRecords, columns_beside, content_of, drawn_rows, fitting_content, is_expanded_for, names_of, note_for, output_table, record_line, rows_beside, separated_table, table_for}
+use Rattle.csv_tables.specs.Drawn.{ContentValue, RendersBeginning, RendersInput, RendersRecords, content_of, fitting_content, is_expanded_for, note_for, output_table, record_line, separated_table}
 use Rattle.csv_tables.specs.Unbroken.{framed_width, is_unbroken, needed_content, unbroken_columns}
 use Rattle.csv.specs.Records.{AllText}
 use Rattle.csv_tables.specs.declared.options.Expansion.TheVariants.{Auto, Never}
 use Rattle.csv_tables.specs.declared.options.Look.{Look}
 use Rattle.csv_tables.specs.declared.options.Options.{Options}
-use Rattle.csv_tables.specs.declared.options.DrawnColumn.{DrawnColumn}
 
 -- ---- rows
-
--- a row for each record that is drawn, in order, behind its number where that is wanted, with the
--- fields of the same columns, and these are the chosen ones, less those that are left out
-pub record KeepsRows (options : Options) (records : List (List Text))
-    (table : TableValue) : Type 0 where
-  pub columns : List DrawnColumn
-  pub rows :
-      table.rows
-      ≡ map (row_for options.look (columns_beside options.selection.is_numbered columns))
-      (rows_beside options.selection.is_numbered (drawn_rows options records))
-  pub as_many : length table.rows ≡ length (drawn_rows options records)
-  pub chosen :
-      kept_columns (unwrap_or (names_of options.selection.has_header records) [])
-      (count_of (unwrap_or (names_of options.selection.has_header records) [])
-      (drawn_rows options records))
-      options.selection.columns.items options.selection.dropped.items
-      ≡ Ok (map (λ (column : DrawnColumn). column.position) columns)
-
-abbrev pub TableKeepsRows : Options → List (List Text) → TableValue → Type 0
-TableKeepsRows options records table =
-    table_for options records ≡ Ok table → KeepsRows options records table
 
 -- ---- decimal points
 
@@ -109,20 +85,6 @@ IsDrawnTable look content table =
     ≡ separated_table has_separators (output_table (is_expanded_for look content) look content))
 
 -- ---- lines of records
-
--- each row of a table has a line, where a column is drawn
-abbrev pub EachRowHasALine : TableValue → List ℕ → Type 0
-EachRowHasALine table widths =
-    0 < length (shown_infos (infos_of table widths))
-    → All (λ row. 0 < row_height table (infos_of table widths) row) table.rows
-
--- so it is of the table of records, and of that of their fields, where no sequences are kept
-abbrev pub RecordsHaveLines : Options → List (List Text) → ContentValue → TableValue → List ℕ
-    → Type 0
-RecordsHaveLines options records content table widths =
-    options.look.is_markdown ≡ false → options.look.has_sequences ≡ false → All AllText records
-    → content_of options records ≡ Ok content → IsDrawnTable options.look content table
-    → IsArranged table widths → EachRowHasALine table widths
 
 -- ---- widths of lines
 
@@ -318,14 +280,6 @@ abbrev pub PrintableFieldsStay : Look → Text → Type 0
 PrintableFieldsStay look field =
     is_printable_ascii field ≡ true
     → All (λ text. is_printable_ascii text ≡ true) (plain_cell (field_text look field)).text_lines
-
--- for texts of printable ASCII each line of the table is counted, under every width
-abbrev pub PrintableTextsMakePrintableTable : Options → List (List Text) → TableValue → List ℕ
-    → Type 0
-PrintableTextsMakePrintableTable options records table widths =
-    options.look.has_sequences ≡ false
-    → EachText (λ text. is_printable_ascii text ≡ true) options.look records
-    → table_for options records ≡ Ok table → IsPrintableTable table widths
 
 -- ---- control characters
 

@@ -1,5 +1,4 @@
 pub mod Cells
-pub mod ColumnLaws
 pub mod Columns
 pub mod Controls
 pub mod Decimals

@@ -3,24 +3,13 @@
 
 ghost use Rattle.std.specs.Prelude.{Bool, List, ℕ};
 ghost use Rattle.comfy_parts.specs.Text.{Text};
-ghost use Rattle.comfy_table.specs.TableValue.{TableValue};
-ghost use Rattle.csv_tables.specs.ColumnLaws.{KeepsChosenColumns};
 ghost use Rattle.csv_tables.specs.Drawn.{ContentValue};
-ghost use Rattle.csv_tables.specs.Laws.{AutoKeepsWhole, BeginningIsDrawnWithoutControls, ExpandedKeepsWhole, FittingOutputIsStraight, InputIsDrawnWithoutControls, IsFilling, IsWithin, MarkdownOutputIsStraight, MarksStandBelow, NarrowLinesHave, NarrowOutputIsStraight, NeverKeepsWhole, OutputFillsWidth, OutputHoldsNoControls, OutputKeepsToWidth, PrintableFieldsStay, PrintableLinesHave, PrintableTextsMakePrintableTable, RecordsHaveLines, SpacesAloneAreAdded, TableKeepsRows, WholeOutputIsStraight};
+ghost use Rattle.csv_tables.specs.Laws.{AutoKeepsWhole, BeginningIsDrawnWithoutControls, ExpandedKeepsWhole, FittingOutputIsStraight, InputIsDrawnWithoutControls, IsFilling, IsWithin, MarkdownOutputIsStraight, MarksStandBelow, NarrowLinesHave, NarrowOutputIsStraight, NeverKeepsWhole, OutputFillsWidth, OutputHoldsNoControls, OutputKeepsToWidth, PrintableLinesHave, SpacesAloneAreAdded, WholeOutputIsStraight};
 ghost use Rattle.csv_tables.specs.Markdown.{IsReadBack};
 ghost use Rattle.csv_tables.specs.MarkdownLines.{MarkdownGivesRecordsBack};
 ghost use Rattle.csv_tables.specs.OneOutput.{OutputIsOne, OutputOfIsOne};
 ghost use Rattle.csv_tables.specs.declared.options.Look.{Look};
 ghost use Rattle.csv_tables.specs.declared.options.Options.{Options};
-ghost use Rattle.csv_tables.specs.declared.options.Selection.{Selection};
-
-/// Picking columns loses no row. The table has a row for each record that is drawn, in order, with
-/// the fields of the same columns, behind its number where that is wanted. These columns are the
-/// chosen ones, less those that are left out.
-pub fn tables_keep_their_rows()
-    ensures { (options : Options) (records : List (List Text)) (table : TableValue)
-        → TableKeepsRows options records table }
-{}
 
 /// Decimal marks stand below each other, by spaces alone. The table of rows has the fields of its
 /// records with nothing but spaces behind them. In a column with a decimal mark the fraction of
@@ -28,14 +17,6 @@ pub fn tables_keep_their_rows()
 pub fn decimal_marks_stand_below_each_other()
     ensures spaces { (look : Look) (content : ContentValue) → SpacesAloneAreAdded look content }
     ensures marks { (fields : List Text) → MarksStandBelow fields }
-{}
-
-/// The columns that are drawn are there. They are those that words choose and none that others
-/// leave out. None stands twice where no two words choose the same: `-c 1,a` draws a first column
-/// named `a` twice.
-pub fn drawn_columns_are_chosen()
-    ensures { (selection : Selection) (names : List Text) (rows : List (List Text))
-        → KeepsChosenColumns selection names rows }
 {}
 
 /// With a width, a frame line of an output that isn't for Markdown has at most as many characters,
@@ -78,14 +59,6 @@ pub fn auto_keeps_numbers_and_dates_whole()
         → NeverKeepsWhole w look content }
     ensures expanded { (w : ℕ) (look : Look) (content : ContentValue)
         → ExpandedKeepsWhole w look content }
-{}
-
-/// Fields of printable ASCII are drawn as such texts. These make a table of printable ASCII, where
-/// sequences in fields are not kept.
-pub fn printable_texts_make_printable_tables()
-    ensures fields { (look : Look) (field : Text) → PrintableFieldsStay look field }
-    ensures tables { (options : Options) (records : List (List Text)) (table : TableValue)
-        (widths : List ℕ) → PrintableTextsMakePrintableTable options records table widths }
 {}
 
 /// All lines of an output take equally many terminal columns: as they are written, where nothing is
@@ -151,11 +124,3 @@ pub fn outputs_are_one()
         → OutputOfIsOne options records output other }
 {}
 
-/// Each record has a line, and so has each field of an expanded one: a row of the table that is
-/// drawn is at least one line high, under every width and height, where a column is drawn.
-/// Sequences in fields are not kept. In Markdown each record has one line anyway.
-pub fn records_have_lines()
-    ensures { (options : Options) (records : List (List Text)) (content : ContentValue)
-        (table : TableValue) (widths : List ℕ)
-        → RecordsHaveLines options records content table widths }
-{}

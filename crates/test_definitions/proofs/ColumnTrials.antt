@@ -8,7 +8,7 @@ use Rattle.csv_tables.specs.Columns.{less, positions_of_word}
 use Rattle.csv_tables.specs.Columns.ColumnFault.{missing, none_left}
 use Rattle.comfy_parts.specs.declared.style.cell.CellAlignment.TheVariants.{Right}
 use Rattle.csv_records.specs.Numbered.{numbered}
-use Rattle.csv_tables.specs.Drawn.{columns_beside, rows_beside}
+use Rattle.csv_tables.specs.Drawn.{columns_beside}
 use Rattle.csv_tables.specs.Hints.{hint_for}
 
 abbrev texts : List String → List Text
@@ -86,6 +86,3 @@ numbered_without_a_header = refl
 beside_numbers : map (λ is_numbered. columns_beside is_numbered (record { position = 2; alignment = None } ∷ [])) (true ∷ false ∷ []) ≡ (record { position = 0; alignment = Some Right } ∷ record { position = 3; alignment = None } ∷ []) ∷ (record { position = 2; alignment = None } ∷ []) ∷ []
 beside_numbers = refl
 
--- false: csv_tables::laws::tables_keep_their_rows
-number_is_missing : ¬ (texts ("a" ∷ []) ∷ [] ≡ rows_beside true (texts ("a" ∷ []) ∷ []))
-number_is_missing same = cc same

@@ -102,13 +102,3 @@ below_a_line_of_cp1252 = refl
 
 -- ---- what laws refuse
 
--- a letter that isn't ASCII
--- false: csv_records::laws::ascii_is_its_own_text
-accent_is_another_text : ¬ (IsDecoded Cp1252 0 (0xE9 ∷ []) (0xE9 ∷ []))
-unfolding encode
-accent_is_another_text own = let is : 0xE9 ∷ [] ≡ 0xC3 ∷ 0xA9 ∷ [] = own in cc is
-
--- an input without a mark
--- false: csv_records::laws::texts_in_utf16_are_read_back
-without_mark_is_utf8 : ¬ (encoding_of None (0x61 ∷ 0x00 ∷ []) ≡ Utf16)
-without_mark_is_utf8 same = let is : Utf8 ≡ Utf16 = same in cc is

@@ -1,5 +1,5 @@
 -- Which texts and outputs of `csvtable` hold harmful characters, computed.
-use Rattle.std.proofs.Common.{◌≡◌, ℕ, true, false, List, [], ◌∷◌, None, Some, refl, sym, ◌∙◌, subst, ◌<◌, arith}
+use Rattle.std.proofs.Common.{◌≡◌, ℕ, true, false, List, [], ◌∷◌, None, Some, refl, sym, ◌∙◌, subst, ◌<◌}
 use Rattle.std.specs.List.{list_any}
 use Rattle.std.specs.Prelude.{codes, encode_utf8_all}
 use Rattle.std.specs.Str.{NonePass, chars}
@@ -21,9 +21,8 @@ use Rattle.csv_tables.specs.declared.options.RowSeparators.TheVariants.{Styled}
 use Rattle.csv_tables.specs.declared.options.DrawnColumn.{DrawnColumn}
 use Rattle.csv_tables.specs.declared.options.Look.{Look}
 use Rattle.csv_tables.specs.Drawn.{empty_table}
-use Rattle.csv_tables.specs.Laws.{IsLookWithoutControls, EachRowHasALine}
+use Rattle.csv_tables.specs.Laws.{IsLookWithoutControls}
 use Rattle.test_definitions.proofs.TrialTables.{utf8}
-use Rattle.comfy_parts.specs.CellValue.{plain_cell, plain_row}
 
 -- ---- texts
 
@@ -148,7 +147,3 @@ a_style_with_tabs is = true≢false is
 
 -- ---- lines of rows
 
--- a cell without a text line would have no line
--- false: csv_tables::laws::records_have_lines
-no_text_line : ¬ (EachRowHasALine (with_rows (plain_row (record (plain_cell []) { text_lines = [] } ∷ []) ∷ []) (empty_table look)) (1 ∷ []))
-no_text_line each = let is : 0 < 0 = each (omega arith) 0 (plain_row []) (omega arith) in omega (arith, is)

@@ -1,5 +1,5 @@
 -- Quotes that are never closed: what csv's reader is in after a text, and where such a quote stands.
-use Rattle.std.proofs.Common.{◌≡◌, ◌≤◌, ℕ, true, zero, suc, List, [], ◌∷◌, ◌++◌, codes, drop, map, refl, take, arith}
+use Rattle.std.proofs.Common.{◌≡◌, ◌≤◌, ℕ, true, zero, suc, List, [], ◌∷◌, ◌++◌, codes, drop, map, refl, take}
 use Prim.Native.String.{String}
 use Rattle.std.specs.List.{list_all, range_with_len}
 use Rattle.comfy_parts.specs.Text.{Text}
@@ -40,7 +40,3 @@ marked = refl
 doubled : list_all (λ n. is_in_quoted_field (state_after 0x2C (codes "x\n" ++ 0x22 ∷ take n (codes "a\"\"b")))) (range_with_len 0 5) ≡ true
 doubled = refl
 
--- two quotes
--- false: csv_records::laws::unclosed_quotes_stand_alone
-other_quote : ¬ (codes "\"a" ≡ codes "\"b")
-other_quote same = let is : ◌≡◌ {A = ℕ} 0x61 0x62 = cc same in omega (arith, is)

@@ -2,16 +2,15 @@
 use Rattle.std.proofs.Common.{◌≡◌, ℕ, Bool, true, false, List, [], ◌∷◌, ◌++◌, Option, Some, None, Ok, Err, codes, decimal, encode_utf8_all, fold, map, refl, arith, length, take}
 use Prim.Native.String.{String}
 use Rattle.comfy_parts.proofs.Computing.{wrapping}
-use Rattle.comfy_parts.specs.Text.{Text, is_printable_ascii}
+use Rattle.comfy_parts.specs.Text.{Text}
 use Rattle.comfy_parts.specs.declared.style.cell.CellAlignment.TheVariants.{Left, Right}
 use Rattle.std.specs.Char.Unicode.Alphabetic.{alphabetic_ranges, is_alphabetic}
 use Rattle.std.specs.Char.Unicode.Rows.{in_ranges}
 use Rattle.std.specs.Fmt.{digits}
-use Rattle.std.specs.List.{All, list_all, list_any}
-use Rattle.std.specs.Str.{IsUtf8, chars, is_utf8}
-use Rattle.std.proofs.lemmas.Str.{is_utf8-from_IsUtf8}
+use Rattle.std.specs.List.{list_all, list_any}
+use Rattle.std.specs.Str.{chars}
 use Rattle.ucd_category.proofs.Computing.{ucd_category}
-use Rattle.csv.specs.Records.{AllText, field_at}
+use Rattle.csv.specs.Records.{field_at}
 use Rattle.csv_records.specs.Cleaning.{after_piece, pieces, start}
 use Rattle.csv_records.specs.Input.{line_breaks as line_breaks_of, line_number}
 use Rattle.csv_records.specs.declared.cleaning.CleanOptions.{CleanOptions}
@@ -387,12 +386,6 @@ said_in_lines = refl
 abbrev one_row : TableValue
 one_row = with_rows (plain_row (plain_cell (codes "a") ∷ []) ∷ []) (new_table utf8_full)
 
--- two records, and a table of one row
--- false: csv_tables::laws::tables_keep_their_rows
-row_is_missing :
-    ¬ (length one_row.rows ≡ length (limited {A = List Text} None ((codes "a" ∷ []) ∷ (codes "b" ∷ []) ∷ [])))
-row_is_missing same = let is : ◌≡◌ {A = ℕ} 1 2 = same in omega (arith, is)
-
 -- false: csv_records::laws::records_are_one
 one_record_is_not_none : ¬ (◌≡◌ {A = List (List Text)} [] ((codes "a" ∷ []) ∷ []))
 one_record_is_not_none same = cc same
@@ -401,26 +394,9 @@ one_record_is_not_none same = cc same
 other_records : ¬ ((more : List (List Text)) × ((codes "b" ∷ []) ∷ [] ≡ ((codes "a" ∷ []) ∷ []) ++ more))
 other_records found = let is : ◌≡◌ {A = ℕ} 0x62 0x61 = cc found.1 in omega (arith, is)
 
--- false: csv_tables::laws::printable_texts_make_printable_tables
-tab_is_not_printable : ¬ (All (λ text. is_printable_ascii text ≡ true) (codes "\t" ∷ []))
-tab_is_not_printable all = let is : false ≡ true = all 0 (codes "\t") (omega arith) in cc is
-
 -- false: csv_tables::laws::escaped_texts_are_read_back
 line_break_is_read : ¬ (unescaped (codes "<br>") ≡ codes "<br>")
 line_break_is_read same = let is : 0x0A ∷ [] ≡ codes "<br>" = same in cc is
-
--- false: csv_records::laws::lines_are_left_out_as_they_are_counted
-one_break : ¬ (line_breaks_of (codes "a\n") ≡ 2)
-one_break same = let is : ◌≡◌ {A = ℕ} 1 2 = same in omega (arith, is)
-
--- a byte that no text has
--- false: csv_records::laws::records_of_texts_are_texts
-byte_is_no_text : ¬ (All AllText (((0xFF ∷ []) ∷ []) ∷ []))
-unfolding AllText is_utf8 chars
-byte_is_no_text all =
-    let field : IsUtf8 (0xFF ∷ []) = (all 0 ((0xFF ∷ []) ∷ []) (omega arith)).0 in
-    let is : false ≡ true = is_utf8-from_IsUtf8 (0xFF ∷ []) field in
-    cc is
 
 -- ---- cells
 

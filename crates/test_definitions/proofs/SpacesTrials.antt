@@ -1,6 +1,6 @@
 -- Texts whose fields stand between spaces, as other programs write them.
 use Rattle.std.proofs.Common.{◌≡◌, [], codes, refl}
-use Rattle.csv_records.specs.Spaces.{tabbed_text, without_blanks}
+use Rattle.csv_records.specs.Spaces.{tabbed_text}
 
 -- the header has a word more than any record, so its last name is both words
 sizes : tabbed_text (codes "Filesystem  Size Mounted on\n/dev/sda1    20G /\ntmpfs       1.6G /run/user/0\n") ≡ codes "Filesystem\tSize\tMounted on\n/dev/sda1\t20G\t/\ntmpfs\t1.6G\t/run/user/0\n"
@@ -21,7 +21,3 @@ header = refl
 blank : tabbed_text (codes " \n\t\n") ≡ []
 blank = refl
 
--- a text that lost a field holds other bytes
--- false: csv_records::laws::spaces_part_all_fields
-lost : ¬ (without_blanks (codes "a\tc\n") ≡ without_blanks (codes "a b c\n"))
-lost same = let is : codes "ac" ≡ codes "abc" = same in cc is
