@@ -232,9 +232,8 @@ static void expect_refusals_are_said(void) {
     expect_said("ESC in an argument isn't said", TEXT("--\x1b[31m"), "error: ");
 }
 
-/* Whether a call made its drawing fill the room that another one asked for. Some arguments exclude each other. */
+/* Whether a call made its drawing fill the room that another one asked for. */
 static int is_filled(const struct call *asked, const struct call *call) {
-    if (call->status == COMFY_SETTINGS_REFUSED) return asked->status == call->status && asked->needed == call->needed;
     return asked->status == (asked->needed ? COMFY_ROOM_TOO_SMALL : COMFY_DRAWN) && call->status == COMFY_DRAWN
         && call->needed == asked->needed && (!call->needed || call->output[call->needed - 1] == '\n');
 }

@@ -1,16 +1,17 @@
 -- Arguments ask for one thing, so they have one drawing of an input.
-use Rattle.std.proofs.Common.{◌≡◌, inl, inr, ℕ, Bool, false, List, Option, not, ◌||◌, sym, ap, ap₂, ◌∙◌, unwrap_or, subst}
+use Rattle.std.proofs.Common.{◌≡◌, inl, inr, ℕ, Bool, false, List, Option, not, ◌&&◌, ◌||◌, map, sym, ap, ap₂, ◌∙◌, unwrap_or, subst}
 use Rattle.std.specs.Option.{option_map_or}
 use Rattle.std.specs.Prelude.{Some, bytes_eq, codes, option_and_then, if◌then◌else◌}
 use Rattle.std.specs.Str.Parse.{without_leading_plus}
 use Rattle.clap.proofs.WalkLemmas.{first_value-rows, one_text-rows}
 use Rattle.clap.specs.Words.{first_of, first_value, one_of, rows_of}
+use Rattle.clap.specs.Walk.{Row}
 use Rattle.clap.specs.declared.parser.matches.Found.{Found}
 use Rattle.comfy_parts.specs.Text.{Text}
 use Rattle.comfy_parts.specs.declared.style.table_style.TableStyle.{TableStyle}
 use Rattle.csv_records.specs.Numerals.{number_for}
 use Rattle.csv_command.specs.Styles.{is_named, style_for}
-use Rattle.csv_command.specs.Arguments.{AreFound, IsInputParsed, IsLookParsed, AreOptionsParsed, delimiter_for, encoding_for, expansion_for, file_for, is_bold_for, is_given, is_markdown_in, number_found, separators_for, wanted_delimiter, width_for, words_in}
+use Rattle.csv_command.specs.Arguments.{AreFound, IsInputParsed, IsLookParsed, AreOptionsParsed, delimiter_for, encoding_for, expansion_for, file_for, ids_in, is_behind, is_bold_for, is_given, is_given_last, is_markdown_in, number_found, separators_for, wanted_delimiter, width_for, words_in}
 use Rattle.csv_command.specs.declared.arguments.Invocation.{Invocation}
 use Rattle.csv_command.specs.declared.arguments.OutputContext.{OutputContext}
 use Rattle.csv_records.specs.declared.delimiter.Delimiter.{Delimiter}
@@ -47,16 +48,21 @@ module _ (found other : Found) (same : rows_of found ≡ rows_of other) where
   given : (id : Text) → is_given found id ≡ is_given other id
   given id = ap (λ (o : Option Text). option_map_or (λ value. not (bytes_eq value (codes "false"))) o false) (first id)
 
+  given_last : (id one : Text) → is_given_last found id one ≡ is_given_last other id one
+  given_last id one =
+      ap₂ (λ (x y : Bool). x && not (y && is_behind id one (ids_in found))) (given id) (given one)
+      ∙ ap (λ (rows : List Row). is_given other id && not (is_given other one && is_behind id one (map (λ (row : Row). row.id) rows))) same
+
   number : (bits : ℕ) (id : Text) → number_found bits found id ≡ number_found bits other id
   number bits id = ap (option_and_then (λ word. number_for bits (without_leading_plus word))) (one_text-rows found id ∙ ap (one_of id) same ∙ sym (one_text-rows other id))
 
   delimiter : wanted_delimiter found ≡ wanted_delimiter other
   delimiter =
-      ap (λ (b : Bool). if b then Some (Byte 0x09) else delimiter_for (first_value found (codes "delimiter")) (first_value found (codes "file"))) (given (codes "tabs"))
-      ∙ ap₂ (λ (word file : Option Text). if is_given other (codes "tabs") then Some (Byte 0x09) else delimiter_for word file) (first (codes "delimiter")) (first (codes "file"))
+      ap (λ (b : Bool). if b then Some (Byte 0x09) else delimiter_for (first_value found (codes "delimiter")) (first_value found (codes "file"))) (given_last (codes "tabs") (codes "delimiter"))
+      ∙ ap₂ (λ (word file : Option Text). if is_given_last other (codes "tabs") (codes "delimiter") then Some (Byte 0x09) else delimiter_for word file) (first (codes "delimiter")) (first (codes "file"))
 
   markdown : is_markdown_in found ≡ is_markdown_in other
-  markdown = ap₂ (λ (b : Bool) (style : Option Text). b || option_map_or (is_named (codes "markdown")) style false) (given (codes "markdown")) (first (codes "style"))
+  markdown = ap₂ (λ (b : Bool) (style : Option Text). b || option_map_or (is_named (codes "markdown")) style false) (given_last (codes "markdown") (codes "style")) (first (codes "style"))
 
 -- ---- looks
 
@@ -70,9 +76,9 @@ look_is_one context found other same a b is also =
     let given = given found other same in
     let style = is.style ∙ ap style_for (first (codes "style")) ∙ sym also.style in
     let separators =
-    is.separators ∙ ap₂ (λ (rows none : Bool). separators_for rows none (first_value found (codes "style"))) (given (codes "rows")) (given (codes "no-rows"))
-    ∙ ap (separators_for (is_given other (codes "rows")) (is_given other (codes "no-rows"))) (first (codes "style")) ∙ sym also.separators in
-    let expansion = is.expansion ∙ ap₂ expansion_for (given (codes "all-expanded")) (first (codes "expanded")) ∙ sym also.expansion in
+    is.separators ∙ ap₂ (λ (rows none : Bool). separators_for rows none (first_value found (codes "style"))) (given_last found other same (codes "rows") (codes "no-rows")) (given (codes "no-rows"))
+    ∙ ap (separators_for (is_given_last other (codes "rows") (codes "no-rows")) (is_given other (codes "no-rows"))) (first (codes "style")) ∙ sym also.separators in
+    let expansion = is.expansion ∙ ap₂ expansion_for (given_last found other same (codes "all-expanded") (codes "expanded")) (first (codes "expanded")) ∙ sym also.expansion in
     let width = is.width ∙ ap (λ (o : Option ℕ). width_for o context) (number found other same 16 (codes "width")) ∙ sym also.width in
     let fills = is.full ∙ given (codes "full") ∙ sym also.full in
     let height = is.height ∙ number found other same 64 (codes "max-height") ∙ sym also.height in

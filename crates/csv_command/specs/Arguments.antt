@@ -1,11 +1,12 @@
 -- What arguments on the command line ask for.
 -- Source: this library's own; POSIX for COLUMNS, no-color.org for NO_COLOR.
-use Rattle.std.specs.Prelude.{◌≡◌, ◌≢◌, ◌⊎◌, ◌-◌, ℕ, Bool, true, false, not, ◌==◌, ◌&&◌, ◌||◌, nat_le, nat_lt, List, [], ◌∷◌, Option, Some, None, bytes_eq, codes, drop, is_some, length, map, option_and_then, option_map, string_bytes, unwrap_or, if◌then◌else◌}
-use Rattle.std.specs.List.{find, slice_split}
-use Rattle.std.specs.Option.{option_map_or, option_or}
+use Rattle.std.specs.Prelude.{◌≡◌, ◌≢◌, ◌⊎◌, ◌-◌, ℕ, Bool, true, false, not, ◌==◌, ◌&&◌, ◌||◌, nat_le, nat_lt, List, [], ◌∷◌, Option, Some, None, bytes_eq, codes, drop, length, map, option_and_then, option_map, string_bytes, unwrap_or, if◌then◌else◌}
+use Rattle.std.specs.List.{list_any, slice_split}
+use Rattle.std.specs.Option.{option_map_or}
 use Rattle.std.specs.Str.{str_eq_ignore_ascii_case}
 use Rattle.std.specs.Str.Parse.{without_leading_plus}
 use Rattle.clap.specs.Words.{App, IsAmong, fault_of, first_value, kind_of, matches_of, one_text, rows_of, takes}
+use Rattle.clap.specs.Walk.{Row}
 use Rattle.clap.specs.declared.error.Error.{Error}
 use Rattle.clap.specs.declared.error.kind.ErrorKind.{ErrorKind}
 use Rattle.clap.specs.declared.error.kind.ErrorKind.TheVariants.{InvalidValue, OutOfMemory}
@@ -110,51 +111,35 @@ abbrev pub is_given : Found → Text → Bool
 is_given found id =
     option_map_or (λ value. not (bytes_eq value (codes "false"))) (first_value found id) false
 
+-- the options that were found, in the order of their last uses
+abbrev pub ids_in : Found → List Text
+ids_in found = map (λ (row : Row). row.id) (rows_of found)
+
+-- one stands behind another
+abbrev pub is_behind : Text → Text → List Text → Bool
+is_behind id other [] = false
+is_behind id other (it ∷ rest) =
+    if bytes_eq it id
+    then list_any (λ one. bytes_eq one other) rest
+    else is_behind id other rest
+
+-- an option is given, and the other one isn't given behind it
+abbrev pub is_given_last : Found → Text → Text → Bool
+is_given_last found id other =
+    is_given found id && not (is_given found other && is_behind id other (ids_in found))
+
 -- what is to stand between fields
 abbrev pub wanted_delimiter : Found → Option Delimiter
 wanted_delimiter found =
-    if is_given found (codes "tabs")
+    if is_given_last found (codes "tabs") (codes "delimiter")
     then Some (Byte 0x09)
     else delimiter_for (first_value found (codes "delimiter")) (first_value found (codes "file"))
 
 -- a table for Markdown is asked for, by its own argument or as a style
 abbrev pub is_markdown_in : Found → Bool
 is_markdown_in found =
-    is_given found (codes "markdown")
+    is_given_last found (codes "markdown") (codes "style")
     || option_map_or (is_named (codes "markdown")) (first_value found (codes "style")) false
-
--- both of two options are given
-abbrev pub are_both_given : Found → Text × Text → Bool
-are_both_given found pair = is_given found pair.0 && is_given found pair.1
-
--- the options that exclude each other
-abbrev pub exclusive_options : List (Text × Text)
-exclusive_options =
-    (codes "tabs", codes "delimiter") ∷ (codes "markdown", codes "style")
-    ∷ (codes "rows", codes "no-rows") ∷ (codes "all-expanded", codes "expanded") ∷ []
-
--- those that a table for Markdown excludes
-abbrev pub not_beside_markdown : List Text
-not_beside_markdown =
-    codes "width" ∷ codes "full" ∷ codes "all-expanded" ∷ codes "expanded" ∷ codes "max-height"
-    ∷ codes "ansi" ∷ codes "raw" ∷ []
-
--- what asks for a table for Markdown
-abbrev pub markdown_option : Found → Text
-markdown_option found =
-    if is_given found (codes "markdown") then codes "markdown" else codes "style markdown"
-
--- that, and the first option that was found and that such a table excludes
-abbrev pub clash_with_markdown : Found → Option (Text × Text)
-clash_with_markdown found =
-    if is_markdown_in found
-    then option_map (λ id. (markdown_option found, id)) (find (is_given found) not_beside_markdown)
-    else None
-
--- the first two options that were found and exclude each other
-abbrev pub first_clash : Found → Option (Text × Text)
-first_clash found =
-    option_or (find (are_both_given found) exclusive_options) (clash_with_markdown found)
 
 -- where lines between rows are drawn: by the arguments for them, else by the style
 abbrev pub separators_for : Bool → Bool → Option Text → RowSeparators
@@ -193,11 +178,11 @@ words_in (Some list) = slice_split (λ b. b == 0x2C) list
 pub record IsLookParsed (context : OutputContext) (found : Found) (look : Look) : Type 0 where
   pub style : look.style ≡ style_for (first_value found (codes "style"))
   pub separators :
-      look.separators ≡ separators_for (is_given found (codes "rows"))
+      look.separators ≡ separators_for (is_given_last found (codes "rows") (codes "no-rows"))
       (is_given found (codes "no-rows")) (first_value found (codes "style"))
   pub expansion :
-      look.expansion ≡ expansion_for (is_given found (codes "all-expanded"))
-      (first_value found (codes "expanded"))
+      look.expansion ≡ expansion_for
+      (is_given_last found (codes "all-expanded") (codes "expanded")) (first_value found (codes "expanded"))
   pub width : look.width ≡ width_for (number_found 16 found (codes "width")) context
   pub full : look.fills_width ≡ is_given found (codes "full")
   pub height : look.max_height ≡ number_found 64 found (codes "max-height")
@@ -242,12 +227,11 @@ pub record AreFound (arguments : List Text) (found : Found) : Type 0 where
   pub is_csvtable : IsCsvtable app
   pub is_found : rows_of found ≡ matches_of app arguments
 
--- what is asked for follows from such values, none of which exclude each other
+-- what is asked for follows from such values
 pub record IsParsed (arguments : List Text) (context : OutputContext)
     (invocation : Invocation) : Type 0 where
   pub found : Found
   pub are_found : AreFound arguments found
-  pub no_clash : first_clash found ≡ None
   pub options : AreOptionsParsed context found invocation.options
   pub file : option_map string_bytes invocation.file ≡ file_for (first_value found (codes "file"))
 
@@ -259,11 +243,11 @@ pub record AreNotTaken (arguments : List Text) (kind : ErrorKind) : Type 0 where
   pub not_taken : takes app arguments ≡ false
   pub is_kind : IsAmong kind (fault_of app arguments)
 
--- arguments of which such options are found that exclude each other, or a delimiter that is none
+-- arguments of which a delimiter is found that is none
 pub record AreFoundInVain (arguments : List Text) : Type 0 where
   pub found : Found
   pub are_found : AreFound arguments found
-  pub in_vain : (is_some (first_clash found) ≡ true) ⊎ (wanted_delimiter found ≡ None)
+  pub in_vain : wanted_delimiter found ≡ None
 
 -- why nothing is asked for: the arguments aren't taken, or were found in vain, which is told as an
 -- invalid value, or there is no memory

@@ -1,26 +1,10 @@
--- What is said of options that exclude each other, and of words that are no numbers.
+-- What is said of words that are to be numbers and are none.
 -- Source: this library's own.
 use Rattle.std.specs.Prelude.{ℕ, ◌-◌, ◌^◌, Bool, false, ◌||◌, nat_le, List, [], ◌∷◌, ◌++◌, Option, Some, None, bytes_eq, codes, decimal, option_and_then, if◌then◌else◌}
 use Rattle.std.specs.Option.{option_map_or, option_or}
 use Rattle.std.specs.Str.Parse.{without_leading_plus}
 use Rattle.comfy_parts.specs.Text.{Text}
 use Rattle.csv_records.specs.Numerals.{number_for}
-
--- ---- options that exclude each other
-
--- an option on a command line: by its name, or by its letter where it has no name
-abbrev pub shown_option : Text → Text
-shown_option id =
-    if bytes_eq id (codes "tabs") then codes "-t"
-    else if bytes_eq id (codes "all-expanded") then codes "-x"
-    else codes "--" ++ id
-
--- what is said of two that exclude each other
-abbrev pub clash_reason : Text → Text → Text
-clash_reason one other =
-    (shown_option one ++ codes " can't be used with ") ++ shown_option other
-
--- ---- numbers
 
 -- the greatest number that may stand behind an option
 abbrev pub greatest_behind : Text → Option ℕ

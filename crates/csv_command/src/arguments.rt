@@ -5,9 +5,9 @@ ghost use Rattle.std.specs.List.{slice_split};
 ghost use Rattle.clap.specs.Words.{app_of, first_value, found_of, kind_of};
 ghost use Rattle.clap.specs.declared.error.kind.ErrorKind.TheVariants.{OutOfMemory};
 ghost use Rattle.csv_command.specs.Program.{IsCsvtable};
-ghost use Rattle.csv_command.specs.Arguments.{IsInputParsed, IsParsed, IsRefusedBy, IsLookParsed, AreOptionsParsed, IsSelectionParsed, delimiter_by, delimiter_for, encoding_for, expansion_for, file_for, has_end, is_bold_for, is_bold_there, is_given, is_markdown_in, separators_for, some_columns, some_width, terminal_width, wanted_delimiter, wants_color, width_for, words_in};
+ghost use Rattle.csv_command.specs.Arguments.{IsInputParsed, IsParsed, IsRefusedBy, IsLookParsed, AreOptionsParsed, IsSelectionParsed, delimiter_by, delimiter_for, encoding_for, expansion_for, file_for, has_end, ids_in, is_behind, is_bold_for, is_bold_there, is_given, is_given_last, is_markdown_in, separators_for, some_columns, some_width, terminal_width, wanted_delimiter, wants_color, width_for, words_in};
 
-use crate::mistakes::{first_clash, reason_of_clash, reason_of_number};
+use crate::mistakes::reason_of_number;
 use crate::options::command;
 use crate::styles::{is_compact, is_named, style_names, style_of};
 use clap::error::ErrorKind;
@@ -54,9 +54,9 @@ pub struct OutputContext<'a> {
 }
 
 /// What these arguments ask for; the first one is the program's name. Help, the version and
-/// arguments that aren't known are returned as errors, as clap has them, and so are options that
-/// exclude each other, and a delimiter that is none. All that is asked for follows from the values
-/// that clap finds for the program's options, and from the context.
+/// arguments that aren't known are returned as errors, as clap has them, and so is a delimiter that
+/// is none. Of two options that say different things of one, the last one counts. All that is asked
+/// for follows from the values that clap finds for the program's options, and from the context.
 pub fn parse<'a>(
     alloc: Global,
     arguments: &'a [&'a str],
@@ -86,10 +86,6 @@ fn parse_by<'a>(
         Ok(matches) => matches,
         Err(error) => return Err(explained(alloc, command, arguments, error)),
     };
-    if let Some((one, other)) = first_clash(&matches) {
-        let reason = reason_of_clash(alloc, one, other)?;
-        return Err(refusal(command, ErrorKind::InvalidValue, reason.as_str()));
-    }
     match wanted_delimiter(&matches) {
         Some(delimiter) => Ok(invocation_of(alloc, &matches, delimiter, context)?),
         None => Err(refusal(command, ErrorKind::InvalidValue, NO_DELIMITER)),
@@ -146,11 +142,11 @@ fn refusal<'a>(command: &mut Command<'a>, kind: ErrorKind, reason: &str) -> Erro
     said.unwrap_or_else(Error::from)
 }
 
-/// Whether a table for Markdown is asked for.
-pub(crate) fn is_markdown<'a>(matches: &ArgMatches<'a>) -> bool
+// Whether a table for Markdown is asked for.
+fn is_markdown<'a>(matches: &ArgMatches<'a>) -> bool
     ensures { result ≡ is_markdown_in (found_of matches.now) }
 {
-    if is_given(matches, "markdown") {
+    if is_given_last(matches, "markdown", "style") {
         return true;
     }
     match matches.get_str("style") {
@@ -159,14 +155,35 @@ pub(crate) fn is_markdown<'a>(matches: &ArgMatches<'a>) -> bool
     }
 }
 
-/// Whether a flag is set, or an option has a value.
-pub(crate) fn is_given<'a>(matches: &ArgMatches<'a>, id: &str) -> bool
+// Whether a flag is set, or an option has a value.
+fn is_given<'a>(matches: &ArgMatches<'a>, id: &str) -> bool
     ensures { result ≡ is_given (found_of matches.now) id.now }
 {
     match matches.get_str(id) {
         Some(value) => value != "false",
         None => false,
     }
+}
+
+// Whether an option is given, and the other one isn't given behind it.
+fn is_given_last<'a>(matches: &ArgMatches<'a>, id: &str, other: &str) -> bool
+    ensures { result ≡ is_given_last (found_of matches.now) id.now other.now }
+{
+    is_given(matches, id) && !(is_given(matches, other) && is_behind(matches, id, other))
+}
+
+// Whether the other option was used behind this one: clap has them in the order of their last uses.
+fn is_behind<'a>(matches: &ArgMatches<'a>, id: &str, other: &str) -> bool
+    ensures { result ≡ is_behind id.now other.now (ids_in (found_of matches.now)) }
+{
+    let mut was_found = false;
+    for it in matches.ids() {
+        if was_found && it == other {
+            return true;
+        }
+        was_found = was_found || it == id;
+    }
+    false
 }
 
 // The file that an argument names; none for standard input.
@@ -184,7 +201,7 @@ fn file_of(alloc: Global, word: Option<&str>) -> Result<Option<String>, AllocErr
 fn wanted_delimiter<'a>(matches: &ArgMatches<'a>) -> Option<Delimiter>
     ensures { result ≡ wanted_delimiter (found_of matches.now) }
 {
-    if is_given(matches, "tabs") {
+    if is_given_last(matches, "tabs", "delimiter") {
         Some(Delimiter::Byte(b'\t'))
     } else {
         delimiter_of(matches.get_str("delimiter"), matches.get_str("file"))
@@ -289,12 +306,12 @@ fn look_of<'a>(matches: &ArgMatches<'a>, context: OutputContext<'_>) -> Look
     Look {
         style: style_of(style),
         separators: separators_of(
-            is_given(matches, "rows"),
+            is_given_last(matches, "rows", "no-rows"),
             is_given(matches, "no-rows"),
             style,
         ),
         expansion: expansion_of(
-            is_given(matches, "all-expanded"),
+            is_given_last(matches, "all-expanded", "expanded"),
             matches.get_str("expanded"),
         ),
         width: width_of(matches.get_one::<u16>("width"), context),

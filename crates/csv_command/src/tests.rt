@@ -318,40 +318,6 @@ fn assert_refused<'a>(
     assert_eq!(rt; line.strip_prefix("error: ").unwrap_or(""), reason);
 }
 
-// Two options that exclude each other are named, the first such pair.
-#[test]
-fn options_that_exclude_each_other(rt: HostRuntime) {
-    let cases = [
-        (
-            ["csvtable", "--rows", "--no-rows", "-n"],
-            "--rows can't be used with --no-rows",
-        ),
-        (
-            ["csvtable", "-t", "-d", ","],
-            "-t can't be used with --delimiter",
-        ),
-        (
-            ["csvtable", "-x", "--expanded", "auto"],
-            "-x can't be used with --expanded",
-        ),
-        (
-            ["csvtable", "--markdown", "-w", "20"],
-            "--markdown can't be used with --width",
-        ),
-        (
-            ["csvtable", "-s", "Markdown", "--raw"],
-            "--style markdown can't be used with --raw",
-        ),
-        (
-            ["csvtable", "--markdown", "-xs", "grid"],
-            "--markdown can't be used with --style",
-        ),
-    ];
-    for (arguments, reason) in &cases {
-        assert_refused(&rt, arguments.as_slice(), reason);
-    }
-}
-
 // The numbers that an option takes are named. A word behind `--` is none of an option's.
 #[test]
 fn words_that_are_no_numbers(rt: HostRuntime) {

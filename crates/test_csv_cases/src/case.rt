@@ -19,6 +19,8 @@ pub struct Case {
     is_terminal: bool,
     columns: Option<String>,
     no_color: Option<String>,
+    // whether a line can't be read
+    is_unread: bool,
 }
 
 impl Case {
@@ -33,6 +35,7 @@ impl Case {
             is_terminal: false,
             columns: None,
             no_color: None,
+            is_unread: false,
         }
     }
 
@@ -49,8 +52,15 @@ impl Case {
         }
         match line.split_once(' ') {
             Some((kind, rest)) => self.set(kind, rest),
-            None => Ok(()),
+            None if line.is_empty() => Ok(()),
+            None => self.refuse(),
         }
+    }
+
+    // A case with a line that can't be read has no output that is wanted.
+    fn refuse(&mut self) -> Result<(), AllocError> {
+        self.is_unread = true;
+        Ok(())
     }
 
     fn set(&mut self, kind: &str, rest: &str) -> Result<(), AllocError> {
@@ -60,7 +70,7 @@ impl Case {
             "input" => self.add_line(rest),
             "byte" => match rest.parse::<u8>() {
                 Ok(byte) => Ok(self.input.push(byte)?),
-                Err(_) => Ok(()),
+                Err(_) => self.refuse(),
             },
             "terminal" => {
                 self.is_terminal = rest == "yes";
@@ -74,7 +84,8 @@ impl Case {
                 self.no_color = Some(String::from_str(self.alloc, rest)?);
                 Ok(())
             }
-            _ => Ok(()),
+            "#" => Ok(()),
+            _ => self.refuse(),
         }
     }
 
@@ -133,6 +144,6 @@ impl Case {
 
     /// Whether this is the output that is wanted.
     pub fn is_wanted(&self, drawn: &str) -> bool {
-        self.wanted.as_str() == drawn
+        !self.is_unread && self.wanted.as_str() == drawn
     }
 }

@@ -28,7 +28,7 @@ mistakes : map faults (("--wide" ∷ []) ∷ ("a" ∷ "b" ∷ "-h" ∷ []) ∷ (
 unfolding clap_on_literals
 mistakes = refl
 
--- two options that exclude each other, and two delimiters, are taken by clap
+-- two options that say different things of one are taken by clap
 taken : map faults (("--rows" ∷ "--no-rows" ∷ []) ∷ ("-t" ∷ "-d" ∷ "," ∷ []) ∷ ([]) ∷ []) ≡ [] ∷ [] ∷ [] ∷ []
 unfolding clap_on_literals
 taken = refl

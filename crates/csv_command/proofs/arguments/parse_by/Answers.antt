@@ -1,5 +1,4 @@
-use Rattle.std.proofs.Common.{Option, ap, inl, inr, is_some, ◌∙◌, sym}
-use Rattle.comfy_parts.specs.Text.{Text}
+use Rattle.std.proofs.Common.{inl, inr, ◌∙◌, sym}
 use Rattle.clap.specs.Words.{app_of, found_of}
 use Rattle.csv_command.proofs.ProgramLemmas.{csvtable_is_free, csvtable_is_simple, not_taken}
 use Rattle.csv_command.proofs.arguments.parse_by.Goals as goal
@@ -10,24 +9,13 @@ returns-in-Err-clause-refused c other =
     let kinds = c.in-Err.ensures.kinds (csvtable_is_free _ c.requires) in
     rw kind (inl (not_taken (app_of c.args.command.now) _ c.in-Err.error c.requires c.in-Err.ensures.passes kinds (λ none. other (kind ∙ none))))
 
-pub returns-in-Some-clause-refused : goal.returns-in-Some-clause-refused
-returns-in-Some-clause-refused c no_memory =
-    inr (
-      record {
-        found = found_of c.in-Ok.matches;
-        are_found = record { app = app_of c.args.command.now; is_csvtable = c.requires; is_found = (c.in-Ok.ensures.ok.2 (csvtable_is_simple _ c.requires)).0 };
-        in_vain = inl (ap (λ (clash : Option (Text × Text)). is_some clash) (sym (rw c.in-Some.is at c.first_clash.ensures)));
-      },
-      c.refusal.ensures no_memory,
-    )
-
 pub returns-clause-refused : goal.returns-clause-refused
 returns-clause-refused c no_memory =
     inr (
       record {
         found = found_of c.in-Ok.matches;
         are_found = record { app = app_of c.args.command.now; is_csvtable = c.requires; is_found = (c.in-Ok.ensures.ok.2 (csvtable_is_simple _ c.requires)).0 };
-        in_vain = inr (sym c.wanted_delimiter.ensures ∙ c.in-None.is);
+        in_vain = sym c.wanted_delimiter.ensures ∙ c.in-None.is;
       },
       c.refusal-in-None.ensures no_memory,
     )
@@ -37,7 +25,6 @@ returns-in-Some-wanted_delimiter-clause-ok c =
     record {
       found = found_of c.in-Ok.matches;
       are_found = record { app = app_of c.args.command.now; is_csvtable = c.requires; is_found = (c.in-Ok.ensures.ok.2 (csvtable_is_simple _ c.requires)).0 };
-      no_clash = sym (rw c.in_default.is at c.first_clash.ensures);
       options = c.in_ok-invocation_of-in-Some-wanted_delimiter.ensures.options;
       file = c.in_ok-invocation_of-in-Some-wanted_delimiter.ensures.file;
     }
