@@ -10,7 +10,6 @@ pub mod FigureLemmas
 pub mod FirstLemmas
 pub mod ForeignLemmas
 pub mod LineLemmas
-pub mod NumberLawLemmas
 pub mod NumberLemmas
 pub mod NumeralLemmas
 pub mod OneRecordLemmas

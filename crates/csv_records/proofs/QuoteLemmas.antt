@@ -318,8 +318,6 @@ differs st.AfterQuote starts quoted = cc starts
 differs st.InEscape starts quoted = cc starts
 differs st.InComment starts quoted = cc starts
 
-module _ (delimiter : ℕ) (text : Text) where
-
 -- ---- a byte-order mark
 
 -- how many bytes are passed over

@@ -1,20 +1,31 @@
 -- Digits alone, as `1024`: nothing stands around them, and where they are no name they are a number.
-use Rattle.std.proofs.Common.{◌≡◌, ◌&&◌, ◌||◌, ◌==◌, ◌+◌, ℕ, Bool, true, false, nat_lt, List, [], ◌∷◌, ◌++◌, Option, None, Some, not, option_map, drop, take, encode_utf8_all, get_or, length, refl, sym, ap, ap₂, ◌∙◌, subst, rules, tests}
+use Rattle.std.proofs.Common.{◌≡◌, ◌&&◌, ◌||◌, ◌==◌, ◌+◌, ◌-◌, ◌<◌, ℕ, Bool, true, false, nat_lt, List, [], ◌∷◌, ◌++◌, Option, None, Some, not, option_map, drop, take, encode_utf8_all, get_or, length, refl, sym, ap, ap₂, ◌∙◌, subst, rules, tests}
 use Rattle.std.proofs.lemmas.Bool.{and_parts, eqb-true}
 use Rattle.std.proofs.lemmas.List.Folds.{list_all-append, list_all_at}
 use Rattle.std.proofs.lemmas.List.Quantifiers.{position-Some}
-use Rattle.std.proofs.lemmas.Str.{IsUtf8-from_ascii, chars-nil, encodes-chars}
+use Rattle.std.proofs.lemmas.Str.{IsUtf8-from_ascii, chars-IsAscii, chars-nil, encodes-chars}
+use Rattle.std.proofs.lemmas.Str.Ascii.{IsAscii-cons, IsAscii-nil}
 use Rattle.std.specs.Char.{is_ascii_digit}
 use Rattle.std.specs.List.{list_all, position, prefix_len}
-use Rattle.std.specs.Str.{chars}
+use Rattle.std.specs.Str.{IsAscii, chars}
 use Rattle.comfy_parts.specs.Text.{Text}
 use Rattle.csv_records.proofs.FigureLemmas.{by_end, to_other-stops}
-use Rattle.csv_records.proofs.NumberLawLemmas.{ascii_digits, chars-digits}
 use Rattle.csv_records.specs.Decimals.{digits_in}
 use Rattle.csv_records.specs.Number.{back_of, ends, figure_of, from_other, front_of, halves, is_bare_number, is_digits, is_name, is_number, is_outer, is_space, to_other, trimmed, without_spaces_before}
 
 abbrev AreDigits : Text → Type 0
 AreDigits text = list_all is_ascii_digit text ≡ true
+
+digit_small : (c : ℕ) → is_ascii_digit c ≡ true → c < 128
+digit_small c is = search (rules, tests)
+
+ascii_digits : (text : Text) → AreDigits text → IsAscii text
+ascii_digits [] is = IsAscii-nil
+ascii_digits (b ∷ bs) is = let parts = and_parts (is_ascii_digit b) (list_all is_ascii_digit bs) is in IsAscii-cons b bs (digit_small b parts.0) (ascii_digits bs parts.1)
+
+-- digits are their own characters
+chars-digits : (text : Text) → AreDigits text → chars text ≡ text
+chars-digits text is = chars-IsAscii text (ascii_digits text is)
 
 first_of : (b : ℕ) (bs : Text) → AreDigits (b ∷ bs) → is_ascii_digit b ≡ true
 first_of b bs all = (and_parts (is_ascii_digit b) (list_all is_ascii_digit bs) all).0

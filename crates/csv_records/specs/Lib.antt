@@ -8,7 +8,6 @@ pub mod First
 pub mod Foreign
 pub mod Input
 pub mod Number
-pub mod NumberLaws
 pub mod Numbered
 pub mod Numerals
 pub mod Pieces

@@ -3,7 +3,6 @@ pub mod BlankFieldLemmas
 pub mod BlankLemmas
 pub mod BuiltLemmas
 pub mod CleanCharacterLemmas
-pub mod ColumnLawLemmas
 pub mod ColumnLemmas
 pub mod DecimalLawLemmas
 pub mod DecimalLemmas
@@ -15,7 +14,6 @@ pub mod FittingLemmas
 pub mod KeptFieldLemmas
 pub mod KeptWidthLemmas
 mod KindLemmas
-pub mod LinedLemmas
 pub mod LineLemmas
 pub mod MarkdownDrawingLemmas
 pub mod MarkdownLineLemmas

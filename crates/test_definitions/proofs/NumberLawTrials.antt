@@ -1,11 +1,8 @@
--- Texts of which the laws on numbers would be false, and columns of which those on chosen columns would be.
-use Rattle.std.proofs.Common.{◌≡◌, true, false, List, [], ◌∷◌, codes, refl}
+-- What is a number behind a sign.
+use Rattle.std.proofs.Common.{◌≡◌, true, false, codes, refl}
 use Rattle.std.specs.Str.{chars}
 use Rattle.ucd_category.proofs.Computing.{ucd_category}
-use Rattle.comfy_parts.specs.Text.{Text}
 use Rattle.csv_records.specs.Number.{is_number}
-
--- ---- numbers
 
 -- behind another character than a sign there is no number
 no_sign : ¬ (is_number (codes "-5") ≡ is_number (codes "x5"))
@@ -20,9 +17,3 @@ enclosed = refl
 enclosed_behind_a_sign : is_number (codes "-(5)") ≡ false
 unfolding chars lib.Utf8.encode ucd_category is_number
 enclosed_behind_a_sign = refl
-
--- ---- columns
-
-abbrev names : List Text
-names = codes "a" ∷ codes "b" ∷ []
-
