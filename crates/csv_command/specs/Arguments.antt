@@ -182,7 +182,8 @@ pub record IsLookParsed (context : OutputContext) (found : Found) (look : Look) 
       (is_given found (codes "no-rows")) (first_value found (codes "style"))
   pub expansion :
       look.expansion ≡ expansion_for
-      (is_given_last found (codes "all-expanded") (codes "expanded")) (first_value found (codes "expanded"))
+      (is_given_last found (codes "all-expanded") (codes "expanded"))
+      (first_value found (codes "expanded"))
   pub width : look.width ≡ width_for (number_found 16 found (codes "width")) context
   pub full : look.fills_width ≡ is_given found (codes "full")
   pub height : look.max_height ≡ number_found 64 found (codes "max-height")
