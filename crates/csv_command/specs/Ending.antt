@@ -24,8 +24,8 @@ use Rattle.csv_tables.specs.declared.error.CsvError.{CsvError}
 use Rattle.csv_tables.specs.declared.error.CsvError.TheVariants as err
 use Rattle.csv_command.specs.declared.ending.Outcome.{Outcome}
 use Rattle.csv_command.specs.declared.ending.Ending.{Ending}
-use Rattle.csv_command.specs.declared.ending.Said.{Said}
-use Rattle.csv_command.specs.declared.ending.Said.TheVariants as said
+use Rattle.csv_command.specs.declared.ending.Message.{Message}
+use Rattle.csv_command.specs.declared.ending.Message.TheVariants as said
 
 -- a name in a message
 abbrev pub shown_name : Text → Text
@@ -127,10 +127,10 @@ doubt_line file delimiter =
     ++ codes " for the delimiter; -d names another\n"
 
 -- what is said before the input is read: that it's waited for, where a terminal is to give it
-abbrev pub said_before : Option Text → Bool → Text
-said_before None true = codes "csvtable: reading from the terminal; end with Ctrl-D\n"
-said_before None false = []
-said_before (Some path) is_terminal = []
+abbrev pub waiting_notice : Option Text → Bool → Text
+waiting_notice None true = codes "csvtable: reading from the terminal; end with Ctrl-D\n"
+waiting_notice None false = []
+waiting_notice (Some path) is_terminal = []
 
 -- the line where an argument isn't UTF-8
 abbrev pub argument_not_utf8 : Text
@@ -148,21 +148,21 @@ abbrev pub no_memory : Text
 no_memory = codes "csvtable: out of memory\n"
 
 -- what is said
-abbrev pub text_of : Said → Text
+abbrev pub text_of : Message → Text
 text_of said.Nothing = []
 text_of said.OutOfMemory = no_memory
 text_of said.NotUtf8 = argument_not_utf8
-text_of said.Unwritten = output_unwritten
-text_of said.Full = output_full
+text_of said.WriteFailed = output_unwritten
+text_of said.WouldBlock = output_full
 text_of (said.Text text) = string_bytes text
 
 -- P holds of the text that is said, or there is no memory for it
-abbrev pub Says : (Text → Type 0) → Said → Type 0
+abbrev pub Says : (Text → Type 0) → Message → Type 0
 Says P said.Nothing = ⊥
 Says P said.OutOfMemory = Unit {0}
 Says P said.NotUtf8 = ⊥
-Says P said.Unwritten = ⊥
-Says P said.Full = ⊥
+Says P said.WriteFailed = ⊥
+Says P said.WouldBlock = ⊥
 Says P (said.Text text) = P (string_bytes text)
 
 -- the status is n, and nothing is said
@@ -171,7 +171,7 @@ pub record IsSilent (n : ℕ) (ending : Ending) : Type 0 where
   pub silent : ending.said ≡ said.Nothing
 
 -- the status is n, and this line, for which no memory is needed, is said on standard error
-pub record IsLine (n : ℕ) (line : Said) (ending : Ending) : Type 0 where
+pub record IsLine (n : ℕ) (line : Message) (ending : Ending) : Type 0 where
   pub status : ending.status ≡ n
   pub is_message : ending.is_message ≡ true
   pub said : ending.said ≡ line
@@ -186,8 +186,8 @@ pub record IsMessage (n : ℕ) (P : Text → Type 0) (ending : Ending) : Type 0 
 -- ended nothing is said
 abbrev pub IsEndOfUnwritten : Option IoErrorKind → Ending → Type 0
 IsEndOfUnwritten (Some io.BrokenPipe) ending = IsSilent 1 ending
-IsEndOfUnwritten (Some io.WouldBlock) ending = IsLine 1 said.Full ending
-IsEndOfUnwritten _ ending = IsLine 1 said.Unwritten ending
+IsEndOfUnwritten (Some io.WouldBlock) ending = IsLine 1 said.WouldBlock ending
+IsEndOfUnwritten _ ending = IsLine 1 said.WriteFailed ending
 
 -- the end after an error
 abbrev pub IsEndOfError : Outcome → CsvError → Ending → Type 0

@@ -2,8 +2,8 @@
 
 ghost use Rattle.std.specs.Prelude.{◌≡◌, ◌++◌, IfErr, IfOk, OnOk, option_map, string_bytes, true};
 ghost use Rattle.clap.specs.Words.{kind_of};
-ghost use Rattle.csv_command.specs.declared.ending.Said.TheVariants.{OutOfMemory, Text};
-ghost use Rattle.csv_command.specs.Ending.{IsEndOfOutcome, IsEndOfRefusal, IsEndOfUnwritten, IsEndWithoutArguments, IsHarmless, IsSilent, about, columns_reason, decoding_reason, delimiter_name, doubt_line, encoding_hint, is_of_input, message_for, reading_reason, reason_for, records_reason, text_of, foreign_reason, said_before};
+ghost use Rattle.csv_command.specs.declared.ending.Message.TheVariants.{OutOfMemory, Text};
+ghost use Rattle.csv_command.specs.Ending.{IsEndOfOutcome, IsEndOfRefusal, IsEndOfUnwritten, IsEndWithoutArguments, IsHarmless, IsSilent, about, columns_reason, decoding_reason, delimiter_name, doubt_line, encoding_hint, is_of_input, message_for, reading_reason, reason_for, records_reason, text_of, foreign_reason, waiting_notice};
 
 use crate::arguments::Invocation;
 use clap::error::{Error, ErrorKind};
@@ -36,35 +36,36 @@ pub(crate) struct Ending {
     /// Whether what is said goes to standard error.
     pub is_message: bool,
     /// What is said.
-    pub said: Said,
+    pub said: Message,
 }
 
 /// What the program says at its end.
 #[derive(Drop)]
-pub(crate) enum Said {
+pub(crate) enum Message {
     Nothing,
     OutOfMemory,
     /// That an argument isn't UTF-8.
     NotUtf8,
     /// That the output can't be written.
-    Unwritten,
+    WriteFailed,
     /// That it takes no more for now.
-    Full,
+    WouldBlock,
     Text(String),
 }
 
-impl Said {
+impl Message {
     /// The text that is said.
     pub(crate) fn text(&self) -> &str
         ensures { result.now ≡ text_of self.now }
     {
         match self {
-            Said::Nothing => "",
-            Said::OutOfMemory => "csvtable: out of memory\n",
-            Said::NotUtf8 => ARGUMENT_NOT_UTF8,
-            Said::Unwritten => "csvtable: the output can't be written\n",
-            Said::Full => "csvtable: the output takes no more for now; is it nonblocking?\n",
-            Said::Text(text) => text.as_str(),
+            Message::Nothing => "",
+            Message::OutOfMemory => "csvtable: out of memory\n",
+            Message::NotUtf8 => ARGUMENT_NOT_UTF8,
+            Message::WriteFailed => "csvtable: the output can't be written\n",
+            Message::WouldBlock =>
+                "csvtable: the output takes no more for now; is it nonblocking?\n",
+            Message::Text(text) => text.as_str(),
         }
     }
 }
@@ -90,13 +91,13 @@ pub(crate) fn ending_of_outcome(alloc: Global, drawing: &Outcome<'_>) -> Ending
         Ok(None) => silent(0),
         Ok(Some(delimiter)) => {
             let text = doubt_line(alloc, &drawing.invocation.file, *delimiter);
-            message(0, said_of(text))
+            ending_with(0, message_of_text(text))
         }
         Err(CsvError::Write) => ending_of_unwritten(drawing.output_fault),
-        Err(CsvError::OutOfMemory) => message(FAILED, Said::OutOfMemory),
+        Err(CsvError::OutOfMemory) => ending_with(FAILED, Message::OutOfMemory),
         Err(error) => {
             let text = message_of(alloc, drawing.invocation, drawing.fault, error);
-            message(FAILED, said_of(text))
+            ending_with(FAILED, message_of_text(text))
         }
     }
 }
@@ -108,8 +109,8 @@ fn ending_of_unwritten(fault: Option<io::ErrorKind>) -> Ending
 {
     match fault {
         Some(io::ErrorKind::BrokenPipe) => silent(FAILED),
-        Some(io::ErrorKind::WouldBlock) => message(FAILED, Said::Full),
-        _ => message(FAILED, Said::Unwritten),
+        Some(io::ErrorKind::WouldBlock) => ending_with(FAILED, Message::WouldBlock),
+        _ => ending_with(FAILED, Message::WriteFailed),
     }
 }
 
@@ -119,13 +120,13 @@ pub(crate) fn ending_of_refusal(alloc: Global, error: &Error) -> Ending
     ensures { IsEndOfRefusal (kind_of error.now) result }
 {
     match error.kind() {
-        ErrorKind::OutOfMemory => message(FAILED, Said::OutOfMemory),
+        ErrorKind::OutOfMemory => ending_with(FAILED, Message::OutOfMemory),
         ErrorKind::DisplayHelp | ErrorKind::DisplayVersion => Ending {
             status: 0,
             is_message: false,
-            said: said_of(text_of_clap(alloc, error)),
+            said: message_of_text(text_of_clap(alloc, error)),
         },
-        _ => message(MISUSED, said_of(text_of_clap(alloc, error))),
+        _ => ending_with(MISUSED, message_of_text(text_of_clap(alloc, error))),
     }
 }
 
@@ -135,8 +136,8 @@ pub(crate) fn ending_without_arguments(kind: io::ErrorKind) -> Ending
     ensures { IsEndWithoutArguments kind result }
 {
     match kind {
-        io::ErrorKind::InvalidData => message(MISUSED, Said::NotUtf8),
-        _ => message(FAILED, Said::OutOfMemory),
+        io::ErrorKind::InvalidData => ending_with(MISUSED, Message::NotUtf8),
+        _ => ending_with(FAILED, Message::OutOfMemory),
     }
 }
 
@@ -146,11 +147,11 @@ fn silent(status: u8) -> Ending
     Ending {
         status,
         is_message: true,
-        said: Said::Nothing,
+        said: Message::Nothing,
     }
 }
 
-fn message(status: u8, said: Said) -> Ending
+fn ending_with(status: u8, said: Message) -> Ending
     ensures { result ≡ record { status = status; is_message = true; said = said } }
 {
     Ending {
@@ -161,13 +162,13 @@ fn message(status: u8, said: Said) -> Ending
 }
 
 // A text, or that there is no memory for it.
-fn said_of(text: Result<String, AllocError>) -> Said
+fn message_of_text(text: Result<String, AllocError>) -> Message
     ensures text { IfOk text (λ t. result ≡ Text t) }
     ensures no_memory { IfErr text (λ _. result ≡ OutOfMemory) }
 {
     match text {
-        Ok(text) => Said::Text(text),
-        Err(_) => Said::OutOfMemory,
+        Ok(text) => Message::Text(text),
+        Err(_) => Message::OutOfMemory,
     }
 }
 
@@ -236,8 +237,8 @@ fn about(alloc: Global, is_of_input: bool, file: &Option<String>) -> Result<Stri
 
 /// What is said before the input is read: that it is waited for, where no file is named and
 /// standard input is a terminal.
-pub(crate) fn said_before(file: &Option<String>, is_terminal: bool) -> &'static str
-    ensures { result.now ≡ said_before (option_map string_bytes file.now) is_terminal }
+pub(crate) fn waiting_notice(file: &Option<String>, is_terminal: bool) -> &'static str
+    ensures { result.now ≡ waiting_notice (option_map string_bytes file.now) is_terminal }
 {
     match file {
         None if is_terminal => "csvtable: reading from the terminal; end with Ctrl-D\n",

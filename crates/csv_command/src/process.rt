@@ -3,7 +3,7 @@
 
 use crate::arguments::{Invocation, OutputContext, parse};
 use crate::ending::{
-    Ending, Outcome, ending_of_outcome, ending_of_refusal, ending_without_arguments, said_before,
+    Ending, Outcome, ending_of_outcome, ending_of_refusal, ending_without_arguments, waiting_notice,
 };
 use csv_tables::{CsvError, draw};
 use devices::{FromReader, ToWriter, Uninterrupted, arguments_of_process, write_all};
@@ -87,7 +87,7 @@ fn variable(rt: &HostRuntime, name: &str) -> Result<Option<String>, AllocError> 
 
 // Draws the file, or standard input.
 fn run(rt: &HostRuntime, invocation: &Invocation) -> Ending {
-    let said = said_before(&invocation.file, rt.stdin().is_terminal());
+    let said = waiting_notice(&invocation.file, rt.stdin().is_terminal());
     let _ = write_all(&mut writer_of(rt.stderr()), said.as_bytes());
     let mut sink = writer_of(rt.stdout());
     let (result, fault) = drawn(rt, &mut sink, invocation);

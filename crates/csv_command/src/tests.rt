@@ -2,7 +2,7 @@
 
 use crate::arguments::{Invocation, OutputContext, parse};
 use crate::ending::{
-    Ending, Outcome, ending_of_outcome, ending_of_refusal, ending_without_arguments, said_before,
+    Ending, Outcome, ending_of_outcome, ending_of_refusal, ending_without_arguments, waiting_notice,
 };
 use csv_records::{DecodeError, Foreign, RecordsError};
 use csv_tables::{ColumnsError, CsvError};
@@ -88,7 +88,7 @@ fn a_terminal_is_waited_for(rt: HostRuntime) {
     ];
     for (arguments, is_terminal, said) in &cases {
         let invocation = parse_by(&rt, arguments.as_slice());
-        assert_eq!(rt; said_before(&invocation.file, *is_terminal), *said);
+        assert_eq!(rt; waiting_notice(&invocation.file, *is_terminal), *said);
     }
 }
 
