@@ -3,13 +3,11 @@
 
     tools/check/check_proved.py
 
-- docs/PROVED.md: each function, type, clause and field that it names exists, and each public function has a mutation, one
-  of its `try_` form, or stands in OVER_OTHERS, unless its clauses are equations, which no wrong value meets. The page says
-  how many lines of definitions a reader must believe, for each promise and for all (tools/check/what_is_believed.py).
+- docs/PROVED.md: its counts and its list of functions are what tools/check/what_is_believed.py writes.
 - The laws of comfy_table pass on all those of comfy_parts.
 - Each law, and each function of `promises` and `csv_promises`, has a trial that shows a value of which its conclusion is
   false, below a line `-- false: CRATE::laws::NAME` of a file of trials.
-- README.md: each label that it cites is a heading of PROVED.md, and what it prints is the output of the stored run.
+- README.md: what it prints is the output of the stored run.
 - CALLING.md: each clause and signature that it quotes stands in the source of the library, of one that it tells of too, or
   of a caller.
 - docs/DIFFERENCES.md: each name that only one of the original and this library has is there (tools/check/new_items.py).
@@ -30,7 +28,7 @@ from definitions import LIBRARIES, PROMISES, TOP, files_of, functions_of, source
 from mutations import must_fail_of, mutations_of
 from new_items import unlisted
 from reach import unreached
-from what_is_believed import fields_of_drawing, updated
+from what_is_believed import updated
 
 sys.path.append(f"{TOP}/tools/make")  # its tools make what is compared here
 from doc_examples import wrong_examples
@@ -38,11 +36,6 @@ from manual import wrong_files
 from pictures import wrong_pictures
 
 LAWS_ALONE = ["cluster_width"]  # libraries without code
-WORDS = {"IsAfter", "IsTableDrawing", "input_table"}  # definitions, not functions
-# public calls of a few words over functions that have mutations
-OVER_OTHERS = set("add_rows_if style has_custom_styling visible_lines".split())
-# a clause that is an equation of what a call returns, or of what it leaves
-EQUATION = r"(?:(?:\w+ )?result(?:\.\w+)?|self\.new|(?:IfOk|IfSome|OnOk|OnErr) result \((?:λ \w+\. )?[^→×⊎]+) ≡ [^→×⊎]*"
 CALLERS = ["test_callers", "test_csv_cases"]
 TOLD_WITH = {"comfy_run": ["devices"], "csv_tables": ["csv_records", "csv_command"]}  # by one CALLING.md
 STORED = ["csvtable/stdout"]
@@ -52,41 +45,6 @@ def mutated_in(crate):
     """The functions that a crate's mutations are named after."""
     found = mutations_of(f"{TOP}/crates/{crate}") + must_fail_of(f"{TOP}/crates/{crate}")
     return {it.name.split("__")[0] for it in found}
-
-
-def is_exact(function):
-    """Whether the clauses of a function are equations, so that no mutation of it has to be tried."""
-    bodies = ((name, re.sub(r"^ensures\*?(?: \w+)? \{ (.*) \}$", r"\1", " ".join(it.split()))) for name, it in function.clauses)
-    return all(name == "same_reference" or re.fullmatch(EQUATION, body) for name, body in bodies)
-
-
-def wrong_in_section(crate, section):
-    """What doesn't agree in the section of a crate: its promises name functions, clauses and fields."""
-    wrong, functions, mutated = [], functions_of(crate), mutated_in(crate)
-    fields = set(fields_of_drawing())
-    mutated |= {name for name, found in functions.items() if all(map(is_exact, found))}
-    for promise in re.findall(r"^Clauses(?: \(\d+ lines\))?: (.*?)\.\n\n", section + "\n\n", re.M | re.S):
-        clauses, _, more = " ".join(promise.split()).partition("; ")
-        wrong += [f"no field {it}" for it in re.findall(r"`([\w.]+)`", more) if it not in fields | WORDS]
-        named = re.findall(r"`([A-Z]\w+)`", clauses)
-        for of_type in set(named) - WORDS:
-            public = [(name, it) for name in functions for it in functions[name] if it.is_public]
-            own = {name for name, it in public if of_type in it.places}
-            wrong += [f"{crate} has no mutation of {of_type}::{it}" for it in own - mutated - OVER_OTHERS]
-            wrong += [f"{crate} has no type {of_type}"] * (not own)
-        for it in re.finditer(r"`([\w:]+)`(?: \(([^)]*)\))?", clauses):
-            *place, name = it[1].split("::")
-            if not place and name in named:
-                continue
-            found = [one for one in functions.get(name, []) if set(place[-1:]) <= one.places]
-            if not found and name not in WORDS:
-                wrong.append(f"{crate} has no function {it[1]}")
-            known = {clause for one in found for clause, _ in one.clauses}
-            wrong += [f"{it[1]} has no clause {clause}" for clause in re.findall(r"\w+", it[2] or "") if clause not in known]
-            is_law = place[-1:] == ["laws"] or crate in LAWS_ALONE
-            if not is_law and not {name, f"try_{name}"} & mutated and name not in OVER_OTHERS | WORDS:
-                wrong.append(f"{crate} has no mutation of {it[1]}")
-    return wrong
 
 
 def laws():
@@ -179,15 +137,8 @@ def wrong_links():
 
 def main():
     page, readme, wrong = text_of("docs/PROVED.md"), text_of("README.md"), []
-    for section in re.split(r"^## ", page, flags=re.M)[1:]:
-        crate = section.split("\n")[0]
-        if os.path.isdir(f"{TOP}/crates/{crate}"):
-            wrong += wrong_in_section(crate, section)
     for crate in os.listdir(f"{TOP}/crates"):
         wrong += [f"{crate} has no function {it}, which a mutation names" for it in mutated_in(crate) - set(functions_of(crate))]
-    labels = {"P0", *re.findall(r"^### (P\d+) ", page, re.M)}
-    for group in re.findall(r"\[(P\d+(?:, P\d+)*)\]", readme):
-        wrong += [f"README.md cites {it}, which isn't a heading" for it in group.split(", ") if it not in labels]
     wrong += [f"README.md doesn't print crates/{path}" for path in STORED if text_of(f"crates/{path}") not in readme]
     for language, path in (("rust", "crates/example_first/src/main.rt"), ("python", "packages/python/examples/boats.py")):
         code = re.search(rf"^```{language}\n(.*?)^```", readme, re.M | re.S)[1]
@@ -199,8 +150,7 @@ def main():
     wrong += [f"{path} isn't what tools/make/manual.py makes" for path in wrong_files()]
     wrong += [f"{path} isn't what tools/make/pictures.py makes" for path in wrong_pictures()]
     wrong += wrong_links()
-    counted = zip(page.splitlines(), updated(page).splitlines())
-    wrong += [f"docs/PROVED.md hasn't this count: {new}" for old, new in counted if old != new]
+    wrong += [f"docs/PROVED.md hasn't this line: {it}" for it in updated(page).splitlines() if it not in page.splitlines()]
     passed_on = re.search(r"^pub use comfy_parts::laws::\{(.*?)\};", text_of("crates/comfy_table/src/laws.rt"), re.M | re.S)[1]
     of_parts = re.findall(r"^pub fn (\w+)", text_of("crates/comfy_parts/src/laws.rt"), re.M)
     wrong += [f"comfy_table::laws doesn't pass on {it}" for it in set(of_parts) ^ set(re.findall(r"\w+", passed_on))]
@@ -208,7 +158,7 @@ def main():
     wrong += unreached()
     wrong += wrong_lines()
     wrong += [f"{path} doesn't say where its rules come from" for path in without_source()]
-    print("\n".join(wrong) or f"{len(labels)} labels: all found")
+    print("\n".join(wrong) or "all agree")
     return 1 if wrong else 0
 
 

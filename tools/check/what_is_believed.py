@@ -1,20 +1,20 @@
 #!/usr/bin/env python3
 """Prints what a reader must believe for a promise: its clauses, and each definition below them.
 
-    tools/check/what_is_believed.py P20
     tools/check/what_is_believed.py promises::straight_lines
+    tools/check/what_is_believed.py comfy_table::lines
     tools/check/what_is_believed.py
     tools/check/what_is_believed.py --update
 
-A promise is a heading of docs/PROVED.md, or a function of `promises` or `csv_promises`. With no
-word it lists them all, each with its lines. With --update it writes these into the page: after
-`Clauses`, in the sentence on all of them, and at the end of a table's row that names a function.
+A promise is a function of `promises` or `csv_promises`; it takes a function of any other library
+too. With no word it lists the promises, each with its lines. With --update it writes docs/PROVED.md
+anew: these lines at the end of a table's row that names a promise, those of all in a sentence, and
+the list of functions with their files.
 
 A clause stands on the words in it, on the types in the function's signature, and on the ghost
 members of its block. A type of src/ stands for its model, where it has one, else for its
 declaration. What a model's fields hold is said by the clauses of calls, so their types aren't
-followed; and an invariant is proved of each value. Where a promise names fields of
-`IsTableDrawing`, such as `edges` or `edges.straight`, these alone are followed.
+followed; and an invariant is proved of each value.
 
 The promise's own file comes first. A function of `promises` or `csv_promises` is printed with its
 body, since what it returns is part of the promise. Comments count as lines; clauses, bodies and
@@ -27,12 +27,10 @@ import sys
 from dataclasses import replace
 
 from definitions import (
-    LIBRARIES, PROMISES, TOP, crate_of, definitions_in, files_of, functions_of, imports_of,
-    members, path_of, text_of, types,
+    LIBRARIES, PROMISES, TOP, crate_of, definitions_in, files_of, functions_in, functions_of,
+    imports_of, members, path_of, sources_of, text_of, types,
 )
 
-DRAWING = "crates/comfy_table/specs/Headline.antt"  # IsTableDrawing, and the records of its fields
-FIELD = r"(?:^  --.*\n)*^  pub (\w+) :.*(?:\n    .*)*"
 WORD = r"(?<![\w.'-])[A-Za-z_][\w']*(?![\w'-])"
 
 
@@ -90,71 +88,33 @@ def standing_below(starts, is_followed):
     return list(found), list(others)
 
 
-def with_fields(names):
-    """IsTableDrawing and the records of its fields, each with the named fields alone, if any."""
-    for (one,) in definitions_in(DRAWING).values():
-        kept = [it for it in re.finditer(FIELD, one.text, re.M) if it[1] in names]
-        if kept:
-            head = re.split(r"(?<= where)\n", one.text)[0]
-            yield replace(one, text="\n".join([head, *(it[0] for it in kept)]))
-
-
-def fields_of_drawing():
-    """The fields of IsTableDrawing as a page names them, those of their records by a path."""
-    def fields(name):
-        (one,) = definitions_in(DRAWING).get(name, [None])
-        return re.findall(r"^  pub (\w+) : (\w+)", one.text, re.M) if one else []
-
-    for name, of_record in fields("IsTableDrawing"):
-        yield from [name, *(f"{name}.{own}" for own, _ in fields(of_record))]
-
-
-def start_of(function, clauses):
-    """What a promise begins with: a function with some of its clauses, and its block's members."""
+def start_of(function):
+    """What a promise begins with: a function with its clauses, and its block's members."""
     one = function.signature
     indent = re.match(" *", one.text)[0] + "    "
-    text = "\n".join([one.text, *(indent + clause for _, clause in clauses)])
+    text = "\n".join([one.text, *(indent + clause for _, clause in function.clauses)])
     return [replace(one, text=text), *function.members]
 
 
-def promises(page):
-    """For each promise of the page its label, its crate, and the text that names its clauses."""
-    for section in re.split(r"^## ", page, flags=re.M)[1:]:
-        crate = section.split("\n")[0]
-        for label, body in re.findall(r"^### (P\d+) (.*?)(?=^### |\Z)", section, re.M | re.S):
-            given = re.search(r"^Clauses[^:]*: (.*?)\.\n\n", body + "\n\n", re.M | re.S)
-            if given and crate in LIBRARIES:
-                yield label, crate, " ".join(given[1].split())
+def all_starts(crates=PROMISES):
+    """What each public function of these crates begins with, by its label."""
+    return {
+        f"{crate}::{name}": start_of(one)
+        for crate in crates for name, found in functions_of(crate).items() for one in found if one.is_public
+    }
 
 
-def starts_of(crate, clauses):
-    """What a promise begins with: first IsTableDrawing with the fields that it names, if any."""
-    functions = functions_of(crate)
-    names, _, more = clauses.partition("; ")
-    words = re.findall(r"\w+", " ".join(re.findall(r"`([\w.]+)`", more)))
-    found = list(with_fields({"widths", *words})) if words else []
-    for of_type in re.findall(r"`([A-Z]\w+)`", names):
-        for one in (it for group in functions.values() for it in group):
-            found += start_of(one, one.clauses) if of_type in one.places and one.is_public else []
-    for it in re.finditer(r"`([\w:]+)`(?: \(([^)]*)\))?", names):
-        *place, name = it[1].split("::")
-        wanted = re.findall(r"\w+", it[2] or "")
-        for one in functions.get(name, []):
-            of_drawing = [it for it in one.clauses if more and "IsTableDrawing" in it[1]]
-            chosen = [it for it in one.clauses if not wanted or it[0] in wanted]
-            if set(place[-1:]) <= one.places:
-                found += start_of(one, of_drawing or chosen)
-    return found
-
-
-def all_starts(page):
-    """What each promise begins with, of the page and of the crates of promises, by its label."""
-    found = {label: starts_of(crate, clauses) for label, crate, clauses in promises(page)}
-    for crate in PROMISES:
-        for name, (one, *_) in functions_of(crate).items():
-            if one.is_public:
-                found[f"{crate}::{name}"] = start_of(one, one.clauses)
-    return found
+def listed_functions():
+    """The public functions of the libraries that have clauses, file by file, as lines of a page."""
+    for crate in (it for it in LIBRARIES if it not in PROMISES):
+        yield from [f"### {crate}", ""]
+        for path in sources_of(crate):
+            found = [(name, one) for name, one in functions_in(path) if one.is_public and one.clauses]
+            of_types = [re.match(r"(?:pub trait|impl(?:<.*?>)?) (?:.* for )?(\w+)", one.signature.head) for _, one in found]
+            names = [f"`{of_type[1]}::{name}`" if of_type else f"`{name}`" for of_type, (name, _) in zip(of_types, found)]
+            if names:
+                yield f"- `{path.split('/src/')[1]}`: {', '.join(names)}"
+        yield ""
 
 
 def believed(starts):
@@ -185,12 +145,11 @@ def updated(page):
     ghosts = sum(map(len, members().values()))
     page = re.sub(r"the \d+ lines of definitions", f"the {lines} lines of definitions", page)
     page = re.sub(r"the \d+ ghost members", f"the {ghosts} ghost members", page)
-    for label, starts in all_starts(page).items():
+    for label, starts in all_starts().items():
         count = count_of(believed(starts)[0])
-        clauses = rf"(^### {label} (?:(?!^### ).)*?^Clauses)(?: \(\d+ lines\))?:"
-        page = re.sub(clauses, rf"\1 ({count} lines):", page, flags=re.M | re.S)
         page = re.sub(rf"^(\|.*`{label}`.*\|) *\d+ *\|$", rf"\1 {count} |", page, flags=re.M)
-    return page
+    head, marks, _ = page.partition("<!-- functions -->\n")
+    return head + marks + "\n".join(["", *listed_functions()]).rstrip("\n") + "\n"
 
 
 def body_of(one):
@@ -229,14 +188,14 @@ def lines_of_others(others):
 
 def main():
     page = text_of("docs/PROVED.md")
-    starts = all_starts(page)
+    starts = all_starts()
     if sys.argv[1:] == ["--update"]:
         with open(f"{TOP}/docs/PROVED.md", "w", encoding="utf-8") as file:
             file.write(updated(page))
     elif not sys.argv[1:]:
         for label, one in starts.items():
             print(f"{count_of(believed(one)[0]):5} {label}")
-    elif sys.argv[1] in starts:
+    elif sys.argv[1] in (starts := all_starts(LIBRARIES)):
         print("\n".join(shown(starts[sys.argv[1]])))
     else:
         sys.exit(__doc__)
