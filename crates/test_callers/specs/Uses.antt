@@ -6,16 +6,14 @@ use Rattle.comfy_parts.specs.Laws.{characters_without}
 use Rattle.comfy_parts.specs.Presets.{ascii_full}
 use Rattle.comfy_parts.specs.Text.{Text}
 use Rattle.comfy_parts.specs.VisibleLines.{CellLine}
-use Rattle.comfy_parts.specs.declared.style.column.ColumnConstraint.TheVariants.{Hidden}
 use Rattle.comfy_parts.specs.declared.style.table.ContentArrangement.TheVariants.{Dynamic}
 use Rattle.comfy_parts.specs.declared.style.table_style.LineStyle.{LineStyle}
 use Rattle.comfy_table.specs.Drawing.{drawing, infos_of, outer_widths}
 use Rattle.comfy_table.specs.Frame.{frame_line}
-use Rattle.comfy_table.specs.Laws.{FillsWidth, HasUnbrokenStyle, IsPrintableTable, KeepsToWidth, NoConstraints, count, least_total, unstyled}
+use Rattle.comfy_table.specs.Laws.{HasUnbrokenStyle, IsPrintableTable, NoConstraints, count, least_total, unstyled}
 use Rattle.comfy_table.specs.Pieces.{row_cell_lines}
 use Rattle.comfy_table.specs.Straight.{EachShownCell}
-use Rattle.comfy_table.specs.TableLaws.{FillsWiderTotal, FrameCounts, FrameFillsWidth, FrameKeepsToWidth, IsAtMostThreeOver, KeepsToWiderTotal, KeepsToWiderTotalInFull, TableIsFull, TableIsLevelled, TableKeepsContents, TableLevelIsBest}
-use Rattle.comfy_table.specs.TableValue.{TableValue, constrained, header_and_rows, new_table, should_style, table_width, with_header, with_row}
+use Rattle.comfy_table.specs.TableValue.{TableValue, header_and_rows, new_table, should_style, table_width, with_header, with_row}
 use Rattle.test_callers.specs.declared.uses.items.NumberRows.{NumberRows}
 
 -- the lines are a drawing of the table in which each frame line has n characters
@@ -50,13 +48,6 @@ AppendsPageWithin table old new =
     × ((w : ℕ) → table.arrangement ≡ Dynamic → table_width table ≡ Some w
     → should_style table ≡ false → table.custom_styling ≡ false → HasUnbrokenStyle table
     → IsPrintedWithin w table page)
-
--- a table of two texts, of which the first one is hidden
-abbrev pub with_hidden : Text → Text → TableValue
-with_hidden hidden text =
-    let table : TableValue =
-    with_row (plain_row (plain_cell hidden ∷ plain_cell text ∷ [])) (new_table ascii_full) in
-    record table { columns = constrained (Hidden ∷ []) table.columns }
 
 -- a table of one text that keeps to a width
 abbrev pub text_within : ℕ → Text → TableValue
@@ -95,18 +86,3 @@ IsDrawnWithCells P table lines =
 abbrev pub rows_left : NumberRows → List (List ℕ)
 rows_left numbers = map (λ number. number ∷ []) numbers.left.now
 
--- what the laws say of the content widths of a table's columns, where w is the table's width
-pub record KeepsTheLaws (table : TableValue) (w : ℕ) (widths : List ℕ) : Type 0 where
-  pub frame_counts : (line : LineStyle) → FrameCounts table widths line
-  pub frame_keeps : (line : LineStyle) → FrameKeepsToWidth table w widths line
-  pub frame_fills : (line : LineStyle) → FrameFillsWidth table w widths line
-  pub keeps_width : KeepsToWidth table w widths
-  pub fills_width : FillsWidth table w widths
-  pub keeps_total : KeepsToWiderTotal table w widths
-  pub keeps_total_in_full : KeepsToWiderTotalInFull table w widths
-  pub fills_total : FillsWiderTotal table w widths
-  pub levelled : TableIsLevelled table w widths
-  pub full : TableIsFull table w widths
-  pub best : (level : ℕ) → TableLevelIsBest table w level widths
-  pub kept : TableKeepsContents table w widths
-  pub few_over : IsAtMostThreeOver table w widths

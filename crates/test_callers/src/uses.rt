@@ -11,16 +11,12 @@ ghost use Rattle.comfy_table.specs.TableValue.{new_table, should_style, with_hea
 ghost use Rattle.comfy_table.specs.Widths.{shown_count};
 ghost use Rattle.test_callers.specs.Uses.{HasFrameOf, IsUnstyledDrawing};
 
-pub mod cells;
-pub mod columns;
+pub mod changes;
 pub mod drawing;
 pub mod items;
-pub mod laws;
 pub mod parts;
-pub mod rows;
 pub mod running;
 pub mod sequences;
-pub mod settings;
 pub mod texts;
 
 use comfy_run::run::{MemorySink, MemorySource, RunError, Settings, run};

@@ -1,14 +1,12 @@
 //! Callers that draw a table as a whole, or by its steps.
 
-ghost use Rattle.std.specs.Prelude.{◌≡◌, ◌++◌, All, IfOk, List, ℕ, length, option_map, slice_get, string_bytes, true};
+ghost use Rattle.std.specs.Prelude.{◌≡◌, ◌++◌, All, IfOk, List, length, string_bytes};
 ghost use Rattle.comfy_parts.specs.Presets.{utf8_full};
 ghost use Rattle.comfy_parts.specs.Text.{Text};
-ghost use Rattle.comfy_table.specs.Arrangement.{IsArranged, IsDrawingOf};
-ghost use Rattle.comfy_table.specs.Drawing.{infos_of};
-ghost use Rattle.comfy_table.specs.Headline.{TerminatesLines, JoinsLines, JoinsTrimmedLines};
+ghost use Rattle.comfy_table.specs.Arrangement.{IsDrawingOf};
+ghost use Rattle.comfy_table.specs.Headline.{JoinsLines};
 ghost use Rattle.comfy_table.specs.NewTables.{AreEquallyWide, IsShortRow};
-ghost use Rattle.comfy_table.specs.Pieces.{row_lines};
-ghost use Rattle.comfy_table.specs.TableValue.{header_and_rows, max_content_widths, new_table, with_header, with_rows};
+ghost use Rattle.comfy_table.specs.TableValue.{new_table, with_header, with_rows};
 ghost use Rattle.test_callers.specs.Uses.{IsDrawnWhole, IsPrintedWithin, table_within, text_within};
 
 use comfy_table::laws::{
@@ -16,21 +14,9 @@ use comfy_table::laws::{
     presets_have_columns_of_one,
 };
 use comfy_table::presets::UTF8_FULL;
-use comfy_table::utils::arrangement::{arrange_content, longest_line};
 use comfy_table::utils::build_table;
-use comfy_table::utils::formatting::content_format::{delimiter, format_content, format_row};
-use comfy_table::utils::formatting::content_split::ColumnDisplayInfo;
-use comfy_table::{Cell, ContentArrangement, Lines, Result, Row, Table};
+use comfy_table::{ContentArrangement, Lines, Result, Row, Table};
 use std::alloc::Global;
-
-/// The first line of a drawing; none where nothing is drawn.
-pub fn first_line(table: &Table) -> Result<Option<String>>
-    ensures { IfOk result (λ first. (lines : List Text) × IsDrawingOf table.now lines
-        × (option_map string_bytes first ≡ slice_get lines 0)) }
-{
-    let mut lines = table.lines()?;
-    Ok(lines.next())
-}
 
 /// How many lines a drawing has.
 pub fn drawn_height(table: &Table) -> Result<usize>
@@ -48,55 +34,6 @@ pub fn titled(alloc: Global, title: &str, table: &Table) -> Result<String>
     let mut text = String::from_str(alloc, title)?;
     text.push_str(table.to_text()?.as_str())?;
     Ok(text)
-}
-
-/// A table as it is printed, and after it another one without trailing white space.
-pub fn printed_before(first: &Table, second: &Table) -> Result<String>
-    ensures { IfOk result (λ text. (one other : Text) × TerminatesLines first.now one
-        × JoinsTrimmedLines second.now other × (string_bytes text ≡ one ++ other)) }
-{
-    let mut text = first.to_terminated_text()?;
-    text.push_str(second.trim_fmt()?.as_str())?;
-    Ok(text)
-}
-
-/// The content of the first column in terminal columns; none where there is no column.
-pub fn first_content(table: &Table) -> Result<Option<u16>>
-    ensures { IfOk result (λ content. content ≡ slice_get (max_content_widths table.now) 0) }
-{
-    let contents = table.column_max_content_widths()?;
-    Ok(contents.first().copied())
-}
-
-/// How many rows are formatted: all of them, and the header.
-pub fn formatted_count(table: &Table) -> Result<usize>
-    ensures { IfOk result (λ count. count ≡ length (header_and_rows table.now)) }
-{
-    let infos = arrange_content(table)?;
-    Ok(format_content(table, infos.as_slice())?.len())
-}
-
-/// How many lines a row takes between the others.
-pub fn height_of(table: &Table, row: &Row) -> Result<usize>
-    ensures { IfOk result (λ height. (widths : List ℕ) × IsArranged table.now widths
-        × (height ≡ length (row_lines table.now (infos_of table.now widths) row.now))) }
-{
-    let infos = arrange_content(table)?;
-    Ok(format_row(row, infos.as_slice(), table)?.len())
-}
-
-/// Whether the longest line of a column is found, which takes no memory: it is.
-pub fn finds_the_longest_line(table: &Table, position: usize, width: u16) -> bool
-    ensures { result ≡ true }
-{
-    longest_line(table, position, width).is_ok()
-}
-
-/// The delimiter of a cell that has one, whatever its drawn column and its table have.
-pub fn own_delimiter_as_drawn(table: &Table, info: &ColumnDisplayInfo, cell: Cell) -> char
-    ensures { result ≡ 44 }
-{
-    delimiter(&cell.set_delimiter(','), info, table)
 }
 
 /// A header and a row within a width, as a program prints them. Cut at its line feeds the text has
