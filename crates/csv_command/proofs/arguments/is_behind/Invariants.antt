@@ -6,5 +6,5 @@ use Rattle.csv_command.proofs.arguments.is_behind.Given as goal
 
 abbrev pub invariant-loop-it : goal.invariant-loop-it
 invariant-loop-it l =
-    (if l.was_found then list_any (λ one. bytes_eq one l.other.now) (ids_left l.it-iterator) else is_behind l.id.now l.other.now (ids_left l.it-iterator))
-    ≡ is_behind l.id.now l.other.now (ids_in (found_of l.matches.now))
+    (if l.was_found then list_any (λ one. bytes_eq one l.other) (ids_left l.it-iterator) else is_behind l.id l.other (ids_left l.it-iterator))
+    ≡ is_behind l.id l.other (ids_in (found_of l.matches))

@@ -1,4 +1,4 @@
-use Rattle.std.proofs.Common.{inl, inr, ◌∙◌, sym}
+use Rattle.std.proofs.Common.{inl, inr, ◌∙◌, rules, sym}
 use Rattle.clap.specs.Words.{app_of, found_of}
 use Rattle.csv_command.proofs.ProgramLemmas.{csvtable_is_free, csvtable_is_simple, not_taken}
 use Rattle.csv_command.proofs.arguments.parse_by.Goals as goal
@@ -17,14 +17,17 @@ returns-clause-refused c no_memory =
         are_found = record { app = app_of c.args.command.now; is_csvtable = c.requires; is_found = (c.in-Ok.ensures.ok.2 (csvtable_is_simple _ c.requires)).0 };
         in_vain = sym c.wanted_delimiter.ensures ∙ c.in-None.is;
       },
-      c.refusal-in-None.ensures no_memory,
+      c.refusal.ensures no_memory,
     )
 
-pub returns-in-Some-wanted_delimiter-clause-ok : goal.returns-in-Some-wanted_delimiter-clause-ok
-returns-in-Some-wanted_delimiter-clause-ok c =
+pub returns-in-Some-clause-ok : goal.returns-in-Some-clause-ok
+returns-in-Some-clause-ok c =
     record {
       found = found_of c.in-Ok.matches;
       are_found = record { app = app_of c.args.command.now; is_csvtable = c.requires; is_found = (c.in-Ok.ensures.ok.2 (csvtable_is_simple _ c.requires)).0 };
-      options = c.in_ok-invocation_of-in-Some-wanted_delimiter.ensures.options;
-      file = c.in_ok-invocation_of-in-Some-wanted_delimiter.ensures.file;
+      options = c.in_ok-invocation_of-in-Some.ensures.options;
+      file = c.in_ok-invocation_of-in-Some.ensures.file;
     }
+
+pub returns-in_err-invocation_of-in-Some-clause-refused : goal.returns-in_err-invocation_of-in-Some-clause-refused
+returns-in_err-invocation_of-in-Some-clause-refused c = search rules
