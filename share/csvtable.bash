@@ -23,7 +23,7 @@ _csvtable() {
       ;;
   esac
   case $word in
-    -*) COMPREPLY=($(compgen -W '-d --delimiter -t -e --encoding --no-quotes --skip -n --no-header --limit --count -l --number -c --columns --drop -r --right --left --no-decimal -w --width --full -x --expanded -s --style --rows --no-rows -m --max-height --markdown --color --ansi --bidi --raw -h --help -V --version' -- "$word")) ;;
+    -*) COMPREPLY=($(compgen -W '-d --delimiter -t -e --encoding --no-quotes --skip -n --no-header --limit --count -l --number -c --columns --drop -r --right --left --no-decimal -w --width --full -x --expanded -s --style --rows --no-rows -m --max-height --markdown --color --ansi -h --help -V --version' -- "$word")) ;;
     *) COMPREPLY=($(compgen -f -- "$word")) ;;
   esac
 }

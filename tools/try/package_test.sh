@@ -51,7 +51,7 @@ compare() {
 # others. What csvtable says beside a drawing has no place in a call.
 compare_csv() {
   for arguments in '' '-w 40' '-s grid -r 1' '-x --limit 2 --color always' '--markdown -e cp1252' '-t -n --rows' '-c 2,1 -m 1' \
-    '--no-quotes --raw -s NOTHING' '-w 65535 --full -d ;' '-c nothing' '--rows --no-rows' '-w wide' '-d ab' '--odd' '--help'; do
+    '--no-quotes --ansi -s NOTHING' '-w 65535 --full -d ;' '-c nothing' '--rows --no-rows' '-w wide' '-d ab' '--odd' '--help'; do
     for input in "$work"/csv/*; do
       name=$(basename "$input")
       (cd "$work/csv" && "$CSVTABLE" $arguments "$name") > "$work/wanted" 2> "$work/said" || cat "$work/said" >> "$work/wanted"

@@ -76,8 +76,6 @@ look_by settings (Some style) (Some lines) (Some expansion) =
       has_bold_header = is_set settings.has_bold_header;
       aligns_decimals = is_set settings.aligns_decimals;
       has_sequences = is_set settings.has_sequences;
-      keeps_bidi = false;
-      is_raw = false;
       is_markdown = is_set settings.is_markdown;
     })
 look_by settings _ _ _ = None

@@ -115,8 +115,6 @@ impl RowsSettings {
             has_bold_header: self.has_bold_header != 0,
             aligns_decimals: self.aligns_decimals != 0,
             has_sequences: self.has_sequences != 0,
-            keeps_bidi: false,
-            is_raw: false,
             is_markdown: self.is_markdown != 0,
         })
     }

@@ -241,7 +241,7 @@ static int is_filled(const struct call *asked, const struct call *call) {
 /* Every style beside arguments with extreme values, as above. */
 static void expect_csv_fills(struct bytes input) {
     static const char *styles[] = {"rounded", "box", "grid", "ascii", "plain", "markdown", "UTF8_BORDERS_ONLY", "NOTHING"};
-    static const char *others[] = {"-w0", "-w1", "-w65535", "-x", "-m1", "--color=always", "--limit=1", "--raw", "-ecp1252"};
+    static const char *others[] = {"-w0", "-w1", "-w65535", "-x", "-m1", "--color=always", "--limit=1", "--ansi", "-ecp1252"};
     for (size_t style = 0; style < sizeof styles / sizeof *styles; style++)
         for (size_t other = 0; other < sizeof others / sizeof *others; other++) {
             char arguments[80];

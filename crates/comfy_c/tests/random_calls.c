@@ -83,7 +83,7 @@ static void fill_input(struct caller *caller, uint8_t *bytes, size_t length) {
 static size_t put_words(struct caller *caller, uint8_t *bytes, size_t room) {
     static const char *const arguments[] = {"-d", ";", "tab", "auto", "-t", "-e", "cp1252", "utf-16", "--no-quotes", "--skip", "1", "-n", "--limit", "2",
         "-c", "1", "2-", "name", "--drop", "a", "-r", "--left", "-w", "40", "0", "65535", "--full", "-x", "--expanded", "never", "-s", "grid", "ascii",
-        "UTF8_FULL", "--rows", "--no-rows", "-m", "3", "--markdown", "--color", "always", "--ansi", "--bidi", "--raw", "-", "x.tsv", "--", "", "--help", "-V"};
+        "UTF8_FULL", "--rows", "--no-rows", "-m", "3", "--markdown", "--color", "always", "--ansi", "--no-decimal", "-", "x.tsv", "--", "", "--help", "-V"};
     size_t length = 0;
     for (size_t count = below(caller, 7); count > 0; count--) {
         const char *argument = arguments[below(caller, sizeof arguments / sizeof *arguments)];

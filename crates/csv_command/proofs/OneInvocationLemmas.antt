@@ -66,9 +66,9 @@ module _ (found other : Found) (same : rows_of found ≡ rows_of other) where
 
 -- ---- looks
 
-abbrev look_of : TableStyle → RowSeparators → Expansion → Option ℕ → Bool → Option ℕ → Bool → Bool → Bool → Bool → Bool → Bool → Look
-look_of style separators expansion width fills height bold decimals sequences bidi raw markdown =
-    record { style = style; separators = separators; expansion = expansion; width = width; fills_width = fills; max_height = height; has_bold_header = bold; aligns_decimals = decimals; has_sequences = sequences; keeps_bidi = bidi; is_raw = raw; is_markdown = markdown }
+abbrev look_of : TableStyle → RowSeparators → Expansion → Option ℕ → Bool → Option ℕ → Bool → Bool → Bool → Bool → Look
+look_of style separators expansion width fills height bold decimals sequences markdown =
+    record { style = style; separators = separators; expansion = expansion; width = width; fills_width = fills; max_height = height; has_bold_header = bold; aligns_decimals = decimals; has_sequences = sequences; is_markdown = markdown }
 
 look_is_one : (context : OutputContext) (found other : Found) → rows_of found ≡ rows_of other → (a b : Look) → IsLookParsed context found a → IsLookParsed context other b → a ≡ b
 look_is_one context found other same a b is also =
@@ -85,15 +85,12 @@ look_is_one context found other same a b is also =
     let bold = is.bold ∙ ap (λ (o : Option Text). is_bold_for o context) (first (codes "color")) ∙ sym also.bold in
     let decimals = is.decimals ∙ ap not (given (codes "no-decimal")) ∙ sym also.decimals in
     let sequences = is.sequences ∙ given (codes "ansi") ∙ sym also.sequences in
-    let bidi = is.bidi ∙ given (codes "bidi") ∙ sym also.bidi in
-    let raw = is.raw ∙ given (codes "raw") ∙ sym also.raw in
     let markdown = is.markdown ∙ markdown found other same ∙ sym also.markdown in
-    ap₂ (λ (s : TableStyle) (r : RowSeparators). look_of s r a.expansion a.width a.fills_width a.max_height a.has_bold_header a.aligns_decimals a.has_sequences a.keeps_bidi a.is_raw a.is_markdown) style separators
-    ∙ ap₂ (λ (e : Expansion) (w : Option ℕ). look_of b.style b.separators e w a.fills_width a.max_height a.has_bold_header a.aligns_decimals a.has_sequences a.keeps_bidi a.is_raw a.is_markdown) expansion width
-    ∙ ap₂ (λ (f : Bool) (h : Option ℕ). look_of b.style b.separators b.expansion b.width f h a.has_bold_header a.aligns_decimals a.has_sequences a.keeps_bidi a.is_raw a.is_markdown) fills height
-    ∙ ap₂ (λ (x y : Bool). look_of b.style b.separators b.expansion b.width b.fills_width b.max_height x y a.has_sequences a.keeps_bidi a.is_raw a.is_markdown) bold decimals
-    ∙ ap₂ (λ (x y : Bool). look_of b.style b.separators b.expansion b.width b.fills_width b.max_height b.has_bold_header b.aligns_decimals x y a.is_raw a.is_markdown) sequences bidi
-    ∙ ap₂ (λ (x y : Bool). look_of b.style b.separators b.expansion b.width b.fills_width b.max_height b.has_bold_header b.aligns_decimals b.has_sequences b.keeps_bidi x y) raw markdown
+    ap₂ (λ (s : TableStyle) (r : RowSeparators). look_of s r a.expansion a.width a.fills_width a.max_height a.has_bold_header a.aligns_decimals a.has_sequences a.is_markdown) style separators
+    ∙ ap₂ (λ (e : Expansion) (w : Option ℕ). look_of b.style b.separators e w a.fills_width a.max_height a.has_bold_header a.aligns_decimals a.has_sequences a.is_markdown) expansion width
+    ∙ ap₂ (λ (f : Bool) (h : Option ℕ). look_of b.style b.separators b.expansion b.width f h a.has_bold_header a.aligns_decimals a.has_sequences a.is_markdown) fills height
+    ∙ ap₂ (λ (x y : Bool). look_of b.style b.separators b.expansion b.width b.fills_width b.max_height x y a.has_sequences a.is_markdown) bold decimals
+    ∙ ap₂ (λ (x y : Bool). look_of b.style b.separators b.expansion b.width b.fills_width b.max_height b.has_bold_header b.aligns_decimals x y) sequences markdown
 
 -- ---- options
 
@@ -147,17 +144,16 @@ drawn_is_one arguments input drawing other first second =
 
 -- and arguments ask for a style without control characters
 pub parsed_without_controls : (arguments : List Text) (context : OutputContext) (invocation : Invocation) (input output : Text) → ParsedOutputHoldsNoControls arguments context invocation input output
-parsed_without_controls arguments context invocation input output is tidy = by_extent
+parsed_without_controls arguments context invocation input output is = by_extent
   where
-    look : IsLookWithoutControls invocation.options.look
-    look = record { cleaned = tidy; style = subst IsStyleWithoutControls (sym is.options.look.style) (styles_without_controls (first_value is.found (codes "style"))) }
+    style : IsStyleWithoutControls invocation.options.look.style
+    style = subst IsStyleWithoutControls (sym is.options.look.style) (styles_without_controls (first_value is.found (codes "style")))
 
     by_extent : IsDrawnOf invocation.options input output → HasNoStrayControl (visible_text output)
-    by_extent (inl made) = input_without_controls invocation.options input output look made
-    by_extent (inr (beginning, behind, joins, made)) = beginning_without_controls invocation.options beginning output look made
+    by_extent (inl made) = input_without_controls invocation.options input output style made
+    by_extent (inr (beginning, behind, joins, made)) = beginning_without_controls invocation.options beginning output style made
 
--- and no control character in it, unless they ask for raw fields
-pub drawn_without_controls : (arguments : List Text) (invocation : Invocation) (input drawing : Text) → DrawnHoldsNoControls arguments invocation input drawing
-drawn_without_controls arguments invocation input drawing is tidy drawn =
-    let same = (invocation_is_one arguments not_a_terminal drawn.invocation invocation drawn.is_asked is).options in
-    parsed_without_controls arguments not_a_terminal drawn.invocation input drawing drawn.is_asked (ap (λ (look : Look). look.is_raw) same.look ∙ tidy) (inl drawn.is_output)
+-- and no control character in it
+pub drawn_without_controls : (arguments : List Text) (input drawing : Text) → DrawnHoldsNoControls arguments input drawing
+drawn_without_controls arguments input drawing drawn =
+    parsed_without_controls arguments not_a_terminal drawn.invocation input drawing drawn.is_asked (inl drawn.is_output)

@@ -190,8 +190,6 @@ pub record IsLookParsed (context : OutputContext) (found : Found) (look : Look) 
   pub bold : look.has_bold_header ≡ is_bold_for (first_value found (codes "color")) context
   pub decimals : look.aligns_decimals ≡ not (is_given found (codes "no-decimal"))
   pub sequences : look.has_sequences ≡ is_given found (codes "ansi")
-  pub bidi : look.keeps_bidi ≡ is_given found (codes "bidi")
-  pub raw : look.is_raw ≡ is_given found (codes "raw")
   pub markdown : look.is_markdown ≡ is_markdown_in found
 
 -- how the input is read, by such values

@@ -212,7 +212,7 @@ IsEndOfOutcome drawing ending =
 
 -- no control character but line feeds, and none that turns the direction of text
 abbrev pub IsHarmless : Text → Type 0
-IsHarmless text = list_any (is_harmful nothing_kept) (chars text) ≡ false
+IsHarmless text = list_any is_harmful (chars text) ≡ false
 
 -- the end where clap prints help or the version
 pub record IsHelp (ending : Ending) : Type 0 where

@@ -1,6 +1,6 @@
 -- What is so of all that arguments ask for.
 -- Source: this library's own.
-use Rattle.std.specs.Prelude.{◌≡◌, false, List, option_map, string_bytes}
+use Rattle.std.specs.Prelude.{◌≡◌, List, option_map, string_bytes}
 use Rattle.comfy_parts.specs.Text.{Text}
 use Rattle.comfy_parts.specs.VisibleText.{visible_text}
 use Rattle.csv_command.specs.Refusals.{IsRendered, not_a_terminal}
@@ -11,19 +11,17 @@ use Rattle.csv_tables.specs.Controls.{HasNoStrayControl}
 use Rattle.csv_tables.specs.Drawn.{IsDrawnOf}
 use Rattle.csv_tables.specs.OneOutput.{AreSameOptions}
 
--- nor of any output that arguments ask for, unless they ask for raw fields
+-- nothing harmful is visible of any output that arguments ask for
 abbrev pub ParsedOutputHoldsNoControls : List Text → OutputContext → Invocation → Text → Text
     → Type 0
 ParsedOutputHoldsNoControls arguments context invocation input output =
-    IsParsed arguments context invocation → invocation.options.look.is_raw ≡ false
-    → IsDrawnOf invocation.options input output
+    IsParsed arguments context invocation → IsDrawnOf invocation.options input output
     → HasNoStrayControl (visible_text output)
 
--- nothing harmful is visible of a drawing for arguments, unless they ask for raw fields
-abbrev pub DrawnHoldsNoControls : List Text → Invocation → Text → Text → Type 0
-DrawnHoldsNoControls arguments invocation input drawing =
-    IsParsed arguments not_a_terminal invocation → invocation.options.look.is_raw ≡ false
-    → IsRendered arguments input drawing → HasNoStrayControl (visible_text drawing)
+-- so it is of a drawing for arguments
+abbrev pub DrawnHoldsNoControls : List Text → Text → Text → Type 0
+DrawnHoldsNoControls arguments input drawing =
+    IsRendered arguments input drawing → HasNoStrayControl (visible_text drawing)
 
 -- two things that are asked for are the same but for where their texts are held
 pub record AreSameInvocations (invocation other : Invocation) : Type 0 where

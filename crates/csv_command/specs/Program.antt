@@ -70,8 +70,6 @@ csvtable_rules =
     ∷ nameless (flag (codes "markdown") None)
     ∷ (choice (codes "color") None, whens)
     ∷ nameless (flag (codes "ansi") None)
-    ∷ nameless (flag (codes "bidi") None)
-    ∷ nameless (flag (codes "raw") None)
     ∷ []
 
 -- what reads a value, without the names that it may be

@@ -320,8 +320,6 @@ fn look_of<'a>(matches: &ArgMatches<'a>, context: OutputContext<'_>) -> Look
         has_bold_header: is_bold(matches.get_str("color"), context),
         aligns_decimals: !is_given(matches, "no-decimal"),
         has_sequences: is_given(matches, "ansi"),
-        keeps_bidi: is_given(matches, "bidi"),
-        is_raw: is_given(matches, "raw"),
         is_markdown: is_markdown(matches),
     }
 }

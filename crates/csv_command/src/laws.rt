@@ -15,14 +15,14 @@ pub fn named_styles_hold_no_controls()
 {}
 
 /// Without its SGR sequences an output that arguments ask for holds no control character but line
-/// feeds, whatever bytes the input has, unless the arguments ask for raw fields. So it is with each
-/// drawing that `render_csv` returns, which is what a caller from C gets too.
+/// feeds, whatever bytes the input has. So it is with each drawing that `render_csv` returns, which
+/// is what a caller from C gets too.
 pub fn drawings_hold_no_controls()
     ensures invocation { (arguments : List Text) (context : OutputContext) (invocation : Invocation)
         (input output : Text)
         → ParsedOutputHoldsNoControls arguments context invocation input output }
-    ensures drawn { (arguments : List Text) (invocation : Invocation) (input drawing : Text)
-        → DrawnHoldsNoControls arguments invocation input drawing }
+    ensures drawn { (arguments : List Text) (input drawing : Text)
+        → DrawnHoldsNoControls arguments input drawing }
 {}
 
 /// The same arguments ask for one thing where the output goes to the same place, so `render_csv`

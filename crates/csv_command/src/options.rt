@@ -37,7 +37,7 @@ enum Kind {
     Encoding,
 }
 
-static OPTIONS: [OptionSpec; 28] = [
+static OPTIONS: [OptionSpec; 26] = [
     OptionSpec {
         name: "file",
         letter: None,
@@ -223,20 +223,6 @@ static OPTIONS: [OptionSpec; 28] = [
         kind: Kind::Flag,
         value: "",
         help: "Keep the colours of fields; they take no room",
-    },
-    OptionSpec {
-        name: "bidi",
-        letter: None,
-        kind: Kind::Flag,
-        value: "",
-        help: "Keep characters that turn the direction of text",
-    },
-    OptionSpec {
-        name: "raw",
-        letter: None,
-        kind: Kind::Flag,
-        value: "",
-        help: "Keep TABs and control characters as they are",
     },
 ];
 

@@ -18,4 +18,3 @@ line_goes_on u more no_feed no_return = by_end (ends_line u) (rw (ne_eqb u 0x0A 
     by_end false end =
         let step : 1 + line_len more ≡ suc (line_len more) = omega arith in
         rw step refl
-

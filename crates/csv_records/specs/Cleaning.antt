@@ -6,7 +6,6 @@ use Rattle.std.specs.Int.{is_in_range}
 use Rattle.std.specs.List.{list_any}
 use Rattle.comfy_parts.specs.Text.{Text, measure}
 use Rattle.comfy_parts.specs.VisibleText.{Part, parts, visible_text}
-use Rattle.csv_records.specs.declared.cleaning.CleanOptions.{CleanOptions}
 
 -- the pieces of a field's characters: SGR sequences where they are kept, and single characters
 abbrev pub pieces : Bool → List ℕ → List Part
@@ -15,22 +14,18 @@ pieces keeps_sequences cs =
     then parts cs
     else map (λ c. record { is_sequence = false; bytes = c ∷ [] }) cs
 
--- nothing is left as it is
-abbrev pub nothing_kept : CleanOptions
-nothing_kept = record { sequences = false; directions = false }
-
 -- a character turns the direction of what follows it: it begins or ends an embedding, an override
 -- or an isolate
 abbrev pub turns_direction : ℕ → Bool
 turns_direction c = is_in_range 0x202A 0x202E c || is_in_range 0x2066 0x2069 c
 
 -- a character isn't drawn as it is
-abbrev pub is_replaced : CleanOptions → ℕ → Bool
-is_replaced kept c = is_control c || (not kept.directions && turns_direction c)
+abbrev pub is_replaced : ℕ → Bool
+is_replaced c = is_control c || turns_direction c
 
 -- a character as it is drawn, where it is no line break and no TAB
-abbrev pub shown : CleanOptions → ℕ → ℕ
-shown kept c = if is_replaced kept c then 0xFFFD else c
+abbrev pub shown : ℕ → ℕ
+shown c = if is_replaced c then 0xFFFD else c
 
 -- the spaces from a column to the next multiple of four
 abbrev pub blanks_at : ℕ → Text
@@ -59,8 +54,8 @@ start = record { text = []; seen = []; after_return = false }
 
 -- after one more character: a line break, once for a carriage return with a line feed; the spaces
 -- of a TAB; or a character as it is drawn
-abbrev pub after_character : CleanOptions → CleanedText → ℕ → CleanedText
-after_character kept s c =
+abbrev pub after_character : CleanedText → ℕ → CleanedText
+after_character s c =
     if (c == 0x0A) && s.after_return then record s { after_return = false }
     else if (c == 0x0A) || (c == 0x0D) then record {
       text = s.text ++ 0x0A ∷ [];
@@ -73,36 +68,40 @@ after_character kept s c =
       after_return = false;
     }
     else record {
-      text = s.text ++ encode_utf8 (shown kept c);
-      seen = s.seen ++ encode_utf8 (shown kept c);
+      text = s.text ++ encode_utf8 (shown c);
+      seen = s.seen ++ encode_utf8 (shown c);
       after_return = false;
     }
 
 -- after one more piece: a sequence is written as it is, and isn't seen
-abbrev pub after_piece : CleanOptions → CleanedText → Part → CleanedText
-after_piece kept s p =
+abbrev pub after_piece : CleanedText → Part → CleanedText
+after_piece s p =
     if p.is_sequence then record s { text = s.text ++ p.bytes; after_return = false }
-    else fold (after_character kept) s p.bytes
+    else fold after_character s p.bytes
 
 -- a field as it is drawn
-abbrev pub cleaned : CleanOptions → Text → Text
-cleaned kept field = (fold (after_piece kept) start (pieces kept.sequences (chars field))).text
+abbrev pub cleaned : Bool → Text → Text
+cleaned keeps_sequences field =
+    (fold after_piece start (pieces keeps_sequences (chars field))).text
 
 -- what is visible of a text: where sequences are kept, they aren't
 abbrev pub visible_of : Bool → Text → Text
 visible_of keeps_sequences text = if keeps_sequences then visible_text text else text
 
 -- a character that mustn't be drawn: one that isn't drawn as it is, and breaks no line
-abbrev pub is_harmful : CleanOptions → ℕ → Bool
-is_harmful kept c = is_replaced kept c && not (c == 0x0A)
+abbrev pub is_harmful : ℕ → Bool
+is_harmful c = is_replaced c && not (c == 0x0A)
 
 -- of a cleaned field no control characters are visible but line feeds, and none that turn the
--- direction of text unless they are kept
-abbrev pub HoldsNoControls : CleanOptions → Text → Type 0
-HoldsNoControls kept field =
+-- direction of text
+abbrev pub HoldsNoControls : Bool → Text → Type 0
+HoldsNoControls keeps_sequences field =
     IsUtf8 field
-    → list_any (is_harmful kept) (chars (visible_of kept.sequences (cleaned kept field))) ≡ false
+    → list_any is_harmful (chars (visible_of keeps_sequences (cleaned keeps_sequences field)))
+    ≡ false
 
 -- cleaned once more, a cleaned field stays as it is
-abbrev pub IsCleanedOnce : CleanOptions → Text → Type 0
-IsCleanedOnce kept field = IsUtf8 field → cleaned kept (cleaned kept field) ≡ cleaned kept field
+abbrev pub IsCleanedOnce : Bool → Text → Type 0
+IsCleanedOnce keeps_sequences field =
+    IsUtf8 field
+    → cleaned keeps_sequences (cleaned keeps_sequences field) ≡ cleaned keeps_sequences field

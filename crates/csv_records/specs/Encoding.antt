@@ -119,4 +119,3 @@ IsRefusedIn Cp1252 skip input e = e ≡ OutOfMemory
 IsRefusedIn Utf16 skip input e = IsUtf16Refusal (utf16_characters skip input) skip e
 
 -- ---- laws
-

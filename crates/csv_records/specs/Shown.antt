@@ -3,12 +3,12 @@
 use Rattle.std.specs.Prelude.{ℕ, Bool, ◌==◌, ◌&&◌, chars, map, if◌then◌else◌}
 use Rattle.std.specs.Str.{encode_utf8_all}
 use Rattle.comfy_parts.specs.Text.{Text}
-use Rattle.csv_records.specs.Cleaning.{nothing_kept, shown}
+use Rattle.csv_records.specs.Cleaning.{shown}
 
 -- a character as it is said: U+FFFD for a control character and for one that turns the direction of
 -- text, but line feeds where they are kept
 abbrev pub shown_in : Bool → ℕ → ℕ
-shown_in keeps_breaks c = if keeps_breaks && (c == 0x0A) then c else shown nothing_kept c
+shown_in keeps_breaks c = if keeps_breaks && (c == 0x0A) then c else shown c
 
 abbrev pub shown_text : Bool → Text → Text
 shown_text keeps_breaks text = encode_utf8_all (map (shown_in keeps_breaks) (chars text))

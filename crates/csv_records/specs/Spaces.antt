@@ -63,4 +63,3 @@ abbrev pub tabbed_text : Text → Text
 tabbed_text text =
     flat_map (λ line. tabbed_line (column_gaps (filled_lines text)) line ++ 0x0A ∷ [])
     (filled_lines text)
-

@@ -18,57 +18,47 @@ use std::marker::Model;
 // How many terminal columns stand between two stops.
 const STOP: usize = 4;
 
-/// What of a field is left as it is.
-#[derive(Clone, Copy, Debug)]
-pub struct CleanOptions {
-    /// Whether SGR sequences are. They take no terminal columns.
-    pub sequences: bool,
-    /// Whether characters that turn the direction of text are: U+202A to U+202E, and U+2066 to
-    /// U+2069.
-    pub directions: bool,
-}
-
 /// A field as it is drawn. A TAB becomes spaces up to the next multiple of four terminal columns,
 /// by what is visible of its line since the last TAB. A line feed, a carriage return, or both in
 /// this order reversed, are one line feed. Every other control character, and each that turns the
-/// direction of text, becomes U+FFFD, unless it is kept.
-pub fn cleaned(alloc: Global, field: &str, kept: CleanOptions) -> Result<String, AllocError>
-    ensures { IfOk result (λ text. string_bytes text ≡ cleaned kept field.now) }
+/// direction of text, becomes U+FFFD. SGR sequences stay where they are kept.
+pub fn cleaned(alloc: Global, field: &str, keeps_sequences: bool) -> Result<String, AllocError>
+    ensures { IfOk result (λ text. string_bytes text ≡ cleaned keeps_sequences field.now) }
 {
-    if is_clean(field, kept) {
+    if is_clean(field) {
         return String::from_str(alloc, field);
     }
     let mut cleaner = Cleaner::new(alloc);
     let pieces = Pieces {
         rest: field,
-        keeps_sequences: kept.sequences,
+        keeps_sequences,
     };
     for piece in pieces {
-        cleaner.push_piece(piece, kept)?;
+        cleaner.push_piece(piece)?;
     }
     Ok(cleaner.text)
 }
 
 // Whether no character of a field is replaced. Most fields are printable ASCII, which is seen
 // faster.
-fn is_clean(field: &str, kept: CleanOptions) -> bool
-    ensures { result ≡ not (list_any (is_replaced kept) (chars field.now)) }
+fn is_clean(field: &str) -> bool
+    ensures { result ≡ not (list_any is_replaced (chars field.now)) }
 {
-    is_printable(field.as_bytes()) || !has_replaced(field, kept)
+    is_printable(field.as_bytes()) || !has_replaced(field)
 }
 
 // Whether a character of a field is drawn as another one.
-fn has_replaced(field: &str, kept: CleanOptions) -> bool
-    ensures { result ≡ list_any (is_replaced kept) (chars field.now) }
+fn has_replaced(field: &str) -> bool
+    ensures { result ≡ list_any is_replaced (chars field.now) }
 {
-    field.chars().any(|c| is_replaced(c, kept))
+    field.chars().any(is_replaced)
 }
 
 /// Whether a character is drawn as another one.
-fn is_replaced(c: char, kept: CleanOptions) -> bool
-    ensures { result ≡ is_replaced kept c }
+fn is_replaced(c: char) -> bool
+    ensures { result ≡ is_replaced c }
 {
-    c.is_control() || !kept.directions && turns_direction(c)
+    c.is_control() || turns_direction(c)
 }
 
 // Whether a character turns the direction of what follows it.
@@ -178,21 +168,21 @@ impl Cleaner {
     }
 
     // Writes a piece as it is drawn.
-    fn push_piece(&mut self, piece: Piece<'_>, kept: CleanOptions) -> Result<(), AllocError>
-        ensures { OnOk result (self.new ≡ after_piece kept self.old (part_of piece.entry)) }
+    fn push_piece(&mut self, piece: Piece<'_>) -> Result<(), AllocError>
+        ensures { OnOk result (self.new ≡ after_piece self.old (part_of piece.entry)) }
     {
         match piece {
             Piece::Sequence(sequence) => {
                 self.after_return = false;
                 self.text.push_str(sequence)
             }
-            Piece::Character(c) => self.push(c, kept),
+            Piece::Character(c) => self.push(c),
         }
     }
 
     // Writes a character as it is drawn.
-    fn push(&mut self, c: char, kept: CleanOptions) -> Result<(), AllocError>
-        ensures { OnOk result (self.new ≡ after_character kept self.old c) }
+    fn push(&mut self, c: char) -> Result<(), AllocError>
+        ensures { OnOk result (self.new ≡ after_character self.old c) }
     {
         let follows_return = self.after_return;
         self.after_return = c == '\r';
@@ -208,7 +198,7 @@ impl Cleaner {
             self.seen.clear();
             return self.text.push_str(blanks);
         }
-        let drawn = shown(c, kept);
+        let drawn = shown(c);
         self.seen.push(drawn)?;
         self.text.push(drawn)
     }
@@ -227,8 +217,8 @@ fn blanks_after(seen: &str) -> &'static str
 }
 
 // A character as it is drawn.
-pub(crate) fn shown(c: char, kept: CleanOptions) -> char
-    ensures { result ≡ shown kept c }
+pub(crate) fn shown(c: char) -> char
+    ensures { result ≡ shown c }
 {
-    if is_replaced(c, kept) { '\u{fffd}' } else { c }
+    if is_replaced(c) { '\u{fffd}' } else { c }
 }

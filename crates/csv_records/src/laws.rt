@@ -1,12 +1,11 @@
 //! What is so of every field and record. The functions do nothing: their clauses are the laws, so
 //! that a proof of yours can cite them.
 
-ghost use Rattle.std.specs.Prelude.{List, ℕ};
+ghost use Rattle.std.specs.Prelude.{Bool, List, ℕ};
 ghost use Rattle.comfy_parts.specs.Text.{Text};
 ghost use Rattle.csv_records.specs.Beginning.{FirstRecordsStay};
 ghost use Rattle.csv_records.specs.Cleaning.{HoldsNoControls, IsCleanedOnce};
 ghost use Rattle.csv_records.specs.Reading.{RecordsAreOne};
-ghost use Rattle.csv_records.specs.declared.cleaning.CleanOptions.{CleanOptions};
 ghost use Rattle.csv_records.specs.declared.options.InputOptions.{InputOptions};
 
 /// An input has one list of records.
@@ -23,10 +22,10 @@ pub fn first_records_stay()
 {}
 
 /// A cleaned field has no control characters but line feeds, and those of the SGR sequences that
-/// were kept. No character of it turns the direction of text, unless these are kept. Cleaned once
-/// more, it stays as it is.
+/// were kept. No character of it turns the direction of text. Cleaned once more, it stays as it is.
 pub fn cleaned_fields_hold_no_controls()
-    ensures none { (kept : CleanOptions) (field : List ℕ) → HoldsNoControls kept field }
-    ensures once { (kept : CleanOptions) (field : List ℕ) → IsCleanedOnce kept field }
+    ensures none { (keeps_sequences : Bool) (field : List ℕ)
+        → HoldsNoControls keeps_sequences field }
+    ensures once { (keeps_sequences : Bool) (field : List ℕ)
+        → IsCleanedOnce keeps_sequences field }
 {}
-

@@ -23,7 +23,7 @@ mod text;
 
 pub use beginning::{BeginningRecords, read_beginning};
 pub use characters::split_first;
-pub use cleaning::{CleanOptions, cleaned};
+pub use cleaning::cleaned;
 pub use decimals::{ColumnMarks, DecimalMark, MarkUse, Points};
 pub use delimiter::{Delimiter, doubtful_delimiter, only_ascii};
 pub use encoding::{Encoding, decoded};

@@ -2,22 +2,17 @@
 
 ghost use Rattle.std.specs.Prelude.{◌≡◌, IfOk, chars, false, string_bytes};
 ghost use Rattle.std.specs.List.{list_any};
-ghost use Rattle.csv_records.specs.Cleaning.{is_harmful, nothing_kept};
+ghost use Rattle.csv_records.specs.Cleaning.{is_harmful};
 ghost use Rattle.csv_records.specs.Shown.{shown_in, shown_text};
 
-use crate::cleaning::{CleanOptions, shown};
+use crate::cleaning::shown;
 use std::alloc::{AllocError, Global};
-
-const NOTHING_KEPT: CleanOptions = CleanOptions {
-    sequences: false,
-    directions: false,
-};
 
 /// A text with U+FFFD for each control character and each that turns the direction of text. Where
 /// `keeps_breaks` says so, line feeds stay.
 pub fn shown_text(alloc: Global, text: &str, keeps_breaks: bool) -> Result<String, AllocError>
     ensures value { IfOk result (λ t. string_bytes t ≡ shown_text keeps_breaks text.now) }
-    ensures harmless { IfOk result (λ t. list_any (is_harmful nothing_kept) (chars (string_bytes t))
+    ensures harmless { IfOk result (λ t. list_any is_harmful (chars (string_bytes t))
         ≡ false) }
 {
     let mut shown = String::new(alloc);
@@ -33,6 +28,6 @@ fn shown_in(keeps_breaks: bool, c: char) -> char
     if keeps_breaks && c == '\n' {
         c
     } else {
-        shown(c, NOTHING_KEPT)
+        shown(c)
     }
 }

@@ -11,13 +11,12 @@ use Rattle.comfy_table.proofs.BuiltTableLemmas.{IsBuilt, IsNewColumn, built-head
 use Rattle.comfy_table.specs.TableValue.{TableValue}
 use Rattle.csv.specs.Records.{field_at}
 use Rattle.csv_records.proofs.CleaningLemmas.{Stays-nil, stays_cleaned}
-use Rattle.csv_tables.specs.Cells.{field_text, field_or_blank, header_for, kept_by, kept_for_markdown, marked, row_for, unless_blank}
+use Rattle.csv_tables.specs.Cells.{field_text, field_or_blank, header_for, marked, row_for, unless_blank}
 use Rattle.csv_records.specs.Cleaning.{cleaned}
 use Rattle.csv_records.specs.Numbered.{behind_mark, numbered_from}
 use Rattle.csv_tables.specs.Columns.{columns_for, name_from}
 use Rattle.csv_tables.specs.Drawn.{ContentValue, content_of, content_with, drawn_rows, empty_table, headed_table, limited, names_beside, names_of, ok_map, pairs_in, pairs_table, records_below, rows_beside, rows_table}
 use Rattle.csv_tables.specs.Markdown.{escaped}
-use Rattle.csv_records.specs.declared.cleaning.CleanOptions.{CleanOptions}
 use Rattle.csv_tables.specs.declared.options.Look.{Look}
 use Rattle.csv_tables.specs.declared.options.Options.{Options}
 use Rattle.csv_tables.specs.declared.options.DrawnColumn.{DrawnColumn}
@@ -53,20 +52,19 @@ each_name P first names i number each = by_field names i each
     by_field (f ∷ fs) zero each = All-head P f fs each
     by_field (f ∷ fs) (suc j) each = by_field fs j (All-tail P f fs each)
 
-blank_cleaned : (kept : CleanOptions) → cleaned kept [] ≡ []
-blank_cleaned kept = stays_cleaned kept [] (Stays-nil kept)
+blank_cleaned : (keeps : Bool) → cleaned keeps [] ≡ []
+blank_cleaned keeps = stays_cleaned keeps [] (Stays-nil keeps)
 
 -- the empty field is drawn as it is
 pub blank_drawn : (look : Look) → field_text look [] ≡ []
-blank_drawn look = by_flags look.is_markdown look.is_raw
+blank_drawn look = by_markdown look.is_markdown
   where
     none_escaped : marked [] ≡ []
     none_escaped = ap (λ (cs : List ℕ). encode_utf8_all (escaped cs)) chars-nil
 
-    by_flags : (is_markdown is_raw : Bool) → (if is_markdown then marked (cleaned (kept_for_markdown look) []) else if is_raw then unless_blank [] else unless_blank (cleaned (kept_by look) [])) ≡ []
-    by_flags true is_raw = ap marked (blank_cleaned (kept_for_markdown look)) ∙ none_escaped
-    by_flags false true = refl
-    by_flags false false = ap unless_blank (blank_cleaned (kept_by look))
+    by_markdown : (is_markdown : Bool) → (if is_markdown then marked (cleaned false []) else unless_blank (cleaned look.has_sequences [])) ≡ []
+    by_markdown true = ap marked (blank_cleaned false) ∙ none_escaped
+    by_markdown false = ap unless_blank (blank_cleaned look.has_sequences)
 
 -- ---- what is drawn
 

@@ -14,9 +14,8 @@ use Rattle.comfy_parts.specs.CellValue.{plain_cell}
 use Rattle.comfy_parts.specs.Text.{Text, measure}
 use Rattle.csv_records.proofs.CleaningLemmas.{each_character}
 use Rattle.csv_tables.proofs.TextLineLemmas.{lines-front, lines_of, text_lines}
-use Rattle.csv_tables.specs.Cells.{field_text, kept_by, kept_for_markdown, marked, unless_blank}
-use Rattle.csv_records.specs.Cleaning.{CleanedText, after_character, after_piece, blanks_after, blanks_at, cleaned, is_replaced, pieces, shown, start}
-use Rattle.csv_records.specs.declared.cleaning.CleanOptions.{CleanOptions}
+use Rattle.csv_tables.specs.Cells.{field_text, marked, unless_blank}
+use Rattle.csv_records.specs.Cleaning.{CleanedText, after_character, blanks_after, blanks_at, cleaned, is_replaced, shown, start}
 use Rattle.csv_tables.specs.declared.options.Look.{Look}
 use Rattle.csv_tables.proofs.TextTableLemmas.{EachLine}
 use Rattle.csv_tables.proofs.BlankLemmas.{unless_blank-keeps}
@@ -90,7 +89,7 @@ module _ (p : ℕ → Bool) where
 
 -- ---- cleaning
 
-module _ (p : ℕ → Bool) (space : p 0x20 ≡ true) (replacement : p 0xFFFD ≡ true) (kept : CleanOptions) where
+module _ (p : ℕ → Bool) (space : p 0x20 ≡ true) (replacement : p 0xFFFD ≡ true) where
   abbrev q : ℕ → Bool
   q c = or_feed p c
 
@@ -121,45 +120,44 @@ module _ (p : ℕ → Bool) (space : p 0x20 ≡ true) (replacement : p 0xFFFD �
       by_tests false false true = more (codes " ") made-space
       by_tests false false false = made-space
 
-  made-shown : (c : ℕ) → scalar_of c ≡ true → p c ≡ true → IsMadeOf q (encode_utf8 (shown kept c))
-  made-shown c scalar own = by_test (is_replaced kept c)
+  made-shown : (c : ℕ) → scalar_of c ≡ true → p c ≡ true → IsMadeOf q (encode_utf8 (shown c))
+  made-shown c scalar own = by_test (is_replaced c)
     where
       by_test : (b : Bool) → IsMadeOf q (encode_utf8 (if b then 0xFFFD else c))
       by_test true = made-one q 0xFFFD refl (passes 0xFFFD replacement)
       by_test false = made-one q c scalar (passes c own)
 
-  after-one : (s : CleanedText) (c : ℕ) → scalar_of c ≡ true → p c ≡ true → IsMadeOf q s.text → IsMadeOf q (after_character kept s c).text
+  after-one : (s : CleanedText) (c : ℕ) → scalar_of c ≡ true → p c ≡ true → IsMadeOf q s.text → IsMadeOf q (after_character s c).text
   after-one s c scalar own before = by_tests ((c == 0x0A) && s.after_return) ((c == 0x0A) || (c == 0x0D)) (c == 0x09)
     where
       by_tests : (again break tab : Bool)
           → IsMadeOf q (if again then record s { after_return = false }
           else if break then record { text = s.text ++ 0x0A ∷ []; seen = []; after_return = c == 0x0D }
           else if tab then record { text = s.text ++ blanks_after s.seen; seen = []; after_return = false }
-          else record { text = s.text ++ encode_utf8 (shown kept c); seen = s.seen ++ encode_utf8 (shown kept c); after_return = false }).text
+          else record { text = s.text ++ encode_utf8 (shown c); seen = s.seen ++ encode_utf8 (shown c); after_return = false }).text
       by_tests true break tab = before
       by_tests false true tab = made-append q s.text (0x0A ∷ []) before made-feed
       by_tests false false true = made-append q s.text (blanks_after s.seen) before (made-blanks (measure s.seen % 4))
-      by_tests false false false = made-append q s.text (encode_utf8 (shown kept c)) before (made-shown c scalar own)
+      by_tests false false false = made-append q s.text (encode_utf8 (shown c)) before (made-shown c scalar own)
 
-  after-all : (cs : List ℕ) (s : CleanedText) → all_scalars cs ≡ true → list_all p cs ≡ true → IsMadeOf q s.text → IsMadeOf q (fold (after_character kept) s cs).text
+  after-all : (cs : List ℕ) (s : CleanedText) → all_scalars cs ≡ true → list_all p cs ≡ true → IsMadeOf q s.text → IsMadeOf q (fold after_character s cs).text
   after-all [] s scalars own before = before
   after-all (c ∷ cs) s scalars own before =
       let both = and_parts (scalar_of c) (all_scalars cs) scalars in
       let each = and_parts (p c) (list_all p cs) own in
-      after-all cs (after_character kept s c) both.1 each.1 (after-one s c both.0 each.0 before)
+      after-all cs (after_character s c) both.1 each.1 (after-one s c both.0 each.0 before)
 
-  cleaned_made : (field : Text) → kept.sequences ≡ false → IsUtf8 field → list_all p (chars field) ≡ true → IsMadeOf q (cleaned kept field)
-  cleaned_made field none utf8 own =
-      subst (λ (keeps : Bool). IsMadeOf q (fold (after_piece kept) start (pieces keeps (chars field))).text) (sym none)
-      (subst (λ (s : CleanedText). IsMadeOf q s.text) (sym (each_character kept (chars field) start)) (after-all (chars field) start (scalars-chars field utf8) own (made-nil q)))
+  cleaned_made : (field : Text) → IsUtf8 field → list_all p (chars field) ≡ true → IsMadeOf q (cleaned false field)
+  cleaned_made field utf8 own =
+      subst (λ (s : CleanedText). IsMadeOf q s.text) (sym (each_character (chars field) start)) (after-all (chars field) start (scalars-chars field utf8) own (made-nil q))
 
 -- characters that pass in a field pass in the text lines that are drawn of it, where spaces and U+FFFD do
-pub lines_pass : (p : ℕ → Bool) → p 0x20 ≡ true → p 0xFFFD ≡ true → (look : Look) → look.is_markdown ≡ false → look.is_raw ≡ false → look.has_sequences ≡ false → (field : Text) → IsUtf8 field → list_all p (chars field) ≡ true
+pub lines_pass : (p : ℕ → Bool) → p 0x20 ≡ true → p 0xFFFD ≡ true → (look : Look) → look.is_markdown ≡ false → look.has_sequences ≡ false → (field : Text) → IsUtf8 field → list_all p (chars field) ≡ true
     → EachLine (λ (line : Text). list_all p (chars line) ≡ true) look field
-lines_pass p space replacement look none tidy unkept field utf8 own =
+lines_pass p space replacement look none unkept field utf8 own =
     subst (λ (text : Text). All Passes (plain_cell text).text_lines) (sym same)
-    (unless_blank-keeps (λ (text : Text). All Passes (plain_cell text).text_lines) (cleaned (kept_by look) field) (All-cons Passes [] [] none_left (All-nil Passes))
-    (All-weaker (IsMadeOf p) Passes (made_passes p) (text_lines (cleaned (kept_by look) field))
+    (unless_blank-keeps (λ (text : Text). All Passes (plain_cell text).text_lines) (cleaned false field) (All-cons Passes [] [] none_left (All-nil Passes))
+    (All-weaker (IsMadeOf p) Passes (made_passes p) (text_lines (cleaned false field))
     (subst (λ (text : Text). All (IsMadeOf p) (text_lines text)) made.spell (lines_made p made.characters made.scalars made.pass))))
   where
     Passes : Text → Type 0
@@ -168,8 +166,8 @@ lines_pass p space replacement look none tidy unkept field utf8 own =
     none_left : Passes []
     none_left = ap (list_all p) chars-nil
 
-    made : IsMadeOf (or_feed p) (cleaned (kept_by look) field)
-    made = cleaned_made p space replacement (kept_by look) field unkept utf8 own
+    made : IsMadeOf (or_feed p) (cleaned false field)
+    made = cleaned_made p space replacement field utf8 own
 
-    same : field_text look field ≡ unless_blank (cleaned (kept_by look) field)
-    same = ap₂ (λ (m r : Bool). if m then marked (cleaned (kept_for_markdown look) field) else if r then unless_blank field else unless_blank (cleaned (kept_by look) field)) none tidy
+    same : field_text look field ≡ unless_blank (cleaned false field)
+    same = ap₂ (λ (m keeps : Bool). if m then marked (cleaned false field) else unless_blank (cleaned keeps field)) none unkept

@@ -10,10 +10,9 @@ use Rattle.comfy_parts.proofs.CallerLemmas.{Shows-clear, none_by_characters, vis
 use Rattle.comfy_parts.specs.Text.{Text}
 use Rattle.csv_records.proofs.ControlLemmas.{cleaned_whole, no_controls}
 use Rattle.csv_tables.proofs.MarkedLemmas.{marked-harmless}
-use Rattle.csv_tables.specs.Cells.{field_text, kept_by, kept_for_markdown, marked, unless_blank}
+use Rattle.csv_tables.specs.Cells.{field_text, marked, unless_blank}
 use Rattle.csv_records.specs.Cleaning.{cleaned, is_harmful, turns_direction, visible_of}
 use Rattle.csv_tables.specs.Controls.{HasNoStrayControl, is_stray_control}
-use Rattle.csv_records.specs.declared.cleaning.CleanOptions.{CleanOptions}
 use Rattle.csv_tables.specs.declared.options.Look.{Look}
 use Rattle.csv_tables.proofs.BlankLemmas.{unless_blank-keeps}
 
@@ -28,37 +27,37 @@ visible-harmless true text none =
 visible-harmless false text none = none
 
 -- what isn't harmful is no such control character
-stray : (kept : CleanOptions) (c : ℕ) → is_harmful kept c ≡ false → is_stray_control c ≡ false
-stray kept c harmless = by_tests (is_control c) (c == 0x0A) (not kept.directions && turns_direction c) harmless
+stray : (c : ℕ) → is_harmful c ≡ false → is_stray_control c ≡ false
+stray c harmless = by_tests (is_control c) (c == 0x0A) (turns_direction c) harmless
   where
     by_tests : (control feed turns : Bool) → (control || turns) && not feed ≡ false → control && not feed ≡ false
     by_tests true feed turns none = none
     by_tests false feed turns none = refl
 
-none_stray : (kept : CleanOptions) (cs : List ℕ) → list_any (is_harmful kept) cs ≡ false → NonePass is_stray_control cs
-none_stray kept [] none = tt
-none_stray kept (c ∷ cs) none =
-    let each = or_parts (is_harmful kept c) (list_any (is_harmful kept) cs) none in
-    (stray kept c each.0, none_stray kept cs each.1)
+none_stray : (cs : List ℕ) → list_any is_harmful cs ≡ false → NonePass is_stray_control cs
+none_stray [] none = tt
+none_stray (c ∷ cs) none =
+    let each = or_parts (is_harmful c) (list_any is_harmful cs) none in
+    (stray c each.0, none_stray cs each.1)
 
-pub field-harmless : (look : Look) (field : Text) → look.is_raw ≡ false → IsUtf8 field → HasNoStrayControl (visible_of look.has_sequences (field_text look field))
-field-harmless look field tidy utf8 = rw tidy (by_markdown look.is_markdown)
+pub field-harmless : (look : Look) (field : Text) → IsUtf8 field → HasNoStrayControl (visible_of look.has_sequences (field_text look field))
+field-harmless look field utf8 = by_markdown look.is_markdown
   where
     keeps : Bool
     keeps = look.has_sequences
 
     text : Text
-    text = cleaned (kept_by look) field
+    text = cleaned keeps field
 
     whole : IsUtf8 text
-    whole = cleaned_whole (kept_by look) field utf8
+    whole = cleaned_whole keeps field utf8
 
     bare : Text
-    bare = cleaned (kept_for_markdown look) field
+    bare = cleaned false field
 
     escaped : HasNoStrayControl (marked bare)
-    escaped = marked-harmless bare (none_stray (kept_for_markdown look) (chars bare) (no_controls (kept_for_markdown look) field utf8))
+    escaped = marked-harmless bare (none_stray (chars bare) (no_controls false field utf8))
 
     by_markdown : (is_markdown : Bool) → HasNoStrayControl (visible_of keeps (if is_markdown then marked bare else unless_blank text))
     by_markdown true = visible-harmless keeps (marked bare) escaped
-    by_markdown false = unless_blank-keeps (λ (shown : Text). HasNoStrayControl (visible_of keeps shown)) text (visible-harmless keeps [] ([], refl, tt)) (chars (visible_of keeps text), encodes-chars (visible_of keeps text) (visible_whole keeps text whole), none_stray (kept_by look) (chars (visible_of keeps text)) (no_controls (kept_by look) field utf8))
+    by_markdown false = unless_blank-keeps (λ (shown : Text). HasNoStrayControl (visible_of keeps shown)) text (visible-harmless keeps [] ([], refl, tt)) (chars (visible_of keeps text), encodes-chars (visible_of keeps text) (visible_whole keeps text whole), none_stray (chars (visible_of keeps text)) (no_controls keeps field utf8))

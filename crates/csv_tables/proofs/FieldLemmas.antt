@@ -17,11 +17,10 @@ use Rattle.comfy_parts.specs.VisibleText.{is_parameter}
 use Rattle.comfy_table.proofs.StyledLemmas.{decimal-parameters}
 use Rattle.comfy_table.specs.Laws.{HasNoBreak}
 use Rattle.csv_records.proofs.CleaningLemmas.{drawn_so, none_replaced}
-use Rattle.csv_tables.specs.Cells.{field_text, kept_by, kept_for_markdown, marked, unless_blank}
+use Rattle.csv_tables.specs.Cells.{field_text, marked, unless_blank}
 use Rattle.csv_records.specs.Cleaning.{cleaned}
 use Rattle.csv_tables.specs.Laws.{PrintableFieldsStay}
 use Rattle.csv_tables.specs.Markdown.{escaped, escaped_after, escaped_character, is_marked_at, is_special}
-use Rattle.csv_records.specs.declared.cleaning.CleanOptions.{CleanOptions}
 use Rattle.csv_tables.specs.declared.options.Look.{Look}
 use Rattle.csv_tables.proofs.BlankLemmas.{unless_blank-keeps}
 
@@ -102,15 +101,14 @@ number_is_short n = let few = digits_are_few 64 n [] in omega (arith, few)
 -- ---- fields
 
 pub fields_stay : (look : Look) (field : Text) → PrintableFieldsStay look field
-fields_stay look field printable = one_line (field_text look field) (by_flags look.is_markdown look.is_raw)
+fields_stay look field printable = one_line (field_text look field) (by_markdown look.is_markdown)
   where
-    clean : (kept : CleanOptions) → is_printable_ascii (cleaned kept field) ≡ true
-    clean kept = ap is_printable_ascii (sym (drawn_so kept field (IsUtf8-printable field printable) (none_replaced kept field printable))) ∙ printable
+    clean : (keeps : Bool) → is_printable_ascii (cleaned keeps field) ≡ true
+    clean keeps = ap is_printable_ascii (sym (drawn_so keeps field (IsUtf8-printable field printable) (none_replaced field printable))) ∙ printable
 
-    by_flags : (is_markdown is_raw : Bool) → is_printable_ascii (if is_markdown then marked (cleaned (kept_for_markdown look) field) else if is_raw then unless_blank field else unless_blank (cleaned (kept_by look) field)) ≡ true
-    by_flags true is_raw = marked_stays (cleaned (kept_for_markdown look) field) (clean (kept_for_markdown look))
-    by_flags false true = unless_blank-keeps (λ text. is_printable_ascii text ≡ true) field refl printable
-    by_flags false false = unless_blank-keeps (λ text. is_printable_ascii text ≡ true) (cleaned (kept_by look) field) refl (clean (kept_by look))
+    by_markdown : (is_markdown : Bool) → is_printable_ascii (if is_markdown then marked (cleaned false field) else unless_blank (cleaned look.has_sequences field)) ≡ true
+    by_markdown true = marked_stays (cleaned false field) (clean false)
+    by_markdown false = unless_blank-keeps (λ text. is_printable_ascii text ≡ true) (cleaned look.has_sequences field) refl (clean look.has_sequences)
 
 -- ---- short fields
 
@@ -149,16 +147,15 @@ pub short_lines : (look : Look) (field : Text) → IsShortPrintable 64 field →
 short_lines look field (printable, few) =
     subst (All (IsShortPrintable 128)) (sym (whole_line (field_text look field) own.0)) (All-cons (IsShortPrintable 128) (field_text look field) [] own (All-nil (IsShortPrintable 128)))
   where
-    clean : (kept : CleanOptions) → cleaned kept field ≡ field
-    clean kept = sym (drawn_so kept field (IsUtf8-printable field printable) (none_replaced kept field printable))
+    clean : (keeps : Bool) → cleaned keeps field ≡ field
+    clean keeps = sym (drawn_so keeps field (IsUtf8-printable field printable) (none_replaced field printable))
 
     unless : IsShortPrintable 128 (unless_blank field)
     unless = unless_blank-keeps (IsShortPrintable 128) field (refl, omega arith) (printable, omega (arith, few))
 
-    by_flags : (is_markdown is_raw : Bool) → IsShortPrintable 128 (if is_markdown then marked (cleaned (kept_for_markdown look) field) else if is_raw then unless_blank field else unless_blank (cleaned (kept_by look) field))
-    by_flags true is_raw = subst (λ (t : Text). IsShortPrintable 128 (marked t)) (sym (clean (kept_for_markdown look))) (marked_is_short field (printable, few))
-    by_flags false true = unless
-    by_flags false false = subst (λ (t : Text). IsShortPrintable 128 (unless_blank t)) (sym (clean (kept_by look))) unless
+    by_markdown : (is_markdown : Bool) → IsShortPrintable 128 (if is_markdown then marked (cleaned false field) else unless_blank (cleaned look.has_sequences field))
+    by_markdown true = subst (λ (t : Text). IsShortPrintable 128 (marked t)) (sym (clean false)) (marked_is_short field (printable, few))
+    by_markdown false = subst (λ (t : Text). IsShortPrintable 128 (unless_blank t)) (sym (clean look.has_sequences)) unless
 
     own : IsShortPrintable 128 (field_text look field)
-    own = by_flags look.is_markdown look.is_raw
+    own = by_markdown look.is_markdown

@@ -171,12 +171,12 @@ module _ (look : Look) (content : ContentValue) (widths : List ℕ) (arranged : 
         (ap₂ (λ (a b : List Text). a ++ b) (ap (drawn_rows drawn infos) own_rows ∙ rows_lines content.rows each)
         (ap (λ (style : TableStyle). optional_frame_line style style.bottom_border (outer_widths infos)) own_style) ∙ append-nil (map (line_of false) content.rows)))
 
-    line_gives_back : (is_header : Bool) (fields : List Text) → AllText fields → IsFitting is_header fields → GivesBack look content.columns fields (line_of is_header fields)
+    line_gives_back : (is_header : Bool) (fields : List Text) → AllText fields → IsFitting is_header fields → GivesBack content.columns fields (line_of is_header fields)
     line_gives_back is_header fields text own =
         gives_back look fields (λ position. each_field IsUtf8 IsUtf8-nil fields position (text_fields fields text)) content.columns (first_line drawn look (given is_header fields) fields places) some
         (pieces_of drawn look (given is_header fields) fields content.columns places (only is_header fields own))
 
-    lines_give_back : (rows : List (List Text)) → All AllText rows → All (IsFitting false) rows → AllZip (GivesBack look content.columns) rows (map (line_of false) rows)
+    lines_give_back : (rows : List (List Text)) → All AllText rows → All (IsFitting false) rows → AllZip (GivesBack content.columns) rows (map (line_of false) rows)
     lines_give_back [] text each = tt
     lines_give_back (fields ∷ rows) text each =
         (line_gives_back false fields (All-head AllText fields rows text) (All-head (IsFitting false) fields rows each), lines_give_back rows (All-tail AllText fields rows text) (All-tail (IsFitting false) fields rows each))

@@ -8,7 +8,7 @@ use Rattle.std.proofs.lemmas.Str.{chars_from_encodes, encode_ascii, encodes-appe
 use lib.Utf8.{encode}
 use Rattle.comfy_parts.specs.Text.{Text, spaces}
 use Rattle.comfy_table.specs.Frame.{content_line}
-use Rattle.csv_tables.specs.Cells.{field_or_blank, field_text, kept_for_markdown, marked}
+use Rattle.csv_tables.specs.Cells.{field_or_blank, field_text, marked}
 use Rattle.csv_records.specs.Cleaning.{cleaned}
 use Rattle.csv_tables.specs.Markdown.{escaped, escaped_after, escaped_character, is_marked_at, is_special}
 use Rattle.csv_tables.specs.declared.options.DrawnColumn.{DrawnColumn}
@@ -80,7 +80,7 @@ IsPiece look fields column piece = (a : ℕ) × (b : ℕ) × (piece ≡ spaces a
 module _ (look : Look) (fields : List Text) (whole : (position : ℕ) → IsUtf8 (field_or_blank fields position)) where
   -- the fields of columns
   abbrev read_columns : List DrawnColumn → List (List ℕ)
-  read_columns columns = map (λ (column : DrawnColumn). read_field look (field_or_blank fields column.position)) columns
+  read_columns columns = map (λ (column : DrawnColumn). read_field (field_or_blank fields column.position)) columns
 
   -- pieces with a bar after each of them, as characters
   record AreRead (columns : List DrawnColumn) (text : Text) : Type 0 where
@@ -95,8 +95,8 @@ module _ (look : Look) (fields : List Text) (whole : (position : ℕ) → IsUtf8
   pieces_read (column ∷ columns) (piece ∷ pieces) ((a, b, is), each) =
       let more = pieces_read columns pieces each in
       let field = field_or_blank fields column.position in
-      let text = cleaned (kept_for_markdown look) field in
-      let own : Spells (spaced a (chars text) b) piece = subst (Spells (spaced a (chars text) b)) (sym is) (Spells-spaced a text b (cleaned_whole (kept_for_markdown look) field (whole column.position))) in
+      let text = cleaned false field in
+      let own : Spells (spaced a (chars text) b) piece = subst (Spells (spaced a (chars text) b)) (sym is) (Spells-spaced a text b (cleaned_whole false field (whole column.position))) in
       let part = spaced a (chars text) b in
       let rest = flat_map (λ (piece : Text). piece ++ 0x7C ∷ []) pieces in
       record {
@@ -118,7 +118,7 @@ module _ (look : Look) (fields : List Text) (whole : (position : ℕ) → IsUtf8
   bar = encode_ascii 0x7C (omega arith)
 
   -- so a line with bars gives back the fields
-  pub gives_back : (columns : List DrawnColumn) (pieces : List Text) → 0 < length columns → AllZip (IsPiece look fields) columns pieces → GivesBack look columns fields (content_line markdown_style markdown_style.content_lines pieces)
+  pub gives_back : (columns : List DrawnColumn) (pieces : List Text) → 0 < length columns → AllZip (IsPiece look fields) columns pieces → GivesBack columns fields (content_line markdown_style markdown_style.content_lines pieces)
   gives_back [] pieces some each = absurd (omega (arith, some))
   gives_back (column ∷ columns) [] some each = absurd each
   gives_back (column ∷ columns) (piece ∷ pieces) some each =

@@ -29,7 +29,7 @@ use Rattle.comfy_table.specs.Straight.{IsStraightTable}
 use Rattle.comfy_table.specs.TableValue.{TableValue, cell_content_width, column_content_width, header_and_rows, max_content_widths, measured_rows, should_style, shown_columns, table_width, with_row, with_rows}
 use Rattle.comfy_table.specs.Widths.{capped_content, disabled_width, fixed_by_constraint, shown_count, shown_needs, upper_boundary}
 use Rattle.csv.specs.Records.{AllText}
-use Rattle.csv_tables.specs.Cells.{cell_for, field_or_blank, header_for, kept_by, kept_for_markdown, marked, reached, row_for, unless_blank}
+use Rattle.csv_tables.specs.Cells.{cell_for, field_or_blank, header_for, marked, reached, row_for, unless_blank}
 use Rattle.csv_records.specs.Cleaning.{cleaned, visible_of}
 use Rattle.csv_tables.specs.Markdown.{is_right, rule_line, rule_part}
 use Rattle.csv_tables.specs.declared.options.DrawnColumn.{DrawnColumn}
@@ -41,7 +41,7 @@ use Rattle.csv_tables.proofs.LineLemmas.{Any, any_built, never_expanded}
 use Rattle.csv_tables.proofs.StraightLemmas.{IsSeenTable, IsShort, empty_is_short, rows_are_straight, short_printable, short_rows}
 use Rattle.csv_tables.proofs.NumberedLemmas.{lines_beside, text_beside}
 use Rattle.csv_tables.proofs.TextTableLemmas.{EachLine, rows_of_texts}
-use Rattle.csv_tables.specs.Laws.{AreSeen, EachText, IsLookWithoutControls, IsStraightOutput, MarkdownOutputIsStraight, WholeOutputIsStraight, seen_lines}
+use Rattle.csv_tables.specs.Laws.{AreSeen, EachText, IsStraightOutput, MarkdownOutputIsStraight, WholeOutputIsStraight, seen_lines}
 use Rattle.csv_tables.specs.Drawn.{ContentValue, RendersAsMarkdown, RendersRecords, RendersContent, content_of, below_first, headed_table, empty_table, markdown_content, markdown_look, markdown_style, markdown_table}
 use Rattle.csv_tables.proofs.ReachedLemmas.{reached-length}
 
@@ -283,7 +283,7 @@ clear_markdown true look content lines drawing free is =
 -- a field is drawn as it is for Markdown
 pub drawn_for_markdown : (look : Look) → look.is_markdown ≡ true → (field : Text) → EachLine IsShort look field → EachLine IsShort (markdown_look look) field
 drawn_for_markdown look is field own =
-    subst (λ (b : Bool). All IsShort (plain_cell (if b then marked (cleaned (kept_for_markdown look) field) else if look.is_raw then unless_blank field else unless_blank (cleaned (kept_by look) field))).text_lines) is own
+    subst (λ (b : Bool). All IsShort (plain_cell (if b then marked (cleaned false field) else unless_blank (cleaned look.has_sequences field))).text_lines) is own
 
 -- there are names, none in a header that is blank
 pub with_names : (P : List Text → Type 0) → P [] → (content : ContentValue) → EachOf P content → EachOf P (markdown_content content)
@@ -294,15 +294,15 @@ with_names P none content own = record { names = λ names is. by_names content.n
     by_names (Some names) own n is = let same : names ≡ n = cc is in subst P same (own names refl)
 
 -- the table for Markdown is seen as it is written, or without sequences
-abbrev AreSeenInMarkdown : Bool → Look → List (List Text) → Type 0
-AreSeenInMarkdown false look records = Unit {0}
-AreSeenInMarkdown true look records = IsLookWithoutControls look × All AllText records
+abbrev AreSeenInMarkdown : Bool → List (List Text) → Type 0
+AreSeenInMarkdown false records = Unit {0}
+AreSeenInMarkdown true records = All AllText records
 
-seen_markdown : (visible : Bool) (options : Options) (records : List (List Text)) (content : ContentValue) → content_of options records ≡ Ok content → AreSeenInMarkdown visible options.look records → IsSeenTable visible (markdown_look options.look) (markdown_table options.look content)
+seen_markdown : (visible : Bool) (options : Options) (records : List (List Text)) (content : ContentValue) → content_of options records ≡ Ok content → AreSeenInMarkdown visible records → IsSeenTable visible (markdown_look options.look) (markdown_table options.look content)
 seen_markdown false options records content is any = refl
-seen_markdown true options records content is (clear, text) = let cleaned = clear.cleaned in free_markdown options.look cleaned content (each_content AllText text_beside options records content is text)
+seen_markdown true options records content is text = free_markdown options.look content (each_content AllText text_beside options records content is text)
 
-markdown_straight : (visible : Bool) (options : Options) (records : List (List Text)) (output : Text) → AreSeenInMarkdown visible options.look records → options.look.is_markdown ≡ true
+markdown_straight : (visible : Bool) (options : Options) (records : List (List Text)) (output : Text) → AreSeenInMarkdown visible records → options.look.is_markdown ≡ true
     → EachText IsShort options.look records → RendersRecords options records output → IsStraightOutput visible options records output
 markdown_straight visible options records output own is short made =
     let look = options.look in
@@ -325,8 +325,8 @@ markdown_is_straight options records output is short made = markdown_straight fa
 pub whole_is_straight : (visible : Bool) (options : Options) (records : List (List Text)) (output : Text) → WholeOutputIsStraight visible options records output
 whole_is_straight visible options records output characters plain no_width cut short made = by_markdown options.look.is_markdown refl
   where
-    in_markdown : (kind : Bool) → AreSeen kind options.look records → AreSeenInMarkdown kind options.look records
-    in_markdown true own = own
+    in_markdown : (kind : Bool) → AreSeen kind options.look records → AreSeenInMarkdown kind records
+    in_markdown true own = own.1
     in_markdown false own = tt
 
     by_markdown : (b : Bool) → options.look.is_markdown ≡ b → IsStraightOutput visible options records output

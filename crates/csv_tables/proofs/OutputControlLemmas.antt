@@ -41,7 +41,7 @@ use Rattle.csv_tables.proofs.SeparatorLemmas.{condensed-all, separated}
 use Rattle.csv_tables.proofs.TextTableLemmas.{EachLine, MakesRows, cells_each, pair_each, rows_of_texts, table_of_texts}
 use Rattle.csv_tables.proofs.WholeTableLemmas.{IsDrawn, drawn-is, drawn_plain, drawn_table-is, measured-drawn}
 use Rattle.csv_tables.specs.Drawn.{ContentValue, RendersAsMarkdown, RendersRecords, RendersAnyRecords, RendersAsTable, RendersContent, are_more, below_first, condensed_style, count_text, counting, markdown_content, markdown_look, markdown_table, note_for, output_table, record_line, rows_table, separated_table}
-use Rattle.csv_tables.specs.Laws.{BeginningIsDrawnWithoutControls, HasLines, InputIsDrawnWithoutControls, IsLookWithoutControls, IsOutputWith, OutputHoldsNoControls}
+use Rattle.csv_tables.specs.Laws.{BeginningIsDrawnWithoutControls, HasLines, InputIsDrawnWithoutControls, IsOutputWith, OutputHoldsNoControls}
 
 -- ---- rows
 
@@ -71,11 +71,11 @@ clear_rows look =
       pair = λ name field own other. pair_each (IsClearLine keeps) (empty_line keeps) look name field own other;
     }
 
-clear_field : (look : Look) → look.is_raw ≡ false → (field : Text) → IsUtf8 field → EachLine (IsClearLine look.has_sequences) look field
-clear_field look tidy field utf8 = lines_without_controls look.has_sequences (field_text look field) (field-harmless look field tidy utf8)
+clear_field : (look : Look) (field : Text) → IsUtf8 field → EachLine (IsClearLine look.has_sequences) look field
+clear_field look field utf8 = lines_without_controls look.has_sequences (field_text look field) (field-harmless look field utf8)
 
-clear_fields : (look : Look) → look.is_raw ≡ false → (fields : List Text) → AllText fields → All (EachLine (IsClearLine look.has_sequences) look) fields
-clear_fields look tidy fields text = All-weaker IsUtf8 (EachLine (IsClearLine look.has_sequences) look) (clear_field look tidy) fields (text_fields fields text)
+clear_fields : (look : Look) (fields : List Text) → AllText fields → All (EachLine (IsClearLine look.has_sequences) look) fields
+clear_fields look fields text = All-weaker IsUtf8 (EachLine (IsClearLine look.has_sequences) look) (clear_field look) fields (text_fields fields text)
 
 -- such a row holds none as it is measured
 clear_measured : (keeps : Bool) (row : RowValue) → IsClearRow keeps row → IsRowOf HasNoControl (row_measured keeps row)
@@ -109,24 +109,24 @@ unbroken_without style none =
     (λ c fails. unlike is_control (unwrap_or c 0x20) 0x0A refl (λ _. fails)) (style_characters style)
     (none_each (λ c. is_control (unwrap_or c 0x20)) (style_characters style) none))
 
-separated_without : (has : Bool) (look : Look) → IsLookWithoutControls look → IsLookWithoutControls (separated has look)
+separated_without : (has : Bool) (look : Look) → IsStyleWithoutControls look.style → IsStyleWithoutControls (separated has look).style
 separated_without true look is = is
-separated_without false look is = record { cleaned = is.cleaned; style = condensed_without look.style is.style }
+separated_without false look is = condensed_without look.style is
 
-module _ (look : Look) (is : IsLookWithoutControls look) (content : ContentValue) (text : EachOf AllText content) where
+module _ (look : Look) (is : IsStyleWithoutControls look.style) (content : ContentValue) (text : EachOf AllText content) where
   free_of_controls : (table : TableValue) → IsDrawn look (IsClearRow look.has_sequences) content table → IsFreeOfControls table
   free_of_controls table known =
       record {
         text_lines = shown_of_all HasNoControl table (measured-drawn look (IsClearRow look.has_sequences) content table known (IsRowOf HasNoControl) (clear_measured look.has_sequences));
         indicator = subst HasNoControl (sym (ap (λ (t : TableValue). t.indicator) (drawn-is look (IsClearRow look.has_sequences) content table known))) ellipsis_is_plain;
-        characters = subst IsStyleWithoutControls (sym (ap (λ (t : TableValue). t.style) (drawn-is look (IsClearRow look.has_sequences) content table known))) is.style;
+        characters = subst IsStyleWithoutControls (sym (ap (λ (t : TableValue). t.style) (drawn-is look (IsClearRow look.has_sequences) content table known))) is;
       }
 
   each : EachOf (All (EachLine (IsClearLine look.has_sequences) look)) content
   each =
       record {
-        names = λ names at. clear_fields look is.cleaned names (text.names names at);
-        rows = All-weaker AllText (All (EachLine (IsClearLine look.has_sequences) look)) (clear_fields look is.cleaned) content.rows text.rows;
+        names = λ names at. clear_fields look names (text.names names at);
+        rows = All-weaker AllText (All (EachLine (IsClearLine look.has_sequences) look)) (clear_fields look) content.rows text.rows;
       }
 
   pub free_rows : IsFreeOfControls (rows_table look content)
@@ -135,9 +135,9 @@ module _ (look : Look) (is : IsLookWithoutControls look) (content : ContentValue
   built_output : (is_expanded : Bool) → Built look (IsClearRow look.has_sequences) content (plain_table is_expanded look content)
   built_output is_expanded =
       table_of_texts (IsClearLine look.has_sequences) (empty_line look.has_sequences) look (IsClearRow look.has_sequences) (clear_rows look) content each
-      (λ number. clear_field look is.cleaned (decimal number) (IsUtf8-printable (decimal number) (number_is_printable number))) is_expanded
+      (λ number. clear_field look (decimal number) (IsUtf8-printable (decimal number) (number_is_printable number))) is_expanded
 
-pub free_output : (look : Look) → IsLookWithoutControls look → (content : ContentValue) → EachOf AllText content → (is_expanded has : Bool) → IsFreeOfControls (separated_table has (output_table is_expanded look content))
+pub free_output : (look : Look) → IsStyleWithoutControls look.style → (content : ContentValue) → EachOf AllText content → (is_expanded has : Bool) → IsFreeOfControls (separated_table has (output_table is_expanded look content))
 free_output look is content text is_expanded has =
     let own = separated has look in
     let clear = separated_without has look is in
@@ -318,22 +318,22 @@ titled content own = record { names = λ names is. by_names content.names own.na
     by_names (Some n) own names is = let same : n ≡ names = cc is in subst AllText same (own n refl)
 
 -- and no control character
-pub free_markdown : (look : Look) → look.is_raw ≡ false → (content : ContentValue) → EachOf AllText content → IsFreeOfControls (markdown_table look content)
-free_markdown look cleaned content text = free_rows (markdown_look look) (record { cleaned = cleaned; style = refl }) (markdown_content content) (titled content text)
+pub free_markdown : (look : Look) (content : ContentValue) → EachOf AllText content → IsFreeOfControls (markdown_table look content)
+free_markdown look content text = free_rows (markdown_look look) refl (markdown_content content) (titled content text)
 
-markdown_is_clear : (options : Options) (records : List (List Text)) (output : Text) → IsLookWithoutControls options.look → All AllText records → (made : RendersRecords options records output) → RendersAsMarkdown options.look made.content made.text → options.look.is_markdown ≡ true → HasNoStrayControl (visible_text output)
+markdown_is_clear : (options : Options) (records : List (List Text)) (output : Text) → IsStyleWithoutControls options.look.style → All AllText records → (made : RendersRecords options records output) → RendersAsMarkdown options.look made.content made.text → options.look.is_markdown ≡ true → HasNoStrayControl (visible_text output)
 markdown_is_clear options records output look text made drawn is =
     let rule = rule_line made.content.columns (max_content_widths (markdown_table options.look made.content)) in
     let own = each_content AllText text_beside options records made.content made.is_content text in
     output_of_clear options records output (below_first rule drawn.lines) (record { content = made.content; is_content = made.is_content; is_expanded = false; expansion = never_expanded options.look made.content is; text = made.text; has_lines = markdown_lines_of options.look made.content made.text drawn; joined = made.joined })
     (each_below_first IsClear rule drawn.lines (rule_is_clear made.content.columns _)
-    (drawn.drawing.controls.without_controls (free_markdown options.look look.cleaned made.content own)))
+    (drawn.drawing.controls.without_controls (free_markdown options.look made.content own)))
 
-table_is_clear : (options : Options) (records : List (List Text)) (output : Text) → IsLookWithoutControls options.look → All AllText records → (made : RendersRecords options records output) → RendersAsTable options.look made.content made.text → options.look.is_markdown ≡ false → HasNoStrayControl (visible_text output)
+table_is_clear : (options : Options) (records : List (List Text)) (output : Text) → IsStyleWithoutControls options.look.style → All AllText records → (made : RendersRecords options records output) → RendersAsTable options.look made.content made.text → options.look.is_markdown ≡ false → HasNoStrayControl (visible_text output)
 table_is_clear options records output look text made drawn_text none =
     let has = drawn_text.drawn.has_separators in
     let own = each_content AllText text_beside options records made.content made.is_content text in
-    output_of_clear options records output (drawn options records output made drawn_text none) (with_lines options records output made drawn_text none (unbroken_without options.look.style look.style))
+    output_of_clear options records output (drawn options records output made drawn_text none) (with_lines options records output made drawn_text none (unbroken_without options.look.style look))
     (drawn_text.drawn.is_arranged.headline.controls.without_controls (free_output options.look look made.content own drawn_text.is_expanded has))
 
 pub output_without_controls : (options : Options) (records : List (List Text)) (output : Text) → OutputHoldsNoControls options records output

@@ -67,7 +67,6 @@ module _ (look : Look) (no_sequences : look.has_sequences ≡ false) (content : 
   of_drawn table widths known = record { printable_cells = printable_cells look no_sequences content table known; indicator_adds_one_column_each = cut_cells look no_sequences content table known widths }
 
   module _ (each : EachOf (All (EachLine IsPrintable look)) content) where
-
     built_output : (is_expanded : Bool) → Built look IsBareRow content (plain_table is_expanded look content)
     built_output is_expanded = table_of_texts IsPrintable refl look IsBareRow (default_rows_of IsPrintable refl look) content each (number_drawn IsPrintable gives look) is_expanded
 

@@ -28,4 +28,3 @@ chosen names rows (Ok ps) (Ok right) (Ok left) columns is = ap Ok (placed names 
 chosen names rows (Ok ps) (Ok right) (Err fault) columns is = absurd (cc is)
 chosen names rows (Ok ps) (Err fault) left columns is = absurd (cc is)
 chosen names rows (Err fault) right left columns is = absurd (cc is)
-

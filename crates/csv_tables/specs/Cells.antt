@@ -10,7 +10,6 @@ use Rattle.comfy_parts.specs.declared.style.cell.CellAlignment.{CellAlignment}
 use Rattle.csv.specs.Records.{field_at}
 use Rattle.csv_records.specs.Cleaning.{cleaned}
 use Rattle.csv_tables.specs.Markdown.{escaped}
-use Rattle.csv_records.specs.declared.cleaning.CleanOptions.{CleanOptions}
 use Rattle.csv_tables.specs.declared.options.Look.{Look}
 use Rattle.csv_tables.specs.declared.options.DrawnColumn.{DrawnColumn}
 
@@ -22,13 +21,6 @@ field_or_blank fields position = unwrap_or (field_at fields position) []
 abbrev pub marked : Text → Text
 marked text = encode_utf8_all (escaped (chars text))
 
--- what of a field a look leaves as it is; for Markdown no sequences
-abbrev pub kept_by : Look → CleanOptions
-kept_by look = record { sequences = look.has_sequences; directions = look.keeps_bidi }
-
-abbrev pub kept_for_markdown : Look → CleanOptions
-kept_for_markdown look = record { sequences = false; directions = look.keeps_bidi }
-
 -- spaces and line feeds alone
 abbrev pub is_blank : Text → Bool
 is_blank text = list_all (λ b. (b == 0x20) || (b == 0x0A)) text
@@ -38,13 +30,13 @@ is_blank text = list_all (λ b. (b == 0x20) || (b == 0x0A)) text
 abbrev pub unless_blank : Text → Text
 unless_blank text = if is_blank text then [] else text
 
--- a field as its cell has it: left raw, or cleaned, and empty where that is blank; for Markdown it
--- is cleaned and escaped
+-- a field as its cell has it: cleaned, and empty where that is blank; for Markdown no sequence is
+-- kept, and the field is escaped
 abbrev pub field_text : Look → Text → Text
 field_text look field =
-    if look.is_markdown then marked (cleaned (kept_for_markdown look) field)
-    else if look.is_raw then unless_blank field
-    else unless_blank (cleaned (kept_by look) field)
+    if look.is_markdown
+    then marked (cleaned false field)
+    else unless_blank (cleaned look.has_sequences field)
 
 -- the cell of a field, with this alignment
 abbrev pub cell_for : Look → Option CellAlignment → Text → CellValue

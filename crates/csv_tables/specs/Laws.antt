@@ -29,8 +29,6 @@ use Rattle.csv_tables.specs.declared.options.Expansion.TheVariants.{Auto, Never}
 use Rattle.csv_tables.specs.declared.options.Look.{Look}
 use Rattle.csv_tables.specs.declared.options.Options.{Options}
 
--- ---- rows
-
 -- ---- decimal points
 
 -- a text as it is, or with spaces behind it
@@ -84,8 +82,6 @@ IsDrawnTable look content table =
     (has_separators : Bool) × (table
     ≡ separated_table has_separators (output_table (is_expanded_for look content) look content))
 
--- ---- lines of records
-
 -- ---- widths of lines
 
 -- an output has the lines of a drawing, and P holds of their counts
@@ -124,16 +120,11 @@ OutputFillsWidth w options records output =
 
 -- ---- what is visible of lines
 
--- fields are cleaned, and no character of the style is a control character
-pub record IsLookWithoutControls (look : Look) : Type 0 where
-  pub cleaned : look.is_raw ≡ false
-  pub style : IsStyleWithoutControls look.style
-
 -- lines are seen as they are written, where nothing is in bold; or without their sequences, where
 -- no control character stands beside these
 abbrev pub AreSeen : Bool → Look → List (List Text) → Type 0
 AreSeen false look records = look.has_bold_header ≡ false
-AreSeen true look records = IsLookWithoutControls look × All AllText records
+AreSeen true look records = IsStyleWithoutControls look.style × All AllText records
 
 -- lines are seen so, they end where line feeds are, and no sequence of a field counts nothing
 pub record ArePlainLines (visible : Bool) (look : Look) (records : List (List Text)) : Type 0 where
@@ -286,17 +277,17 @@ PrintableFieldsStay look field =
 -- then nothing harmful is visible of an output for records that are text
 abbrev pub OutputHoldsNoControls : Options → List (List Text) → Text → Type 0
 OutputHoldsNoControls options records output =
-    IsLookWithoutControls options.look → All AllText records → RendersRecords options records output
+    IsStyleWithoutControls options.look.style → All AllText records → RendersRecords options records output
     → HasNoStrayControl (visible_text output)
 
 -- nor of the output for any input
 abbrev pub InputIsDrawnWithoutControls : Options → Text → Text → Type 0
 InputIsDrawnWithoutControls options input output =
-    IsLookWithoutControls options.look → RendersInput options input output
+    IsStyleWithoutControls options.look.style → RendersInput options input output
     → HasNoStrayControl (visible_text output)
 
 -- nor of the output for a beginning that is enough
 abbrev pub BeginningIsDrawnWithoutControls : Options → Text → Text → Type 0
 BeginningIsDrawnWithoutControls options beginning output =
-    IsLookWithoutControls options.look → RendersBeginning options beginning output
+    IsStyleWithoutControls options.look.style → RendersBeginning options beginning output
     → HasNoStrayControl (visible_text output)

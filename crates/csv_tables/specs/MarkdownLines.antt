@@ -7,11 +7,10 @@ use Rattle.comfy_table.specs.Drawing.{terminated_text_of}
 use Rattle.comfy_table.specs.Laws.{HasNoBreak}
 use Rattle.comfy_table.specs.TableValue.{max_content_widths}
 use Rattle.csv.specs.Records.{AllText}
-use Rattle.csv_tables.specs.Cells.{field_or_blank, kept_for_markdown}
+use Rattle.csv_tables.specs.Cells.{field_or_blank}
 use Rattle.csv_records.specs.Cleaning.{cleaned}
 use Rattle.csv_tables.specs.Markdown.{rule_line, unescaped}
 use Rattle.csv_tables.specs.declared.options.DrawnColumn.{DrawnColumn}
-use Rattle.csv_tables.specs.declared.options.Look.{Look}
 use Rattle.csv_tables.specs.declared.options.Options.{Options}
 use Rattle.csv_tables.specs.Drawn.{ContentValue, RendersRecords, content_of, markdown_table, note_for}
 use Rattle.csv_tables.specs.Laws.{EachText}
@@ -55,15 +54,15 @@ abbrev pub read_part : List ℕ → List ℕ
 read_part part = without_outer_spaces (unescaped part)
 
 -- what is to be read of a field: its characters as they are drawn
-abbrev pub read_field : Look → Text → List ℕ
-read_field look field = without_outer_spaces (chars (cleaned (kept_for_markdown look) field))
+abbrev pub read_field : Text → List ℕ
+read_field field = without_outer_spaces (chars (cleaned false field))
 
 -- between its outer bars a line has a part for each column, which gives back the record's field
-abbrev pub GivesBack : Look → List DrawnColumn → List Text → Text → Type 0
-GivesBack look columns fields line =
+abbrev pub GivesBack : List DrawnColumn → List Text → Text → Type 0
+GivesBack columns fields line =
     map read_part (parts_between_bars (chars line))
     ≡ [] ∷ (map (λ (column : DrawnColumn).
-    read_field look (field_or_blank fields column.position)) columns ++ [] ∷ [])
+    read_field (field_or_blank fields column.position)) columns ++ [] ∷ [])
 
 -- ---- an output
 
@@ -80,8 +79,8 @@ pub record GivesRecordsBack (options : Options) (records : List (List Text))
       ∷ rule_line content.columns (max_content_widths (markdown_table options.look content))
       ∷ lines) ++ note_for true options.selection.limit content.count
   pub unbroken : All HasNoBreak (header ∷ lines)
-  pub names : GivesBack options.look content.columns (unwrap_or content.names []) header
-  pub rows : AllZip (GivesBack options.look content.columns) content.rows lines
+  pub names : GivesBack content.columns (unwrap_or content.names []) header
+  pub rows : AllZip (GivesBack content.columns) content.rows lines
 
 -- so it does where a column is drawn, for fields of every script up to 65535 terminal columns
 abbrev pub MarkdownGivesRecordsBack : Options → List (List Text) → Text → Type 0

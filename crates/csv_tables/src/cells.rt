@@ -4,14 +4,14 @@ ghost use Rattle.std.specs.Prelude.{◌≡◌, IfOk, false, max, option_map, str
 ghost use Rattle.std.specs.Cow.{cow_str_bytes};
 ghost use Rattle.std.specs.Option.{option_or};
 ghost use Rattle.csv_tables.specs.Decimals.{mark_in, spaced_fields};
-ghost use Rattle.csv_tables.specs.Cells.{cell_for, cells_for, cut, field_or_blank, field_text, header_for, is_blank, kept_by, kept_for_markdown, pair_for, unless_blank, with_weight};
+ghost use Rattle.csv_tables.specs.Cells.{cell_for, cells_for, cut, field_or_blank, field_text, header_for, is_blank, pair_for, unless_blank, with_weight};
 
 use crate::decimals::{mark_in, spaced};
 use crate::markdown::escaped;
 use crate::options::{DrawnColumn, Look};
 use comfy_parts::style::{Attribute, CellAlignment};
 use comfy_parts::{Cell, Cells, IntoRow, Result, Row};
-use csv_records::{CleanOptions, Points, Record, cleaned};
+use csv_records::{Points, Record, cleaned};
 use std::alloc::Global;
 use std::borrow::CowStr;
 
@@ -135,12 +135,10 @@ fn field_text(alloc: Global, field: &str, look: &Look) -> Result<String>
     ensures { IfOk result (λ text. string_bytes text ≡ field_text look.now field.now) }
 {
     if look.is_markdown {
-        let text = cleaned(alloc, field, kept_for_markdown(look))?;
+        let text = cleaned(alloc, field, false)?;
         Ok(escaped(alloc, text.as_str())?)
-    } else if look.is_raw {
-        Ok(unless_blank(String::from_str(alloc, field)?))
     } else {
-        Ok(unless_blank(cleaned(alloc, field, kept_by(look))?))
+        Ok(unless_blank(cleaned(alloc, field, look.has_sequences)?))
     }
 }
 
@@ -159,24 +157,4 @@ fn is_blank(bytes: &[u8]) -> bool
     ensures { result ≡ is_blank bytes.now }
 {
     bytes.iter().all(|byte| matches!(*byte, b' ' | b'\n'))
-}
-
-// What of a field a look leaves as it is.
-fn kept_by(look: &Look) -> CleanOptions
-    ensures { result ≡ kept_by look.now }
-{
-    CleanOptions {
-        sequences: look.has_sequences,
-        directions: look.keeps_bidi,
-    }
-}
-
-// What of it is left as it is for Markdown.
-fn kept_for_markdown(look: &Look) -> CleanOptions
-    ensures { result ≡ kept_for_markdown look.now }
-{
-    CleanOptions {
-        sequences: false,
-        directions: look.keeps_bidi,
-    }
 }

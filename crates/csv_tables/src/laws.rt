@@ -123,4 +123,3 @@ pub fn outputs_are_one()
     ensures records { (options : Options) (records : List (List Text)) (output other : Text)
         → OutputOfIsOne options records output other }
 {}
-

@@ -88,10 +88,6 @@ pub struct Look {
     pub aligns_decimals: bool,
     /// Whether SGR sequences in fields count no terminal columns. ESC is then kept as it is.
     pub has_sequences: bool,
-    /// Whether characters that turn the direction of text are left as they are.
-    pub keeps_bidi: bool,
-    /// Whether control characters, and those that turn the direction of text, are left as they are.
-    pub is_raw: bool,
     /// Whether the table is one for Markdown. Each record is one line then: the frame is
     /// Markdown's, no width is kept, nothing is cut, bold or expanded, and fields are cleaned, so
     /// that no sequence stays.

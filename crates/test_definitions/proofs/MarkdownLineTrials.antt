@@ -50,21 +50,21 @@ blank_fields_are_read = refl
 
 -- a look without anything kept, and two columns in another order
 abbrev look : Look
-look = record { style = ascii_full; separators = Styled; expansion = Never; width = None; fills_width = false; max_height = None; has_bold_header = false; aligns_decimals = true; has_sequences = false; keeps_bidi = false; is_raw = false; is_markdown = true }
+look = record { style = ascii_full; separators = Styled; expansion = Never; width = None; fills_width = false; max_height = None; has_bold_header = false; aligns_decimals = true; has_sequences = false; is_markdown = true }
 
 abbrev columns : List DrawnColumn
 columns = record { position = 1; alignment = None } ∷ record { position = 0; alignment = None } ∷ []
 
 -- a record is given back by its line, a missing field as an empty one, and not by another
-record_is_given_back : GivesBack look columns (codes " a\n" ∷ codes "b|c" ∷ []) (codes "| b\\|c | a<br> |")
+record_is_given_back : GivesBack columns (codes " a\n" ∷ codes "b|c" ∷ []) (codes "| b\\|c | a<br> |")
 unfolding wrapping lib.Utf8.encode chars field_at
 record_is_given_back = refl
 
-missing_field_is_given_back : GivesBack look columns (codes "a" ∷ []) (codes "|  | a |")
+missing_field_is_given_back : GivesBack columns (codes "a" ∷ []) (codes "|  | a |")
 unfolding wrapping lib.Utf8.encode chars field_at
 missing_field_is_given_back = refl
 
 -- false: csv_tables::laws::markdown_lines_give_back_their_fields
-other_order_is_not : ¬ (GivesBack look columns (codes "a" ∷ codes "b" ∷ []) (codes "| a | b |"))
+other_order_is_not : ¬ (GivesBack columns (codes "a" ∷ codes "b" ∷ []) (codes "| a | b |"))
 unfolding wrapping lib.Utf8.encode chars field_at
 other_order_is_not is = true≢false (ap (λ (parts : List (List ℕ)). slice_index (slice_index_or parts 1 []) 0 == 0x61) is)

@@ -21,7 +21,6 @@ use Rattle.csv_tables.specs.declared.options.RowSeparators.TheVariants.{Styled}
 use Rattle.csv_tables.specs.declared.options.DrawnColumn.{DrawnColumn}
 use Rattle.csv_tables.specs.declared.options.Look.{Look}
 use Rattle.csv_tables.specs.Drawn.{empty_table}
-use Rattle.csv_tables.specs.Laws.{IsLookWithoutControls}
 use Rattle.test_definitions.proofs.TrialTables.{utf8}
 
 -- ---- texts
@@ -57,6 +56,7 @@ colours_are_harmless : HasNoStrayControl (visible_text (codes "\u{1b}[1ma\u{1b}[
 unfolding wrapping lib.Utf8.encode
 colours_are_harmless = harmless (codes "a\n") refl
 
+-- false: csv_records::laws::cleaned_fields_hold_no_controls
 clearing_is_harmful : ¬ (HasNoStrayControl (visible_text (codes "\u{1b}[2J")))
 unfolding wrapping lib.Utf8.encode
 clearing_is_harmful = harmful (codes "\u{1b}[2J") refl
@@ -65,32 +65,24 @@ clearing_is_harmful = harmful (codes "\u{1b}[2J") refl
 
 -- sequences are kept, and the header is in bold
 abbrev look : Look
-look = record { style = ascii_full; separators = Styled; expansion = Auto; width = None; fills_width = false; max_height = None; has_bold_header = true; aligns_decimals = true; has_sequences = true; keeps_bidi = false; is_raw = false; is_markdown = false }
+look = record { style = ascii_full; separators = Styled; expansion = Auto; width = None; fills_width = false; max_height = None; has_bold_header = true; aligns_decimals = true; has_sequences = true; is_markdown = false }
 
-look_is_without : IsLookWithoutControls look
-look_is_without = record { cleaned = refl; style = refl }
-
-raw_look_is_not : ¬ (IsLookWithoutControls (record look { is_raw = true }))
-raw_look_is_not is = true≢false is.cleaned
+its_style_is_without : IsStyleWithoutControls look.style
+its_style_is_without = refl
 
 -- a style that fills with TABs
 abbrev with_tabs : TableStyle
 with_tabs = record ascii_full { top_border = record ascii_full.top_border { fill = Some 0x09 } }
 
-tabs_are_not : ¬ (IsLookWithoutControls (record look { style = with_tabs }))
-tabs_are_not is = true≢false is.style
+tabs_are_not : ¬ (IsStyleWithoutControls with_tabs)
+tabs_are_not is = true≢false is
 
 -- ---- fields
 
--- a field that clears the screen is cleaned, and stays as it is in a raw look
+-- a field that clears the screen is cleaned
 cleaned_is_harmless : HasNoStrayControl (visible_text (field_text look (codes "\u{1b}[2J")))
 unfolding wrapping lib.Utf8.encode chars
 cleaned_is_harmless = harmless (codes "�[2J") refl
-
--- false: csv_records::laws::cleaned_fields_hold_no_controls
-raw_is_harmful : ¬ (HasNoStrayControl (visible_text (field_text (record look { is_raw = true }) (codes "\u{1b}[2J"))))
-unfolding wrapping lib.Utf8.encode chars
-raw_is_harmful = harmful (codes "\u{1b}[2J") refl
 
 -- no sequence stays in Markdown, and line feeds become `<br>`
 marked_is_harmless : field_text (record look { is_markdown = true }) (codes "\u{1b}[1ma\n|") ≡ utf8 "�\\[1ma<br>\\|"
@@ -118,23 +110,15 @@ output_is = refl
 output_is_harmless : HasNoStrayControl (visible_text (output look))
 output_is_harmless = subst HasNoStrayControl (sym output_is) (harmless (codes "+--------+\n| a      |\n+========+\n| �[2J�J |\n+--------+\n") refl)
 
--- the two premises are needed
+-- the premise is needed
 tabs_are_written : visible_text (output (record look { style = with_tabs })) ≡ utf8 "+\t\t\t\t\t\t\t\t+\n| a      |\n+========+\n| �[2J�J |\n+--------+\n"
 unfolding wrapping lib.Utf8.encode chars field_at
 tabs_are_written = refl
 
+-- false: csv_tables::laws::outputs_hold_no_controls, csv_command::laws::drawings_hold_no_controls
 output_with_tabs_is_harmful : ¬ (HasNoStrayControl (visible_text (output (record look { style = with_tabs }))))
 output_with_tabs_is_harmful none =
     harmful (codes "+\t\t\t\t\t\t\t\t+\n| a      |\n+========+\n| �[2J�J |\n+--------+\n") refl (subst HasNoStrayControl tabs_are_written none)
-
-raw_is_written : visible_text (output (record look { is_raw = true })) ≡ utf8 "+--------+\n| a      |\n+========+\n| \u{1b}[2J\u{9b}J |\n+--------+\n"
-unfolding wrapping lib.Utf8.encode chars field_at
-raw_is_written = refl
-
--- false: csv_tables::laws::outputs_hold_no_controls, csv_command::laws::drawings_hold_no_controls
-raw_output_is_harmful : ¬ (HasNoStrayControl (visible_text (output (record look { is_raw = true }))))
-raw_output_is_harmful none =
-    harmful (codes "+--------+\n| a      |\n+========+\n| \u{1b}[2J\u{9b}J |\n+--------+\n") refl (subst HasNoStrayControl raw_is_written none)
 
 -- ---- styles
 

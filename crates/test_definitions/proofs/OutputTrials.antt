@@ -22,7 +22,7 @@ use Rattle.comfy_table.specs.TableValue.{TableValue}
 
 -- rows are never expanded, and all are drawn
 abbrev look : Look
-look = record { style = ascii_full; separators = Styled; expansion = Never; width = None; fills_width = false; max_height = None; has_bold_header = false; aligns_decimals = true; has_sequences = false; keeps_bidi = false; is_raw = false; is_markdown = false }
+look = record { style = ascii_full; separators = Styled; expansion = Never; width = None; fills_width = false; max_height = None; has_bold_header = false; aligns_decimals = true; has_sequences = false; is_markdown = false }
 
 abbrev drawn_by : Options → Options
 drawn_by options = record options { selection = record options.selection { limit = None }; look = look }
@@ -78,9 +78,9 @@ unended_output_has_no_lines : (P : TableValue → ℕ → Type 0) (options : Opt
 unended_output_has_no_lines P options records is = unended is.lines (lines_of_output options records (codes "ab") is.lines is.is_output)
 
 -- false: csv_tables::laws::outputs_are_one
-others_are_not_the_same : (options : Options) → ¬ (AreSameOptions (drawn_by options) (record (drawn_by options) { look = record look { is_raw = true } }))
-others_are_not_the_same options is = true≢false (sym (ap (λ (l : Look). l.is_raw) is.look))
+others_are_not_the_same : (options : Options) → ¬ (AreSameOptions (drawn_by options) (record (drawn_by options) { look = record look { fills_width = true } }))
+others_are_not_the_same options is = true≢false (sym (ap (λ (l : Look). l.fills_width) is.look))
 
 -- false: csv_command::laws::drawings_are_one
-raw_fields_are_not_parsed : (invocation : Invocation) → ¬ (AreSameInvocations (record invocation { options = drawn_by invocation.options }) (record invocation { options = record (drawn_by invocation.options) { look = record look { is_raw = true } } }))
-raw_fields_are_not_parsed invocation is = others_are_not_the_same invocation.options is.options
+other_looks_are_not_parsed : (invocation : Invocation) → ¬ (AreSameInvocations (record invocation { options = drawn_by invocation.options }) (record invocation { options = record (drawn_by invocation.options) { look = record look { fills_width = true } } }))
+other_looks_are_not_parsed invocation is = others_are_not_the_same invocation.options is.options

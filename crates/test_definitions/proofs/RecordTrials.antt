@@ -13,7 +13,6 @@ use Rattle.ucd_category.proofs.Computing.{ucd_category}
 use Rattle.csv.specs.Records.{field_at}
 use Rattle.csv_records.specs.Cleaning.{after_piece, pieces, start}
 use Rattle.csv_records.specs.Input.{line_breaks as line_breaks_of, line_number}
-use Rattle.csv_records.specs.declared.cleaning.CleanOptions.{CleanOptions}
 use Rattle.csv_tables.specs.Columns.{alignment_for, columns_with, position_named, positions_of_word, seen, is_number_column}
 use Rattle.csv_tables.specs.Columns.ColumnFault.{missing, none_left, two_sided}
 use Rattle.csv_tables.specs.Drawn.{condensed_style, limited, note_for, record_line}
@@ -113,11 +112,8 @@ telling_fields = refl
 
 -- ---- fields as they are drawn
 
-abbrev drawn_with : CleanOptions → List ℕ → Text
-drawn_with kept characters = (fold (after_piece kept) start (pieces kept.sequences characters)).text
-
 abbrev drawn : Bool → List ℕ → Text
-drawn keeps_sequences = drawn_with (record { sequences = keeps_sequences; directions = false })
+drawn keeps_sequences characters = (fold after_piece start (pieces keeps_sequences characters)).text
 
 -- TABs go to the next multiple of four, and each line begins anew
 tabs : drawn false (0x61 ∷ 0x09 ∷ 0x62 ∷ 0x09 ∷ 0x09 ∷ 0x63 ∷ 0x0A ∷ 0x09 ∷ 0x64 ∷ []) ≡ codes "a   b       c" ++ 0x0A ∷ codes "    d"
@@ -154,11 +150,6 @@ control_characters = refl
 directions : drawn false (0x202E ∷ 0x202C ∷ 0x2066 ∷ 0x2069 ∷ 0x200F ∷ []) ≡ replacement ++ (replacement ++ (replacement ++ (replacement ++ 0xE2 ∷ 0x80 ∷ 0x8F ∷ [])))
 unfolding wrapping lib.Utf8.encode
 directions = refl
-
--- where they are kept, they stay
-kept_directions : drawn_with (record { sequences = false; directions = true }) (0x202E ∷ 0x07 ∷ []) ≡ 0xE2 ∷ 0x80 ∷ 0xAE ∷ replacement
-unfolding wrapping lib.Utf8.encode
-kept_directions = refl
 
 sequence_without_ansi : drawn false (codes "\u{1b}[1m") ≡ replacement ++ codes "[1m"
 unfolding wrapping lib.Utf8.encode

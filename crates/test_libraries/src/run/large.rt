@@ -264,8 +264,6 @@ pub(super) fn options(alloc: Global, width: Option<u16>, has_sequences: bool) ->
             has_bold_header: false,
             aligns_decimals: true,
             has_sequences,
-            keeps_bidi: false,
-            is_raw: false,
             is_markdown: false,
         },
     }

@@ -19,7 +19,5 @@ returns c =
       bold = c.is_bold.ensures ∙ ap (λ word. is_bold_for word c.args.context) c.get_str-2.ensures;
       decimals = ap not c.is_given-3.ensures;
       sequences = c.is_given-4.ensures;
-      bidi = c.is_given-5.ensures;
-      raw = c.is_given-6.ensures;
       markdown = c.is_markdown.ensures;
     }

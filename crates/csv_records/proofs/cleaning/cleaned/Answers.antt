@@ -6,4 +6,4 @@ use Rattle.csv_records.proofs.cleaning.cleaned.Goals as goal
 
 pub returns-then-is_clean : goal.returns-then-is_clean
 returns-then-is_clean c =
-    IfOk-weaker c.from_str.result _ _ (λ text e. e ∙ drawn_so c.args.kept c.args.field.now c.utf8.field (not-true _ (sym c.is_clean.ensures ∙ c.if-is_clean.true))) c.from_str.ensures.ok
+    IfOk-weaker c.from_str.result _ _ (λ text e. e ∙ drawn_so c.args.keeps_sequences c.args.field.now c.utf8.field (not-true _ (sym c.is_clean.ensures ∙ c.if-is_clean.true))) c.from_str.ensures.ok

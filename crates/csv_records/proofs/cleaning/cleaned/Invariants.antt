@@ -3,4 +3,4 @@ use Rattle.csv_records.specs.Cleaning.{after_piece, pieces, start}
 use Rattle.csv_records.proofs.cleaning.cleaned.Given as goal
 
 abbrev pub invariant-loop-piece : goal.invariant-loop-piece
-invariant-loop-piece l = fold (after_piece l.kept) l.cleaner l.piece-iterator ≡ fold (after_piece l.kept) start (pieces l.kept.sequences (chars l.field))
+invariant-loop-piece l = fold after_piece l.cleaner l.piece-iterator ≡ fold after_piece start (pieces l.keeps_sequences (chars l.field))

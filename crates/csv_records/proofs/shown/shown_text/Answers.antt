@@ -7,7 +7,7 @@ use Rattle.std.specs.List.{list_any}
 use Rattle.std.specs.Str.{encode_utf8_all}
 use Rattle.std.specs.Str.Iter.{chars_rest}
 use Rattle.csv_records.proofs.ShownLemmas.{harmless}
-use Rattle.csv_records.specs.Cleaning.{is_harmful, nothing_kept}
+use Rattle.csv_records.specs.Cleaning.{is_harmful}
 use Rattle.csv_records.specs.Shown.{shown_in, shown_text}
 use Rattle.csv_records.proofs.shown.shown_text.Goals as goal
 
@@ -26,4 +26,4 @@ returns c =
     let all = YieldsList-end cut c.loop-c.yielded _ c.loop-c.yielded_by _ _ c.in-None.is c.next.ensures.steps in
     let value : string_bytes c.loop-c.shown ≡ shown_text c.args.keeps_breaks c.args.text.now =
     c.loop-c.invariant ∙ ap (λ (t : List ℕ). encode_utf8_all (map (shown_in c.args.keeps_breaks) t)) (sym (map-id c.loop-c.yielded) ∙ all.0) in
-    record { value = value; harmless = ap (λ (t : List ℕ). list_any (is_harmful nothing_kept) (chars t)) value ∙ harmless c.args.keeps_breaks c.args.text.now c.utf8.text }
+    record { value = value; harmless = ap (λ (t : List ℕ). list_any is_harmful (chars t)) value ∙ harmless c.args.keeps_breaks c.args.text.now c.utf8.text }
