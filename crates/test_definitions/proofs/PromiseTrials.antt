@@ -14,7 +14,7 @@ use Rattle.std.proofs.lemmas.Str.{NoCharPasses-byte}
 use Rattle.comfy_parts.proofs.CallerLemmas.{All-at, All-every, frame_adds, one_column_characters}
 use Rattle.comfy_parts.proofs.Computing.{wrapping}
 use Rattle.comfy_parts.specs.CellValue.{ColumnInfo, info_of, new_column, CellValue, ColumnValue, RowValue, plain_cell, plain_row}
-use Rattle.comfy_parts.specs.Columns.{IsOneColumn, style_characters}
+use Rattle.comfy_parts.specs.Columns.{CharactersFit, IsOneColumn, style_characters}
 use Rattle.comfy_parts.specs.Presets as presets
 use Rattle.comfy_parts.specs.Presets.{utf8_full}
 use Rattle.comfy_parts.specs.Text.{HasNo, IsOnly, Text, measure}
@@ -28,7 +28,7 @@ use Rattle.promises.specs.Kept.{AreShown, AreSlicesOf, IsFrame, ShowsRow, ShowsW
 use Rattle.promises.specs.Kept.IsFrame.{nothing as no_frame, space as frame_space, character as frame_character}
 use Rattle.promises.specs.Shown.{AreShownEquallyWide, HasNoControls, IsHarmless, Shows}
 use Rattle.promises.specs.Shown.Shows.{nothing, byte, sequence}
-use Rattle.promises.specs.Tables.{CharactersFit, EachShownText, EachText, HasCharactersWithin, HasPlainFrame, IsPlain, IsShownWhole}
+use Rattle.promises.specs.Tables.{CharactersFitColumns, EachShownText, EachText, HasPlainFrame, IsPlain, IsShownWhole}
 use Rattle.promises.specs.Widths.{IsFree, frame_room}
 use Rattle.test_definitions.proofs.StraightTrials.{ellipsis_is_apart}
 use Rattle.test_definitions.proofs.TrialTables as tables
@@ -36,11 +36,11 @@ use Rattle.test_definitions.proofs.TrialTables.{utf8}
 
 -- ---- a table
 
-abbrev row_of : String → String → RowValue
+abbrev pub row_of : String → String → RowValue
 row_of first second = tables.row_of (first ∷ second ∷ [])
 
 -- a header and a row of two cells
-abbrev table_of : String → String → TableValue
+abbrev pub table_of : String → String → TableValue
 table_of first second =
     tables.table_of utf8_full ("day" ∷ "text" ∷ []) ((first ∷ second ∷ []) ∷ [])
 
@@ -84,17 +84,17 @@ each_of P first second day text one other =
     )
 
 -- Latin with an accent, and Cyrillic
-characters_of_one : EachText (HasCharactersWithin 1) (table_of "3 mai é" "Отчёт")
+characters_of_one : EachText (CharactersFit 1) (table_of "3 mai é" "Отчёт")
 unfolding wrapping encode
 characters_of_one =
-    each_of (HasCharactersWithin 1) "3 mai é" "Отчёт" refl refl (All-from_recursion (HasCharactersWithin 1) (utf8 "3 mai é" ∷ []) (refl, tt)) (All-from_recursion (HasCharactersWithin 1) (utf8 "Отчёт" ∷ []) (refl, tt))
+    each_of (CharactersFit 1) "3 mai é" "Отчёт" refl refl (All-from_recursion (CharactersFit 1) (utf8 "3 mai é" ∷ []) (refl, tt)) (All-from_recursion (CharactersFit 1) (utf8 "Отчёт" ∷ []) (refl, tt))
 
 -- three borders, four paddings and two columns take nine terminal columns
 frame_of_two : frame_room (table_of "3 mai é" "Отчёт") ≡ 9
 frame_of_two = refl
 
 -- Chinese: two terminal columns for a character
-characters_of_two : HasCharactersWithin 2 (utf8 "京都")
+characters_of_two : CharactersFit 2 (utf8 "京都")
 unfolding wrapping encode
 characters_of_two = refl
 
@@ -115,22 +115,22 @@ columns_of n w = info_of (new_column 0) n ∷ info_of (new_column 1) w ∷ []
 abbrev FitColumns : List ColumnInfo → RowValue → Type 0
 FitColumns columns row = (i : ℕ) (column : ColumnInfo) → slice_get columns i ≡ Some column
     → column.is_hidden ≡ false → (cell : CellValue) → slice_get row.cells i ≡ Some cell
-    → All (HasCharactersWithin column.content_width) cell.text_lines
+    → All (CharactersFit column.content_width) cell.text_lines
 
 -- so do those of two cells, where each fits its own
 two_fit : (n w : ℕ) (one other : CellValue)
-    → All (HasCharactersWithin (max 1 n)) one.text_lines
-    → All (HasCharactersWithin (max 1 w)) other.text_lines
+    → All (CharactersFit (max 1 n)) one.text_lines
+    → All (CharactersFit (max 1 w)) other.text_lines
     → FitColumns (columns_of n w) (plain_row (one ∷ other ∷ []))
 two_fit n w one other first second = at
   where
     fit : (a b : ColumnInfo) (x y : CellValue) → Some a ≡ Some b → Some x ≡ Some y
-        → All (HasCharactersWithin a.content_width) x.text_lines
-        → All (HasCharactersWithin b.content_width) y.text_lines
+        → All (CharactersFit a.content_width) x.text_lines
+        → All (CharactersFit b.content_width) y.text_lines
     fit a b x y columns cells own =
-        subst (λ (c : ColumnInfo). All (HasCharactersWithin c.content_width) y.text_lines)
+        subst (λ (c : ColumnInfo). All (CharactersFit c.content_width) y.text_lines)
         (same_Some a b columns)
-        (subst (λ (c : CellValue). All (HasCharactersWithin a.content_width) c.text_lines)
+        (subst (λ (c : CellValue). All (CharactersFit a.content_width) c.text_lines)
         (same_Some x y cells) own)
 
     at : FitColumns (columns_of n w) (plain_row (one ∷ other ∷ []))
@@ -142,7 +142,7 @@ two_fit n w one other first second = at
 
 -- each character has room in its own column: digits in one of one terminal column, Chinese in one
 -- of two
-characters_fit_their_columns : CharactersFit (table_of "17" "京都") (columns_of 1 2)
+characters_fit_their_columns : CharactersFitColumns (table_of "17" "京都") (columns_of 1 2)
 unfolding wrapping encode
 characters_fit_their_columns =
     All-from_recursion (FitColumns (columns_of 1 2)) (header_and_rows (table_of "17" "京都")) (
@@ -155,9 +155,9 @@ characters_fit_their_columns =
       ),
     )
   where
-    one_line : (w : ℕ) (s : String) → HasCharactersWithin w (utf8 s)
-        → All (HasCharactersWithin w) (utf8 s ∷ [])
-    one_line w s own = All-from_recursion (HasCharactersWithin w) (utf8 s ∷ []) (own, tt)
+    one_line : (w : ℕ) (s : String) → CharactersFit w (utf8 s)
+        → All (CharactersFit w) (utf8 s ∷ [])
+    one_line w s own = All-from_recursion (CharactersFit w) (utf8 s ∷ []) (own, tt)
 
 -- what holds of all texts holds of the shown ones
 shown_of_all : (P : Text → Type 0) (table : TableValue) → EachText P table → EachShownText P table
@@ -204,23 +204,32 @@ text_in_line = (codes " ", codes " ", refl, frame_space [] no_frame, frame_space
 -- ---- what is refused
 
 -- a character of two columns where one is allowed
-pub wide_is_refused : ¬ (HasCharactersWithin 1 (utf8 "京"))
+pub wide_is_refused : ¬ (CharactersFit 1 (utf8 "京"))
 unfolding wrapping encode
 wide_is_refused is = cc is
 
--- U+FE01
-widening_is_refused : ¬ (HasCharactersWithin 2 (encode_utf8_all (0xFE01 ∷ [])))
+-- U+FE01, which widens a quotation mark, alone is no character of two columns
+widening_alone : CharactersFit 1 (encode_utf8_all (0xFE01 ∷ []))
 unfolding wrapping encode
-widening_is_refused is = cc is
+widening_alone = refl
+
+-- but not directly beside another selector, at either side
+pub widening_behind_a_selector : ¬ (CharactersFit 2 (encode_utf8_all (0x201C ∷ 0xFE0F ∷ 0xFE01 ∷ [])))
+unfolding wrapping encode
+widening_behind_a_selector is = cc is
+
+widening_before_a_selector : ¬ (CharactersFit 2 (encode_utf8_all (0x201C ∷ 0xFE01 ∷ 0xFE0E ∷ [])))
+unfolding wrapping encode
+widening_before_a_selector is = cc is
 
 -- a character of two columns in a column of one, though the other one has room
-wide_in_the_narrow_column : ¬ (CharactersFit (table_of "京" "17") (columns_of 1 2))
+wide_in_the_narrow_column : ¬ (CharactersFitColumns (table_of "京" "17") (columns_of 1 2))
 unfolding wrapping encode
 wide_in_the_narrow_column fit =
-    let own : All (HasCharactersWithin 1) (utf8 "京" ∷ []) =
+    let own : All (CharactersFit 1) (utf8 "京" ∷ []) =
     fit 1 (row_of "京" "17") (omega arith) 0 (info_of (new_column 0) 1) refl refl
     (plain_cell (utf8 "京")) refl in
-    wide_is_refused (All-head (HasCharactersWithin 1) (utf8 "京") [] own)
+    wide_is_refused (All-head (CharactersFit 1) (utf8 "京") [] own)
 
 -- a text in bold is harmless, and shows the text
 bold_shows : Shows (codes "\u{1b}[1ma\u{1b}[0m") (codes "a")
@@ -368,7 +377,7 @@ some_slice own (inr cut) none = no_spaces (subst (IsSlicesWhere (λ line tail. U
     no_spaces (suc n, is) = let letter : ◌≡◌ {A = ℕ} 0x64 0x20 = cc is in absurd (omega (arith, letter))
 
 -- false: promises::lines_with_all_texts
-no_lines_lose_texts : ¬ (AreShown (ShowsRow (table_of "3 mai" "oats")) (table_of "3 mai" "oats") [])
+pub no_lines_lose_texts : ¬ (AreShown (ShowsRow (table_of "3 mai" "oats")) (table_of "3 mai" "oats") [])
 unfolding chars encode
 no_lines_lose_texts is = by_blocks is.blocks (subst (StandAmong (All (IsFrame utf8_full)) is.blocks) (sym (is.unstyled refl)) is.stand) is.show
   where

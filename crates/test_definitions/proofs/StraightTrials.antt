@@ -55,7 +55,7 @@ unfolding wrapping
 with_selector_measures_two = refl
 
 -- nor does a variation selector stand apart
--- false: promises::the_ellipsis_stands_apart
+-- false: promises::laws::the_ellipsis_stands_apart
 selector_joins : ¬ (IsApart (encode_utf8_all (0xFE0F ∷ [])))
 selector_joins apart =
     let two = apart (utf8 "#") number_sign_is_text in
