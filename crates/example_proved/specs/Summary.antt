@@ -27,7 +27,7 @@ summary_table w measurements = table_of utf8_full Dynamic (Some w) heading (map 
 abbrev pub HasPlainName : Measurement → Type 0
 HasPlainName one = is_printable_ascii (string_bytes one.name) ≡ true
 
--- all lines are equally wide, none is wider than the width, where that is at least 13, and all texts
+-- all lines are equally wide, none is wider than a width of at least 13, and all texts
 -- are shown
 pub record IsSummary (measurements : List Measurement) (w : ℕ) (lines : List Text) : Type 0 where
   pub equally_wide : All HasPlainName measurements → AreEquallyWide lines
