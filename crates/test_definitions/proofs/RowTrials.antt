@@ -1,7 +1,6 @@
 -- Lines that no new table of a header and rows has.
-use Rattle.std.proofs.Common.{◌≡◌, ◌==◌, ◌≤◌, ◌<◌, ◌+◌, ◌*◌, ℕ, zero, suc, true, List, [], ◌∷◌, ◌++◌, Option, Some, None, codes, length, max, refl, ap, arith, slice_index_or}
+use Rattle.std.proofs.Common.{◌≡◌, ◌≤◌, ◌<◌, ℕ, zero, suc, List, [], ◌∷◌, ◌++◌, Option, Some, None, codes, length, refl, arith, slice_index_or}
 use Rattle.std.specs.List.{All}
-use Rattle.std.specs.Prelude.{slice_index}
 use Rattle.std.proofs.lemmas.List.Elements.{All-cons, All-from_recursion, All-head, All-nil}
 use Rattle.comfy_parts.proofs.Computing.{wrapping}
 use Rattle.comfy_parts.specs.CellValue.{CellValue, RowValue, plain_cell}
@@ -10,11 +9,12 @@ use Rattle.comfy_parts.specs.Presets.{nothing, utf8_full}
 use Rattle.comfy_parts.specs.Text.{Text, measure}
 use Rattle.comfy_parts.specs.declared.style.table.ContentArrangement.{ContentArrangement}
 use Rattle.comfy_parts.specs.declared.style.table.ContentArrangement.TheVariants.{Disabled, Dynamic, DynamicFullWidth}
-use Rattle.comfy_table.specs.NewTables.{AreEquallyWide, IsShortRow}
+use Rattle.comfy_table.specs.NewTables.{IsShortRow}
 use Rattle.promises.specs.Rows.{HaveCells, IsIn, IsNarrowCell, IsNarrowRow, IsRowIn, KeepsRows}
 use Rattle.test_definitions.proofs.LawTrials.{shorter_line}
 use Rattle.test_definitions.proofs.PromiseTrials as promises
 use Rattle.test_definitions.proofs.PromiseTrials.{no_lines_lose_texts}
+use Rattle.test_definitions.proofs.TrialTables.{no_ab_inside}
 
 -- a header of the text `ab`, and no row below it
 abbrev header : RowValue
@@ -76,14 +76,6 @@ torn keeps = by_line own.0 own.3 own.1 own.4
     own : IsIn (codes " a b " ∷ []) (codes "ab")
     own = All-head (IsRowIn (codes " a b " ∷ [])) header [] (keeps.whole_texts refl short) 0 (plain_cell []) (omega arith) 0 [] (omega arith)
 
-    by_before : (before : Text) → ¬ (codes " a b " ≡ before ++ (codes "ab" ++ own.2))
-    by_before [] made = let letter : ◌≡◌ {A = ℕ} 0x20 0x61 = cc made in absurd (omega (arith, letter))
-    by_before (b ∷ []) made = let letter : ◌≡◌ {A = ℕ} 0x20 0x62 = cc made in absurd (omega (arith, letter))
-    by_before (b ∷ c ∷ []) made = let letter : ◌≡◌ {A = ℕ} 0x20 0x61 = cc made in absurd (omega (arith, letter))
-    by_before (b ∷ c ∷ d ∷ []) made = let letter : ◌≡◌ {A = ℕ} 0x62 0x61 = cc made in absurd (omega (arith, letter))
-    by_before (b ∷ c ∷ d ∷ e ∷ []) made = let letter : ◌≡◌ {A = ℕ} 0x20 0x61 = cc made in absurd (omega (arith, letter))
-    by_before (b ∷ c ∷ d ∷ e ∷ f ∷ before) made = promises.none_in_nothing before (codes "b") own.2 0x61 (let rest : [] ≡ before ++ (codes "ab" ++ own.2) = cc made in rest)
-
     by_line : (k : ℕ) → k < 1 → (before : Text) → ¬ (slice_index_or (codes " a b " ∷ []) k [] ≡ before ++ (codes "ab" ++ own.2))
-    by_line zero below before made = by_before before made
+    by_line zero below before made = no_ab_inside (codes " a b ") refl before own.2 made
     by_line (suc k) below before made = absurd (omega (arith, below))
