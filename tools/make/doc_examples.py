@@ -47,7 +47,7 @@ def name_of(path, before, after):
     """The name of the item that a doc comment stands at, after the type that it belongs to."""
     if after is None:
         return os.path.basename(path)[: -len(".rt")]
-    indent, kind, item = re.match(r"(?:\s*#\[.*\n)*( *)pub (?:const )?(\w+) (\w+)", after).groups()
+    indent, kind, item = re.match(r"(?:\s*#\[.*\n)*( *)(?:pub (?:const )?(\w+)|macro_rules!) (\w+)", after).groups()
     owner = [it[1] for it in re.finditer(r"^impl(?:<.*?>)? (\w+)(?:<.*?>)? \{", before, re.M)]
     return snake(f"{owner[-1]}_{item}" if kind == "fn" and indent else item)
 
@@ -121,7 +121,9 @@ def examples_of(crate):
 
 def import_lines(code, uses):
     """The `use` lines for the names in some code, in the layout of `rt fmt`."""
-    offered = re.findall(r"\w+", " ".join(re.findall(r"pub use (.*?);", text_of("crates/comfy_table/src/lib.rt"), re.S)))
+    library = text_of("crates/comfy_table/src/lib.rt")
+    offered = re.findall(r"\w+", " ".join(re.findall(r"pub use (.*?);", library, re.S)))
+    macros = [it for it in re.findall(r"macro_rules! (\w+)", library) if re.search(rf"\b{it}!", code)]
     presets = re.findall(r"pub const (\w+)", text_of("crates/comfy_parts/src/style/presets.rt"))
     words = set(re.findall(r"(?<![:\w])\w+", re.sub(r'"[^"]*"', "", re.sub(r"anyhow::\w+", "", code))))
     words |= {TRAITS[it] for it in TRAITS if f".{it}(" in code}
@@ -130,7 +132,7 @@ def import_lines(code, uses):
         path = PATHS.get(word)
         if path is None and word in presets:
             path = "comfy_table::presets"
-        if path is None and word in offered and word[0].isupper():
+        if path is None and (word in macros or word in offered and word[0].isupper()):
             path = "comfy_table"
         if path:
             groups.setdefault(path, []).append(word)

@@ -2,7 +2,7 @@
 
 use super::{renew, show};
 use comfy_table::presets::UTF8_FULL;
-use comfy_table::{ColumnConstraint, ContentArrangement, Result, Table, Terminal};
+use comfy_table::{ColumnConstraint, ContentArrangement, Result, Table, Terminal, row};
 use std::alloc::Global;
 use std::env;
 use std::io::IsTerminal;
@@ -11,11 +11,12 @@ use std::io::IsTerminal;
 pub fn run(rt: &HostRuntime, table: &mut Table, new_table: &mut Table) -> anyhow::Result<()> {
     let alloc = rt.alloc();
     silent_1(alloc, table)?;
-    silent_2(table)?;
+    silent_2(alloc, table)?;
     shown_1(rt, table, new_table)
 }
 
 fn silent_1(alloc: Global, table: &mut Table) -> Result<()> {
+    row_example(alloc, table)?;
     table_set_header_example(table)?;
     table_add_row_example(table)?;
     table_column_mut_example(table);
@@ -24,11 +25,12 @@ fn silent_1(alloc: Global, table: &mut Table) -> Result<()> {
     column_cell_iter_example(table)?;
     lines_example(table)?;
     table_to_text_example(table)?;
-    table_add_rows_example(table)?;
-    table_try_add_rows_example(alloc, table)
+    table_from_rows_example(alloc)
 }
 
-fn silent_2(table: &mut Table) -> Result<()> {
+fn silent_2(alloc: Global, table: &mut Table) -> Result<()> {
+    table_add_rows_example(table)?;
+    table_try_add_rows_example(alloc, table)?;
     table_load_style_example(table);
     table_set_width_example(table);
     Ok(())
@@ -45,6 +47,11 @@ fn shown_1(rt: &HostRuntime, table: &mut Table, new_table: &mut Table) -> anyhow
     renew(alloc, new_table);
     show(rt, table_custom_styling_example(new_table))?;
     terminal_example(rt, table)
+}
+
+fn row_example(alloc: Global, table: &mut Table) -> Result<()> {
+    table.add_row(row![alloc; "17", 12u32, true])?;
+    Ok(())
 }
 
 fn table_example(table: &mut Table) -> Result<String> {
@@ -119,6 +126,12 @@ fn table_lines_example(rt: &HostRuntime, table: &mut Table) -> anyhow::Result<()
 
 fn table_to_text_example(table: &mut Table) -> Result<()> {
     let drawing = table.to_text()?;
+    Ok(())
+}
+
+fn table_from_rows_example(alloc: Global) -> Result<()> {
+    let bikes = [["17", "dock 3"], ["18", "rented"]];
+    let table = Table::from_rows(alloc, ["Bike", "Where it stands"], bikes)?;
     Ok(())
 }
 

@@ -1,5 +1,5 @@
 -- How callers meet the conditions of promises.
-use Rattle.std.proofs.Common.{◌≡◌, ◌==◌, ◌&&◌, ◌≤◌, ◌<◌, ◌-◌, ℕ, true, not, List, [], ◌∷◌, ◌++◌, None, Some, Option, append-nil, refl, sym, ap, ◌∙◌, subst, arith, length, max, nat_le, ap₂, flat_map}
+use Rattle.std.proofs.Common.{◌≡◌, ◌==◌, ◌&&◌, ◌≤◌, ◌<◌, ◌-◌, ℕ, Bool, true, false, not, List, [], ◌∷◌, ◌++◌, None, Some, Option, append-nil, refl, sym, ap, ◌∙◌, subst, arith, length, max, nat_le, ap₂, flat_map}
 use Rattle.std.specs.List.{All, join_by, list_all, range_with_len, slice_split}
 use Rattle.std.specs.Int.{is_in_range}
 use Rattle.std.specs.Prelude.{decimal, encode_utf8}
@@ -9,48 +9,65 @@ use Rattle.std.proofs.lemmas.Grind.{flat_map-append}
 use Rattle.std.proofs.lemmas.List.{append_assoc}
 use Rattle.std.proofs.lemmas.List.Elements.{All-append, All-cons, All-filter, All-head, All-map, All-nil, All-tail, All-weaker}
 use Rattle.std.proofs.lemmas.Str.{chars-IsAscii, encode_ascii}
+use Rattle.cluster_width.specs.ClusterSums.{clash, selectors_agree}
 use Rattle.comfy_parts.proofs.CallerLemmas.{All-every, ascii-printable, below_seven_bits, frame_adds, frame_apart, measure-printable, no_fewer_columns}
 use Rattle.comfy_parts.proofs.PrintableLineLemmas.{parts-all}
 use Rattle.comfy_parts.proofs.Computing.{wrapping}
 use Rattle.comfy_parts.specs.CellValue.{CellValue, ColumnInfo, ColumnValue, RowValue, columns_grown_to, is_hidden_column, new_column, plain_cell}
-use Rattle.comfy_parts.specs.Columns.{IsApart, IsOneColumn}
+use Rattle.comfy_parts.specs.Columns.{CharactersFit, IsApart, IsOneColumn, character_fits}
 use Rattle.comfy_parts.specs.Text.{Text, is_printable_ascii, measure}
 use Rattle.comfy_parts.specs.VisibleText.{is_parameter}
 use Rattle.comfy_table.proofs.StyledLemmas.{decimal-parameters}
 use Rattle.comfy_table.specs.Drawing.{drawn_row, drawn_rows, outer_widths}
 use Rattle.comfy_table.specs.Frame.{optional_frame_line}
 use Rattle.comfy_table.specs.TableValue.{TableValue, ellipsis, header_and_rows, with_header, with_row, with_rows}
-use Rattle.promises.specs.Tables.{HasCharactersWithin, HasPlainFrame}
+use Rattle.promises.specs.Tables.{HasPlainFrame}
+use Rattle.promises.specs.Rows.{IsNarrowCell}
 use Rattle.promises.specs.Conditions.{HasNewFrame, IsEmpty, IsNewColumn, IsOfRows, PartsMakeTheWhole, framed}
 
 -- ---- printable ASCII
 
-one_column : (c : ℕ) → is_in_range 0x20 0x7E c ≡ true → (nat_le (measure (encode_utf8 c)) 1 && not (c == 0xFE01)) ≡ true
+one_column : (c : ℕ) → is_in_range 0x20 0x7E c ≡ true → character_fits 1 c ≡ true
 one_column c printable =
     let below = below_seven_bits c printable in
     let text : encode_utf8 c ≡ c ∷ [] = encode_ascii c (omega (arith, below)) in
     let size : measure (c ∷ []) ≡ 1 = measure-printable (c ∷ []) (ap (λ t. t && true) printable) in
-    let other : not (c == 0xFE01) ≡ true = grind (arith, nat_tests, below) in
-    ap (λ t. nat_le (measure t) 1 && not (c == 0xFE01)) text ∙ ap (λ n. nat_le n 1 && not (c == 0xFE01)) size ∙ other
+    ap (λ t. nat_le (measure t) 1) text ∙ ap (λ n. nat_le n 1) size
 
-each_one : (cs : List ℕ) → list_all (is_in_range 0x20 0x7E) cs ≡ true → list_all (λ c. nat_le (measure (encode_utf8 c)) 1 && not (c == 0xFE01)) cs ≡ true
+each_one : (cs : List ℕ) → list_all (is_in_range 0x20 0x7E) cs ≡ true → list_all (character_fits 1) cs ≡ true
 each_one [] all = refl
 each_one (c ∷ cs) all =
     let both = and_parts (is_in_range 0x20 0x7E c) (list_all (is_in_range 0x20 0x7E) cs) all in
-    ap (λ b. b && list_all (λ c. nat_le (measure (encode_utf8 c)) 1 && not (c == 0xFE01)) cs) (one_column c both.0) ∙ each_one cs both.1
+    ap₂ (λ a b. a && b) (one_column c both.0) (each_one cs both.1)
 
-narrow_text : (text : Text) → is_printable_ascii text ≡ true → HasCharactersWithin 1 text
+-- no selector is among them
+agree : (cs : List ℕ) → list_all (is_in_range 0x20 0x7E) cs ≡ true → selectors_agree cs ≡ true
+agree [] all = refl
+agree (c ∷ []) all = refl
+agree (c ∷ d ∷ cs) all =
+    let both = and_parts (is_in_range 0x20 0x7E c) (list_all (is_in_range 0x20 0x7E) (d ∷ cs)) all in
+    let next = and_parts (is_in_range 0x20 0x7E d) (list_all (is_in_range 0x20 0x7E) cs) both.1 in
+    let below = below_seven_bits c both.0 in
+    let after = below_seven_bits d next.0 in
+    let apart : clash c d ≡ false = grind (arith, nat_tests, below, after) in
+    ap₂ (λ a b. not a && b) apart (agree (d ∷ cs) both.1)
+
+narrow_text : (text : Text) → is_printable_ascii text ≡ true → CharactersFit 1 text
 narrow_text text printable =
-    ap (list_all (λ c. nat_le (measure (encode_utf8 c)) 1 && not (c == 0xFE01))) (chars-IsAscii text (ascii-printable text printable)) ∙ each_one text printable
+    ap (characters_all 1) (chars-IsAscii text (ascii-printable text printable)) ∙ ap₂ (λ a b. a && b) (each_one text printable) (agree text printable)
+  where
+    characters_all : ℕ → List ℕ → Bool
+    characters_all w cs = list_all (character_fits w) cs && selectors_agree cs
 
-from_test : (ts : List Text) → list_all is_printable_ascii ts ≡ true → All (HasCharactersWithin 1) ts
-from_test [] all = All-nil (HasCharactersWithin 1)
+from_test : (ts : List Text) → list_all is_printable_ascii ts ≡ true → All (CharactersFit 1) ts
+from_test [] all = All-nil (CharactersFit 1)
 from_test (t ∷ ts) all =
     let both = and_parts (is_printable_ascii t) (list_all is_printable_ascii ts) all in
-    All-cons (HasCharactersWithin 1) t ts (narrow_text t both.0) (from_test ts both.1)
+    All-cons (CharactersFit 1) t ts (narrow_text t both.0) (from_test ts both.1)
 
-pub narrow_lines : (text : Text) → is_printable_ascii text ≡ true → All (HasCharactersWithin 1) (plain_cell text).text_lines
-narrow_lines text printable = from_test (slice_split (λ b. b == 0x0A) text) (parts-all (is_in_range 0x20 0x7E) (λ b. b == 0x0A) text printable)
+pub narrow_cell : (text : Text) → is_printable_ascii text ≡ true → IsNarrowCell (plain_cell text)
+narrow_cell text printable =
+    record { delimiter = refl; characters = from_test (slice_split (λ b. b == 0x0A) text) (parts-all (is_in_range 0x20 0x7E) (λ b. b == 0x0A) text printable) }
 
 -- ---- frames
 

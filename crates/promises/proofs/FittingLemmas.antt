@@ -6,9 +6,9 @@ use Rattle.std.proofs.lemmas.Bool.{and_parts, not-true}
 use Rattle.std.proofs.lemmas.Bool.Decides.{nat_tests}
 use Rattle.std.proofs.lemmas.List.Elements.{All-filter, All-map, All-weaker}
 use Rattle.cluster_width.specs.ClusterSums.{is_presentation, selectors_agree}
-use Rattle.comfy_parts.proofs.CallerLemmas.{All-at}
+use Rattle.comfy_parts.proofs.CallerLemmas.{All-at, fitting-parts}
 use Rattle.comfy_parts.specs.CellValue.{CellValue, ColumnInfo, ColumnValue, RowValue, is_hidden_column}
-use Rattle.comfy_parts.specs.Columns.{AddsOneColumn, IsOneColumn, character_fits, characters_fit}
+use Rattle.comfy_parts.specs.Columns.{AddsOneColumn, CharactersFit, IsOneColumn, character_fits, characters_fit}
 use Rattle.comfy_parts.specs.Text.{Text, measure}
 use Rattle.comfy_parts.specs.declared.style.table.ContentArrangement.{ContentArrangement}
 use Rattle.comfy_parts.specs.declared.style.table.ContentArrangement.TheVariants.{Disabled}
@@ -33,7 +33,7 @@ use Rattle.comfy_table.specs.TableValue.{TableValue, header_and_rows, measured_r
 use Rattle.promises.proofs.PlacedLemmas.{measured_plain, placed, standing}
 use Rattle.promises.proofs.ShownLemmas.{free_of_controls, line_shows, measured_shown, shown_both, visible_clear}
 use Rattle.promises.specs.Shown.{AreShownEquallyWide, HasNoControls}
-use Rattle.promises.specs.Tables.{CharactersFit, EachShownText, EachText, HasCharactersWithin, HasPlainFrame, IsPlain, IsShownWhole, IsUnconstrained}
+use Rattle.promises.specs.Tables.{CharactersFitColumns, EachShownText, EachText, HasCharactersWithin, HasPlainFrame, IsPlain, IsShownWhole, IsUnconstrained}
 
 -- ---- characters
 
@@ -73,15 +73,16 @@ text_fits n w room text all =
     ap (λ b. b && selectors_agree (chars text)) (each_fits n w room (chars text) all) ∙ agree n (chars text) all
 
 -- characters have more room in a wider column
-more : (n w : ℕ) → n ≤ w → (text : Text) → HasCharactersWithin n text → HasCharactersWithin w text
-more n w room text all = each_more (chars text) all
+more : (n w : ℕ) → n ≤ w → (text : Text) → CharactersFit n text → CharactersFit w text
+more n w room text fits =
+    let both = fitting-parts n text fits in
+    ap₂ (λ a b. a && b) (each_more (chars text) both.0) both.1
   where
-    each_more : (cs : List ℕ) → list_all (within n) cs ≡ true → list_all (within w) cs ≡ true
+    each_more : (cs : List ℕ) → list_all (character_fits n) cs ≡ true → list_all (character_fits w) cs ≡ true
     each_more [] all = refl
     each_more (c ∷ cs) all =
-        let both = and_parts (within n c) (list_all (within n) cs) all in
-        let own = and_parts (nat_le (measure (encode_utf8 c)) n) (not (c == 0xFE01)) both.0 in
-        ap₂ (λ a b. a && b) (ap₂ (λ a b. a && b) (more_room n w (measure (encode_utf8 c)) room own.0) own.1) (each_more cs both.1)
+        let both = and_parts (character_fits n c) (list_all (character_fits n) cs) all in
+        ap₂ (λ a b. a && b) (more_room n w (measure (encode_utf8 c)) room both.0) (each_more cs both.1)
 
 -- ---- delimiters
 
@@ -95,7 +96,7 @@ first_set None None c one two three = three
 
 -- each character of the cell has room in the column
 abbrev CellFits : RowValue → ColumnInfo → CellValue → Type 0
-CellFits row column cell = All (HasCharactersWithin column.content_width) cell.text_lines
+CellFits row column cell = All (CharactersFit column.content_width) cell.text_lines
 
 -- no shown column has a constraint
 pub unconstrained : (table : TableValue) → IsUnconstrained table → NoConstraints table
@@ -137,16 +138,14 @@ module _ (table : TableValue) (frame : HasPlainFrame table) where
           let own = All-measured table (λ (r : RowValue). All (λ (c : CellValue). IsOneColumn c.delimiter) r.cells)
           (λ r all. All-map (λ (c : CellValue). IsOneColumn c.delimiter) visible_cell r.cells all) frame.cell_delimiters k default under in
           record {
-            characters = All-weaker (HasCharactersWithin p.1.content_width) (λ (text : Text). characters_fit p.1.content_width text ≡ true)
-                (text_fits p.1.content_width p.1.content_width (omega arith)) cell.text_lines
-                (each k default under j other below cell found);
+            characters = each k default under j other below cell found;
             delimiter = first_set cell.delimiter p.1.delimiter table.delimiter (All-at (λ (c : CellValue). IsOneColumn c.delimiter) row.cells p.0 cell own found) (delimiters drawn.widths drawn.arranged.one_for_each j other below) frame.delimiter;
             indicator = inr frame.indicator;
           }
 
   -- characters of one column fit all columns
   pub narrow : TextsStay table → (lines : List Text) (drawn : IsTableDrawing table lines)
-      → EachText (HasCharactersWithin 1) table → straight.IsStraightTable table drawn.widths
+      → EachText (CharactersFit 1) table → straight.IsStraightTable table drawn.widths
   narrow stay lines drawn each = fitting lines drawn fits
     where
       infos : List (ℕ × ColumnInfo)
@@ -162,16 +161,16 @@ module _ (table : TableValue) (frame : HasPlainFrame table) where
       fits : straight.EachCell CellFits table drawn.widths
       fits k default under j other below cell found =
           let w = (slice_index_or infos j other).1.content_width in
-          All-weaker (HasCharactersWithin 1) (HasCharactersWithin w)
+          All-weaker (CharactersFit 1) (CharactersFit w)
           (more 1 w (some_width j other below)) cell.text_lines
-          (drawn_of_shown (HasCharactersWithin 1) table drawn.widths drawn.arranged.one_for_each
-          (stay (HasCharactersWithin 1) each) k default under j other below cell found)
+          (drawn_of_shown (CharactersFit 1) table drawn.widths drawn.arranged.one_for_each
+          (stay (CharactersFit 1) each) k default under j other below cell found)
 
   -- and so do those that fit the columns which are returned
   pub as_returned : table.custom_styling ≡ false
       → (arranged : ArrangedValue) → IsArrangedTable table arranged
       → (lines : List Text) (drawn : IsTableDrawing table lines)
-      → CharactersFit table arranged.infos → straight.IsStraightTable table drawn.widths
+      → CharactersFitColumns table arranged.infos → straight.IsStraightTable table drawn.widths
   as_returned plain arranged is lines drawn each =
       fitting lines drawn (subst (All Fits) (sym (measured_plain table plain)) fits)
     where
@@ -186,8 +185,8 @@ module _ (table : TableValue) (frame : HasPlainFrame table) where
       same =
           arranged_is_one table is.headline.widths drawn.widths is.headline.arranged drawn.arranged
 
-      known : CharactersFit table infos
-      known = subst (CharactersFit table) (is.infos ∙ ap (infos_of table) same) each
+      known : CharactersFitColumns table infos
+      known = subst (CharactersFitColumns table) (is.infos ∙ ap (infos_of table) same) each
 
       fits : All Fits (header_and_rows table)
       fits k default under j other below cell found =

@@ -5,6 +5,7 @@ use Rattle.std.specs.Prelude.{if◌then◌else◌, sum_by}
 use Rattle.std.proofs.lemmas.List.Elements.{All-weaker}
 use Rattle.std.proofs.lemmas.List.Sums.{sum_by-cons}
 use Rattle.comfy_parts.specs.CellValue.{ColumnValue, column_padding, is_hidden_column}
+use Rattle.comfy_parts.specs.Columns.{CharactersFit}
 use Rattle.comfy_parts.specs.Text.{Text, measure}
 use Rattle.comfy_parts.specs.declared.style.table.ContentArrangement.{ContentArrangement}
 use Rattle.comfy_parts.specs.declared.style.table.ContentArrangement.TheVariants.{Dynamic, DynamicFullWidth}
@@ -17,7 +18,7 @@ use Rattle.comfy_table.specs.Straight as straight
 use Rattle.comfy_table.specs.TableValue.{is_tty, width_or_terminal, TableValue}
 use Rattle.comfy_table.specs.Widths.{shown_count}
 use Rattle.promises.proofs.FittingLemmas.{narrow, plain_stay, unconstrained}
-use Rattle.promises.specs.Tables.{EachText, HasCharactersWithin, HasPlainFrame, IsPlain}
+use Rattle.promises.specs.Tables.{EachText, HasPlainFrame, IsPlain}
 use Rattle.promises.specs.Widths.{IsFree, frame_room}
 
 -- borders at both sides, and one between each two columns
@@ -72,7 +73,7 @@ same_frame table width arrangement is =
 
 module _ (old new : TableValue) (w : ℕ) (lines : List Text) where
   -- under `Dynamic` no line is wider than the width, or than this
-  pub within : new ≡ record old { set_width = Some w; arrangement = Dynamic } → IsTableDrawing new lines → IsPlain old → HasPlainFrame old → IsFree old → EachText (HasCharactersWithin 1) old
+  pub within : new ≡ record old { set_width = Some w; arrangement = Dynamic } → IsTableDrawing new lines → IsPlain old → HasPlainFrame old → IsFree old → EachText (CharactersFit 1) old
       → All (λ line. measure line ≤ max w (frame_room old)) lines
   within set =
       rw set (λ drawn plain frame free each.
@@ -85,7 +86,7 @@ module _ (old new : TableValue) (w : ℕ) (lines : List Text) where
       All-weaker (λ line. measure line ≤ max w (least_total table)) (λ line. measure line ≤ max w (frame_room old)) (λ line is. omega (arith, is, enough)) lines known)
 
   -- under `DynamicFullWidth` each is as wide as the width, where that has room for it
-  pub over : new ≡ record old { set_width = Some w; arrangement = DynamicFullWidth } → IsTableDrawing new lines → IsPlain old → HasPlainFrame old → IsFree old → EachText (HasCharactersWithin 1) old
+  pub over : new ≡ record old { set_width = Some w; arrangement = DynamicFullWidth } → IsTableDrawing new lines → IsPlain old → HasPlainFrame old → IsFree old → EachText (CharactersFit 1) old
       → frame_room old ≤ w → All (λ line. measure line ≡ w) lines
   over set =
       rw set (λ drawn plain frame free each room.

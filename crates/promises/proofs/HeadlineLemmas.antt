@@ -42,7 +42,6 @@ use Rattle.comfy_table.specs.Styling.{style_begin, style_end, styled}
 use Rattle.comfy_table.specs.TableValue.{TableValue, column_content_width, column_cells, header_and_rows, measured_rows, measured_table, should_style, shown_columns, table_width}
 use Rattle.comfy_table.specs.Widths.{ColumnNeeds, disabled_width, needs_of, shown_needs}
 use Rattle.promises.proofs.DrawnColumnLemmas.{columns-drawn, drawn_column, infos-are, whole_at}
-use Rattle.promises.proofs.FittingLemmas.{text_fits}
 use Rattle.promises.proofs.RowLemmas.{height, line_is, piece_in, width_by_content}
 use Rattle.promises.specs.Headline.{AreColumnsOf, AreLinesOfCell, AreLinesOfHeader, AreLinesOfRow, AreLinesOfText, EachShownCell, AreContentLines, IsAround, IsFramed, IsHeadline, IsPiece, IsPrintable, framed, lines_in, whole_width, widths_shown}
 use Rattle.promises.specs.Shown.{IsStyled}
@@ -60,7 +59,7 @@ line_lines w d scalar text utf8 =
           subst (λ (b : Bool). IsWrapped w d text (if b then text ∷ [] else wrapped w d text)) (sym tall) (wrapped_is_wrapped w d text scalar utf8);
       fit = λ adds each.
           All-weaker (IsFittingLine w) (λ line. measure line ≤ w) (λ line own. own.fits) (lines_of_text w d text)
-          (text_lines_fit w d text scalar utf8 (fitting_characters_fit w d text adds utf8 (text_fits w w (omega arith) text each)));
+          (text_lines_fit w d text scalar utf8 (fitting_characters_fit w d text adds utf8 each));
     }
 
 -- text line by text line

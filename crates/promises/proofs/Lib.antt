@@ -7,6 +7,7 @@ pub mod FrameLemmas
 pub mod HeadlineLemmas
 pub mod KeptLemmas
 pub mod PlacedLemmas
-mod PromiseLemmas
+pub mod PromiseLemmas
 pub mod RowLemmas
 pub mod ShownLemmas
+mod TableOfRowsLemmas

@@ -4,7 +4,7 @@ use Rattle.std.specs.Prelude.{◌≡◌, ◌⊎◌, ℕ, ◌+◌, ◌<◌, ◌�
 use Rattle.std.specs.Int.{is_in_range}
 use Rattle.std.specs.List.{AllZip, enumerate_from, join_by}
 use Rattle.comfy_parts.specs.CellValue.{CellValue, ColumnInfo, ColumnValue, RowValue, info_of}
-use Rattle.comfy_parts.specs.Columns.{AddsOneColumn}
+use Rattle.comfy_parts.specs.Columns.{AddsOneColumn, CharactersFit}
 use Rattle.comfy_parts.specs.Text.{AddsOneColumnEach, Text, greatest, is_printable_ascii, measure, spaces}
 use Rattle.comfy_parts.specs.Wrapping.{IsWrapped}
 use Rattle.comfy_parts.specs.declared.style.table.ContentArrangement.TheVariants.{Disabled, Dynamic, DynamicFullWidth}
@@ -15,7 +15,6 @@ use Rattle.comfy_table.specs.Laws.{NoConstraints, count, least_total}
 use Rattle.comfy_table.specs.Lines.{cell_delimiter, cut_text, cut_to_limit, fitting_indicator}
 use Rattle.comfy_table.specs.TableValue.{TableValue, cell_content_width, header_and_rows, measured_table, should_style, shown_columns, table_width}
 use Rattle.promises.specs.Shown.{IsStyled}
-use Rattle.promises.specs.Tables.{HasCharactersWithin}
 
 -- ---- the lines of a cell
 
@@ -25,7 +24,7 @@ use Rattle.promises.specs.Tables.{HasCharactersWithin}
 pub record AreLinesOfText (w d : ℕ) (text : Text) (lines : List Text) : Type 0 where
   pub whole : measure text ≤ w → lines ≡ text ∷ []
   pub slices : w < measure text → IsWrapped w d text lines
-  pub fit : AddsOneColumn d → HasCharactersWithin w text → All (λ line. measure line ≤ w) lines
+  pub fit : AddsOneColumn d → CharactersFit w text → All (λ line. measure line ≤ w) lines
 
 -- those of all text lines of a cell, from top to bottom
 abbrev pub AreLinesOfCell : ℕ → ℕ → CellValue → List Text → Type 0

@@ -3,6 +3,7 @@ pub mod Conditions
 pub mod Headline
 pub mod Kept
 pub mod Promises
+pub mod Rows
 pub mod Shown
 pub mod Straight
 pub mod Tables

@@ -2,18 +2,19 @@
 -- Source: this library's own.
 use Rattle.std.specs.Prelude.{◌≡◌, List}
 use Rattle.comfy_parts.specs.CellValue.{ColumnInfo}
+use Rattle.comfy_parts.specs.Columns.{CharactersFit}
 use Rattle.comfy_parts.specs.Text.{Text}
 use Rattle.comfy_parts.specs.declared.style.table.ContentArrangement.TheVariants.{Disabled}
 use Rattle.comfy_table.specs.NewTables.{AreEquallyWide}
 use Rattle.comfy_table.specs.TableValue.{TableValue}
 use Rattle.promises.specs.Headline.{AreColumnsOf}
 use Rattle.promises.specs.Shown.{AreShownEquallyWide, HasNoControls}
-use Rattle.promises.specs.Tables.{CharactersFit, EachText, HasCharactersWithin, HasPlainFrame, IsPlain, IsShownWhole}
+use Rattle.promises.specs.Tables.{CharactersFitColumns, EachText, HasPlainFrame, IsPlain, IsShownWhole}
 
--- where no character takes more than one terminal column
+-- where each character fits one terminal column
 abbrev pub AreStraight : TableValue → List Text → Type 0
 AreStraight table lines =
-    IsPlain table → HasPlainFrame table → EachText (HasCharactersWithin 1) table
+    IsPlain table → HasPlainFrame table → EachText (CharactersFit 1) table
     → AreEquallyWide lines
 
 -- where the table is as wide as its texts
@@ -26,10 +27,11 @@ AreStraightWhole table lines =
 abbrev pub AreStraightWhereCharactersFit : TableValue → List ColumnInfo → List Text → Type 0
 AreStraightWhereCharactersFit table columns lines =
     AreColumnsOf table lines columns
-    × (IsPlain table → HasPlainFrame table → CharactersFit table columns → AreEquallyWide lines)
+    × (IsPlain table → HasPlainFrame table → CharactersFitColumns table columns
+    → AreEquallyWide lines)
 
 -- with colours and attributes, by what the lines show
 abbrev pub AreShownStraight : TableValue → List Text → Type 0
 AreShownStraight table lines =
-    HasNoControls table → HasPlainFrame table → EachText (HasCharactersWithin 1) table
+    HasNoControls table → HasPlainFrame table → EachText (CharactersFit 1) table
     → AreShownEquallyWide lines

@@ -3,7 +3,7 @@
 use Rattle.std.specs.Prelude.{◌≡◌, ◌==◌, ◌&&◌, ℕ, ◌≤◌, true, false, not, None, Some, List, All, chars, encode_utf8, filter, nat_le, slice_get}
 use Rattle.std.specs.List.{list_all}
 use Rattle.comfy_parts.specs.CellValue.{CellValue, ColumnInfo, ColumnValue, RowValue, is_hidden_column}
-use Rattle.comfy_parts.specs.Columns.{IsApart, IsOneColumn, IsOneColumnStyle}
+use Rattle.comfy_parts.specs.Columns.{CharactersFit, IsApart, IsOneColumn, IsOneColumnStyle}
 use Rattle.comfy_parts.specs.Text.{Text, measure}
 use Rattle.comfy_table.specs.TableValue.{TableValue, header_and_rows, should_style, shown_columns}
 
@@ -61,9 +61,9 @@ pub record IsShownWhole (table : TableValue) : Type 0 where
   pub uncut : All (λ (row : RowValue). row.max_height ≡ None) (header_and_rows table)
   pub short : EachText (λ text. measure text ≤ 65535) table
 
--- each character of a cell's text fits its column, where that is drawn
-abbrev pub CharactersFit : TableValue → List ColumnInfo → Type 0
-CharactersFit table columns =
+-- the characters of a cell's texts fit its column, where that is drawn
+abbrev pub CharactersFitColumns : TableValue → List ColumnInfo → Type 0
+CharactersFitColumns table columns =
     All (λ (row : RowValue). (i : ℕ) (column : ColumnInfo) → slice_get columns i ≡ Some column
     → column.is_hidden ≡ false → (cell : CellValue) → slice_get row.cells i ≡ Some cell
-    → All (HasCharactersWithin column.content_width) cell.text_lines) (header_and_rows table)
+    → All (CharactersFit column.content_width) cell.text_lines) (header_and_rows table)

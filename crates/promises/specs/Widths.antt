@@ -2,11 +2,12 @@
 -- Source: this library's own.
 use Rattle.std.specs.Prelude.{◌≡◌, ℕ, ◌+◌, ◌<◌, ◌≤◌, List, Some, All, length, max, sum_by}
 use Rattle.comfy_parts.specs.CellValue.{ColumnInfo, ColumnValue}
+use Rattle.comfy_parts.specs.Columns.{CharactersFit}
 use Rattle.comfy_parts.specs.Text.{Text, measure}
 use Rattle.comfy_parts.specs.declared.style.table.ContentArrangement.TheVariants.{Dynamic}
 use Rattle.comfy_table.specs.TableValue.{TableValue}
 use Rattle.promises.specs.Headline.{AreColumnsOf}
-use Rattle.promises.specs.Tables.{CharactersFit, EachText, HasCharactersWithin, HasPlainFrame, IsPlain, IsUnconstrained, shown}
+use Rattle.promises.specs.Tables.{CharactersFitColumns, EachText, HasPlainFrame, IsPlain, IsUnconstrained, shown}
 
 -- a border at each side of each shown column, its paddings, and one terminal column for texts
 abbrev pub frame_room : TableValue → ℕ
@@ -17,10 +18,10 @@ frame_room table =
 abbrev pub IsFree : TableValue → Type 0
 IsFree table = (0 < length (shown table)) × IsUnconstrained table
 
--- the texts of a table without styles and constraints have characters of one terminal column
+-- each character of a table without styles and constraints fits one terminal column
 abbrev pub IsNarrow : TableValue → Type 0
 IsNarrow table =
-    IsPlain table × HasPlainFrame table × IsFree table × EachText (HasCharactersWithin 1) table
+    IsPlain table × HasPlainFrame table × IsFree table × EachText (CharactersFit 1) table
 
 -- then no line is wider than the width, or than the frame
 abbrev pub KeepToWidth : TableValue → ℕ → List Text → Type 0
@@ -37,5 +38,5 @@ abbrev pub KeepToWidthWhereCharactersFit : TableValue → List ColumnInfo → Li
 KeepToWidthWhereCharactersFit table columns lines =
     AreColumnsOf table lines columns
     × ((w : ℕ) → table.set_width ≡ Some w → table.arrangement ≡ Dynamic
-    → IsPlain table → HasPlainFrame table → IsFree table → CharactersFit table columns
+    → IsPlain table → HasPlainFrame table → IsFree table → CharactersFitColumns table columns
     → All (λ line. measure line ≤ max w (frame_room table)) lines)

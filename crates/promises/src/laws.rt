@@ -1,13 +1,71 @@
-//! All promises of one drawing.
+//! What a caller's proof gains by a call: all promises of one drawing, and how their conditions are
+//! met. Each of these functions does nothing, and its clauses are laws.
 
-ghost use Rattle.std.specs.Prelude.{ℕ, List};
+ghost use Rattle.std.specs.Prelude.{◌≡◌, List, Option, decimal, true, ℕ};
+ghost use Rattle.comfy_parts.specs.CellValue.{ColumnInfo, RowValue, plain_cell};
+ghost use Rattle.comfy_parts.specs.Columns.{IsApart, IsOneColumnStyle, has_frame_characters};
+ghost use Rattle.comfy_parts.specs.declared.style.table.ContentArrangement.{ContentArrangement};
+ghost use Rattle.comfy_parts.specs.declared.style.table_style.TableStyle.{TableStyle};
+ghost use Rattle.comfy_parts.specs.Text.{Text, is_printable_ascii};
 ghost use Rattle.comfy_table.specs.Headline.{IsTableDrawing};
-ghost use Rattle.comfy_table.specs.TableValue.{TableValue};
+ghost use Rattle.comfy_table.specs.TableValue.{TableValue, ellipsis, with_header, with_rows};
+ghost use Rattle.promises.specs.Conditions.{HasNewFrame, IsEmpty, IsOfRows, PartsMakeTheWhole, RowsAreFramed};
 ghost use Rattle.promises.specs.Promises.{KeepsPromises};
+ghost use Rattle.promises.specs.Rows.{IsNarrowCell, KeepsRows, table_of};
+ghost use Rattle.promises.specs.Tables.{HasPlainFrame};
 
 /// The lines of a drawing keep each promise that is made of a table's lines: a proof of yours that
 /// cites it has several of one drawing.
 pub fn drawings_keep_the_promises()
-    ensures { (table : TableValue) (lines : List (List ℕ)) → IsTableDrawing table lines
+    ensures { (table : TableValue) (lines : List Text) → IsTableDrawing table lines
         → KeepsPromises table lines }
+{}
+
+/// So do those of a new table of a header and rows, under conditions on the texts alone.
+pub fn tables_of_rows_keep_the_promises()
+    ensures { (style : TableStyle) (arrangement : ContentArrangement) (width : Option ℕ)
+        (header : RowValue) (rows : List RowValue) (lines : List Text) → IsOneColumnStyle style
+        → IsTableDrawing (table_of style arrangement width header rows) lines
+        → KeepsRows style arrangement width header rows lines }
+{}
+
+/// Each character of printable ASCII takes one terminal column.
+pub fn printable_texts_are_narrow()
+    ensures { (text : Text) → is_printable_ascii text ≡ true → IsNarrowCell (plain_cell text) }
+{}
+
+/// What `Display` writes of a whole number is printable ASCII.
+pub fn numbers_are_printable()
+    ensures { (n : ℕ) → is_printable_ascii (decimal n) ≡ true }
+{}
+
+/// The frame of a table is plain, where paddings, delimiters and indicator are those of a new table
+/// and each character of the style adds one terminal column.
+pub fn new_frames_are_plain()
+    ensures { (table : TableValue) → HasNewFrame table → HasPlainFrame table }
+{}
+
+/// The truncation indicator of a new table joins no text.
+pub fn the_ellipsis_stands_apart()
+    ensures { IsApart ellipsis }
+{}
+
+/// Each character of a style adds one terminal column, where `TableStyle::is_one_column` says yes.
+pub fn frame_characters_make_plain_styles()
+    ensures { (style : TableStyle) → has_frame_characters style ≡ true → IsOneColumnStyle style }
+{}
+
+/// A header and rows that an empty table gets stand below each other, and each cell has a column.
+pub fn rows_stand_below_each_other()
+    ensures { (base : TableValue) (header : RowValue) (rows : List RowValue) → IsEmpty base
+        → IsOfRows base header rows (with_rows rows (with_header header base)) }
+{}
+
+/// A part of a table is some of its rows inside the frame of the whole. Parts that have all rows,
+/// put together, are the whole drawing.
+pub fn parts_are_framed_rows()
+    ensures part { (table : TableValue) (infos : List ColumnInfo) (rows : List RowValue)
+        → RowsAreFramed table infos rows }
+    ensures whole { (table : TableValue) (infos : List ColumnInfo) (parts : List (List RowValue))
+        → PartsMakeTheWhole table infos parts }
 {}

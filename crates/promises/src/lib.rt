@@ -4,7 +4,6 @@
 //! them.
 #![tactic(auto)]
 
-pub mod conditions;
 pub mod harmless;
 pub mod headline;
 pub mod kept;

@@ -1,9 +1,10 @@
 -- Drawings that are near a headline, and none.
-use Rattle.std.proofs.Common.{◌≡◌, ◌==◌, ◌<◌, ◌≤◌, ℕ, suc, ◌+◌, true, false, List, [], ◌∷◌, ◌++◌, Option, Some, None, zero, codes, length, map, max, inl, refl, sym, ap, ap₂, ◌∙◌, subst, arith, append-nil, slice_index_or}
+use Rattle.std.proofs.Common.{◌≡◌, ◌==◌, ◌<◌, ◌≤◌, ℕ, suc, ◌+◌, Bool, true, false, List, [], ◌∷◌, ◌++◌, Option, Some, None, zero, codes, length, map, max, inl, refl, sym, ap, ap₂, ◌∙◌, subst, arith, append-nil, length-append, slice_index_or}
 use Rattle.std.specs.Prelude.{slice_index}
 use Rattle.std.specs.List.{All, AllZip, flat_map, join_by}
 use lib.Utf8.{encode}
 use Rattle.std.proofs.lemmas.Bool.{or_parts}
+use Rattle.std.proofs.lemmas.List.{length-replicate}
 use Rattle.std.proofs.lemmas.List.Elements.{All-from_recursion, All-head, All-tail}
 use Rattle.comfy_parts.proofs.Computing.{wrapping}
 use Rattle.comfy_parts.proofs.WrappingLemmas.{wrapped_is_one}
@@ -17,10 +18,11 @@ use Rattle.comfy_table.proofs.CountLemmas.{frame_lines_count}
 use Rattle.comfy_table.specs.Laws.{NoConstraints, least_total}
 use Rattle.comfy_table.specs.Lines.{cut_text, cut_to_limit}
 use Rattle.comfy_table.specs.TableValue.{TableValue, ellipsis, measured_table, new_table, shown_columns, width_or_terminal, with_rows}
-use Rattle.promises.specs.Headline.{AreColumnsOf, AreLinesOfRow, AreLinesOfText, IsHeadline, IsPiece, IsPlainDrawing, lines_in}
+use Rattle.promises.specs.Headline.{AreColumnsOf, AreContentLines, AreLinesOfRow, IsAround, AreLinesOfText, IsHeadline, IsPiece, IsPlainDrawing, lines_in}
 use Rattle.promises.specs.Promises.{KeepsPromises}
 use Rattle.promises.specs.Shown.{IsStyled}
 use Rattle.promises.specs.Shown.IsStyled.{nothing as no_byte, byte, sequence}
+use Rattle.test_definitions.proofs.TrialTables.{no_ab_inside}
 
 -- a table of one cell, without a frame
 abbrev cell_of : List Text → CellValue
@@ -29,22 +31,22 @@ cell_of texts = record (plain_cell []) { text_lines = texts }
 abbrev row_of : Option ℕ → List Text → RowValue
 row_of limit texts = record { cells = cell_of texts ∷ []; max_height = limit }
 
-abbrev one_cell : ContentArrangement → Option ℕ → Text → Option ℕ → List Text → TableValue
-one_cell arrangement width indicator limit texts = with_rows (row_of limit texts ∷ []) (record (new_table nothing) { arrangement = arrangement; set_width = width; indicator = indicator })
+abbrev one_cell : Bool → ContentArrangement → Option ℕ → Text → Option ℕ → List Text → TableValue
+one_cell enforce arrangement width indicator limit texts = with_rows (row_of limit texts ∷ []) (record (new_table nothing) { arrangement = arrangement; set_width = width; indicator = indicator; enforce_styling = enforce })
 
 -- in which no width is kept to
 abbrev free_cell : Option ℕ → List Text → TableValue
-free_cell limit texts = one_cell Disabled None ellipsis limit texts
+free_cell limit texts = one_cell false Disabled None ellipsis limit texts
 
 -- which is w terminal columns wide
 abbrev wide_cell : ℕ → List Text → TableValue
-wide_cell w texts = one_cell DynamicFullWidth (Some w) ellipsis None texts
+wide_cell w texts = one_cell false DynamicFullWidth (Some w) ellipsis None texts
 
 abbrev place : ℕ × ColumnValue
 place = (0, new_column 0)
 
-unconstrained : (arrangement : ContentArrangement) (width : Option ℕ) (indicator : Text) (limit : Option ℕ) (texts : List Text) → NoConstraints (one_cell arrangement width indicator limit texts)
-unconstrained arrangement width indicator limit texts = All-from_recursion (λ (p : ℕ × ColumnValue). p.1.constraint ≡ None) (shown_columns (one_cell arrangement width indicator limit texts)) (refl, tt)
+unconstrained : (enforce : Bool) (arrangement : ContentArrangement) (width : Option ℕ) (indicator : Text) (limit : Option ℕ) (texts : List Text) → NoConstraints (one_cell enforce arrangement width indicator limit texts)
+unconstrained enforce arrangement width indicator limit texts = All-from_recursion (λ (p : ℕ × ColumnValue). p.1.constraint ≡ None) (shown_columns (one_cell enforce arrangement width indicator limit texts)) (refl, tt)
 
 -- a text between spaces, as wide as its column of this width
 pub record IsPadded (w : ℕ) (text line : Text) : Type 0 where
@@ -58,13 +60,13 @@ pub record IsPadded (w : ℕ) (text line : Text) : Type 0 where
 abbrev pub ArePadded : ℕ → List Text → List Text → Type 0
 ArePadded w texts lines = AllZip (IsPadded w) texts lines
 
-module _ (arrangement : ContentArrangement) (kept : Option ℕ) (indicator : Text) (limit : Option ℕ) (texts lines : List Text) (is : IsPlainDrawing (one_cell arrangement kept indicator limit texts) lines) where
+module _ (enforce : Bool) (arrangement : ContentArrangement) (kept : Option ℕ) (indicator : Text) (limit : Option ℕ) (texts lines : List Text) (is : IsPlainDrawing (one_cell enforce arrangement kept indicator limit texts) lines) where
   -- the lines of the cell, cut
   abbrev cut_lines : List Text
-  cut_lines = lines_in (one_cell arrangement kept indicator limit texts) is.width is.cell_lines (row_of limit texts) place
+  cut_lines = lines_in (one_cell enforce arrangement kept indicator limit texts) is.width is.cell_lines (row_of limit texts) place
 
   abbrev IsBlock : List Text → Type 0
-  IsBlock block = AreLinesOfRow (one_cell arrangement kept indicator limit texts) is.width is.cell_lines nothing.content_lines (row_of limit texts) block
+  IsBlock block = AreLinesOfRow (one_cell enforce arrangement kept indicator limit texts) is.width is.cell_lines nothing.content_lines (row_of limit texts) block
 
   -- without a width the column is as wide as its widest text
   pub width_is : arrangement ≡ Disabled → greatest (map measure texts) ≤ 65535 → is.width 0 ≡ max 1 (greatest (map measure texts))
@@ -73,8 +75,8 @@ module _ (arrangement : ContentArrangement) (kept : Option ℕ) (indicator : Tex
   -- else it fills the width
   pub room_is : (w : ℕ) → arrangement ≡ DynamicFullWidth → kept ≡ Some w → 3 ≤ w → 1 + is.width 0 + 1 ≡ w
   room_is w full known room =
-      let all = is.fills_width w (ap (λ (o : Option ℕ). width_or_terminal o false None) known) (unconstrained arrangement kept indicator limit texts) full (omega arith) in
-      let least : least_total (one_cell arrangement kept indicator limit texts) ≡ 3 = refl in
+      let all = is.fills_width w (ap (λ (o : Option ℕ). width_or_terminal o false None) known) (unconstrained enforce arrangement kept indicator limit texts) full (omega arith) in
+      let least : least_total (one_cell enforce arrangement kept indicator limit texts) ≡ 3 = refl in
       let line = is.frame_total nothing.top_border in
       let counts = frame_lines_count nothing nothing.top_border (record (info_of (new_column 0) 0) { content_width = is.width 0 } ∷ []) in
       omega (arith, all, least, line, counts, room)
@@ -104,7 +106,7 @@ module _ (arrangement : ContentArrangement) (kept : Option ℕ) (indicator : Tex
   pub lines_are : (cut : List Text) → cut_lines ≡ cut → ArePadded (is.width 0) cut lines
   lines_are cut same = by_rows is.rows is.are_rows is.drawn
     where
-      by_rows : (rows : List (List Text)) → AllZip (AreLinesOfRow (one_cell arrangement kept indicator limit texts) is.width is.cell_lines nothing.content_lines) (row_of limit texts ∷ []) rows → lines ≡ is.header ++ (join_by (λ block. block) [] rows ++ []) → ArePadded (is.width 0) cut lines
+      by_rows : (rows : List (List Text)) → AllZip (AreLinesOfRow (one_cell enforce arrangement kept indicator limit texts) is.width is.cell_lines nothing.content_lines) (row_of limit texts ∷ []) rows → lines ≡ is.header ++ (join_by (λ block. block) [] rows ++ []) → ArePadded (is.width 0) cut lines
       by_rows [] each drawn = absurd each
       by_rows (block ∷ other ∷ rows) each drawn = absurd each.1
       by_rows (block ∷ []) each drawn =
@@ -130,15 +132,15 @@ unfolding wrapping
 two = refl
 
 -- what a drawing of such a text is, where nothing cuts it
-pub of_two : (text : Text) → measure text ≡ 2 → (limit : Option ℕ) → ((cut : Text → Text) → cut_to_limit {A = Text} cut limit (text ∷ []) ≡ text ∷ []) → (lines : List Text) → IsPlainDrawing (free_cell limit (text ∷ [])) lines → ArePadded 2 (text ∷ []) lines
-of_two text wide limit uncut lines is =
-    let width : is.width 0 ≡ 2 = let own = width_is Disabled None ellipsis limit (text ∷ []) lines is refl (omega (arith, wide)) in omega (arith, own, wide) in
-    let stay = texts_stay Disabled None ellipsis limit (text ∷ []) lines is (All-from_recursion (λ text. measure text ≤ is.width 0) (text ∷ []) (omega (arith, width, wide), tt)) in
+pub of_two : (enforce : Bool) (text : Text) → measure text ≡ 2 → (limit : Option ℕ) → ((cut : Text → Text) → cut_to_limit {A = Text} cut limit (text ∷ []) ≡ text ∷ []) → (lines : List Text) → IsPlainDrawing (one_cell enforce Disabled None ellipsis limit (text ∷ [])) lines → ArePadded 2 (text ∷ []) lines
+of_two enforce text wide limit uncut lines is =
+    let width : is.width 0 ≡ 2 = let own = width_is enforce Disabled None ellipsis limit (text ∷ []) lines is refl (omega (arith, wide)) in omega (arith, own, wide) in
+    let stay = texts_stay enforce Disabled None ellipsis limit (text ∷ []) lines is (All-from_recursion (λ text. measure text ≤ is.width 0) (text ∷ []) (omega (arith, width, wide), tt)) in
     subst (λ (w : ℕ). ArePadded w (text ∷ []) lines) width
-    (lines_are Disabled None ellipsis limit (text ∷ []) lines is (text ∷ []) (ap (cut_to_limit (cut_text (is.width 0) ellipsis) limit) stay ∙ uncut _))
+    (lines_are enforce Disabled None ellipsis limit (text ∷ []) lines is (text ∷ []) (ap (cut_to_limit (cut_text (is.width 0) ellipsis) limit) stay ∙ uncut _))
 
-ab_is : (limit : Option ℕ) → ((cut : Text → Text) → cut_to_limit {A = Text} cut limit (codes "ab" ∷ []) ≡ codes "ab" ∷ []) → (lines : List Text) → IsPlainDrawing (free_cell limit (codes "ab" ∷ [])) lines → ArePadded 2 (codes "ab" ∷ []) lines
-ab_is limit uncut lines is = of_two (codes "ab") two limit uncut lines is
+ab_is : (enforce : Bool) (limit : Option ℕ) → ((cut : Text → Text) → cut_to_limit {A = Text} cut limit (codes "ab" ∷ []) ≡ codes "ab" ∷ []) → (lines : List Text) → IsPlainDrawing (one_cell enforce Disabled None ellipsis limit (codes "ab" ∷ [])) lines → ArePadded 2 (codes "ab" ∷ []) lines
+ab_is enforce limit uncut lines is = of_two enforce (codes "ab") two limit uncut lines is
 
 -- a padded `ab` is ` ab `
 ab_padded : (line : Text) → IsPadded 2 (codes "ab") line → line ≡ codes " ab "
@@ -149,17 +151,17 @@ ab_padded line is =
     is.drawn ∙ ap (λ n. spaces n ++ (codes "ab" ++ spaces is.right)) left ∙ ap (λ n. spaces 1 ++ (codes "ab" ++ spaces n)) right
 
 -- so it is the drawing
-ab_drawn : (limit : Option ℕ) → ((cut : Text → Text) → cut_to_limit {A = Text} cut limit (codes "ab" ∷ []) ≡ codes "ab" ∷ []) → (lines : List Text) → IsPlainDrawing (free_cell limit (codes "ab" ∷ [])) lines → lines ≡ codes " ab " ∷ []
-ab_drawn limit uncut [] is = absurd (ab_is limit uncut [] is)
-ab_drawn limit uncut (line ∷ other ∷ lines) is = absurd (ab_is limit uncut (line ∷ other ∷ lines) is).1
-ab_drawn limit uncut (line ∷ []) is = ap (λ (t : Text). t ∷ []) (ab_padded line (ab_is limit uncut (line ∷ []) is).0)
+ab_drawn : (enforce : Bool) (limit : Option ℕ) → ((cut : Text → Text) → cut_to_limit {A = Text} cut limit (codes "ab" ∷ []) ≡ codes "ab" ∷ []) → (lines : List Text) → IsPlainDrawing (one_cell enforce Disabled None ellipsis limit (codes "ab" ∷ [])) lines → lines ≡ codes " ab " ∷ []
+ab_drawn enforce limit uncut [] is = absurd (ab_is enforce limit uncut [] is)
+ab_drawn enforce limit uncut (line ∷ other ∷ lines) is = absurd (ab_is enforce limit uncut (line ∷ other ∷ lines) is).1
+ab_drawn enforce limit uncut (line ∷ []) is = ap (λ (t : Text). t ∷ []) (ab_padded line (ab_is enforce limit uncut (line ∷ []) is).0)
 
 -- without styles a headline is that drawing
-plain_of : (arrangement : ContentArrangement) (kept : Option ℕ) (indicator : Text) (limit : Option ℕ) (texts lines : List Text) → IsHeadline (one_cell arrangement kept indicator limit texts) lines → IsPlainDrawing (one_cell arrangement kept indicator limit texts) lines
-plain_of arrangement kept indicator limit texts lines is = subst (IsPlainDrawing (one_cell arrangement kept indicator limit texts)) (sym (is.unstyled refl refl)) is.is_plain
+plain_of : (arrangement : ContentArrangement) (kept : Option ℕ) (indicator : Text) (limit : Option ℕ) (texts lines : List Text) → IsHeadline (one_cell false arrangement kept indicator limit texts) lines → IsPlainDrawing (one_cell false arrangement kept indicator limit texts) lines
+plain_of arrangement kept indicator limit texts lines is = subst (IsPlainDrawing (one_cell false arrangement kept indicator limit texts)) (sym (is.unstyled refl refl)) is.is_plain
 
 ab_headline : (limit : Option ℕ) → ((cut : Text → Text) → cut_to_limit {A = Text} cut limit (codes "ab" ∷ []) ≡ codes "ab" ∷ []) → (lines : List Text) → IsHeadline (free_cell limit (codes "ab" ∷ [])) lines → lines ≡ codes " ab " ∷ []
-ab_headline limit uncut lines is = ab_drawn limit uncut lines (plain_of Disabled None ellipsis limit (codes "ab" ∷ []) lines is)
+ab_headline limit uncut lines is = ab_drawn false limit uncut lines (plain_of Disabled None ellipsis limit (codes "ab" ∷ []) lines is)
 
 -- which none of these is
 abbrev the_drawing : List Text
@@ -235,7 +237,7 @@ unfolding wrapping e_a
 two_characters = refl
 
 in_two_lines : (first second : Text) → ¬ (IsHeadline (free_cell None (e_a ∷ [])) (first ∷ second ∷ []))
-in_two_lines first second is = (of_two e_a two_characters None (λ cut. refl) (first ∷ second ∷ []) (plain_of Disabled None ellipsis None (e_a ∷ []) (first ∷ second ∷ []) is)).1
+in_two_lines first second is = (of_two false e_a two_characters None (λ cut. refl) (first ∷ second ∷ []) (plain_of Disabled None ellipsis None (e_a ∷ []) (first ∷ second ∷ []) is)).1
 
 -- columns that the table doesn't have make no crooked lines straight: one of one terminal column
 -- for a character of two
@@ -248,7 +250,7 @@ wide_measures_two = refl
 
 -- false: promises::straight_fitting_lines, promises::fitting_lines_within
 crooked : (columns : List ColumnInfo) → ¬ (AreColumnsOf (free_cell None (wide ∷ [])) (codes "abc" ∷ codes "a" ∷ []) columns)
-crooked columns (is, are) = (of_two wide wide_measures_two None (λ cut. refl) (codes "abc" ∷ codes "a" ∷ []) (plain_of Disabled None ellipsis None (wide ∷ []) (codes "abc" ∷ codes "a" ∷ []) is)).1
+crooked columns (is, are) = (of_two false wide wide_measures_two None (λ cut. refl) (codes "abc" ∷ codes "a" ∷ []) (plain_of Disabled None ellipsis None (wide ∷ []) (codes "abc" ∷ codes "a" ∷ []) is)).1
 
 -- ---- a row that is cut
 
@@ -268,11 +270,11 @@ cut_is : (lines : List Text) → IsHeadline (free_cell (Some 1) (codes "ab" ∷ 
 cut_is lines headline =
     let texts : List Text = codes "ab" ∷ codes "cd" ∷ [] in
     let is = plain_of Disabled None ellipsis (Some 1) texts lines headline in
-    let width : is.width 0 ≡ 2 = let own = width_is Disabled None ellipsis (Some 1) texts lines is refl (omega (arith, two, two_more)) in omega (arith, own, two, two_more) in
-    let stay = texts_stay Disabled None ellipsis (Some 1) texts lines is (All-from_recursion (λ text. measure text ≤ is.width 0) texts (omega (arith, width, two), (omega (arith, width, two_more), tt))) in
-    let cut : cut_lines Disabled None ellipsis (Some 1) texts lines is ≡ a_and_mark ∷ [] =
+    let width : is.width 0 ≡ 2 = let own = width_is false Disabled None ellipsis (Some 1) texts lines is refl (omega (arith, two, two_more)) in omega (arith, own, two, two_more) in
+    let stay = texts_stay false Disabled None ellipsis (Some 1) texts lines is (All-from_recursion (λ text. measure text ≤ is.width 0) texts (omega (arith, width, two), (omega (arith, width, two_more), tt))) in
+    let cut : cut_lines false Disabled None ellipsis (Some 1) texts lines is ≡ a_and_mark ∷ [] =
     ap (cut_to_limit (cut_text (is.width 0) ellipsis) (Some 1)) stay ∙ ap (λ w. cut_to_limit {A = Text} (cut_text w ellipsis) (Some 1) texts) width ∙ cut_of_two in
-    subst (λ (w : ℕ). ArePadded w (a_and_mark ∷ []) lines) width (lines_are Disabled None ellipsis (Some 1) texts lines is (a_and_mark ∷ []) cut)
+    subst (λ (w : ℕ). ArePadded w (a_and_mark ∷ []) lines) width (lines_are false Disabled None ellipsis (Some 1) texts lines is (a_and_mark ∷ []) cut)
 
 -- so it isn't drawn as if nothing were cut
 uncut : ¬ (IsHeadline (free_cell (Some 1) (codes "ab" ∷ codes "cd" ∷ [])) (codes " ab " ∷ []))
@@ -299,18 +301,18 @@ cut_of_one : cut_to_limit {A = Text} (cut_text 1 dots) (Some 1) (codes "a" ∷ c
 unfolding wrapping
 cut_of_one = refl
 
-narrow_is : (lines : List Text) → IsHeadline (one_cell Disabled None dots (Some 1) (codes "a" ∷ codes "b" ∷ [])) lines → ArePadded 1 (codes "a" ∷ []) lines
+narrow_is : (lines : List Text) → IsHeadline (one_cell false Disabled None dots (Some 1) (codes "a" ∷ codes "b" ∷ [])) lines → ArePadded 1 (codes "a" ∷ []) lines
 narrow_is lines headline =
     let texts : List Text = codes "a" ∷ codes "b" ∷ [] in
     let is = plain_of Disabled None dots (Some 1) texts lines headline in
-    let width : is.width 0 ≡ 1 = let own = width_is Disabled None dots (Some 1) texts lines is refl (omega (arith, one)) in omega (arith, own, one) in
-    let stay = texts_stay Disabled None dots (Some 1) texts lines is (All-from_recursion (λ text. measure text ≤ is.width 0) texts (omega (arith, width, one), (omega (arith, width, one), tt))) in
-    let cut : cut_lines Disabled None dots (Some 1) texts lines is ≡ codes "a" ∷ [] =
+    let width : is.width 0 ≡ 1 = let own = width_is false Disabled None dots (Some 1) texts lines is refl (omega (arith, one)) in omega (arith, own, one) in
+    let stay = texts_stay false Disabled None dots (Some 1) texts lines is (All-from_recursion (λ text. measure text ≤ is.width 0) texts (omega (arith, width, one), (omega (arith, width, one), tt))) in
+    let cut : cut_lines false Disabled None dots (Some 1) texts lines is ≡ codes "a" ∷ [] =
     ap (cut_to_limit (cut_text (is.width 0) dots) (Some 1)) stay ∙ ap (λ w. cut_to_limit {A = Text} (cut_text w dots) (Some 1) texts) width ∙ cut_of_one in
-    subst (λ (w : ℕ). ArePadded w (codes "a" ∷ []) lines) width (lines_are Disabled None dots (Some 1) texts lines is (codes "a" ∷ []) cut)
+    subst (λ (w : ℕ). ArePadded w (codes "a" ∷ []) lines) width (lines_are false Disabled None dots (Some 1) texts lines is (codes "a" ∷ []) cut)
 
 -- nor a part of it
-part_of_an_indicator : ¬ (IsHeadline (one_cell Disabled None dots (Some 1) (codes "a" ∷ codes "b" ∷ [])) (codes " . " ∷ []))
+part_of_an_indicator : ¬ (IsHeadline (one_cell false Disabled None dots (Some 1) (codes "a" ∷ codes "b" ∷ [])) (codes " . " ∷ []))
 part_of_an_indicator is = by_left own.left own.padded.0 own.drawn
   where
     own : IsPadded 1 (codes "a") (codes " . ")
@@ -329,8 +331,8 @@ nothing_measures = refl
 no_line_for_nothing : ¬ (IsHeadline (free_cell None ([] ∷ [])) [])
 no_line_for_nothing headline =
     let is = plain_of Disabled None ellipsis None ([] ∷ []) [] headline in
-    let stay = texts_stay Disabled None ellipsis None ([] ∷ []) [] is (All-from_recursion (λ text. measure text ≤ is.width 0) ([] ∷ []) (omega (arith, nothing_measures), tt)) in
-    lines_are Disabled None ellipsis None ([] ∷ []) [] is ([] ∷ []) stay
+    let stay = texts_stay false Disabled None ellipsis None ([] ∷ []) [] is (All-from_recursion (λ text. measure text ≤ is.width 0) ([] ∷ []) (omega (arith, nothing_measures), tt)) in
+    lines_are false Disabled None ellipsis None ([] ∷ []) [] is ([] ∷ []) stay
 
 -- ---- a text that is wider than its column
 
@@ -338,11 +340,11 @@ no_line_for_nothing headline =
 wrapped_is : (w : ℕ) (text : Text) (lines : List Text) → w < measure text → 1 ≤ w → IsHeadline (wide_cell (w + 2) (text ∷ [])) lines → ArePadded w (wrapped w 0x20 text) lines
 wrapped_is w text lines wide some headline =
     let is = plain_of DynamicFullWidth (Some (w + 2)) ellipsis None (text ∷ []) lines headline in
-    let room = room_is DynamicFullWidth (Some (w + 2)) ellipsis None (text ∷ []) lines is (w + 2) refl refl (omega (arith, some)) in
+    let room = room_is false DynamicFullWidth (Some (w + 2)) ellipsis None (text ∷ []) lines is (w + 2) refl refl (omega (arith, some)) in
     let width : is.width 0 ≡ w = omega (arith, room) in
     let own = is.are_cell_lines 0 (row_of None (text ∷ [])) (omega arith) 0 place (omega arith) (cell_of (text ∷ [])) refl in
     subst (λ (n : ℕ). ArePadded n (wrapped w 0x20 text) lines) width
-    (lines_are DynamicFullWidth (Some (w + 2)) ellipsis None (text ∷ []) lines is (wrapped w 0x20 text) (own.2 ∙ by_texts (is.width 0) width own.0 own.1))
+    (lines_are false DynamicFullWidth (Some (w + 2)) ellipsis None (text ∷ []) lines is (wrapped w 0x20 text) (own.2 ∙ by_texts (is.width 0) width own.0 own.1))
   where
     by_texts : (n : ℕ) → n ≡ w → (of_texts : List (List Text)) → AllZip (AreLinesOfText n 0x20) (text ∷ []) of_texts → flat_map (λ (of_text : List Text). of_text) of_texts ≡ wrapped w 0x20 text
     by_texts n same [] zip = absurd zip
@@ -379,17 +381,17 @@ cut_elsewhere is = by_left own.left own.padded.0 own.drawn
     by_left (suc (suc n)) some same = let letter : 0x61 ≡ 0x20 = ap (λ (t : Text). slice_index t 1) same in absurd (omega (arith, letter))
 
 -- nor is a text cut that has room
-torn_in_a_wide_table : ¬ (IsHeadline (one_cell Dynamic (Some 80) ellipsis None (codes "ab" ∷ [])) (codes " a " ∷ codes " b " ∷ []))
+torn_in_a_wide_table : ¬ (IsHeadline (one_cell false Dynamic (Some 80) ellipsis None (codes "ab" ∷ [])) (codes " a " ∷ codes " b " ∷ []))
 torn_in_a_wide_table headline = by_lines.1
   where
-    is : IsPlainDrawing (one_cell Dynamic (Some 80) ellipsis None (codes "ab" ∷ [])) (codes " a " ∷ codes " b " ∷ [])
+    is : IsPlainDrawing (one_cell false Dynamic (Some 80) ellipsis None (codes "ab" ∷ [])) (codes " a " ∷ codes " b " ∷ [])
     is = plain_of Dynamic (Some 80) ellipsis None (codes "ab" ∷ []) (codes " a " ∷ codes " b " ∷ []) headline
 
     width : is.width 0 ≡ 2
-    width = let own = is.keeps_contents 80 refl (unconstrained Dynamic (Some 80) ellipsis None (codes "ab" ∷ [])) refl (omega (arith, two)) 0 place (omega arith) in omega (arith, own, two)
+    width = let own = is.keeps_contents 80 refl (unconstrained false Dynamic (Some 80) ellipsis None (codes "ab" ∷ [])) refl (omega (arith, two)) 0 place (omega arith) in omega (arith, own, two)
 
     by_lines : ArePadded (is.width 0) (codes "ab" ∷ []) (codes " a " ∷ codes " b " ∷ [])
-    by_lines = lines_are Dynamic (Some 80) ellipsis None (codes "ab" ∷ []) (codes " a " ∷ codes " b " ∷ []) is (codes "ab" ∷ []) (texts_stay Dynamic (Some 80) ellipsis None (codes "ab" ∷ []) (codes " a " ∷ codes " b " ∷ []) is (All-from_recursion (λ text. measure text ≤ is.width 0) (codes "ab" ∷ []) (omega (arith, width, two), tt)))
+    by_lines = lines_are false Dynamic (Some 80) ellipsis None (codes "ab" ∷ []) (codes " a " ∷ codes " b " ∷ []) is (codes "ab" ∷ []) (texts_stay false Dynamic (Some 80) ellipsis None (codes "ab" ∷ []) (codes " a " ∷ codes " b " ∷ []) is (All-from_recursion (λ text. measure text ≤ is.width 0) (codes "ab" ∷ []) (omega (arith, width, two), tt)))
 
 -- spaces alone have no line, not even a blank one
 three : measure (codes "   ") ≡ 3
@@ -406,7 +408,7 @@ blank_line is = subst (λ (cut : List Text). ArePadded 2 cut (codes "    " ∷ [
 -- ---- colours
 
 -- without a sequence a styled line is the line
-unstyled_same : {line styled : Text} → IsStyled line styled → HasNo 0x1B styled → line ≡ styled
+pub unstyled_same : {line styled : Text} → IsStyled line styled → HasNo 0x1B styled → line ≡ styled
 unstyled_same no_byte none = refl
 unstyled_same (byte b line styled rest) none = ap (λ (t : Text). b ∷ t) (unstyled_same rest (or_parts (b == 0x1B) _ none).1)
 unstyled_same (sequence code line styled all rest) none = absurd (cc none)
@@ -423,7 +425,7 @@ bold_measured : measured_table bold_cell ≡ free_cell None (codes "ab" ∷ [])
 bold_measured = refl
 
 bold_is : (lines : List Text) → IsHeadline bold_cell lines → AllZip IsStyled (the_drawing) lines
-bold_is lines is = subst (λ (plain : List Text). AllZip IsStyled plain lines) (ab_drawn None (λ cut. refl) is.plain (subst (λ (t : TableValue). IsPlainDrawing t is.plain) bold_measured is.is_plain)) is.styled
+bold_is lines is = subst (λ (plain : List Text). AllZip IsStyled plain lines) (ab_drawn false None (λ cut. refl) is.plain (subst (λ (t : TableValue). IsPlainDrawing t is.plain) bold_measured is.is_plain)) is.styled
 
 bold_drawn : IsStyled (codes " ab ") (codes " \u{1b}[1mab\u{1b}[0m ")
 bold_drawn = byte 0x20 _ _ (sequence (codes "1") _ _ refl (byte 0x61 _ _ (byte 0x62 _ _ (sequence (codes "0") _ _ refl (byte 0x20 _ _ no_byte)))))
@@ -433,6 +435,71 @@ another_text_in_bold is = let same = unstyled_same (bold_is (codes " XY " ∷ []
 
 torn_in_bold : ¬ (IsHeadline bold_cell (codes " a " ∷ codes " b " ∷ []))
 torn_in_bold is = (bold_is (codes " a " ∷ codes " b " ∷ []) is).1
+
+-- where styles are written, neither is another text drawn, nor a colour inside a text
+abbrev styled_cell : List Text → TableValue
+styled_cell texts = one_cell true Disabled None ellipsis None texts
+
+another_styled_text : ¬ (IsHeadline (styled_cell (codes "ab" ∷ [])) (codes " XY " ∷ []))
+another_styled_text is =
+    let drawn = ab_drawn true None (λ cut. refl) is.plain is.is_plain in
+    let same = unstyled_same (subst (λ (plain : List Text). AllZip IsStyled plain (codes " XY " ∷ [])) drawn is.styled).0 refl in
+    let letter : 0x61 ≡ 0x58 = ap (λ (t : Text). slice_index t 1) same in absurd (omega (arith, letter))
+
+coloured_inside : ¬ (IsHeadline (styled_cell (codes "ab" ∷ [])) (codes " a\u{1b}[31mb " ∷ []))
+coloured_inside is = by_rows is.frame.rows is.frame.are_rows (is.frame.drawn ∙ ap (λ (header : List Text). header ++ (join_by (λ (block : List Text). block) [] is.frame.rows ++ [])) is.frame.is_header)
+  where
+    is_text : lines_in (styled_cell (codes "ab" ∷ [])) is.is_plain.width is.is_plain.cell_lines (row_of None (codes "ab" ∷ [])) place ≡ codes "ab" ∷ []
+    is_text =
+        let width : is.is_plain.width 0 ≡ 2 = let own = width_is true Disabled None ellipsis None (codes "ab" ∷ []) is.plain is.is_plain refl (omega (arith, two)) in omega (arith, own, two) in
+        texts_stay true Disabled None ellipsis None (codes "ab" ∷ []) is.plain is.is_plain (All-from_recursion (λ text. measure text ≤ is.is_plain.width 0) (codes "ab" ∷ []) (omega (arith, width, two), tt))
+
+    around : (piece : Text) → IsAround (codes "ab") piece → ¬ (codes " a\u{1b}[31mb " ≡ piece)
+    around piece own same = no_ab_inside (codes " a\u{1b}[31mb ") refl own.before own.after (same ∙ own.drawn)
+
+    by_pieces : (pieces : List Text) → AllZip (λ (p : ℕ × ColumnValue). IsAround (slice_index_or (codes "ab" ∷ []) 0 [])) (place ∷ []) pieces → ¬ (codes " a\u{1b}[31mb " ≡ join_by (λ (piece : Text). piece) [] pieces ++ [])
+    by_pieces [] zip made = zip
+    by_pieces (piece ∷ other ∷ pieces) zip made = zip.1
+    by_pieces (piece ∷ []) zip made = around piece zip.0 (made ∙ append-nil (piece ++ []) ∙ append-nil piece)
+
+    by_rows : (rows : List (List Text)) → AllZip (AreContentLines (styled_cell (codes "ab" ∷ [])) is.is_plain.width is.is_plain.cell_lines nothing.content_lines) (row_of None (codes "ab" ∷ []) ∷ []) rows
+        → ¬ (codes " a\u{1b}[31mb " ∷ [] ≡ join_by (λ (block : List Text). block) [] rows ++ [])
+    by_rows [] each made = each
+    by_rows (block ∷ other ∷ rows) each made = each.1
+    by_rows (block ∷ []) each made =
+        let same : codes " a\u{1b}[31mb " ∷ [] ≡ block = made ∙ append-nil (block ++ []) ∙ append-nil block in
+        let long = ap length same in
+        let own = each.0 0 (omega (arith, long)) in
+        by_pieces own.0 (subst (λ (cut : List Text). AllZip (λ (p : ℕ × ColumnValue). IsAround (slice_index_or cut 0 [])) (place ∷ []) own.0) is_text (own.3 refl)) (ap (λ (ls : List Text). slice_index_or ls 0 []) same ∙ own.2)
+
+-- a width that is to be filled isn't left unfilled
+unfilled : ¬ (IsHeadline (wide_cell 8 (codes "ab" ∷ [])) (codes " ab " ∷ []))
+unfilled headline = by_line (lines_are false DynamicFullWidth (Some 8) ellipsis None (codes "ab" ∷ []) (codes " ab " ∷ []) is (codes "ab" ∷ []) stay).0
+  where
+    is : IsPlainDrawing (wide_cell 8 (codes "ab" ∷ [])) (codes " ab " ∷ [])
+    is = plain_of DynamicFullWidth (Some 8) ellipsis None (codes "ab" ∷ []) (codes " ab " ∷ []) headline
+
+    room : 1 + is.width 0 + 1 ≡ 8
+    room = room_is false DynamicFullWidth (Some 8) ellipsis None (codes "ab" ∷ []) (codes " ab " ∷ []) is 8 refl refl (omega arith)
+
+    stay : is.cell_lines place (cell_of (codes "ab" ∷ [])) ≡ codes "ab" ∷ []
+    stay = texts_stay false DynamicFullWidth (Some 8) ellipsis None (codes "ab" ∷ []) (codes " ab " ∷ []) is (All-from_recursion (λ text. measure text ≤ is.width 0) (codes "ab" ∷ []) (omega (arith, room, two), tt))
+
+    by_line : ¬ (IsPadded (is.width 0) (codes "ab") (codes " ab "))
+    by_line own =
+        let few : 4 ≡ length (spaces own.left ++ (codes "ab" ++ spaces own.right)) = ap length own.drawn in
+        let wide = own.wide in
+        omega (arith, few, length-append (spaces own.left) (codes "ab" ++ spaces own.right), length-append (codes "ab") (spaces own.right), length-replicate {A = ℕ} own.left 0x20, length-replicate {A = ℕ} own.right 0x20, wide, room, two)
+
+-- other columns than the table's aren't those of its drawing
+narrower_column : ¬ (AreColumnsOf (free_cell None (codes "ab" ∷ [])) (codes " ab " ∷ []) (info_of (new_column 0) 1 ∷ []))
+narrower_column (is, are) =
+    let width = width_is false Disabled None ellipsis None (codes "ab" ∷ []) is.plain is.is_plain refl (omega (arith, two)) in
+    let same : 1 ≡ max 1 (is.is_plain.width 0) = ap (λ (columns : List ColumnInfo). (slice_index_or columns 0 (info_of (new_column 0) 0)).content_width) are in
+    omega (arith, width, same, two)
+
+one_column_more : ¬ (AreColumnsOf (free_cell None (codes "ab" ∷ [])) (codes " ab " ∷ []) (info_of (new_column 0) 2 ∷ info_of (new_column 1) 2 ∷ []))
+one_column_more (is, are) = let few : 2 ≡ 1 = ap length are in absurd (omega (arith, few))
 
 -- where styles are written no frame line blinks
 blinking_frame : ¬ (IsHeadline (record (new_table ascii_full) { enforce_styling = true }) (codes "\u{1b}[5m++" ∷ codes "++" ∷ []))

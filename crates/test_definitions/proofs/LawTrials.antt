@@ -311,7 +311,7 @@ line_with_a_line_feed found = let is : ab ≡ codes "a\nb" ∷ [] = found in cc 
 
 -- false: comfy_table::laws::new_tables_are_straight, promises::straight_lines
 -- false: promises::straight_whole_lines, promises::straight_fitting_lines
-shorter_line : ¬ (AreEquallyWide (codes "ab" ∷ codes "a" ∷ []))
+pub shorter_line : ¬ (AreEquallyWide (codes "ab" ∷ codes "a" ∷ []))
 unfolding wrapping
 shorter_line (n, all) =
     let first : 2 ≡ n = all 0 (codes "ab") (omega arith) in

@@ -24,6 +24,7 @@ mod PresetTrials
 mod PromiseTrials
 mod QuoteTrials
 mod ReadingTrials
+mod RowTrials
 mod RunTrials
 mod SpacesTrials
 mod RecordTrials

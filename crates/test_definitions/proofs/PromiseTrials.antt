@@ -1,5 +1,5 @@
 -- Tables for which the premises of the promises hold, and texts that these promises refuse.
-use Rattle.std.proofs.Common.{◌≡◌, ◌==◌, ◌&&◌, ◌⊎◌, inl, inr, ◌≤◌, ◌<◌, ℕ, zero, suc, Bool, true, false, not, List, [], ◌∷◌, ◌++◌, ◌∙◌, length, max, flat_map, append-nil, Contains, Option, Some, None, codes, refl, sym, ap, subst, arith, slice_index_or}
+use Rattle.std.proofs.Common.{◌≡◌, ◌==◌, ◌&&◌, ◌⊎◌, inl, inr, ◌≤◌, ◌<◌, ℕ, zero, suc, Bool, true, false, not, List, [], ◌∷◌, ◌++◌, ◌∙◌, length, length-append, max, flat_map, append-nil, Contains, Option, Some, None, codes, refl, sym, ap, subst, arith, slice_index_or}
 use Rattle.std.specs.List.{All, AllZip, list_all, slice_get}
 use Rattle.std.specs.Char.{is_control}
 use Rattle.std.specs.Prelude.{encode_utf8_all, replicate, slice_index}
@@ -14,33 +14,34 @@ use Rattle.std.proofs.lemmas.Str.{NoCharPasses-byte}
 use Rattle.comfy_parts.proofs.CallerLemmas.{All-at, All-every, frame_adds, one_column_characters}
 use Rattle.comfy_parts.proofs.Computing.{wrapping}
 use Rattle.comfy_parts.specs.CellValue.{ColumnInfo, info_of, new_column, CellValue, ColumnValue, RowValue, plain_cell, plain_row}
-use Rattle.comfy_parts.specs.Columns.{IsOneColumn, style_characters}
+use Rattle.comfy_parts.specs.Columns.{CharactersFit, IsOneColumn, style_characters}
 use Rattle.comfy_parts.specs.Presets as presets
 use Rattle.comfy_parts.specs.Presets.{utf8_full}
 use Rattle.comfy_parts.specs.Text.{HasNo, IsOnly, Text, measure}
 use Rattle.comfy_parts.specs.Wrapping.{IsSlicesWhere}
-use Rattle.comfy_parts.specs.declared.style.column.ColumnConstraint.TheVariants.{Hidden}
+use Rattle.comfy_parts.specs.declared.style.column.ColumnConstraint.TheVariants.{ContentWidth, Hidden}
 use Rattle.comfy_table.specs.HiddenColumns.{without_hidden}
 use Rattle.comfy_table.specs.TableValue.{cell_content_width, TableValue, header_and_rows, new_table, shown_columns, constrained, with_rows}
-use Rattle.promises.specs.Added.{HasRoomFor, Stay}
+use Rattle.promises.specs.Added.{HasRoomFor, StandsBelowAsWide, Stay}
 use Rattle.promises.specs.Headline.{IsHeadline}
 use Rattle.promises.specs.Kept.{AreShown, AreSlicesOf, IsFrame, ShowsRow, ShowsWholeRow, StandAmong}
 use Rattle.promises.specs.Kept.IsFrame.{nothing as no_frame, space as frame_space, character as frame_character}
-use Rattle.promises.specs.Shown.{AreShownEquallyWide, HasNoControls, IsHarmless, Shows}
+use Rattle.promises.specs.Shown.{AreShownEquallyWide, HasNoControls, IsHarmless, IsStyled, Shows}
 use Rattle.promises.specs.Shown.Shows.{nothing, byte, sequence}
-use Rattle.promises.specs.Tables.{CharactersFit, EachShownText, EachText, HasCharactersWithin, HasPlainFrame, IsPlain, IsShownWhole}
+use Rattle.promises.specs.Tables.{CharactersFitColumns, EachShownText, EachText, HasPlainFrame, IsPlain, IsShownWhole}
 use Rattle.promises.specs.Widths.{IsFree, frame_room}
 use Rattle.test_definitions.proofs.StraightTrials.{ellipsis_is_apart}
 use Rattle.test_definitions.proofs.TrialTables as tables
-use Rattle.test_definitions.proofs.TrialTables.{utf8}
+use Rattle.test_definitions.proofs.HeadlineTrials.{unstyled_same}
+use Rattle.test_definitions.proofs.TrialTables.{no_ab_inside, utf8}
 
 -- ---- a table
 
-abbrev row_of : String → String → RowValue
+abbrev pub row_of : String → String → RowValue
 row_of first second = tables.row_of (first ∷ second ∷ [])
 
 -- a header and a row of two cells
-abbrev table_of : String → String → TableValue
+abbrev pub table_of : String → String → TableValue
 table_of first second =
     tables.table_of utf8_full ("day" ∷ "text" ∷ []) ((first ∷ second ∷ []) ∷ [])
 
@@ -84,17 +85,17 @@ each_of P first second day text one other =
     )
 
 -- Latin with an accent, and Cyrillic
-characters_of_one : EachText (HasCharactersWithin 1) (table_of "3 mai é" "Отчёт")
+characters_of_one : EachText (CharactersFit 1) (table_of "3 mai é" "Отчёт")
 unfolding wrapping encode
 characters_of_one =
-    each_of (HasCharactersWithin 1) "3 mai é" "Отчёт" refl refl (All-from_recursion (HasCharactersWithin 1) (utf8 "3 mai é" ∷ []) (refl, tt)) (All-from_recursion (HasCharactersWithin 1) (utf8 "Отчёт" ∷ []) (refl, tt))
+    each_of (CharactersFit 1) "3 mai é" "Отчёт" refl refl (All-from_recursion (CharactersFit 1) (utf8 "3 mai é" ∷ []) (refl, tt)) (All-from_recursion (CharactersFit 1) (utf8 "Отчёт" ∷ []) (refl, tt))
 
 -- three borders, four paddings and two columns take nine terminal columns
 frame_of_two : frame_room (table_of "3 mai é" "Отчёт") ≡ 9
 frame_of_two = refl
 
 -- Chinese: two terminal columns for a character
-characters_of_two : HasCharactersWithin 2 (utf8 "京都")
+characters_of_two : CharactersFit 2 (utf8 "京都")
 unfolding wrapping encode
 characters_of_two = refl
 
@@ -115,22 +116,22 @@ columns_of n w = info_of (new_column 0) n ∷ info_of (new_column 1) w ∷ []
 abbrev FitColumns : List ColumnInfo → RowValue → Type 0
 FitColumns columns row = (i : ℕ) (column : ColumnInfo) → slice_get columns i ≡ Some column
     → column.is_hidden ≡ false → (cell : CellValue) → slice_get row.cells i ≡ Some cell
-    → All (HasCharactersWithin column.content_width) cell.text_lines
+    → All (CharactersFit column.content_width) cell.text_lines
 
 -- so do those of two cells, where each fits its own
 two_fit : (n w : ℕ) (one other : CellValue)
-    → All (HasCharactersWithin (max 1 n)) one.text_lines
-    → All (HasCharactersWithin (max 1 w)) other.text_lines
+    → All (CharactersFit (max 1 n)) one.text_lines
+    → All (CharactersFit (max 1 w)) other.text_lines
     → FitColumns (columns_of n w) (plain_row (one ∷ other ∷ []))
 two_fit n w one other first second = at
   where
     fit : (a b : ColumnInfo) (x y : CellValue) → Some a ≡ Some b → Some x ≡ Some y
-        → All (HasCharactersWithin a.content_width) x.text_lines
-        → All (HasCharactersWithin b.content_width) y.text_lines
+        → All (CharactersFit a.content_width) x.text_lines
+        → All (CharactersFit b.content_width) y.text_lines
     fit a b x y columns cells own =
-        subst (λ (c : ColumnInfo). All (HasCharactersWithin c.content_width) y.text_lines)
+        subst (λ (c : ColumnInfo). All (CharactersFit c.content_width) y.text_lines)
         (same_Some a b columns)
-        (subst (λ (c : CellValue). All (HasCharactersWithin a.content_width) c.text_lines)
+        (subst (λ (c : CellValue). All (CharactersFit a.content_width) c.text_lines)
         (same_Some x y cells) own)
 
     at : FitColumns (columns_of n w) (plain_row (one ∷ other ∷ []))
@@ -142,7 +143,7 @@ two_fit n w one other first second = at
 
 -- each character has room in its own column: digits in one of one terminal column, Chinese in one
 -- of two
-characters_fit_their_columns : CharactersFit (table_of "17" "京都") (columns_of 1 2)
+characters_fit_their_columns : CharactersFitColumns (table_of "17" "京都") (columns_of 1 2)
 unfolding wrapping encode
 characters_fit_their_columns =
     All-from_recursion (FitColumns (columns_of 1 2)) (header_and_rows (table_of "17" "京都")) (
@@ -155,9 +156,9 @@ characters_fit_their_columns =
       ),
     )
   where
-    one_line : (w : ℕ) (s : String) → HasCharactersWithin w (utf8 s)
-        → All (HasCharactersWithin w) (utf8 s ∷ [])
-    one_line w s own = All-from_recursion (HasCharactersWithin w) (utf8 s ∷ []) (own, tt)
+    one_line : (w : ℕ) (s : String) → CharactersFit w (utf8 s)
+        → All (CharactersFit w) (utf8 s ∷ [])
+    one_line w s own = All-from_recursion (CharactersFit w) (utf8 s ∷ []) (own, tt)
 
 -- what holds of all texts holds of the shown ones
 shown_of_all : (P : Text → Type 0) (table : TableValue) → EachText P table → EachShownText P table
@@ -204,23 +205,32 @@ text_in_line = (codes " ", codes " ", refl, frame_space [] no_frame, frame_space
 -- ---- what is refused
 
 -- a character of two columns where one is allowed
-pub wide_is_refused : ¬ (HasCharactersWithin 1 (utf8 "京"))
+pub wide_is_refused : ¬ (CharactersFit 1 (utf8 "京"))
 unfolding wrapping encode
 wide_is_refused is = cc is
 
--- U+FE01
-widening_is_refused : ¬ (HasCharactersWithin 2 (encode_utf8_all (0xFE01 ∷ [])))
+-- U+FE01, which widens a quotation mark, alone is no character of two columns
+widening_alone : CharactersFit 1 (encode_utf8_all (0xFE01 ∷ []))
 unfolding wrapping encode
-widening_is_refused is = cc is
+widening_alone = refl
+
+-- but not directly beside another selector, at either side
+pub widening_behind_a_selector : ¬ (CharactersFit 2 (encode_utf8_all (0x201C ∷ 0xFE0F ∷ 0xFE01 ∷ [])))
+unfolding wrapping encode
+widening_behind_a_selector is = cc is
+
+widening_before_a_selector : ¬ (CharactersFit 2 (encode_utf8_all (0x201C ∷ 0xFE01 ∷ 0xFE0E ∷ [])))
+unfolding wrapping encode
+widening_before_a_selector is = cc is
 
 -- a character of two columns in a column of one, though the other one has room
-wide_in_the_narrow_column : ¬ (CharactersFit (table_of "京" "17") (columns_of 1 2))
+wide_in_the_narrow_column : ¬ (CharactersFitColumns (table_of "京" "17") (columns_of 1 2))
 unfolding wrapping encode
 wide_in_the_narrow_column fit =
-    let own : All (HasCharactersWithin 1) (utf8 "京" ∷ []) =
+    let own : All (CharactersFit 1) (utf8 "京" ∷ []) =
     fit 1 (row_of "京" "17") (omega arith) 0 (info_of (new_column 0) 1) refl refl
     (plain_cell (utf8 "京")) refl in
-    wide_is_refused (All-head (HasCharactersWithin 1) (utf8 "京") [] own)
+    wide_is_refused (All-head (CharactersFit 1) (utf8 "京") [] own)
 
 -- a text in bold is harmless, and shows the text
 bold_shows : Shows (codes "\u{1b}[1ma\u{1b}[0m") (codes "a")
@@ -251,16 +261,29 @@ shows_itself (byte b text shown clear rest) none =
     ap (λ (t : Text). b ∷ t) (shows_itself rest (or_parts (b == 0x1B) _ none).1)
 shows_itself (sequence code text shown all rest) none = absurd (cc none)
 
--- a bell does, so it is no harmless text
+-- a control character does, so it is no harmless text
+abbrev speaks : ℕ → Bool
+speaks c = is_control c && not (c == 0x0A)
+
+control_is_harmful : (c : ℕ) → c < 128 → HasNo 0x1B (c ∷ []) → speaks c ≡ true → ¬ (IsHarmless (c ∷ []))
+control_is_harmful c below clear is (shown, shows, none) =
+    let own : NoCharPasses speaks (c ∷ []) = subst (NoCharPasses speaks) (shows_itself shows clear) none in
+    let isnt : speaks c ≡ false = NoCharPasses-byte speaks (c ∷ []) 0 own (omega arith) below in
+    cc (is, isnt)
+
 -- false: promises::harmless_text, csv_promises::harmless_output, csv_promises::harmless_drawing
 bell_is_harmful : ¬ (IsHarmless (0x07 ∷ []))
-bell_is_harmful (shown, shows, none) =
-    let speaks : ℕ → Bool = λ c. is_control c && not (c == 0x0A) in
-    let own : NoCharPasses speaks (0x07 ∷ []) =
-    subst (NoCharPasses speaks) (shows_itself shows refl) none in
-    let is : true ≡ false =
-    NoCharPasses-byte speaks (0x07 ∷ []) 0 own (omega arith) (omega arith) in
-    cc is
+bell_is_harmful = control_is_harmful 0x07 (omega arith) refl refl
+
+-- nor is a carriage return, ESC alone, or a sequence that clears the screen
+return_is_harmful : ¬ (IsHarmless (0x0D ∷ []))
+return_is_harmful = control_is_harmful 0x0D (omega arith) refl refl
+
+escape_is_harmful : ¬ (IsHarmless (0x1B ∷ []))
+escape_is_harmful (shown, shows, none) = lone_escape shows refl
+
+clearing_is_harmful : ¬ (IsHarmless (0x1B ∷ 0x5B ∷ 0x32 ∷ 0x4A ∷ []))
+clearing_is_harmful (shown, shows, none) = clear_screen shows refl
 
 -- ---- texts among a frame
 
@@ -368,7 +391,7 @@ some_slice own (inr cut) none = no_spaces (subst (IsSlicesWhere (λ line tail. U
     no_spaces (suc n, is) = let letter : ◌≡◌ {A = ℕ} 0x64 0x20 = cc is in absurd (omega (arith, letter))
 
 -- false: promises::lines_with_all_texts
-no_lines_lose_texts : ¬ (AreShown (ShowsRow (table_of "3 mai" "oats")) (table_of "3 mai" "oats") [])
+pub no_lines_lose_texts : ¬ (AreShown (ShowsRow (table_of "3 mai" "oats")) (table_of "3 mai" "oats") [])
 unfolding chars encode
 no_lines_lose_texts is = by_blocks is.blocks (subst (StandAmong (All (IsFrame utf8_full)) is.blocks) (sym (is.unstyled refl)) is.stand) is.show
   where
@@ -392,6 +415,10 @@ no_lines_lose_texts is = by_blocks is.blocks (subst (StandAmong (All (IsFrame ut
 -- a table of one text, without a frame
 abbrev word_table : Text → TableValue
 word_table text = with_rows (plain_row (plain_cell text ∷ []) ∷ []) (new_table presets.nothing)
+
+-- which may write styles
+abbrev styled_word : Bool → TableValue
+styled_word styles = record (word_table (codes "ab")) { enforce_styling = styles }
 
 -- some lines of one line are this one, or none
 alone : (before block behind : List Text) (line : Text) → line ∷ [] ≡ before ++ (block ++ behind) → (block ≡ []) ⊎ (block ≡ line ∷ [])
@@ -426,8 +453,8 @@ no_slice (inr (zero, only)) = cc only
 no_slice (inr (suc n, only)) = let letter : ◌≡◌ {A = ℕ} 0x61 0x20 = cc only in absurd (omega (arith, letter))
 
 -- in a line that shows the word alone it stands among spaces
-word_stands : (line : Text) → AreShown (ShowsRow (word_table (codes "ab"))) (word_table (codes "ab")) (line ∷ []) → StandAmong (IsFrame presets.nothing) (codes "ab" ∷ []) line
-word_stands line is = by_blocks is.blocks (subst (StandAmong (All (IsFrame presets.nothing)) is.blocks) (sym (is.unstyled refl)) is.stand) is.show
+word_stands : (styles : Bool) (line : Text) (lines : List Text) (is : AreShown (ShowsRow (styled_word styles)) (styled_word styles) lines) → is.plain ≡ line ∷ [] → StandAmong (IsFrame presets.nothing) (codes "ab" ∷ []) line
+word_stands styles line lines is same = by_blocks is.blocks (subst (StandAmong (All (IsFrame presets.nothing)) is.blocks) same is.stand) is.show
   where
     by_slices : (slices : List Text) → length slices ≤ 1 → (of_texts : List (List Text)) → AllZip (AreSlicesOf 0x20) (codes "ab" ∷ []) of_texts → slices ≡ flat_map (λ (of_text : List Text). of_text) of_texts → slices ≡ codes "ab" ∷ []
     by_slices slices few [] zip same = absurd zip
@@ -436,12 +463,12 @@ word_stands line is = by_blocks is.blocks (subst (StandAmong (All (IsFrame prese
     by_slices slices few ((slice ∷ []) ∷ []) zip same = same ∙ ap (λ (t : Text). t ∷ []) (only_slice slice zip.0)
     by_slices slices few ((slice ∷ other ∷ own) ∷ []) zip same = let long = ap length same in absurd (omega (arith, few, long))
 
-    by_blocks : (blocks : List (List Text)) → StandAmong (All (IsFrame presets.nothing)) blocks (line ∷ []) → AllZip (ShowsRow (word_table (codes "ab"))) (plain_row (plain_cell (codes "ab") ∷ []) ∷ []) blocks → StandAmong (IsFrame presets.nothing) (codes "ab" ∷ []) line
+    by_blocks : (blocks : List (List Text)) → StandAmong (All (IsFrame presets.nothing)) blocks (line ∷ []) → AllZip (ShowsRow (styled_word styles)) (plain_row (plain_cell (codes "ab") ∷ []) ∷ []) blocks → StandAmong (IsFrame presets.nothing) (codes "ab" ∷ []) line
     by_blocks [] stand show = absurd show
     by_blocks (block ∷ other ∷ blocks) stand show = absurd show.1
     by_blocks (block ∷ []) (before, behind, made, around, rest) show = by_lines (alone before block behind line made)
       where
-        row : ShowsRow (word_table (codes "ab")) (plain_row (plain_cell (codes "ab") ∷ [])) block
+        row : ShowsRow (styled_word styles) (plain_row (plain_cell (codes "ab") ∷ [])) block
         row = show.0
 
         enough : length (row.slices (0, new_column 0)) ≤ length block
@@ -461,27 +488,33 @@ word_stands line is = by_blocks is.blocks (subst (StandAmong (All (IsFrame prese
             (subst (λ (lines : List Text). StandAmong (IsFrame presets.nothing) (slice_index_or (row.slices (0, new_column 0)) 0 [] ∷ []) (slice_index_or lines 0 [])) own stand)
 
 -- it isn't torn
-torn_word : ¬ (AreShown (ShowsRow (word_table (codes "ab"))) (word_table (codes "ab")) (codes " a      b " ∷ []))
-torn_word is = by_before stands.0 stands.3 stands.2
-  where
-    stands : StandAmong (IsFrame presets.nothing) (codes "ab" ∷ []) (codes " a      b ")
-    stands = word_stands (codes " a      b ") is
+-- false: promises::lines_with_all_texts
+torn_word : ¬ (AreShown (ShowsRow (styled_word false)) (styled_word false) (codes " a      b " ∷ []))
+torn_word is =
+    let stands = word_stands false (codes " a      b ") _ is (sym (is.unstyled refl)) in
+    no_ab_inside (codes " a      b ") refl stands.0 stands.1 stands.2
 
-    by_before : (before : Text) → IsFrame presets.nothing before → ¬ (codes " a      b " ≡ before ++ (codes "ab" ++ stands.1))
-    by_before [] frame made = let letter : ◌≡◌ {A = ℕ} 0x20 0x61 = cc made in absurd (omega (arith, letter))
-    by_before (b ∷ []) frame made = let letter : ◌≡◌ {A = ℕ} 0x20 0x62 = cc made in absurd (omega (arith, letter))
-    by_before (b ∷ c ∷ before) frame made =
-        let all = spaces_alone (b ∷ c ∷ before) frame in
-        let letter : 0x61 ≡ c = cc made in
-        let blank : (c == 0x20) ≡ true = (and_parts (c == 0x20) _ (and_parts (b == 0x20) _ all).1).0 in
-        let space_is : c ≡ 0x20 = grind (arith, nat_tests, blank) in absurd (omega (arith, letter, space_is))
+-- nor is it another text where styles are written
+other_styled_word : ¬ (AreShown (ShowsRow (styled_word true)) (styled_word true) (codes " XY " ∷ []))
+other_styled_word is =
+    let stands = word_stands true (codes " XY ") _ is (unstyled_line is.plain (codes " XY ") is.styled refl) in
+    no_ab_inside (codes " XY ") refl stands.0 stands.1 stands.2
+  where
+    unstyled_line : (plain : List Text) (line : Text) → AllZip IsStyled plain (line ∷ []) → HasNo 0x1B line → plain ≡ line ∷ []
+    unstyled_line [] line zip none = absurd zip
+    unstyled_line (x ∷ y ∷ plain) line zip none = absurd zip.1
+    unstyled_line (x ∷ []) line zip none = ap (λ (t : Text). t ∷ []) (unstyled_same zip.0 none)
+
+-- nor has its slice one letter less
+lost_letter : ¬ (AreSlicesOf 0x20 (codes "ab") (codes "a" ∷ []))
+lost_letter own = cc (only_slice (codes "a") own)
 
 -- nor has it another letter beside it
-word_with_more : ¬ (AreShown (ShowsRow (word_table (codes "ab"))) (word_table (codes "ab")) (codes " abs " ∷ []))
+word_with_more : ¬ (AreShown (ShowsRow (styled_word false)) (styled_word false) (codes " abs " ∷ []))
 word_with_more is = by_before stands.0 stands.2
   where
     stands : StandAmong (IsFrame presets.nothing) (codes "ab" ∷ []) (codes " abs ")
-    stands = word_stands (codes " abs ") is
+    stands = word_stands false (codes " abs ") _ is (sym (is.unstyled refl))
 
     letter_behind : ¬ (stands.1 ≡ codes "s ")
     letter_behind same = let none : false ≡ true = spaces_alone (codes "s ") (subst (IsFrame presets.nothing) same stands.4) in cc none
@@ -509,6 +542,12 @@ other_whole_text is = by_blocks is.blocks (subst (StandAmong (All (IsFrame prese
         by_lines : ¬ ((block ≡ []) ⊎ (block ≡ codes " 91.50 " ∷ []))
         by_lines (inl none) = let short = ap length none in absurd (omega (arith, enough, short))
         by_lines (inr own) = other_amount (subst (λ (lines : List Text). StandAmong (IsFrame presets.nothing) (codes "1" ∷ []) (slice_index_or lines 0 [])) own (show.0.stand 0 (omega (arith, enough))))
+
+-- nor is a whole text in two lines
+sliced_text : ¬ (ShowsWholeRow (word_table (codes "ab")) (plain_row (plain_cell (codes "ab") ∷ [])) (codes " a " ∷ codes " b " ∷ []))
+sliced_text shows =
+    let stands = shows.stand 0 (omega arith) in
+    no_ab_inside (codes " a ") refl stands.0 stands.1 stands.2
 
 -- false: promises::lines_with_whole_texts
 no_lines_lose_whole_texts : ¬ (AreShown (ShowsWholeRow (table_of "3 mai" "oats")) (table_of "3 mai" "oats") [])
@@ -543,3 +582,89 @@ changed_line (above, last, added, short, before, after) = by_above above last ad
 -- false: promises::headline
 no_lines_are_no_table : ¬ (IsHeadline (table_of "3 mai" "oats") [])
 no_lines_are_no_table is = cc (is.unstyled refl refl ∙ is.is_plain.drawn)
+
+-- ---- tables that don't meet the conditions
+
+-- colours are written, or texts are searched for sequences
+writes_styles : ¬ (IsPlain (styled_word true))
+writes_styles is = cc is.no_styles
+
+searches_texts : ¬ (IsPlain (record (word_table (codes "ab")) { custom_styling = true }))
+searches_texts is = cc is.no_sequences
+
+-- a column has a constraint, a row is cut, or no column is shown
+constrained_word : TableValue
+constrained_word = record (word_table (codes "ab")) { columns = record (new_column 0) { constraint = Some ContentWidth } ∷ [] }
+
+constrained_column : ¬ (IsShownWhole constrained_word)
+unfolding constrained_word
+constrained_column is = cc (is.no_constraint 0 (new_column 0) (omega arith))
+
+constrained_column_keeps_no_width : ¬ (IsFree constrained_word)
+unfolding constrained_word
+constrained_column_keeps_no_width is = cc (is.1 0 (new_column 0) (omega arith))
+
+cut_row : ¬ (IsShownWhole (record (word_table (codes "ab")) { rows = record (row_of "ab" "cd") { max_height = Some 1 } ∷ [] }))
+cut_row is = cc (is.uncut 0 (row_of "ab" "cd") (omega arith))
+
+hidden_column : ¬ (IsFree (record (word_table (codes "ab")) { columns = record (new_column 0) { constraint = Some Hidden } ∷ [] }))
+hidden_column is = let none : 0 < 0 = is.0 in absurd (omega (arith, none))
+
+-- a bell stands in a shown text, in the indicator, or in the style
+bell_speaks : ¬ (NoCharPasses is_control (0x07 ∷ []))
+bell_speaks none = let isnt : true ≡ false = NoCharPasses-byte is_control (0x07 ∷ []) 0 none (omega arith) (omega arith) in cc isnt
+
+bell_in_a_text : ¬ (HasNoControls (word_table (0x07 ∷ [])))
+bell_in_a_text free = bell_speaks (free.texts 0 (0, new_column 0) (omega arith) 0 (plain_row []) (omega arith) (plain_cell (0x07 ∷ [])) refl 0 [] (omega arith))
+
+bell_in_the_indicator : ¬ (HasNoControls (record (word_table []) { indicator = 0x07 ∷ [] }))
+bell_in_the_indicator free = bell_speaks free.indicator
+
+bell_in_the_style : ¬ (HasNoControls (new_table (record presets.nothing { content_lines = record presets.nothing.content_lines { left = Some 0x07 } })))
+bell_in_the_style free = cc free.style
+
+-- another text stands in a shown column
+other_shown_text : ¬ (without_hidden (word_table (codes "ab")) ≡ without_hidden (word_table (codes "ac")))
+other_shown_text same =
+    let letter : 0x62 ≡ 0x63 = ap (λ (t : TableValue). slice_index (slice_index_or (slice_index_or (slice_index_or t.rows 0 (plain_row [])).cells 0 (plain_cell [])).text_lines 0 []) 1) same in
+    absurd (omega (arith, letter))
+
+-- a further row has a further cell, or a wider one
+further_cell : ¬ (HasRoomFor (word_table (codes "ab")) (row_of "a" "b"))
+further_cell room = let few : 2 ≤ 1 = room.columns in absurd (omega (arith, few))
+
+wider_cell : ¬ (HasRoomFor (word_table (codes "a")) (plain_row (plain_cell (codes "ab") ∷ [])))
+unfolding wrapping
+wider_cell room = by_row own.0 own.1 own.2 own.3 own.4
+  where
+    own : StandsBelowAsWide (word_table (codes "a")) 0 (plain_cell (codes "ab"))
+    own = room.widths 0 (plain_cell (codes "ab")) refl
+
+    by_row : (above : RowValue) (other : CellValue) → Contains (header_and_rows (word_table (codes "a"))) above → slice_get above.cells 0 ≡ Some other → ¬ (2 ≤ cell_content_width other)
+    by_row above other (suc k, below, is) found wide = absurd (omega (arith, below))
+    by_row above other (zero, below, is) found wide =
+        let same : plain_cell (codes "a") ≡ other = same_Some (plain_cell (codes "a")) other (ap (λ (r : RowValue). slice_get r.cells 0) is ∙ found) in
+        let one : 1 ≡ cell_content_width other = ap cell_content_width same in
+        omega (arith, wide, one)
+
+-- a line stands above those that were there, or one of them is gone
+line_above : ¬ (Stay (codes "a" ∷ codes "b" ∷ []) (codes "c" ∷ codes "a" ∷ codes "b" ∷ []))
+line_above (above, last, added, short, before, after) = by_above above before after
+  where
+    other : ¬ (codes "a" ≡ codes "c")
+    other is = let letter : ◌≡◌ {A = ℕ} 0x61 0x63 = cc is in absurd (omega (arith, letter))
+
+    by_above : (above : List Text) → codes "a" ∷ codes "b" ∷ [] ≡ above ++ last → ¬ (codes "c" ∷ codes "a" ∷ codes "b" ∷ [] ≡ above ++ (added ++ last))
+    by_above [] before after = let two = ap length before in absurd (omega (arith, two, short))
+    by_above (x ∷ above) before after = let own : codes "a" ≡ codes "c" = cc (before, after) in other own
+
+lost_line : ¬ (Stay (codes "a" ∷ codes "b" ∷ []) (codes "a" ∷ []))
+lost_line (above, last, added, short, before, after) =
+    let two = ap length before in
+    let one = ap length after in
+    omega (arith, two, one, length-append above last, length-append above (added ++ last), length-append added last)
+
+-- a line is wider than a width that is filled
+wider_than_filled : ¬ (All (λ line. measure line ≡ max 3 9) (codes "0123456789" ∷ []))
+unfolding wrapping
+wider_than_filled each = let ten : 10 ≡ 9 = each 0 [] (omega arith) in absurd (omega (arith, ten))

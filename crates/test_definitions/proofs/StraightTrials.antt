@@ -55,8 +55,8 @@ unfolding wrapping
 with_selector_measures_two = refl
 
 -- nor does a variation selector stand apart
--- false: promises::the_ellipsis_stands_apart
-selector_joins : ¬ (IsApart (encode_utf8_all (0xFE0F ∷ [])))
+-- false: promises::laws::the_ellipsis_stands_apart
+pub selector_joins : ¬ (IsApart (encode_utf8_all (0xFE0F ∷ [])))
 selector_joins apart =
     let two = apart (utf8 "#") number_sign_is_text in
     omega (arith, two, with_selector_measures_two, number_sign_measures_one, selector_measures_nothing)

@@ -1,5 +1,6 @@
 -- What the trials build their tables from.
-use Rattle.std.specs.Prelude.{◌≡◌, ℕ, Bool, List, [], ◌∷◌, Option, Some, length, map, max, codes, encode_utf8_all}
+use Rattle.std.specs.Prelude.{◌≡◌, ◌==◌, ◌&&◌, ◌||◌, ◌++◌, ℕ, Bool, true, false, List, [], ◌∷◌, Option, Some, length, map, max, codes, encode_utf8_all}
+use Rattle.std.proofs.Common.{refl, ap, ◌∙◌}
 use Prim.Native.String.{String}
 use Rattle.comfy_parts.specs.CellValue.{CellValue, RowValue, ColumnValue, plain_cell, plain_row, with_max_height}
 use Rattle.comfy_parts.specs.Presets.{utf8_full}
@@ -26,6 +27,28 @@ cells_of cells = map (λ (s : String). plain_cell (utf8 s)) cells
 
 abbrev pub row_of : List String → RowValue
 row_of cells = plain_row (cells_of cells)
+
+-- whether `ab` stands in a text
+abbrev pub has_ab : Text → Bool
+has_ab [] = false
+has_ab (x ∷ []) = false
+has_ab (x ∷ y ∷ rest) = ((x == 0x61) && (y == 0x62)) || has_ab (y ∷ rest)
+
+either_way : (b : Bool) → (b || true) ≡ true
+either_way true = refl
+either_way false = refl
+
+ab_inside : (before after : Text) → has_ab (before ++ (0x61 ∷ 0x62 ∷ after)) ≡ true
+ab_inside [] after = refl
+ab_inside (x ∷ []) after = either_way ((x == 0x61) && (0x61 == 0x62))
+ab_inside (x ∷ y ∷ before) after =
+    ap (λ b. ((x == 0x61) && (y == 0x62)) || b) (ab_inside (y ∷ before) after)
+    ∙ either_way ((x == 0x61) && (y == 0x62))
+
+-- where it doesn't, the text isn't made of it and others
+pub no_ab_inside : (text : Text) → has_ab text ≡ false → (before after : Text)
+    → ¬ (text ≡ before ++ (0x61 ∷ 0x62 ∷ after))
+no_ab_inside text none before after made = cc (none, ap has_ab made, ab_inside before after)
 
 -- rows appended to a table
 abbrev pub with_texts : List (List String) → TableValue → TableValue

@@ -1,6 +1,6 @@
 use Rattle.comfy_table.proofs.PartLemmas.{other_rows_drawn}
 use Rattle.promises.proofs.ConditionLemmas.{whole_of_parts}
-use Rattle.promises.proofs.conditions.parts_are_framed_rows.Goals as goal
+use Rattle.promises.proofs.laws.parts_are_framed_rows.Goals as goal
 
 pub returns-clause-part : goal.returns-clause-part
 returns-clause-part c = λ table infos rows. other_rows_drawn table rows infos

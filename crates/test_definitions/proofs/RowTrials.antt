@@ -1,0 +1,81 @@
+-- Lines that no new table of a header and rows has.
+use Rattle.std.proofs.Common.{◌≡◌, ◌≤◌, ◌<◌, ℕ, zero, suc, List, [], ◌∷◌, ◌++◌, Option, Some, None, codes, length, refl, arith, slice_index_or}
+use Rattle.std.specs.List.{All}
+use Rattle.std.proofs.lemmas.List.Elements.{All-cons, All-from_recursion, All-head, All-nil}
+use Rattle.comfy_parts.proofs.Computing.{wrapping}
+use Rattle.comfy_parts.specs.CellValue.{CellValue, RowValue, plain_cell}
+use Rattle.comfy_parts.specs.Columns.{CharactersFit}
+use Rattle.comfy_parts.specs.Presets.{nothing, utf8_full}
+use Rattle.comfy_parts.specs.Text.{Text, measure}
+use Rattle.comfy_parts.specs.declared.style.table.ContentArrangement.{ContentArrangement}
+use Rattle.comfy_parts.specs.declared.style.table.ContentArrangement.TheVariants.{Disabled, Dynamic, DynamicFullWidth}
+use Rattle.comfy_table.specs.NewTables.{IsShortRow}
+use Rattle.promises.specs.Rows.{HaveCells, IsIn, IsNarrowCell, IsNarrowRow, IsRowIn, KeepsRows}
+use Rattle.test_definitions.proofs.LawTrials.{shorter_line}
+use Rattle.test_definitions.proofs.PromiseTrials as promises
+use Rattle.test_definitions.proofs.PromiseTrials.{no_lines_lose_texts}
+use Rattle.test_definitions.proofs.TrialTables.{no_ab_inside}
+
+-- a header of the text `ab`, and no row below it
+abbrev header : RowValue
+header = record { cells = plain_cell (codes "ab") ∷ []; max_height = None }
+
+-- the lines of its new table in this arrangement and width
+abbrev Keeps : ContentArrangement → Option ℕ → List Text → Type 0
+Keeps arrangement width lines = KeepsRows nothing arrangement width header [] lines
+
+ab_fits : CharactersFit 1 (codes "ab")
+unfolding wrapping
+ab_fits = refl
+
+ab_is_short : measure (codes "ab") ≤ 65535
+unfolding wrapping
+ab_is_short = omega arith
+
+narrow : All IsNarrowRow (header ∷ [])
+narrow =
+    All-cons IsNarrowRow header [] (All-cons IsNarrowCell (plain_cell (codes "ab")) [] (record { delimiter = refl; characters = All-cons (CharactersFit 1) (codes "ab") [] ab_fits (All-nil (CharactersFit 1)) }) (All-nil IsNarrowCell))
+    (All-nil IsNarrowRow)
+
+short : All IsShortRow (header ∷ [])
+short =
+    All-cons IsShortRow header []
+    (record { uncut = refl; short = All-from_recursion (λ (cell : CellValue). All (λ line. measure line ≤ 65535) cell.text_lines) header.cells (All-from_recursion (λ line. measure line ≤ 65535) (codes "ab" ∷ []) (ab_is_short, tt), tt) })
+    (All-nil IsShortRow)
+
+one_cell : HaveCells 1 (header ∷ [])
+one_cell = All-cons (λ (row : RowValue). length row.cells ≤ 1) header [] (omega arith) (All-nil (λ (row : RowValue). length row.cells ≤ 1))
+
+-- lines of two widths, where characters are narrow, and where texts are short
+-- false: promises::laws::tables_of_rows_keep_the_promises
+uneven : ¬ (Keeps Dynamic (Some 9) (codes "ab" ∷ codes "a" ∷ []))
+uneven keeps = shorter_line (keeps.straight narrow)
+
+uneven_short_lines : ¬ (Keeps Disabled None (codes "ab" ∷ codes "a" ∷ []))
+uneven_short_lines keeps = shorter_line (keeps.straight_whole refl short)
+
+-- a line that is wider than the width, and one that doesn't fill it
+six : measure (codes " ab   ") ≡ 6
+unfolding wrapping
+six = refl
+
+wider : ¬ (Keeps Dynamic (Some 5) (codes " ab   " ∷ []))
+wider keeps = let few = keeps.within 5 1 refl refl narrow one_cell (omega arith) 0 [] (omega arith) in omega (arith, few, six)
+
+unfilled : ¬ (Keeps DynamicFullWidth (Some 7) (codes " ab   " ∷ []))
+unfilled keeps = let all = keeps.over 7 1 refl refl narrow one_cell (omega arith) (omega arith) 0 [] (omega arith) in omega (arith, all, six)
+
+-- no texts
+no_texts : ¬ (KeepsRows utf8_full Disabled None (promises.row_of "day" "text") (promises.row_of "3 mai" "oats" ∷ []) [])
+no_texts keeps = no_lines_lose_texts keeps.all_texts
+
+-- a text that is torn
+torn : ¬ (Keeps Disabled None (codes " a b " ∷ []))
+torn keeps = by_line own.0 own.3 own.1 own.4
+  where
+    own : IsIn (codes " a b " ∷ []) (codes "ab")
+    own = All-head (IsRowIn (codes " a b " ∷ [])) header [] (keeps.whole_texts refl short) 0 (plain_cell []) (omega arith) 0 [] (omega arith)
+
+    by_line : (k : ℕ) → k < 1 → (before : Text) → ¬ (slice_index_or (codes " a b " ∷ []) k [] ≡ before ++ (codes "ab" ++ own.2))
+    by_line zero below before made = no_ab_inside (codes " a b ") refl before own.2 made
+    by_line (suc k) below before made = absurd (omega (arith, below))
