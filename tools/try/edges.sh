@@ -155,7 +155,7 @@ same 'COLUMNS where standard output is no terminal'
 "$program" --help > "$work/second"
 same '-h and --help'
 "$program" -V > "$work/first"
-echo 'csvtable 3.0.0' > "$work/second"
+echo 'csvtable 0.1.0' > "$work/second"
 same '-V'
 
 # With a limit the input is read no further than it needs.

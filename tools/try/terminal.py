@@ -219,7 +219,7 @@ def endings():
     see("help", status == 0 and "--columns" in out and err == "", out + err)
     see("help on a full disk", run("--help", out="/dev/full")[0] == 1)
     status, out, err = run("--version")
-    see("the version", status == 0 and out == "csvtable 3.0.0\n" and err == "", out + err)
+    see("the version", status == 0 and out == "csvtable 0.1.0\n" and err == "", out + err)
     status, out, err = run("-c", "01,zz", text=text)
     see("a number that is no column's", status == 1 and out == "" and err.endswith(": no column zz; there are a and b\n"), out + err)
     status, out, err = run("-c", "09", text=text)

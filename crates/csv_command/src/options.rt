@@ -248,7 +248,7 @@ pub(crate) fn command<'a>(alloc: Global, styles: &'a [&'a str]) -> Result<Comman
     ensures { IfOk result (λ command. IsCsvtable (app_of command)) }
 {
     let mut command = Command::new(alloc, "csvtable")
-        .version("3.0.0")
+        .version("0.1.0")
         .about("Draws the records of a CSV file as a table")
         .after_help(AFTER_HELP)
         .args_override_self(true);

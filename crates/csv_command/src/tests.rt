@@ -281,7 +281,7 @@ fn help_is_an_output(rt: HostRuntime) {
             &ending_by(&rt, &arguments),
             0,
             false,
-            "csvtable 3.0.0\n",
+            "csvtable 0.1.0\n",
         );
     }
 }
