@@ -1,7 +1,10 @@
 //! Draws a ledger: titles above the columns, amounts at the right, long texts wrapped, and the sum
-//! at the end.
+//! at the end. Then books, whose columns share a width, or have constraints.
 #![tactic(auto)]
 
+mod books;
+
+use books::print_books;
 use comfy_table::presets::UTF8_FULL;
 use comfy_table::{CellAlignment, ContentArrangement, Result, Table};
 use std::alloc::Global;
@@ -20,7 +23,7 @@ fn main(rt: HostRuntime) -> anyhow::Result<()> {
     let mut ledger = Table::new(rt.alloc());
     fill(&mut ledger, rt.alloc(), &ENTRIES)?;
     println!(rt; "{}", ledger.to_text()?)?;
-    Ok(())
+    print_books(&rt, &mut Table::new(rt.alloc()))
 }
 
 fn fill(ledger: &mut Table, alloc: Global, entries: &[Entry]) -> Result<()> {

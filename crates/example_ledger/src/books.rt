@@ -1,6 +1,5 @@
 //! Widths: a table of three scripts at a width of 44.
 
-use crate::print;
 use comfy_table::{ColumnConstraint, ContentArrangement, Result, Table, Width};
 
 const BOOKS: &[[&str; 4]] = &[
@@ -13,8 +12,9 @@ const BOOKS: &[[&str; 4]] = &[
 /// column. Its right edge is straight in terminal columns: a Chinese character takes two.
 pub fn print_books(rt: &HostRuntime, books: &mut Table) -> anyhow::Result<()> {
     fill(books)?;
-    print(rt, books)?;
-    print(rt, constrain(books))
+    println!(rt; "{}", books.to_text()?)?;
+    println!(rt; "{}", constrain(books).to_text()?)?;
+    Ok(())
 }
 
 fn fill(books: &mut Table) -> Result<()> {
