@@ -1,7 +1,9 @@
 -- What a run that stopped ensures, by this crate's error.
+use Rattle.std.specs.Prelude.{⊤}
 use Rattle.std.proofs.Common.{inl, inr, Ok, Err, subst, sym}
 use Rattle.std.proofs.lemmas.Str.{IsUtf8-nil}
 use Rattle.std.specs.Str.{IsUtf8}
+use Rattle.comfy_parts.specs.Text.{Text}
 use Rattle.comfy_run.specs.Run.{IsAfter, IsDrawnFrom, IsDrawnIn, IsRefusalIn, run_error_of}
 use Rattle.comfy_run.specs.declared.error.RunError.{RunError}
 use Rattle.comfy_run.specs.declared.error.RunError.TheVariants as own
@@ -11,20 +13,24 @@ use Rattle.devices.specs.Run.{IsAfter as IsAfterRun, IsAfterIn}
 use Rattle.devices.specs.declared.transfer.Stop.{Stop}
 use Rattle.devices.specs.declared.transfer.Stop.TheVariants.{OutOfMemory, Read, Refused, Write}
 
+-- it's asked of every beginning in vain
+abbrev Any : Text → Type 0
+Any read = ⊤
+
 -- no beginning is enough
-pub after_ok : (T : Type 0) (x : T) (settings : Settings) (facts : RunFacts) → IsAfterRun (IsDrawnIn settings) IsRefusalIn {T = T} (Ok x) facts → IsAfterOk (IsDrawnFrom settings) facts
-after_ok T x settings facts (inl after) = after
+pub after_ok : (T : Type 0) (x : T) (settings : Settings) (facts : RunFacts) → IsAfterRun Any (IsDrawnIn settings) IsRefusalIn {T = T} (Ok x) facts → IsAfterOk (IsDrawnFrom settings) facts
+after_ok T x settings facts (inl after) = after.says
 after_ok T x settings facts (inr part) = absurd part.says.output
 
-whole_alone : (T : Type 0) (settings : Settings) (stop : Stop RunError) (facts : RunFacts) → IsAfterRun (IsDrawnIn settings) IsRefusalIn {T = T} (Err stop) facts
-    → IsAfterIn (IsDrawnIn settings) IsRefusalIn {T = T} (Err stop) Whole facts
-whole_alone T settings stop facts (inl after) = after
+whole_alone : (T : Type 0) (settings : Settings) (stop : Stop RunError) (facts : RunFacts) → IsAfterRun Any (IsDrawnIn settings) IsRefusalIn {T = T} (Err stop) facts
+    → IsAfterIn Any (IsDrawnIn settings) IsRefusalIn {T = T} (Err stop) Whole facts
+whole_alone T settings stop facts (inl after) = after.says
 whole_alone T settings Read facts (inr part) = absurd part.says
 whole_alone T settings Write facts (inr part) = absurd part.says.is_output
 whole_alone T settings OutOfMemory facts (inr part) = absurd part.says
 whole_alone T settings (Refused e) facts (inr part) = absurd part.says.fault
 
-of_whole : (T : Type 0) (settings : Settings) (stop : Stop RunError) (facts : RunFacts) → IsAfterIn (IsDrawnIn settings) IsRefusalIn {T = T} (Err stop) Whole facts
+of_whole : (T : Type 0) (settings : Settings) (stop : Stop RunError) (facts : RunFacts) → IsAfterIn Any (IsDrawnIn settings) IsRefusalIn {T = T} (Err stop) Whole facts
     → IsAfter {T = T} settings (Err (run_error_of stop)) facts
 of_whole T settings Read facts after = after
 of_whole T settings Write facts after = after
@@ -34,6 +40,6 @@ of_whole T settings (Refused (own.Table e)) facts after = record { no_device_fai
 of_whole T settings (Refused own.Read) facts after = absurd after.fault
 of_whole T settings (Refused own.Write) facts after = absurd after.fault
 
-pub after_stop : (T : Type 0) (settings : Settings) (stop : Stop RunError) (facts : RunFacts) → IsAfterRun (IsDrawnIn settings) IsRefusalIn {T = T} (Err stop) facts
+pub after_stop : (T : Type 0) (settings : Settings) (stop : Stop RunError) (facts : RunFacts) → IsAfterRun Any (IsDrawnIn settings) IsRefusalIn {T = T} (Err stop) facts
     → IsAfter {T = T} settings (Err (run_error_of stop)) facts
 after_stop T settings stop facts after = of_whole T settings stop facts (whole_alone T settings stop facts after)

@@ -11,7 +11,7 @@ use Rattle.comfy_parts.specs.Text.{Text}
 use Rattle.comfy_parts.specs.declared.style.table_style.TableStyle.{TableStyle}
 use Rattle.csv_records.specs.Numerals.{number_for}
 use Rattle.csv_command.specs.Styles.{is_named, style_for}
-use Rattle.csv_command.specs.Arguments.{AreFound, IsInputParsed, IsLookParsed, AreOptionsParsed, delimiter_for, encoding_for, expansion_for, file_for, ids_in, is_behind, is_bold_for, is_given, is_given_last, is_markdown_in, number_found, separators_for, wanted_delimiter, width_for, words_in}
+use Rattle.csv_command.specs.Arguments.{AreFound, IsParsed, IsInputParsed, IsLookParsed, AreOptionsParsed, delimiter_for, encoding_for, expansion_for, file_for, ids_in, is_behind, is_bold_for, is_given, is_given_last, is_markdown_in, number_found, separators_for, wanted_delimiter, width_for, words_in}
 use Rattle.csv_command.specs.declared.arguments.Invocation.{Invocation}
 use Rattle.csv_command.specs.declared.arguments.OutputContext.{OutputContext}
 use Rattle.csv_records.specs.declared.delimiter.Delimiter.{Delimiter}
@@ -27,7 +27,8 @@ use Rattle.csv_tables.specs.OneOutput.{AreSameOptions}
 use Rattle.comfy_parts.specs.VisibleText.{visible_text}
 use Rattle.csv_tables.specs.Controls.{HasNoStrayControl}
 use Rattle.csv_tables.specs.Drawn.{IsDrawnOf}
-use Rattle.csv_tables.specs.Laws.{IsLookWithoutControls}
+use Rattle.csv_records.specs.Beginning.{whole_lines}
+use Rattle.devices.specs.Outcome.{asked_front}
 use Rattle.csv_command.specs.Laws.{InvocationIsOne, ParsedOutputHoldsNoControls, DrawnHoldsNoControls, DrawnIsOne}
 use Rattle.csv_command.proofs.StyleLemmas.{styles_without_controls}
 use Rattle.csv_tables.specs.Controls.{IsStyleWithoutControls}
@@ -143,17 +144,20 @@ drawn_is_one arguments input drawing other first second =
     output_is_one first.invocation.options second.invocation.options input drawing other (invocation_is_one arguments not_a_terminal first.invocation second.invocation first.is_asked second.is_asked).options first.is_output second.is_output
 
 -- and arguments ask for a style without control characters
+parsed_style : (arguments : List Text) (context : OutputContext) (invocation : Invocation) → IsParsed arguments context invocation → IsStyleWithoutControls invocation.options.look.style
+parsed_style arguments context invocation is = subst IsStyleWithoutControls (sym is.options.look.style) (styles_without_controls (first_value is.found (codes "style")))
+
 pub parsed_without_controls : (arguments : List Text) (context : OutputContext) (invocation : Invocation) (input output : Text) → ParsedOutputHoldsNoControls arguments context invocation input output
 parsed_without_controls arguments context invocation input output is = by_extent
   where
     style : IsStyleWithoutControls invocation.options.look.style
-    style = subst IsStyleWithoutControls (sym is.options.look.style) (styles_without_controls (first_value is.found (codes "style")))
+    style = parsed_style arguments context invocation is
 
     by_extent : IsDrawnOf invocation.options input output → HasNoStrayControl (visible_text output)
-    by_extent (inl made) = input_without_controls invocation.options input output style made
-    by_extent (inr (beginning, behind, joins, made)) = beginning_without_controls invocation.options beginning output style made
+    by_extent (inl (none, made)) = input_without_controls invocation.options input output style made
+    by_extent (inr (n, asked, made)) = beginning_without_controls invocation.options (whole_lines (asked_front n input)) output style made
 
 -- and no control character in it
 pub drawn_without_controls : (arguments : List Text) (input drawing : Text) → DrawnHoldsNoControls arguments input drawing
 drawn_without_controls arguments input drawing drawn =
-    parsed_without_controls arguments not_a_terminal drawn.invocation input drawing drawn.is_asked (inl drawn.is_output)
+    input_without_controls drawn.invocation.options input drawing (parsed_style arguments not_a_terminal drawn.invocation drawn.is_asked) drawn.is_output

@@ -338,8 +338,8 @@ module _ (arguments : List Text) (context : OutputContext) (invocation : Invocat
       any (r ∷ rs) made texts = output_shown (counting options) draws style (r ∷ rs) texts output made is.tidy is.unkept is.no_markdown
 
       by_made : IsDrawnOf options input output → ShowsRecords options.look (map (map (clean options.look is.tidy is.unkept is.no_markdown)) records) output
-      by_made (inl made) = any records (subst (λ (rs : List (List Text)). RendersAnyRecords (counting options) rs output) (read_is_one options.input input made.records records made.are_records is.are) made.is_output) is.are.are_records.are_records.are_text
-      by_made (inr (beginning, behind, joins, made)) = absurd (cc (sym all ∙ made.are_enough.has_limit.is))
+      by_made (inl (none, made)) = any records (subst (λ (rs : List (List Text)). RendersAnyRecords (counting options) rs output) (read_is_one options.input input made.records records made.are_records is.are) made.is_output) is.are.are_records.are_records.are_text
+      by_made (inr (n, asked, made)) = absurd (cc (sym all ∙ made.are_enough.has_limit.is))
 
 -- a list without a length is empty
 pub none_in : {X : Type 0} (n : ℕ) (xs : List X) → n ≡ length xs → true ≡ (n == 0) → xs ≡ []

@@ -28,6 +28,9 @@ use Rattle.csv_tables.specs.declared.options.Look.{Look}
 use Rattle.csv_tables.specs.declared.options.Options.{Options}
 use Rattle.csv_tables.proofs.CleanCharacterLemmas.{lines_pass}
 use Rattle.csv_records.proofs.BeginningLemmas.{first_records_stay}
+use Rattle.csv_records.specs.Beginning.{whole_lines}
+use Rattle.csv_tables.proofs.RunLemmas.{beginning_parts}
+use Rattle.devices.specs.Outcome.{asked_front}
 use Rattle.csv_records.proofs.OneRecordLemmas.{read_is_one}
 use Rattle.csv_records.specs.Reading.{AreRecordsFor}
 use Rattle.csv_tables.proofs.OutputControlLemmas.{text_fields, unbroken_without}
@@ -133,10 +136,12 @@ module _ (arguments : List Text) (context : OutputContext) (invocation : Invocat
       any (r ∷ rs) drawn text fields = law (counting options) refl (r ∷ rs) text fields drawn
 
       by_made : IsDrawnOf options input output → IsStraight output
-      by_made (inl made) = any records (subst (λ (rs : List (List Text)). RendersAnyRecords (counting options) rs output) (read_is_one options.input input made.records records made.are_records is.are) made.is_output) texts each
-      by_made (inr (beginning, behind, joins, made)) =
+      by_made (inl (none, made)) = any records (subst (λ (rs : List (List Text)). RendersAnyRecords (counting options) rs output) (read_is_one options.input input made.records records made.are_records is.are) made.is_output) texts each
+      by_made (inr (n, asked, made)) =
+          let beginning = whole_lines (asked_front n input) in
+          let parts = beginning_parts n input in
           let are = made.are_enough.are in
-          let found = first_records_stay options.input (most_drawn options.selection.has_header made.are_enough.has_limit.limit) beginning behind made.records records are (subst (λ (t : Text). AreRecordsFor options.input t records) joins is.are) in
+          let found = first_records_stay options.input (most_drawn options.selection.has_header made.are_enough.has_limit.limit) beginning parts.0 made.records records are (subst (λ (t : Text). AreRecordsFor options.input t records) parts.1 is.are) in
           law options refl made.records are.are_records.are_records.are_text (All-front (All P) made.records found.0 (subst (All (All P)) found.1 each)) made.is_output
 
   -- by a look that arguments ask for

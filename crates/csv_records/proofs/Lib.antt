@@ -10,6 +10,7 @@ pub mod FigureLemmas
 pub mod FirstLemmas
 pub mod ForeignLemmas
 pub mod LineLemmas
+pub mod NoneEnoughLemmas
 pub mod NumberLemmas
 pub mod NumeralLemmas
 pub mod OneRecordLemmas
@@ -22,3 +23,4 @@ pub mod ShownLemmas
 pub mod SpacesLemmas
 pub mod TextLemmas
 pub mod WholeLemmas
+pub mod WholeLineLemmas

@@ -43,7 +43,7 @@ some_each (c ∷ cs) (d ∷ ds) is =
     let rest : map Some cs ≡ map Some ds = cc is in
     ap₂ (λ (a : ℕ) (b : List ℕ). a ∷ b) first (some_each cs ds rest)
 
-text_is_one : (encoding : Encoding) (skip : ℕ) (input text other : Text) → IsDecoded encoding skip input text → IsDecoded encoding skip input other → text ≡ other
+pub text_is_one : (encoding : Encoding) (skip : ℕ) (input text other : Text) → IsDecoded encoding skip input text → IsDecoded encoding skip input other → text ≡ other
 text_is_one Utf8 skip input text other first second = first.1 ∙ sym second.1
 text_is_one Cp1252 skip input text other first second = first ∙ sym second
 text_is_one Utf16 skip input text other first second =

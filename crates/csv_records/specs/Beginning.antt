@@ -1,6 +1,7 @@
 -- A beginning of an input that is enough for its first records.
 -- Source: this library's own.
-use Rattle.std.specs.Prelude.{ℕ, ◌≡◌, ◌≢◌, ◌<◌, true, List, [], ◌∷◌, ◌++◌, length, take}
+use Rattle.std.specs.Prelude.{ℕ, ◌≡◌, ◌≢◌, ◌<◌, ◌==◌, Bool, true, List, [], ◌∷◌, ◌++◌, length, take, if◌then◌else◌}
+use Rattle.std.specs.List.{count_by, list_any}
 use Rattle.comfy_parts.specs.Text.{Text}
 use Rattle.csv_records.specs.Delimiter.{below_lines, doubtful_delimiter, shows_delimiter}
 use Rattle.csv_records.specs.Encoding.{encoding_of}
@@ -9,16 +10,26 @@ use Rattle.csv_records.specs.declared.beginning.BeginningRecords.{BeginningRecor
 use Rattle.csv_records.specs.declared.encoding.Encoding.TheVariants.{Utf16}
 use Rattle.csv_records.specs.declared.options.InputOptions.{InputOptions}
 
+abbrev pub is_line_feed : ℕ → Bool
+is_line_feed b = b == 0x0A
+
+-- what a text has up to behind its last line feed: the bytes at or behind which one stands
+abbrev pub whole_lines : Text → Text
+whole_lines [] = []
+whole_lines (b ∷ rest) =
+    if list_any is_line_feed (b ∷ rest) then b ∷ whole_lines rest else []
+
 -- a text ends with a line feed
 abbrev pub EndsWithLine : Text → Type 0
 EndsWithLine text = (front : Text) × (text ≡ front ++ 0x0A ∷ [])
 
--- a beginning of an input has more records than the first ones that are wanted: below the lines
--- that are left out it ends with a line feed and, where quotes count, outside them, and its text
--- shows what stands between fields; no beginning in UTF-16 is enough
+-- a beginning of an input has more line feeds than the first records that are wanted, and more
+-- records: below the lines that are left out it ends with a line feed and, where quotes count,
+-- outside them, and its text shows what stands between fields; no beginning in UTF-16 is enough
 pub record IsEnough (options : InputOptions) (most : ℕ) (beginning : Text) (records : List
     (List Text)) : Type 0 where
   pub no_utf16 : encoding_of options.encoding beginning ≢ Utf16
+  pub feeds : most < count_by is_line_feed beginning
   pub text : Text
   pub is_text : IsDecodedBy options beginning text
   pub ends : EndsWithLine (below_lines options.skip beginning)
@@ -26,24 +37,25 @@ pub record IsEnough (options : InputOptions) (most : ℕ) (beginning : Text) (re
   pub are_records : AreRecordsIn options text records
   pub more : most < length records
 
--- these are the first records of a beginning that is enough, of these bytes
+-- the whole lines of these bytes are a beginning that is enough, and these are its first records
 pub record AreFirstByBeginning (options : InputOptions) (most : ℕ) (read : Text) (first : List
     (List Text)) : Type 0 where
-  pub beginning : Text
-  pub behind : Text
-  pub parts : read ≡ beginning ++ behind
   pub records : List (List Text)
-  pub is_enough : IsEnough options most beginning records
+  pub is_enough : IsEnough options most (whole_lines read) records
   pub are_first : first ≡ take most records
 
--- these are found of a beginning that is enough, of these bytes: its first records, and the
--- delimiter that is doubtful
+-- these are found in them: the first records, and the delimiter that is doubtful
 pub record IsFoundInBeginning (options : InputOptions) (most : ℕ) (read : Text)
     (found : BeginningRecords) : Type 0 where
   pub are_first : AreFirstByBeginning options most read found.records
   pub doubt :
       found.doubt
       ≡ doubtful_delimiter options.delimiter options.has_quotes are_first.is_enough.text
+
+-- the whole lines of these bytes aren't enough, whatever their records are
+abbrev pub NoneAreEnough : InputOptions → ℕ → Text → Type 0
+NoneAreEnough options most read =
+    (records : List (List Text)) → ¬ (IsEnough options most (whole_lines read) records)
 
 -- the records of a beginning that is enough are the first ones of the whole input
 abbrev pub FirstRecordsStay : InputOptions → ℕ → Text → Text → List (List Text)

@@ -1,15 +1,16 @@
 //! A beginning of an input that is enough for its first records.
 
-ghost use Rattle.std.specs.Prelude.{◌≡◌, ◌++◌, IfOk, IfSome, IsTrue};
-ghost use Rattle.comfy_parts.specs.Text.{Text};
-ghost use Rattle.csv_records.specs.Beginning.{EndsWithLine, IsFoundInBeginning};
+ghost use Rattle.std.specs.Prelude.{◌≡◌, ◌↔◌, List, ℕ, IfNone, IfOk, IfSome, IsTrue, string_bytes};
+ghost use Rattle.csv_records.specs.Beginning.{EndsWithLine, IsFoundInBeginning, NoneAreEnough, whole_lines};
+ghost use Rattle.csv_records.specs.First.{AreFirst};
+ghost use Rattle.csv_records.specs.Reading.{AreRecordsIn, IsDecodedBy};
 
 use crate::delimiter::{below_lines, doubtful_delimiter, shows_delimiter};
 use crate::encoding::{Encoding, decoded, encoding_of};
 use crate::error::{DecodeError, RecordsError};
 use crate::options::InputOptions;
 use crate::reading::read_first_records;
-use crate::records::Records;
+use crate::records::{FirstRecords, Records};
 use memchr::{memchr_iter, memrchr};
 use std::alloc::{AllocError, Global};
 
@@ -24,50 +25,89 @@ pub struct BeginningRecords {
     pub doubt: Option<u8>,
 }
 
-/// The first `most` records of an input of which these bytes were read, where a beginning of them
-/// is enough: its text ends with a line feed and outside quotes, it has more records, and it shows
+/// The first `most` records of an input of which these bytes were read, where their whole lines are
+/// enough: their text ends with a line feed and outside quotes, it has more records, and it shows
 /// what stands between fields. None where more has to be read, be it since no text ends there. An
-/// input in UTF-16 is read whole.
+/// input in UTF-16 is read whole, and so is one that doesn't have more line feeds.
 pub fn read_beginning(
     alloc: Global,
     read: &[u8],
     options: &InputOptions,
     most: usize,
 ) -> Result<Option<BeginningRecords>, AllocError>
-    ensures { IfOk result (λ found. IfSome found (IsFoundInBeginning options.now most read.now)) }
+    ensures some { IfOk result (λ found.
+        IfSome found (IsFoundInBeginning options.now most read.now)) }
+    ensures none { IfOk result (λ found.
+        IfNone found (NoneAreEnough options.now most read.now)) }
 {
     let lines = whole_lines(read);
-    if encoding_of(options.encoding, lines) == Encoding::Utf16 {
-        return Ok(None);
-    }
-    // So it can't have more records, and isn't looked at.
-    if memchr_iter(LINE_FEED, lines).count() <= most {
-        return Ok(None);
-    }
-    let text = match decoded(alloc, Vec::from_slice(alloc, lines)?, options) {
-        Ok(text) => text,
-        Err(DecodeError::OutOfMemory) => return Err(AllocError),
-        Err(_) => return Ok(None),
-    };
-    if !ends_with_line(below_lines(lines, options.skip))
-        || !shows_delimiter(alloc, text.as_str(), options.delimiter, options.has_quotes)?
+    // Where lines end with line feeds, there aren't more records than these.
+    if memchr_iter(LINE_FEED, lines).count() <= most
+        || encoding_of(options.encoding, lines) == Encoding::Utf16
+        || !ends_with_line(below_lines(lines, options.skip))
     {
         return Ok(None);
     }
-    match read_first_records(alloc, text.as_str(), options, most) {
-        Ok(first) if first.count > most => {
-            let doubt = doubtful_delimiter(alloc, text.as_str(), options)?;
-            let records = first.records;
-            Ok(Some(BeginningRecords { records, doubt }))
-        }
+    let Some(text) = found_text(alloc, lines, options)? else {
+        return Ok(None);
+    };
+    if !shows_delimiter(alloc, text.as_str(), options.delimiter, options.has_quotes)? {
+        return Ok(None);
+    }
+    let Some(first) = found_records(alloc, text.as_str(), options, most)? else {
+        return Ok(None);
+    };
+    if first.count <= most {
+        return Ok(None);
+    }
+    let doubt = doubtful_delimiter(alloc, text.as_str(), options)?;
+    let records = first.records;
+    Ok(Some(BeginningRecords { records, doubt }))
+}
+
+// The text of these bytes, where they have one.
+fn found_text(
+    alloc: Global,
+    bytes: &[u8],
+    options: &InputOptions,
+) -> Result<Option<String>, AllocError>
+    ensures some { IfOk result (λ found.
+        IfSome found (λ text. IsDecodedBy options.now bytes.now (string_bytes text))) }
+    ensures none { IfOk result (λ found. IfNone found
+        ((text : List ℕ) → ¬ (IsDecodedBy options.now bytes.now text))) }
+{
+    match decoded(alloc, Vec::from_slice(alloc, bytes)?, options) {
+        Ok(text) => Ok(Some(text)),
+        Err(DecodeError::OutOfMemory) => Err(AllocError),
+        Err(DecodeError::Foreign(_)) => Ok(None),
+        Err(DecodeError::NotUtf8 { .. }) => Ok(None),
+        Err(DecodeError::NotUtf16(_)) => Ok(None),
+    }
+}
+
+// The first records of a text, where it has records.
+fn found_records(
+    alloc: Global,
+    text: &str,
+    options: &InputOptions,
+    most: usize,
+) -> Result<Option<FirstRecords>, AllocError>
+    ensures some { IfOk result (λ found.
+        IfSome found (AreFirst (AreRecordsIn options.now text.now) most)) }
+    ensures none { IfOk result (λ found. IfNone found
+        ((records : List (List (List ℕ))) → ¬ (AreRecordsIn options.now text.now records))) }
+{
+    match read_first_records(alloc, text, options, most) {
+        Ok(first) => Ok(Some(first)),
         Err(RecordsError::OutOfMemory) => Err(AllocError),
-        _ => Ok(None),
+        Err(RecordsError::Unclosed(_)) => Ok(None),
+        Err(RecordsError::SplitCharacter) => Ok(None),
     }
 }
 
 // Whether these bytes end with a line feed.
 fn ends_with_line(bytes: &[u8]) -> bool
-    ensures { IsTrue result → EndsWithLine bytes.now }
+    ensures { IsTrue result ↔ EndsWithLine bytes.now }
 {
     match bytes.split_last() {
         Some((last, _)) => *last == LINE_FEED,
@@ -77,7 +117,7 @@ fn ends_with_line(bytes: &[u8]) -> bool
 
 // What was read up to behind the last line feed.
 fn whole_lines(read: &[u8]) -> &[u8]
-    ensures { (behind : Text) × (read.now ≡ result.now ++ behind) }
+    ensures { result.now ≡ whole_lines read.now }
 {
     let end = match memrchr(LINE_FEED, read) {
         Some(at) => at + 1,

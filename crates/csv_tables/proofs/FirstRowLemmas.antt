@@ -1,17 +1,20 @@
 -- What is drawn of the first records of an input, as many as are drawn at most, is what is drawn of all of them.
-use Rattle.std.proofs.Common.{◌≡◌, ◌≢◌, ◌<◌, ◌+◌, ◌-◌, ◌^◌, ℕ, suc, Bool, true, false, List, [], ◌∷◌, Option, Some, None, IfSome, Result, Ok, Err, drop, length, option_map, take, refl, sym, ap, ap₂, ◌∙◌, subst, arith, unwrap_or}
+use Rattle.std.proofs.Common.{◌≡◌, ◌≢◌, ◌<◌, ◌≤◌, ◌+◌, ◌-◌, ◌^◌, ℕ, suc, Bool, true, false, List, [], ◌∷◌, Option, Some, None, IfSome, Result, Ok, Err, drop, length, option_map, take, refl, sym, ap, ap₂, ◌∙◌, subst, arith, unwrap_or}
 use Rattle.std.specs.List.{slice_get}
 use Rattle.std.specs.Prelude.{if◌then◌else◌}
 use Rattle.std.proofs.lemmas.List.{length-take}
+use Rattle.std.proofs.lemmas.List.Sums.{count_by-le-length}
+use Rattle.std.specs.List.{count_by}
 use Rattle.comfy_parts.specs.Text.{Text}
 use Rattle.csv_records.proofs.FirstLemmas.{all_of_few}
-use Rattle.csv_records.specs.Beginning.{AreFirstByBeginning}
+use Rattle.csv_records.proofs.WholeLineLemmas.{whole_length}
+use Rattle.csv_records.specs.Beginning.{AreFirstByBeginning, IsEnough, NoneAreEnough, is_line_feed, whole_lines}
 use Rattle.csv_records.specs.Encoding.{IsDecoded}
 use Rattle.csv_records.specs.Reading.{AreRecordsFor, AreRecordsIn, IsDecodedBy}
 use Rattle.csv_records.specs.declared.encoding.Encoding.{Encoding}
 use Rattle.csv_tables.specs.Columns.{ColumnFault, IsColumnsRefusal, columns_for}
 use Rattle.csv_tables.specs.Doubt.{IsDoubtOfBeginning, doubt_for}
-use Rattle.csv_tables.specs.Drawn.{AreEnough, ContentValue, HasLimit, RendersAnyRecords, RendersBeginning, RendersFound, columns_beside, content_counted, content_of, content_with, counting, drawn_rows, limited, most_drawn, names_beside, names_of, ok_map, records_below, rows_beside, with_count}
+use Rattle.csv_tables.specs.Drawn.{AreEnough, ContentValue, HasLimit, IsNotEnough, RendersAnyRecords, RendersBeginning, RendersFound, columns_beside, content_counted, content_of, content_with, counting, drawn_rows, limited, most_drawn, names_beside, names_of, ok_map, records_below, rows_beside, with_count}
 use Rattle.csv_tables.specs.Errors.{of_columns}
 use Rattle.csv_tables.specs.Run.{IsInputRefusal, IsRefusal}
 use Rattle.csv_tables.specs.declared.error.ColumnsError.{ColumnsError}
@@ -130,9 +133,29 @@ module _ (options : Options) where
       by_limit None known is = absurd (cc is)
       by_limit (Some limit) known is = (record { limit = limit; is = known; uncounted = uncounted }, cc is)
 
-  -- no memory, before a beginning was looked at
-  pub no_memory : (most : ℕ) → options.selection.counts_all ≡ false → option_map (most_drawn options.selection.has_header) options.selection.limit ≡ Some most → IsRefusal options Beginning [] err.OutOfMemory
-  no_memory most uncounted enough = (limit_of most uncounted enough).0
+  -- no memory, where a beginning was looked at
+  pub no_memory : (read : Text) (most : ℕ) → options.selection.counts_all ≡ false → option_map (most_drawn options.selection.has_header) options.selection.limit ≡ Some most → IsRefusal options Beginning read err.OutOfMemory
+  no_memory read most uncounted enough = (limit_of most uncounted enough).0
+
+  -- where all records are counted, no beginning is enough
+  pub all_counted : (read : Text) → options.selection.counts_all ≡ true → IsNotEnough options read
+  all_counted read counted records enough = let uncounted = enough.has_limit.uncounted in cc (counted, uncounted)
+
+  -- nor where the limit is none, or no text has so many lines
+  pub unlimited : (read : Text) → length read < 2 ^ 64 → IfSome options.selection.limit (λ limit. 2 ^ 64 ≤ most_drawn options.selection.has_header limit) → IsNotEnough options read
+  unlimited read short none records enough =
+      let own = enough.has_limit in
+      let large : 2 ^ 64 ≤ most_drawn options.selection.has_header own.limit = subst (λ (l : Option ℕ). IfSome l (λ limit. 2 ^ 64 ≤ most_drawn options.selection.has_header limit)) own.is none in
+      let few = count_by-le-length is_line_feed (whole_lines read) in
+      omega (arith, short, large, few, enough.are.feeds, whole_length read)
+
+  -- nor where none was found
+  pub none_found : (read : Text) (most : ℕ) → option_map (most_drawn options.selection.has_header) options.selection.limit ≡ Some most → NoneAreEnough options.input most read → IsNotEnough options read
+  none_found read most known none records enough =
+      let own = enough.has_limit in
+      let some : Some (most_drawn options.selection.has_header own.limit) ≡ Some most = subst (λ (l : Option ℕ). option_map (most_drawn options.selection.has_header) l ≡ Some most) own.is known in
+      let same : most_drawn options.selection.has_header own.limit ≡ most = cc some in
+      none records (subst (λ (n : ℕ). IsEnough options.input n (whole_lines read) records) same enough.are)
 
   module _ (read : Text) (most : ℕ) (first : List (List Text)) (uncounted : options.selection.counts_all ≡ false) (enough : option_map (most_drawn options.selection.has_header) options.selection.limit ≡ Some most) (found : AreFirstByBeginning options.input most read first) where
     own_limit : (own : HasLimit options) × (most_drawn options.selection.has_header own.limit ≡ most)
@@ -144,15 +167,15 @@ module _ (options : Options) where
     more : most_drawn options.selection.has_header own_limit.0.limit < length found.records
     more = subst (λ (n : ℕ). n < length found.records) (sym own_limit.1) found.is_enough.more
 
-    abbrev are_enough : AreEnough options found.beginning found.records
+    abbrev are_enough : AreEnough options (whole_lines read) found.records
     are_enough =
         let enough = found.is_enough in
         record {
           has_limit = own_limit.0;
-          are = record { no_utf16 = enough.no_utf16; text = enough.text; is_text = enough.is_text; ends = enough.ends; shows = enough.shows; are_records = enough.are_records; more = more };
+          are = record { no_utf16 = enough.no_utf16; feeds = subst (λ (n : ℕ). n < count_by is_line_feed (whole_lines read)) (sym own_limit.1) enough.feeds; text = enough.text; is_text = enough.is_text; ends = enough.ends; shows = enough.shows; are_records = enough.are_records; more = more };
         }
 
-    pub beginning_output : (output : Text) → Renders (content_counted None options first) output → RendersBeginning options found.beginning output
+    pub beginning_output : (output : Text) → Renders (content_counted None options first) output → RendersBeginning options (whole_lines read) output
     beginning_output output made =
         record {
           records = found.records;
@@ -160,10 +183,10 @@ module _ (options : Options) where
           is_output = subst (λ (c : Result ContentValue ColumnFault). Renders c output) (same_counted options first found.records alike None ∙ uncounted_content options found.records uncounted) made;
         }
 
-    pub beginning_doubt : (doubt : Option ℕ) → doubt ≡ doubt_for options.input found.is_enough.text → IsDoubtOfBeginning options found.beginning doubt
+    pub beginning_doubt : (doubt : Option ℕ) → doubt ≡ doubt_for options.input found.is_enough.text → IsDoubtOfBeginning options (whole_lines read) doubt
     beginning_doubt doubt is = record { records = found.records; are_enough = are_enough; is = is }
 
-    pub beginning_refused : (e : ColumnsError) → IsColumnsRefusal e (content_of options first) → IsRefusal options Beginning found.beginning (of_columns e)
+    pub beginning_refused : (e : ColumnsError) → IsColumnsRefusal e (content_of options first) → IsRefusal options Beginning read (of_columns e)
     beginning_refused (NoColumn word hint) why = ((λ is. cc is), found.records, are_enough, same_refusal options first found.records alike (NoColumn word hint) why)
     beginning_refused NoneLeft why = ((λ is. cc is), found.records, are_enough, same_refusal options first found.records alike NoneLeft why)
     beginning_refused (TwoSides name) why = ((λ is. cc is), found.records, are_enough, same_refusal options first found.records alike (TwoSides name) why)

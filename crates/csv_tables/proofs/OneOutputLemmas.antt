@@ -1,5 +1,5 @@
 -- An input has one output by the same options.
-use Rattle.std.proofs.Common.{◌≡◌, ℕ, ◌==◌, Bool, true, false, List, [], ◌∷◌, ◌++◌, Option, Some, None, Result, Ok, map, length, fold, refl, sym, ap, ap₂, ◌∙◌, arith, suc, subst, string_bytes, String, unwrap_or}
+use Rattle.std.proofs.Common.{◌≡◌, ◌⊎◌, inl, inr, ◌<◌, ◌≤◌, ℕ, ◌==◌, Bool, true, false, List, [], ◌∷◌, ◌++◌, Option, Some, None, Result, Ok, map, length, fold, refl, sym, ap, ap₂, ◌∙◌, arith, suc, subst, string_bytes, String, unwrap_or}
 use Rattle.std.specs.List.{list_any, range_with_len}
 use Rattle.std.proofs.lemmas.Bool.Decides.{nat_tests}
 use Rattle.std.specs.Prelude.{if◌then◌else◌, nat_lt}
@@ -18,9 +18,12 @@ use Rattle.csv_tables.specs.declared.options.Look.{Look}
 use Rattle.csv_tables.specs.declared.options.Options.{Options}
 use Rattle.csv_tables.specs.declared.options.RowSeparators.{RowSeparators}
 use Rattle.csv_tables.specs.declared.options.RowSeparators.TheVariants.{Styled, Needed, Never}
-use Rattle.csv_tables.specs.Drawn.{ContentValue, columns_beside, HasSeparators, RendersAsMarkdown, RendersRecords, RendersAnyRecords, RendersContent, RendersTable, below_first, content_of, content_with, counting, drawn_rows, limited, markdown_table, names_beside, names_of, note_for, ok_map, output_table, records_below, rows_beside, separated_table, separators_in, table_text}
-use Rattle.csv_tables.specs.OneOutput.{AreSameOptions, OutputIsOne, OutputOfIsOne}
+use Rattle.csv_tables.specs.Drawn.{AreEnough, ContentValue, columns_beside, HasSeparators, IsDrawnOf, RendersAsMarkdown, RendersBeginning, RendersRecords, RendersAnyRecords, RendersContent, RendersTable, below_first, content_of, content_with, counting, drawn_rows, limited, markdown_table, most_drawn, names_beside, names_of, note_for, ok_map, output_table, records_below, rows_beside, separated_table, separators_in, table_text}
+use Rattle.csv_tables.specs.OneOutput.{AreSameOptions, OutputIsOne, OutputOfIsOne, WrittenIsOne}
 use Rattle.csv_records.proofs.OneRecordLemmas.{read_is_one}
+use Rattle.csv_records.specs.Beginning.{IsEnough, whole_lines}
+use Rattle.devices.specs.Outcome.{asked_front}
+use Rattle.std.proofs.lemmas.Bool.{cases_lt}
 use Rattle.csv_records.specs.Reading.{AreRecordsFor}
 use Rattle.csv_records.specs.declared.options.InputOptions.{InputOptions}
 
@@ -159,3 +162,49 @@ output_is_one options others input output other same first second =
     any : (rs : List (List Text)) → RendersAnyRecords (counting options) rs output → RendersAnyRecords (counting others) rs other → output ≡ other
     any [] nothing also = nothing ∙ sym also
     any (r ∷ rs) own also = output_of_is_one (counting options) (r ∷ rs) output other own (with_same (counting options) (counting others) counted (r ∷ rs) other also)
+
+-- ---- what is written
+
+-- what is the same to one is the same to the other
+flipped : (options others : Options) → AreSameOptions options others → AreSameOptions others options
+flipped options others same =
+    record { input = sym same.input; header = sym same.header; limit = sym same.limit; counts = sym same.counts; numbers = sym same.numbers; columns = sym same.columns; dropped = sym same.dropped; right = sym same.right; left = sym same.left; look = sym same.look }
+
+-- a beginning is enough by the one where it is by the other
+also_enough : (options others : Options) → AreSameOptions options others → (beginning : Text) (records : List (List Text)) → AreEnough options beginning records → AreEnough others beginning records
+also_enough options others same beginning records enough =
+    record {
+      has_limit = record { limit = enough.has_limit.limit; is = sym same.limit ∙ enough.has_limit.is; uncounted = sym same.counts ∙ enough.has_limit.uncounted };
+      are =
+          subst (λ (h : Bool). IsEnough others.input (most_drawn h enough.has_limit.limit) beginning records) same.header
+          (subst (λ (own : InputOptions). IsEnough own (most_drawn options.selection.has_header enough.has_limit.limit) beginning records) same.input enough.are);
+    }
+
+beginning_is_one : (options others : Options) → AreSameOptions options others → (beginning output other : Text) → RendersBeginning options beginning output → RendersBeginning others beginning other → output ≡ other
+beginning_is_one options others same beginning output other first second =
+    output_of_is_one options first.records output other first.is_output
+    (with_same options others same first.records other (subst (λ (rs : List (List Text)). RendersRecords others rs other) (sym records) second.is_output))
+  where
+    records_in : (own : InputOptions) (most : ℕ) (rs : List (List Text)) → IsEnough own most beginning rs → AreRecordsFor own beginning rs
+    records_in own most rs enough = record { text = enough.text; is_text = enough.is_text; are_records = enough.are_records }
+
+    records : first.records ≡ second.records
+    records =
+        read_is_one options.input beginning first.records second.records
+        (records_in options.input _ first.records first.are_enough.are)
+        (subst (λ (own : InputOptions). AreRecordsFor own beginning second.records) (sym same.input) (records_in others.input _ second.records second.are_enough.are))
+
+pub written_is_one : (options others : Options) (input output other : Text) → WrittenIsOne options others input output other
+written_is_one options others input output other same (inl (none, first)) (inl (none', second)) = output_is_one options others input output other same first second
+written_is_one options others input output other same (inl (none, first)) (inr (n, asked, second)) =
+    absurd (none n asked.reaches second.records (also_enough others options (flipped options others same) _ second.records second.are_enough))
+written_is_one options others input output other same (inr (n, asked, first)) (inl (none, second)) =
+    absurd (none n asked.reaches first.records (also_enough options others same _ first.records first.are_enough))
+written_is_one options others input output other same (inr (n, asked, first)) (inr (m, asked', second)) = by_order (cases_lt n m) (cases_lt m n)
+  where
+    by_order : (n < m) ⊎ (m ≤ n) → (m < n) ⊎ (n ≤ m) → output ≡ other
+    by_order (inl before) is = absurd (asked'.none_before n before first.records (also_enough options others same _ first.records first.are_enough))
+    by_order (inr behind) (inl before) = absurd (asked.none_before m before second.records (also_enough others options (flipped options others same) _ second.records second.are_enough))
+    by_order (inr behind) (inr ahead) =
+        let one : m ≡ n = omega (arith, behind, ahead) in
+        beginning_is_one options others same (whole_lines (asked_front n input)) output other first (subst (λ (k : ℕ). RendersBeginning others (whole_lines (asked_front k input)) other) one second)

@@ -2,6 +2,7 @@
 -- Source: this library's own.
 use Rattle.std.specs.Prelude.{ℕ, ◌≡◌, List, Option}
 use Rattle.comfy_parts.specs.Text.{Text}
+use Rattle.csv_records.specs.Beginning.{whole_lines}
 use Rattle.csv_records.specs.Delimiter.{doubtful_delimiter}
 use Rattle.csv_records.specs.Reading.{IsDecodedBy}
 use Rattle.csv_records.specs.declared.options.InputOptions.{InputOptions}
@@ -28,4 +29,4 @@ pub record IsDoubtOfBeginning (options : Options) (beginning : Text)
 
 abbrev pub IsDoubtOf : Options → Extent → Text → Option ℕ → Type 0
 IsDoubtOf options Whole input doubt = IsDoubtOfInput options input doubt
-IsDoubtOf options Beginning input doubt = IsDoubtOfBeginning options input doubt
+IsDoubtOf options Beginning read doubt = IsDoubtOfBeginning options (whole_lines read) doubt

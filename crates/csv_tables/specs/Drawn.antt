@@ -20,9 +20,9 @@ use Rattle.csv_tables.specs.Columns.{ColumnFault, columns_for, name_from, seen}
 use Rattle.csv_tables.specs.Decimals.{mark_at, spaced_fields}
 use Rattle.csv_records.specs.Numbered.{behind_mark, numbered_from}
 use Rattle.csv_records.specs.declared.decimals.Points.{Points}
-use Rattle.csv_records.specs.Beginning.{IsEnough}
+use Rattle.csv_records.specs.Beginning.{IsEnough, whole_lines}
 use Rattle.csv_records.specs.Reading.{AreRecordsFor}
-use Rattle.devices.specs.Outcome.{Beginning, Extent, Whole}
+use Rattle.devices.specs.Outcome.{Beginning, Extent, IsAsked, NoneIsEnough, Whole, asked_front}
 use Rattle.csv_tables.specs.Markdown.{rule_line}
 use Rattle.csv_tables.specs.declared.options.Expansion.{Expansion}
 use Rattle.csv_tables.specs.declared.options.Expansion.TheVariants.{Always, Auto, Never as NeverExpanded}
@@ -442,14 +442,20 @@ pub record RendersBeginning (options : Options) (beginning output : Text) : Type
   pub are_enough : AreEnough options beginning records
   pub is_output : RendersRecords options records output
 
--- the output for an input, or for a beginning that is enough
+-- the output for an input, or for the whole lines of what was read of one
 abbrev pub RendersExtent : Options → Extent → Text → Text → Type 0
 RendersExtent options Whole input output = RendersInput options input output
-RendersExtent options Beginning input output = RendersBeginning options input output
+RendersExtent options Beginning read output = RendersBeginning options (whole_lines read) output
 
--- what `draw` writes of an input: the output for it, or for a beginning of it that is enough
+-- no records are enough of the whole lines of what was read
+abbrev pub IsNotEnough : Options → Text → Type 0
+IsNotEnough options read =
+    (records : List (List Text)) → ¬ (AreEnough options (whole_lines read) records)
+
+-- what `draw` writes of an input: the output for the first beginning of 65536 bytes, twice as many
+-- and so on that is enough, and where none is, that for all of it
 abbrev pub IsDrawnOf : Options → Text → Text → Type 0
 IsDrawnOf options input output =
-    RendersInput options input output
-    ⊎ ((beginning : Text) × (behind : Text) × (input ≡ beginning ++ behind)
-    × RendersBeginning options beginning output)
+    (NoneIsEnough (IsNotEnough options) input × RendersInput options input output)
+    ⊎ ((n : ℕ) × IsAsked (IsNotEnough options) n input
+    × RendersBeginning options (whole_lines (asked_front n input)) output)

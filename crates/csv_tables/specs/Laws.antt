@@ -277,8 +277,8 @@ PrintableFieldsStay look field =
 -- then nothing harmful is visible of an output for records that are text
 abbrev pub OutputHoldsNoControls : Options → List (List Text) → Text → Type 0
 OutputHoldsNoControls options records output =
-    IsStyleWithoutControls options.look.style → All AllText records → RendersRecords options records output
-    → HasNoStrayControl (visible_text output)
+    IsStyleWithoutControls options.look.style → All AllText records
+    → RendersRecords options records output → HasNoStrayControl (visible_text output)
 
 -- nor of the output for any input
 abbrev pub InputIsDrawnWithoutControls : Options → Text → Text → Type 0

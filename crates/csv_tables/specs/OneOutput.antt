@@ -3,7 +3,7 @@
 use Rattle.std.specs.Prelude.{◌≡◌, List, map, string_bytes}
 use Rattle.comfy_parts.specs.Text.{Text}
 use Rattle.csv_tables.specs.declared.options.Options.{Options}
-use Rattle.csv_tables.specs.Drawn.{RendersInput, RendersRecords}
+use Rattle.csv_tables.specs.Drawn.{IsDrawnOf, RendersInput, RendersRecords}
 
 -- two options are the same but for where their texts are held
 pub record AreSameOptions (options others : Options) : Type 0 where
@@ -31,6 +31,12 @@ abbrev pub OutputIsOne : Options → Options → Text → Text → Text → Type
 OutputIsOne options others input output other =
     AreSameOptions options others → RendersInput options input output
     → RendersInput others input other → output ≡ other
+
+-- so are two that `draw` writes of it, also where a beginning was enough
+abbrev pub WrittenIsOne : Options → Options → Text → Text → Text → Type 0
+WrittenIsOne options others input output other =
+    AreSameOptions options others → IsDrawnOf options input output → IsDrawnOf others input other
+    → output ≡ other
 
 -- so are two outputs for the same records
 abbrev pub OutputOfIsOne : Options → List (List Text) → Text → Text → Type 0

@@ -4,7 +4,8 @@ use Rattle.std.specs.Prelude.{◌≡◌, ◌≢◌, Bool, true, false, List, [],
 use Rattle.comfy_parts.specs.Text.{Text}
 use Rattle.devices.specs.Outcome.{Beginning, Extent, IsByExtent, OfWhole, Whole, IsAfterFault, IsAfterOk, IsAfterOutOfMemory, IsAfterRead, IsAfterWrite, RunFacts}
 use Rattle.csv_tables.specs.Columns.{IsColumnsRefusal}
-use Rattle.csv_tables.specs.Drawn.{AreEnough, HasLimit, RendersExtent, content_of}
+use Rattle.csv_tables.specs.Drawn.{AreEnough, HasLimit, IsNotEnough, RendersExtent, content_of}
+use Rattle.csv_records.specs.Beginning.{whole_lines}
 use Rattle.csv_records.specs.Delimiter.{below_lines}
 use Rattle.csv_records.specs.Encoding.{encoding_of}
 use Rattle.csv_records.specs.Reading.{AreRecordsFor, IsDecodedBy, IsTextWithoutRecords, IsWithoutText}
@@ -45,13 +46,13 @@ abbrev pub IsUtf8IfWanted : Options → Text → Type 0
 IsUtf8IfWanted options input =
     encoding_of options.input.encoding input ≡ Utf8 → IsUtf8 (below_lines options.input.skip input)
 
--- what is known where there was no memory: of a beginning that there is a limit, for else the whole
--- input is read
+-- what is known where there was no memory: where a beginning was looked at, that there is a limit,
+-- for else the whole input is read
 abbrev pub IsFine : Options → Extent → Text → Type 0
 IsFine options Whole input = IsUtf8IfWanted options input
 IsFine options Beginning input = HasLimit options
 
--- what makes it a beginning of one: columns of its records can't be drawn so
+-- what makes a beginning that is enough one: columns of its records can't be drawn so
 abbrev pub IsBeginningFault : Options → Text → CsvError → Type 0
 IsBeginningFault options beginning (Columns e) =
     (e ≢ columns.OutOfMemory) × (found : List (List Text)) × AreEnough options beginning found
@@ -60,9 +61,9 @@ IsBeginningFault options beginning _ = ⊥
 
 abbrev pub IsFault : Options → Extent → Text → CsvError → Type 0
 IsFault options Whole input e = IsInputFault options input e
-IsFault options Beginning input e = IsBeginningFault options input e
+IsFault options Beginning read e = IsBeginningFault options (whole_lines read) e
 
--- why an input, or a beginning of one, has no output: it can't be drawn, or there is no memory
+-- why an input, or what was read of one, has no output: it can't be drawn, or there is no memory
 abbrev pub IsRefusal : Options → Extent → Text → CsvError → Type 0
 IsRefusal options extent input OutOfMemory = IsFine options extent input
 IsRefusal options extent input e = IsFault options extent input e
@@ -82,4 +83,5 @@ IsAfterIn options (Err e) extent facts =
     IsAfterFault (λ input. IsFault options extent input e) facts
 
 abbrev pub IsAfter : {T : Type 0} → Options → Result T CsvError → RunFacts → Type 0
-IsAfter options result facts = IsByExtent (IsAfterIn options result) facts
+IsAfter options result facts =
+    IsByExtent (IsNotEnough options) (IsAfterIn options result) facts

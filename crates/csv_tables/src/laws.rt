@@ -7,7 +7,7 @@ ghost use Rattle.csv_tables.specs.Drawn.{ContentValue};
 ghost use Rattle.csv_tables.specs.Laws.{AutoKeepsWhole, BeginningIsDrawnWithoutControls, ExpandedKeepsWhole, FittingOutputIsStraight, InputIsDrawnWithoutControls, IsFilling, IsWithin, MarkdownOutputIsStraight, MarksStandBelow, NarrowLinesHave, NarrowOutputIsStraight, NeverKeepsWhole, OutputFillsWidth, OutputHoldsNoControls, OutputKeepsToWidth, PrintableLinesHave, SpacesAloneAreAdded, WholeOutputIsStraight};
 ghost use Rattle.csv_tables.specs.Markdown.{IsReadBack};
 ghost use Rattle.csv_tables.specs.MarkdownLines.{MarkdownGivesRecordsBack};
-ghost use Rattle.csv_tables.specs.OneOutput.{OutputIsOne, OutputOfIsOne};
+ghost use Rattle.csv_tables.specs.OneOutput.{OutputIsOne, OutputOfIsOne, WrittenIsOne};
 ghost use Rattle.csv_tables.specs.declared.options.Look.{Look};
 ghost use Rattle.csv_tables.specs.declared.options.Options.{Options};
 
@@ -115,11 +115,14 @@ pub fn escaped_texts_are_read_back()
     ensures { (text : List ℕ) → IsReadBack text }
 {}
 
-/// An input has one output: two that are drawn of it by the same options are equal, and so are two
-/// for the same records. Options are the same where their texts are, wherever these are held.
+/// An input has one output: two that are drawn of it by the same options are equal, under a limit
+/// too, and so are two for the same records. Options are the same where their texts are, wherever
+/// these are held.
 pub fn outputs_are_one()
     ensures input { (options others : Options) (input output other : Text)
         → OutputIsOne options others input output other }
+    ensures written { (options others : Options) (input output other : Text)
+        → WrittenIsOne options others input output other }
     ensures records { (options : Options) (records : List (List Text)) (output other : Text)
         → OutputOfIsOne options records output other }
 {}

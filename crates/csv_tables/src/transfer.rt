@@ -3,7 +3,7 @@
 ghost use Rattle.std.specs.Prelude.{◌≡◌, ◌≤◌, ◌^◌, ◌⊎◌, OnOk, IfErr, IfNone, IfOk, IfSome, Some, false, option_map, string_bytes, true};
 ghost use Rattle.csv_tables.specs.Columns.{IsColumnsRefusal};
 ghost use Rattle.csv_tables.specs.Doubt.{IsDoubtOf, IsDoubtOfInput};
-ghost use Rattle.csv_tables.specs.Drawn.{HasLimit, RendersAnyRecords, RendersExtent, RendersInput, content_of, counting, most_drawn};
+ghost use Rattle.csv_tables.specs.Drawn.{HasLimit, IsNotEnough, RendersAnyRecords, RendersExtent, RendersInput, content_of, counting, most_drawn};
 ghost use Rattle.csv_tables.specs.Run.{IsAfter, IsInputRefusal, IsRefusal, is_read_fault, is_write_fault};
 ghost use Rattle.devices.specs.Outcome.{Between};
 ghost use Rattle.devices.specs.Run.{IsNoted};
@@ -20,9 +20,10 @@ use std::alloc::Global;
 /// Reads the source, and writes the drawing of the table of its records to the sink, each line
 /// followed by a line feed. Where not all records are drawn, a line says how many there are.
 ///
-/// The source is read whole. Where there is a limit and records aren't counted, it is read until
-/// more records than are drawn were read, and what stands between fields was found; that line says
-/// then that there are more. What was read behind these isn't judged.
+/// The source is read whole. Where there is a limit and records aren't counted, 65536 bytes are
+/// read, then twice as many, and so on, until their whole lines have more records than are drawn,
+/// and show what stands between fields; that line says then that there are more. What stands behind
+/// these lines isn't judged, and however the source parts its bytes, the drawing is the same.
 ///
 /// An input without records has an empty output.
 ///
@@ -50,7 +51,7 @@ pub fn draw<R: Source, W: Sink>(
     ensures known { Between R.Source W.Sink (source.old, sink.old) (source.new, sink.new)
         (IsAfter options.now result) }
     ensures doubt { Between R.Source W.Sink (source.old, sink.old) (source.new, sink.new)
-        (IsNoted (IsDoubtOf options.now) result) }
+        (IsNoted (IsNotEnough options.now) (IsDoubtOf options.now) result) }
 {
     Ok(devices::run(alloc, source, sink, options)?)
 }
@@ -59,6 +60,8 @@ impl Render for Options {
     type Error = CsvError;
 
     type Note = Option<u8>;
+
+    ghost is_not_enough = { IsNotEnough };
 
     ghost is_output = { RendersExtent };
 

@@ -6,9 +6,8 @@ use Rattle.std.proofs.lemmas.Bool.Decides.{nat_tests}
 use Rattle.std.proofs.lemmas.Grind.{common_steps}
 use Rattle.std.proofs.lemmas.List.{length-take-le, nil_from_length}
 use Rattle.std.proofs.Math.Seq.{take-append_seam}
-use Rattle.std.proofs.lemmas.List.{take-append-drop}
-use Rattle.devices.specs.Outcome.{Beginning, Extent}
-use Rattle.devices.specs.Transfer.{IsAnswered, IsForBeginning, Moves}
+use Rattle.std.proofs.lemmas.List.{take-append-drop, take-append-le}
+use Rattle.devices.specs.Transfer.{Moves}
 use Rattle.devices.specs.Device.{Bytes, MemorySourceValue, left_in, rest_after, after_reading, is_due, is_end}
 
 -- the front of a buffer that was filled from a text
@@ -77,6 +76,10 @@ not-ended false count room some = grind (arith, nat_tests)
 
 -- ---- what a source gave
 
+-- of a block of which the front was filled, that is what stands behind the bytes that were there
+pub from_front : (count : ℕ) (has buffer rest now : Bytes) → count ≤ length buffer → now ≡ has ++ take count (buffer ++ rest) → now ≡ has ++ take count buffer
+from_front count has buffer rest now fits added = added ∙ ap (λ t. has ++ t) (take-append-le count buffer rest fits)
+
 -- a source gives the first bytes of those that are left
 abbrev Gives : Option Bytes → Option Bytes → ℕ → Bytes → Type 0
 Gives old new count buffer = (left : Bytes) → old ≡ Some left → (take count buffer ≡ take count left) × (new ≡ Some (drop count left))
@@ -104,11 +107,3 @@ module _ (a b c : Option Bytes) (had has : Bytes) (moved : Moves a b had has) wh
   moves_on now more = λ input known.
       let was = moved input known in
       let then = more was.0 was.1 in (then.0, then.1, was.2 ∙ then.2)
-
--- what was made of a beginning of what was read is made of a beginning of the input
-pub answered_by_beginning : {A E : Type 0} (IsOutput : Extent → Bytes → A → Type 0) (IsRefusal : Extent → Bytes → E → Type 0) (a b : Option Bytes) (ended : Bool) (read : Bytes) (answer : Result A E) → Moves a b [] read
-    → IsForBeginning IsOutput IsRefusal read answer → IsAnswered IsOutput IsRefusal a ended answer
-answered_by_beginning IsOutput IsRefusal a b ended read answer moved made = (
-  Beginning,
-  (made.0, made.3, λ all known. let was = moved all known in (made.1 ++ was.0, was.2 ∙ ap (λ t. t ++ was.0) made.2 ∙ append_assoc made.0 made.1 was.0)),
-)

@@ -1,1 +1,3 @@
+pub mod AskedLemmas
+pub mod RunLemmas
 pub mod DeviceLemmas

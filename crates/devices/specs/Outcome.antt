@@ -1,6 +1,6 @@
 -- What happens in a run, and what is said of it by what its devices tell before and after it.
 -- Source: this library's own.
-use Rattle.std.specs.Prelude.{◌≡◌, ◌<◌, ◌⊎◌, Bool, true, false, [], ◌++◌, Some, length}
+use Rattle.std.specs.Prelude.{ℕ, ◌≡◌, ◌<◌, ◌≤◌, ◌*◌, ◌^◌, ◌⊎◌, Bool, true, false, [], ◌++◌, Some, length, take}
 use Rattle.devices.specs.Device.{Bytes}
 use Rattle.devices.specs.declared.device.Sink as sink
 use Rattle.devices.specs.declared.device.Source as source
@@ -73,17 +73,40 @@ abbrev pub OfWhole : Type 0 → Extent → Type 0
 OfWhole P Whole = P
 OfWhole P Beginning = ⊥
 
--- it went by a beginning of the input as if that were all of it: what stands behind wasn't looked
--- at
-pub record IsByBeginning (Says : RunFacts → Type 0) (facts : RunFacts) : Type 0 where
-  pub beginning : Bytes
-  pub behind : Bytes
-  pub joins : facts.input ≡ beginning ++ behind
-  pub says : Says (record facts { input = beginning; end_was_read = true })
+-- how many bytes were read where it is asked whether they are enough: 65536, and twice as many each
+-- time
+abbrev pub asked_at : ℕ → ℕ
+asked_at n = 65536 * 2 ^ n
 
--- it went by the whole input, or by a beginning that was enough
-abbrev pub IsByExtent : (Extent → RunFacts → Type 0) → RunFacts → Type 0
-IsByExtent Says facts = Says Whole facts ⊎ IsByBeginning (Says Beginning) facts
+-- the beginning of an input of which that is asked
+abbrev pub asked_front : ℕ → Bytes → Bytes
+asked_front n input = take (asked_at n) input
+
+module _ (IsNotEnough : Bytes → Type 0) where
+  -- no beginning of which it is asked is enough
+  abbrev pub NoneIsEnough : Bytes → Type 0
+  NoneIsEnough input = (n : ℕ) → asked_at n ≤ length input → IsNotEnough (asked_front n input)
+
+  -- the input is long enough for this question, and no shorter beginning was enough
+  pub record IsAsked (n : ℕ) (input : Bytes) : Type 0 where
+    pub reaches : asked_at n ≤ length input
+    pub none_before : (m : ℕ) → m < n → IsNotEnough (asked_front m input)
+
+  -- it went by the whole input: where that was read to its end, no beginning was enough
+  pub record IsByWhole (Says : RunFacts → Type 0) (facts : RunFacts) : Type 0 where
+    pub none_is_enough : facts.end_was_read ≡ true → NoneIsEnough facts.input
+    pub says : Says facts
+
+  -- it went by the first beginning that was enough as if that were all of the input: what stands
+  -- behind wasn't looked at, and the end wasn't read
+  pub record IsByBeginning (Says : RunFacts → Type 0) (facts : RunFacts) : Type 0 where
+    pub n : ℕ
+    pub is_asked : IsAsked n facts.input
+    pub unread : facts.end_was_read ≡ false
+    pub says : Says (record facts { input = asked_front n facts.input; end_was_read = true })
+
+  abbrev pub IsByExtent : (Extent → RunFacts → Type 0) → RunFacts → Type 0
+  IsByExtent Says facts = IsByWhole (Says Whole) facts ⊎ IsByBeginning (Says Beginning) facts
 
 -- what happened between two times to a source and a sink, where both said their bytes at the first
 -- and hadn't failed

@@ -35,8 +35,8 @@ IsSomeEnough IsOutput = (beginning : Bytes) × (output : Bytes) × IsOutput Begi
 
 -- what the facts of a run are, by its result; nothing is left where the end was read and there was
 -- no memory for the input
-module _ {E : Type 0} (IsOutput : Extent → Bytes → Bytes → Type 0)
-    (IsRefusal : Extent → Bytes → E → Type 0) where
+module _ {E : Type 0} (IsNotEnough : Bytes → Type 0)
+    (IsOutput : Extent → Bytes → Bytes → Type 0) (IsRefusal : Extent → Bytes → E → Type 0) where
   abbrev pub IsAfterIn : {T : Type 0} → Result T (Stop E) → Extent → RunFacts → Type 0
   IsAfterIn (Ok _) extent facts = IsAfterOk (IsOutput extent) facts
   IsAfterIn (Err Read) extent facts = OfWhole (IsAfterRead facts) extent
@@ -46,10 +46,11 @@ module _ {E : Type 0} (IsOutput : Extent → Bytes → Bytes → Type 0)
   IsAfterIn (Err (Refused e)) extent facts = IsAfterFault (λ input. IsRefusal extent input e) facts
 
   abbrev pub IsAfter : {T : Type 0} → Result T (Stop E) → RunFacts → Type 0
-  IsAfter result facts = IsByExtent (IsAfterIn result) facts
+  IsAfter result facts = IsByExtent IsNotEnough (IsAfterIn result) facts
 
 -- a note is one for the whole input, or for a beginning of it that was enough
-abbrev pub IsNoted : {N E : Type 0} → (Extent → Bytes → N → Type 0) → Result N E → RunFacts
-    → Type 0
-IsNoted IsNote result facts =
-    IfOk result (λ note. IsByExtent (λ extent facts. IsNote extent facts.input note) facts)
+abbrev pub IsNoted : {N E : Type 0} → (Bytes → Type 0) → (Extent → Bytes → N → Type 0)
+    → Result N E → RunFacts → Type 0
+IsNoted IsNotEnough IsNote result facts =
+    IfOk result (λ note.
+    IsByExtent IsNotEnough (λ extent facts. IsNote extent facts.input note) facts)

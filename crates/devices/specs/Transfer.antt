@@ -1,8 +1,8 @@
 -- What reading a source returns, to its end or up to a place.
 -- Source: this library's own.
-use Rattle.std.specs.Prelude.{◌≡◌, Bool, true, false, ◌++◌, Option, Some, Result, Err, MatchResult, string_bytes}
+use Rattle.std.specs.Prelude.{ℕ, ◌≡◌, Bool, true, false, ◌++◌, Option, Some, Result, Err, MatchResult, string_bytes}
 use Rattle.devices.specs.Device.{Bytes}
-use Rattle.devices.specs.Outcome.{Beginning, Extent, Whole}
+use Rattle.devices.specs.Outcome.{Beginning, Extent, IsAsked, NoneIsEnough, Whole, asked_front}
 use Rattle.devices.specs.declared.transfer.Rendered.{Rendered}
 use Rattle.devices.specs.declared.transfer.ReadError.{ReadError}
 use Rattle.devices.specs.declared.transfer.ReadError.TheVariants.{Source}
@@ -24,28 +24,24 @@ abbrev pub IsRenderedBy : {N : Type 0} → (Extent → Bytes → Bytes → Type 
 IsRenderedBy IsOutput IsNote extent input rendered =
     IsOutput extent input (string_bytes rendered.text) × IsNote extent input rendered.note
 
-module _ {A E : Type 0} (IsOutput : Extent → Bytes → A → Type 0)
+-- an answer is an output for an input, or why there is none
+abbrev pub IsAnswer : {A E : Type 0} → (Extent → Bytes → A → Type 0)
+    → (Extent → Bytes → E → Type 0) → Extent → Bytes → Result A E → Type 0
+IsAnswer IsOutput IsRefusal extent input answer =
+    MatchResult answer (λ output. IsOutput extent input output) (λ e. IsRefusal extent input e)
+
+module _ {A E : Type 0} (IsNotEnough : Bytes → Type 0) (IsOutput : Extent → Bytes → A → Type 0)
     (IsRefusal : Extent → Bytes → E → Type 0) where
-  -- an answer is an output for an input, or why there is none
-  abbrev pub IsAnswer : Extent → Bytes → Result A E → Type 0
-  IsAnswer extent input answer =
-      MatchResult answer (λ output. IsOutput extent input output) (λ e. IsRefusal extent input e)
-
-  -- it is one for a beginning of these bytes
-  abbrev pub IsForBeginning : Bytes → Result A E → Type 0
-  IsForBeginning read answer =
-      (beginning : Bytes) × (behind : Bytes) × (read ≡ beginning ++ behind)
-      × IsAnswer Beginning beginning answer
-
-  -- it is one for what was looked at of a source's bytes, which are all of them where its end was
-  -- read
+  -- it is one for what was looked at of a source's bytes: for all of them where its end was read
+  -- and no beginning was enough, else for the first beginning that was
   abbrev pub IsAnsweredIn : Extent → Option Bytes → Bool → Result A E → Type 0
   IsAnsweredIn Whole known ended answer =
-      (input : Bytes) × IsAnswer Whole input answer × (ended ≡ true)
-      × ((all : Bytes) → known ≡ Some all → all ≡ input)
+      (input : Bytes) × IsAnswer IsOutput IsRefusal Whole input answer × (ended ≡ true)
+      × ((all : Bytes) → known ≡ Some all → (all ≡ input) × NoneIsEnough IsNotEnough all)
   IsAnsweredIn Beginning known ended answer =
-      (beginning : Bytes) × IsAnswer Beginning beginning answer
-      × ((all : Bytes) → known ≡ Some all → (behind : Bytes) × (all ≡ beginning ++ behind))
+      (read : Bytes) × IsAnswer IsOutput IsRefusal Beginning read answer
+      × ((all : Bytes) → known ≡ Some all
+      → (ended ≡ false) × (n : ℕ) × IsAsked IsNotEnough n all × (read ≡ asked_front n all))
 
   abbrev pub IsAnswered : Option Bytes → Bool → Result A E → Type 0
   IsAnswered known ended answer = (extent : Extent) × IsAnsweredIn extent known ended answer

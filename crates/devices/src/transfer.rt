@@ -1,15 +1,16 @@
 //! Whole outputs: all of a piece for a sink; and a run that reads a source and writes a sink.
 
-ghost use Rattle.std.specs.Prelude.{◌≡◌, ◌≤◌, ◌++◌, ◌⊎◌, List, ℕ, [], true, false, Ok, Some, OnOk, OnErr, IfOk, IfErr, IfSome, vec_len};
+ghost use Rattle.std.specs.Prelude.{◌≡◌, ◌<◌, ◌++◌, ◌⊎◌, List, ℕ, [], true, false, Ok, Some, OnOk, OnErr, IfNone, IfOk, IfErr, IfSome, vec_len};
 ghost use Rattle.devices.specs.Outcome.{Between, Extent, IsBeginningOnly};
 ghost use Rattle.devices.specs.Run.{IsAfter, IsNoted, IsRefusalOfSome, IsSomeEnough, is_read_fault, is_write_fault, stop_of};
-ghost use Rattle.devices.specs.Transfer.{IsAnswer, IsAnswered, IsForBeginning, IsRenderedBy, Moves, is_source_fault};
+ghost use Rattle.devices.specs.Transfer.{IsAnswer, IsAnswered, IsRenderedBy, Moves, is_source_fault};
 ghost use Rattle.devices.specs.declared.transfer.ReadError.TheVariants.{OutOfMemory};
 
 use crate::device::{DeviceFault, Sink, Source};
 use std::alloc::{AllocError, Global};
 
-// How many bytes are asked for at a time.
+// How many bytes are asked for at a time, and how many are read before it is first asked whether
+// they are enough.
 const BLOCK: usize = 65536;
 
 /// Why a source wasn't read to its end.
@@ -69,6 +70,9 @@ pub trait Render {
     /// What there is to say of an input that has one.
     type Note: Drop;
 
+    // whether a beginning of an input isn't enough for an output, so that more has to be read
+    ghost is_not_enough: { Self → List ℕ → Type 0 };
+
     // which bytes are an output for a whole input, or for a beginning of one that is enough
     ghost is_output: { Self → Extent → List ℕ → List ℕ → Type 0 };
 
@@ -83,44 +87,44 @@ pub trait Render {
         ensures { IsAnswer (IsRenderedBy (is_output self.now) (is_note self.now))
             (is_refusal self.now) Extent.Whole input.items result };
 
-    /// The output for a beginning of these bytes, behind which more follow, where that is enough;
-    /// none where more have to be read.
+    /// The output for an input of which these bytes were read, behind which more may follow, where
+    /// they are enough; none where more have to be read.
     fn render_beginning(
         &self,
         alloc: Global,
         read: &[u8],
     ) -> Option<Result<Rendered<Self::Note>, Self::Error>>
-        ensures { IfSome result
-            (IsForBeginning (IsRenderedBy (is_output self.now) (is_note self.now))
-            (is_refusal self.now) read.now) };
+        ensures some { IfSome result
+            (IsAnswer (IsRenderedBy (is_output self.now) (is_note self.now))
+            (is_refusal self.now) Extent.Beginning read.now) }
+        ensures none { IfNone result (is_not_enough self.now read.now) };
 }
 
-// Appends what the source gives, until there are at least so many bytes, or to its end. Returns
-// whether the end was read.
-fn read_up_to<R: Source>(
-    source: &mut R,
-    bytes: &mut Vec<u8>,
-    least: usize,
-) -> Result<bool, ReadError>
+// Appends what the source gives, until there are so many bytes, or to its end. Returns whether the
+// end was read.
+fn read_up_to<R: Source>(source: &mut R, bytes: &mut Vec<u8>, len: usize) -> Result<bool, ReadError>
+    requires { vec_len bytes.old < len }
     ensures fault { R.has_failed source.new ≡ is_source_fault result }
     ensures moved { OnOk result
         (Moves (R.remaining source.old) (R.remaining source.new) bytes.old.items bytes.new.items) }
     ensures ended { result ≡ Ok true → R.end_was_read source.new ≡ true }
-    ensures enough { result ≡ Ok false → least ≤ vec_len bytes.new }
+    ensures fewer { result ≡ Ok true → vec_len bytes.new < len }
+    ensures all { result ≡ Ok false → vec_len bytes.new ≡ len }
     ensures unread { OnErr result (R.end_was_read source.new ≡ R.end_was_read source.old) }
     ensures not_ended { result ≡ Ok false
         → R.end_was_read source.new ≡ R.end_was_read source.old }
 {
     let mut block = [0u8; BLOCK];
     loop {
-        let Ok(count) = source.read(&mut block) else {
+        let room = BLOCK.min(len - bytes.len());
+        let Ok(count) = source.read(&mut block[..room]) else {
             return Err(ReadError::Source);
         };
         if count == 0 {
             return Ok(true);
         }
         bytes.extend_from_slice(&block[..count])?;
-        if bytes.len() >= least {
+        if bytes.len() == len {
             return Ok(false);
         }
     }
@@ -149,9 +153,9 @@ pub fn write_all<W: Sink>(sink: &mut W, piece: &[u8]) -> Result<(), DeviceFault>
 
 /// Reads the source, and writes the output for it to the sink. Returns what there is to say of it.
 ///
-/// It is read whole, or until what was read is enough: this is asked where a block is full, then
-/// where twice as much was read, and so on, so that it depends on the input alone, however the
-/// source parts it. The output is whole in memory before the first write.
+/// It is read whole, or until what was read is enough: this is asked at 65536 bytes, at twice as
+/// many, and so on, so that it depends on the input alone, however the source parts it. The output
+/// is whole in memory before the first write.
 ///
 /// After `Read` the source has failed and the sink hasn't, after `Write` the sink and not the
 /// source, and after every other result neither. After `Write` a beginning of the output was
@@ -168,9 +172,10 @@ pub fn run<R: Source, W: Sink, D: Render>(
     ensures sink { W.has_failed sink.old ≡ false → W.has_failed sink.new ≡ is_write_fault result }
     ensures refused { IfErr result (IsRefusalOfSome (D.is_refusal drawing.now)) }
     ensures known { Between R.Source W.Sink (source.old, sink.old) (source.new, sink.new)
-        (IsAfter (D.is_output drawing.now) (D.is_refusal drawing.now) result) }
+        (IsAfter (D.is_not_enough drawing.now) (D.is_output drawing.now)
+        (D.is_refusal drawing.now) result) }
     ensures noted { Between R.Source W.Sink (source.old, sink.old) (source.new, sink.new)
-        (IsNoted (D.is_note drawing.now) result) }
+        (IsNoted (D.is_not_enough drawing.now) (D.is_note drawing.now) result) }
 {
     let Rendered { text, note } = match read_answer(alloc, source, drawing)? {
         Ok(rendered) => rendered,
@@ -190,17 +195,18 @@ fn read_answer<R: Source, D: Render>(
 ) -> Result<Result<Rendered<D::Note>, D::Error>, ReadError>
     ensures fault { R.has_failed source.new ≡ is_source_fault result }
     ensures answer { IfOk result
-        (IsAnswered (IsRenderedBy (D.is_output drawing.now) (D.is_note drawing.now))
+        (IsAnswered (D.is_not_enough drawing.now)
+        (IsRenderedBy (D.is_output drawing.now) (D.is_note drawing.now))
         (D.is_refusal drawing.now) (R.remaining source.old) (R.end_was_read source.new)) }
     ensures unread { OnErr result (R.end_was_read source.new ≡ R.end_was_read source.old) }
 {
     let mut input = Vec::new(alloc);
-    let mut least = BLOCK;
-    while !read_up_to(source, &mut input, least)? {
+    let mut len = BLOCK;
+    while !read_up_to(source, &mut input, len)? {
         if let Some(answer) = drawing.render_beginning(alloc, input.as_slice()) {
             return Ok(answer);
         }
-        least = input.len().saturating_mul(2);
+        len *= 2;
     }
     Ok(drawing.render(alloc, input))
 }

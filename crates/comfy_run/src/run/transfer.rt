@@ -48,6 +48,8 @@ impl Render for Settings {
     // There is nothing to say.
     type Note = ();
 
+    ghost is_not_enough = { λ _ _. ⊤ };
+
     ghost is_output = { IsDrawnIn };
 
     ghost is_note = { λ _ _ _ _. ⊤ };

@@ -1,4 +1,5 @@
-use Rattle.std.proofs.Common.{◌≡◌, ◌-◌, ◌^◌, ◌<◌, []}
+use Rattle.std.proofs.Common.{◌≡◌, ◌-◌, ◌^◌, ◌<◌, [], vec_len}
+use Rattle.devices.proofs.AskedLemmas.{IsAskedNext}
 use Rattle.devices.specs.Transfer.{Moves}
 use Rattle.devices.proofs.transfer.read_answer.Given as goal
 
@@ -7,8 +8,9 @@ invariant-loop-input g l =
     record {
       moved : Moves (g.R.Source.remaining l.initial.source) (g.R.Source.remaining l.source) [] l.input.items;
       ended : g.R.Source.end_was_read l.source ≡ g.R.Source.end_was_read l.initial.source;
-      some : 0 < l.least;
+      fewer : vec_len l.input < l.len;
+      asked : IsAskedNext (g.D.Render.is_not_enough l.drawing) (g.R.Source.remaining l.initial.source) l.len;
     }
 
 abbrev pub decreases-loop-input : goal.decreases-loop-input
-decreases-loop-input g l = 2 ^ 64 - l.least
+decreases-loop-input g l = 2 ^ 64 - l.len

@@ -9,8 +9,8 @@ use Rattle.test_csv_cases.proofs.uses.output_for.Goals as goal
 
 -- what a call of `draw` that succeeded has written
 written_of : (options : Options) (facts : RunFacts) → IsAfter {T = Unit {0}} options (Ok tt) facts → IsDrawnOf options facts.input facts.written
-written_of options facts (inl after) = inl after.output
-written_of options facts (inr part) = inr (part.beginning, part.behind, part.joins, part.says.output)
+written_of options facts (inl after) = inl (after.none_is_enough after.says.whole, after.says.output)
+written_of options facts (inr part) = inr (part.n, part.is_asked, part.says.output)
 
 pub returns : goal.returns
 returns c =

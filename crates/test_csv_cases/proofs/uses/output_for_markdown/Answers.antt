@@ -10,9 +10,9 @@ use Rattle.test_csv_cases.proofs.uses.output_for_markdown.Goals as goal
 
 -- by the law on outputs for Markdown
 by_law : ((options : Options) (records : List (List Text)) (output : Text) → MarkdownGivesRecordsBack options records output) → (options : Options) (input output : Text) → options.look.is_markdown ≡ true → IsDrawnOf options input output → GivesInputBack options input output
-by_law law options input output markdown (inl made) = inl (made, λ drawn short some. law (counting options) made.records output markdown short made.are_records.are_records.are_records.are_text drawn some)
-by_law law options input output markdown (inr (beginning, behind, joins, made)) =
-    inr (beginning, behind, joins, made, λ drawn short some. law options made.records output markdown short made.are_enough.are.are_records.are_records.are_text drawn some)
+by_law law options input output markdown (inl (none, made)) = inl (made, λ drawn short some. law (counting options) made.records output markdown short made.are_records.are_records.are_records.are_text drawn some)
+by_law law options input output markdown (inr (n, asked, made)) =
+    inr (n, made, λ drawn short some. law options made.records output markdown short made.are_enough.are.are_records.are_records.are_text drawn some)
 
 pub returns : goal.returns
 returns c = IfOk-weaker c.output_for.result _ _ (λ sink made markdown. by_law c.markdown_lines_give_back_their_fields.ensures c.args.options.now c.args.input.now sink.bytes markdown made) c.output_for.ensures

@@ -1,0 +1,92 @@
+-- Of which beginnings of an input it was asked whether they are enough.
+use Rattle.std.proofs.Common.{◌≡◌, ◌⊎◌, inl, inr, ℕ, zero, suc, ◌+◌, ◌<◌, ◌≤◌, ◌*◌, ◌^◌, Bool, true, false, [], ◌++◌, Option, Some, Result, refl, sym, ap, ◌∙◌, subst, length, take, append-nil, length-append, arith}
+use Rattle.std.proofs.Math.Nat.{pow-suc}
+use Rattle.std.proofs.Math.Pow.{pow_mono}
+use Rattle.std.proofs.Math.Seq.{take-append_seam}
+use Rattle.std.proofs.lemmas.Bool.{cases_lt}
+use Rattle.std.proofs.lemmas.Nat.{pow_pos}
+use Rattle.devices.specs.Device.{Bytes}
+use Rattle.devices.specs.Outcome.{Beginning, Extent, IsAsked, NoneIsEnough, Whole, asked_at, asked_front}
+use Rattle.devices.specs.Transfer.{IsAnswer, IsAnswered, Moves}
+
+-- ---- places
+
+-- it is asked of no short input
+pub asked_some : (n : ℕ) → 65536 ≤ asked_at n
+asked_some n = let some : 0 < 2 ^ n = pow_pos n in omega (arith, some)
+
+asked_twice : (n : ℕ) → asked_at n * 2 ≡ asked_at (suc n)
+asked_twice n = let more : 2 ^ suc n ≡ 2 ^ n * 2 = pow-suc 2 n in omega (arith, more)
+
+asked_mono : (m n : ℕ) → m ≤ n → asked_at m ≤ asked_at n
+asked_mono m n before = let more : 2 ^ m ≤ 2 ^ n = pow_mono before in omega (arith, more)
+
+-- it isn't asked of an input without bytes
+pub none_asked : (IsNotEnough : Bytes → Type 0) → NoneIsEnough IsNotEnough []
+none_asked IsNotEnough n reaches = absurd (omega (arith, asked_some n, reaches))
+
+-- ---- reading
+
+-- the next question is at so many bytes of what a source has, and none before said that they are
+-- enough
+pub record IsAskedNext (IsNotEnough : Bytes → Type 0) (known : Option Bytes) (len : ℕ) : Type 0 where
+  pub n : ℕ
+  pub next : len ≡ asked_at n
+  pub none_before : (all : Bytes) → known ≡ Some all → (m : ℕ) → m < n → IsNotEnough (asked_front m all)
+
+module _ (IsNotEnough : Bytes → Type 0) (known now : Option Bytes) where
+  pub asked_first : IsAskedNext IsNotEnough known 65536
+  asked_first = record { n = 0; next = refl; none_before = λ all is m below. absurd (omega (arith, below)) }
+
+  module _ (len : ℕ) (read : Bytes) (asked : IsAskedNext IsNotEnough known len) (moved : Moves known now [] read) where
+    -- what was read is the front at the next question
+    at_front : length read ≡ len → (all : Bytes) → known ≡ Some all → read ≡ asked_front asked.n all
+    at_front is all own =
+        let was = moved all own in
+        sym (ap (λ t. asked_front asked.n t) was.2 ∙ ap (λ k. take k (read ++ was.0)) (sym (is ∙ asked.next)) ∙ take-append_seam read was.0)
+
+    reaches : length read ≡ len → (all : Bytes) → known ≡ Some all → asked_at asked.n ≤ length all
+    reaches is all own =
+        let was = moved all own in
+        let all_length : length all ≡ length read + length was.0 = ap length was.2 ∙ length-append read was.0 in
+        omega (arith, all_length, is, asked.next)
+
+    -- where that isn't enough, it is asked again at twice as many bytes
+    pub asked_again : length read ≡ len → IsNotEnough read → IsAskedNext IsNotEnough known (len * 2)
+    asked_again is none = record { n = suc asked.n; next = ap (λ k. k * 2) asked.next ∙ asked_twice asked.n; none_before = λ all own m below. by_order all own m (cases_lt m asked.n) below }
+      where
+        by_order : (all : Bytes) → known ≡ Some all → (m : ℕ) → (m < asked.n) ⊎ (asked.n ≤ m) → m < suc asked.n → IsNotEnough (asked_front m all)
+        by_order all own m (inl before) below = asked.none_before all own m before
+        by_order all own m (inr behind) below =
+            let same : asked.n ≡ m = omega (arith, behind, below) in
+            subst (λ k. IsNotEnough (asked_front k all)) same (subst IsNotEnough (at_front is all own) none)
+
+    module _ {A E : Type 0} (IsOutput : Extent → Bytes → A → Type 0) (IsRefusal : Extent → Bytes → E → Type 0) (answer : Result A E) where
+      -- an answer for a beginning, where the source's end wasn't read
+      pub answered_by_beginning : (ended : Bool) → length read ≡ len → ((all : Bytes) → ended ≡ true → known ≡ Some all → all ≡ []) → IsAnswer IsOutput IsRefusal Beginning read answer
+          → IsAnswered IsNotEnough IsOutput IsRefusal known ended answer
+      answered_by_beginning ended is at_end made =
+          (Beginning, (read, made, λ all own. (not_ended ended all own (at_end all), asked.n, record { reaches = reaches is all own; none_before = asked.none_before all own }, at_front is all own)))
+        where
+          not_ended : (b : Bool) (all : Bytes) → known ≡ Some all → (b ≡ true → known ≡ Some all → all ≡ []) → b ≡ false
+          not_ended false all own none = refl
+          not_ended true all own none =
+              let nothing : length all ≡ 0 = ap length (none refl own) in
+              absurd (omega (arith, nothing, reaches is all own, asked_some asked.n))
+
+      -- or for the whole input
+      pub answered_by_whole : (ended : Bool) → length read < len → ended ≡ true → ((left : Bytes) → now ≡ Some left → left ≡ []) → IsAnswer IsOutput IsRefusal Whole read answer
+          → IsAnswered IsNotEnough IsOutput IsRefusal known ended answer
+      answered_by_whole ended fewer whole at_end made = (Whole, (read, made, whole, λ all own. (same all own, none all own)))
+        where
+          same : (all : Bytes) → known ≡ Some all → all ≡ read
+          same all own = let was = moved all own in was.2 ∙ ap (λ t. read ++ t) (at_end was.0 was.1) ∙ append-nil read
+
+          none : (all : Bytes) → known ≡ Some all → NoneIsEnough IsNotEnough all
+          none all own m reached = by_order (cases_lt m asked.n)
+            where
+              by_order : (m < asked.n) ⊎ (asked.n ≤ m) → IsNotEnough (asked_front m all)
+              by_order (inl before) = asked.none_before all own m before
+              by_order (inr behind) =
+                  let all_length : length all ≡ length read = ap length (same all own) in
+                  absurd (omega (arith, all_length, fewer, asked.next, reached, asked_mono asked.n m behind))
