@@ -3,6 +3,7 @@ pub mod AmongLemmas
 pub mod ConditionLemmas
 pub mod DrawnColumnLemmas
 pub mod FittingLemmas
+mod FittingTextLemmas
 pub mod FrameLemmas
 pub mod HeadlineLemmas
 pub mod KeptLemmas

@@ -1,9 +1,9 @@
 //! What a caller's proof gains by a call: all promises of one drawing, and how their conditions are
 //! met. Each of these functions does nothing, and its clauses are laws.
 
-ghost use Rattle.std.specs.Prelude.{◌≡◌, List, Option, decimal, true, ℕ};
+ghost use Rattle.std.specs.Prelude.{◌≡◌, All, IsUtf8, List, Option, decimal, true, ℕ};
 ghost use Rattle.comfy_parts.specs.CellValue.{ColumnInfo, RowValue, plain_cell};
-ghost use Rattle.comfy_parts.specs.Columns.{IsApart, IsOneColumnStyle, has_frame_characters};
+ghost use Rattle.comfy_parts.specs.Columns.{CharactersFit, IsApart, IsOneColumnStyle, has_frame_characters};
 ghost use Rattle.comfy_parts.specs.declared.style.table.ContentArrangement.{ContentArrangement};
 ghost use Rattle.comfy_parts.specs.declared.style.table_style.TableStyle.{TableStyle};
 ghost use Rattle.comfy_parts.specs.Text.{Text, is_printable_ascii};
@@ -32,6 +32,13 @@ pub fn tables_of_rows_keep_the_promises()
 /// Each character of printable ASCII takes one terminal column.
 pub fn printable_texts_are_narrow()
     ensures { (text : Text) → is_printable_ascii text ≡ true → IsNarrowCell (plain_cell text) }
+{}
+
+/// Where the characters of a text fit a column, as `characters_fit` says, so do those of its text
+/// lines.
+pub fn fitting_texts_have_fitting_lines()
+    ensures { (w : ℕ) (text : Text) → IsUtf8 text → CharactersFit w text
+        → All (CharactersFit w) (plain_cell text).text_lines }
 {}
 
 /// What `Display` writes of a whole number is printable ASCII.

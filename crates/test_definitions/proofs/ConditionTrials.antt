@@ -1,6 +1,6 @@
 -- Values of which the laws on conditions of promises are false.
 use Rattle.std.proofs.Common.{◌≡◌, ◌≤◌, ℕ, false, true, List, [], ◌∷◌, None, Some, ap, arith, codes, length, slice_index_or, unwrap_or}
-use Rattle.std.specs.List.{join_by}
+use Rattle.std.specs.List.{All, join_by}
 use Rattle.std.specs.Prelude.{encode_utf8_all, slice_index}
 use lib.Utf8.{encode}
 use Rattle.std.proofs.lemmas.List.Elements.{All-head}
@@ -17,7 +17,7 @@ use Rattle.comfy_table.specs.TableValue.{TableValue, new_table, with_header, wit
 use Rattle.promises.specs.Conditions.{IsOfRows, framed}
 use Rattle.promises.specs.Rows.{IsNarrowCell}
 use Rattle.promises.specs.Tables.{HasPlainFrame}
-use Rattle.test_definitions.proofs.PromiseTrials.{wide_is_refused}
+use Rattle.test_definitions.proofs.PromiseTrials.{wide_is_refused, widening_behind_a_selector}
 use Rattle.test_definitions.proofs.StraightTrials.{number_sign_adds_two, selector_joins}
 use Rattle.test_definitions.proofs.TrialTables.{row_of, utf8}
 
@@ -29,6 +29,16 @@ wide_text is = wide_is_refused (All-head (CharactersFit 1) (utf8 "京") [] is.ch
 
 other_delimiter : ¬ (IsNarrowCell (record (plain_cell (codes "ab")) { delimiter = Some 0x2D }))
 other_delimiter is = cc is.delimiter
+
+-- nor does each line of a text fit of which one character is too wide, or two selectors clash
+-- false: promises::laws::fitting_texts_have_fitting_lines
+wide_second_line : ¬ (All (CharactersFit 1) (plain_cell (utf8 "a\n京")).text_lines)
+unfolding wrapping encode
+wide_second_line each = wide_is_refused (each 1 [] (omega arith))
+
+clashing_line : ¬ (All (CharactersFit 2) (plain_cell (encode_utf8_all (0x201C ∷ 0xFE0F ∷ 0xFE01 ∷ []))).text_lines)
+unfolding wrapping encode
+clashing_line each = widening_behind_a_selector (each 0 [] (omega arith))
 
 -- false: promises::laws::numbers_are_printable
 half : ¬ (is_printable_ascii (utf8 "½") ≡ true)
