@@ -5,23 +5,15 @@ ghost use Rattle.csv_promises.specs.Messages.{IsTame};
 ghost use Rattle.csv_tables.specs.Drawn.{IsDrawnOf};
 ghost use Rattle.promises.specs.Shown.{IsHarmless};
 
-use comfy_run::run::{MemorySink, MemorySource};
+use devices::{MemorySink, MemorySource};
 use csv_command::laws::drawings_hold_no_controls;
 use csv_command::{OutputContext, Refusal, parse, render_csv};
 use csv_tables::{CsvError, Options, draw};
 use std::alloc::Global;
 
-// No terminal, and neither `COLUMNS` nor `NO_COLOR`.
-const NOT_A_TERMINAL: OutputContext<'static> = OutputContext {
-    is_terminal: false,
-    columns: None,
-    no_color: None,
-};
-
 /// What the program writes for these arguments and these bytes of a file: nothing where the
-/// arguments ask for raw fields, or for no drawing, or where it can't be drawn so. Whatever the
-/// arguments, the terminal and the bytes are, it tells a terminal nothing but characters, line
-/// ends, colours and attributes.
+/// arguments ask for no drawing, or where it can't be drawn so. Whatever the arguments, the terminal
+/// and the bytes are, it tells a terminal nothing but characters, line ends, colours and attributes.
 pub fn harmless_output(
     alloc: Global,
     arguments: &[&str],
@@ -33,24 +25,16 @@ pub fn harmless_output(
 {
     drawings_hold_no_controls();
     let invocation = parse(alloc, arguments, context).ok()?;
-    if invocation.options.look.is_raw {
-        return None;
-    }
     output_for(alloc, input, room, &invocation.options).ok()
 }
 
 /// What a caller gets as a value for these arguments and these bytes, for no terminal: nothing
-/// where the arguments ask for raw fields, or for no drawing, or where it can't be drawn so. It
-/// tells a terminal nothing else either.
+/// where the arguments ask for no drawing, or where it can't be drawn so. It tells a terminal
+/// nothing else either.
 pub fn harmless_drawing(alloc: Global, arguments: &[&str], input: &[u8]) -> Option<String>
     ensures { IfSome result (λ drawing. IsHarmless (string_bytes drawing)) }
 {
     drawings_hold_no_controls();
-    let invocation = parse(alloc, arguments, NOT_A_TERMINAL).ok()?;
-    let look = invocation.options.look;
-    if look.is_raw {
-        return None;
-    }
     render_csv(alloc, arguments, input).ok()
 }
 

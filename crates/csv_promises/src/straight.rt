@@ -7,7 +7,7 @@ ghost use Rattle.csv_promises.specs.Written.{IsWritten};
 ghost use Rattle.promises.specs.Tables.{HasCharactersWithin};
 
 use crate::harmless::output_for;
-use comfy_run::run::MemorySink;
+use devices::MemorySink;
 use csv_command::{Invocation, OutputContext, parse};
 use csv_records::laws::records_are_one;
 use csv_records::{Records, decoded, read_records};
@@ -16,8 +16,8 @@ use csv_tables::{CsvError, Options};
 use std::alloc::Global;
 
 /// The records of a file's bytes, and what the program writes of them for these arguments: nothing
-/// where the arguments ask for raw fields, for sequences in fields or for Markdown, or for no
-/// drawing, or where it can't be drawn so. Where no character of a field takes more than one
+/// where the arguments ask for sequences in fields or for Markdown, or for no drawing, or where it
+/// can't be drawn so. Where no character of a field takes more than one
 /// terminal column, all lines of the table show the same number of columns, under every width and
 /// height, with a bold header too, and where records are expanded.
 pub fn straight_output(
@@ -71,7 +71,7 @@ pub(crate) fn written(
 {
     let invocation = parse(alloc, arguments, context).ok()?;
     let look = invocation.options.look;
-    if look.is_raw || look.has_sequences || look.is_markdown {
+    if look.has_sequences || look.is_markdown {
         return None;
     }
     let records = records_for(alloc, input, &invocation.options).ok()?;
