@@ -8,7 +8,7 @@ use Rattle.std.specs.declared.io.ErrorKind.TheVariants as io
 use Rattle.clap.specs.declared.error.kind.ErrorKind.{ErrorKind}
 use Rattle.clap.specs.declared.error.kind.ErrorKind.TheVariants as kind
 use Rattle.comfy_parts.specs.Text.{Text}
-use Rattle.csv_records.specs.Cleaning.{is_harmful, nothing_kept}
+use Rattle.csv_records.specs.Cleaning.{is_harmful}
 use Rattle.csv_records.specs.Shown.{shown_text}
 use Rattle.csv_command.specs.declared.arguments.Invocation.{Invocation}
 use Rattle.csv_records.specs.declared.encoding.Encoding.{Encoding}

@@ -16,6 +16,6 @@ loop-option-preserved c =
 pub returns : goal.returns
 unfolding rule_for
 returns c =
-    let last : c.loop-option.option-index ≡ 28 = omega (arith, c.loop-option-test.false, c.loop-option.auto.option-index-end) in
+    let last : c.loop-option.option-index ≡ 26 = omega (arith, c.loop-option-test.false, c.loop-option.auto.option-index-end) in
     let own : map bare (app_of c.loop-option.command).top.rules ≡ csvtable_rules = c.loop-option.invariant.rules ∙ rw last refl in
     record { is_wordless = c.loop-option.invariant.others; rules = own }
