@@ -1,25 +1,82 @@
--- What `draw` may not return.
-use Rattle.std.proofs.Common.{◌≡◌, inl, inr, ℕ, true, false, Err, Some, None, [], ◌∷◌, refl}
+-- What `draw` may return, and what it may not.
+use Rattle.std.proofs.Common.{◌≡◌, ◌⊎◌, inl, inr, ◌<◌, ◌≤◌, ◌^◌, ℕ, zero, suc, Bool, true, false, Err, List, Option, Some, None, [], ◌∷◌, ap, arith, codes, length, map, refl, replicate}
+use Rattle.std.proofs.Math.Pow.{pow_mono}
+use Rattle.std.specs.Fmt.{digits}
 use Rattle.std.specs.Str.{chars, is_utf8}
+use Rattle.std.proofs.lemmas.List.{length-replicate}
 use Rattle.std.proofs.lemmas.Str.{is_utf8-from_IsUtf8}
+use Rattle.comfy_parts.specs.Text.{Text}
+use Rattle.csv_records.specs.Beginning.{whole_lines}
 use Rattle.csv_records.specs.declared.encoding.Encoding.TheVariants.{Utf8}
+use Rattle.csv_tables.specs.Drawn.{AreEnough, IsNotEnough, note_for}
 use Rattle.csv_tables.specs.Run.{IsAfter}
 use Rattle.csv_tables.specs.declared.error.CsvError.TheVariants.{OutOfMemory}
 use Rattle.csv_tables.specs.declared.options.Options.{Options}
-use Rattle.devices.specs.Outcome.{RunFacts}
+use Rattle.devices.proofs.AskedLemmas.{asked_some}
+use Rattle.devices.specs.Outcome.{IsByBeginning, NoneIsEnough, RunFacts, asked_at, asked_front}
+
+-- ---- want of memory
 
 -- an input of one byte that isn't UTF-8 was read whole
 abbrev facts : RunFacts
 facts = record { input = 0xFF ∷ []; end_was_read = true; written = []; read_failed = false; write_failed = false }
 
--- it is to be UTF-8, and there is no limit
-abbrev unlimited : Options → Options
-unlimited options =
-    let input = options.input in
-    let selection = options.selection in record options { input = record input { skip = 0; encoding = Some Utf8 }; selection = record selection { limit = None } }
+-- it is to be UTF-8, under every limit
+abbrev in_utf8 : Options → Options
+in_utf8 options = record options { input = record options.input { skip = 0; encoding = Some Utf8 } }
 
 -- so it doesn't lack memory alone
-out_of_memory : (options : Options) → ¬ (IsAfter {T = ℕ} (unlimited options) (Err OutOfMemory) facts)
+out_of_memory : (options : Options) → ¬ (IsAfter {T = ℕ} (in_utf8 options) (Err OutOfMemory) facts)
 unfolding chars is_utf8
-out_of_memory options (inl after) = let is : false ≡ true = is_utf8-from_IsUtf8 (0xFF ∷ []) (after.fine refl refl) in cc is
-out_of_memory options (inr part) = let limit = part.says.fine refl in cc limit.is
+out_of_memory options (inl after) = let is : false ≡ true = is_utf8-from_IsUtf8 (0xFF ∷ []) (after.says.fine refl refl) in cc is
+out_of_memory options (inr part) = let unread : true ≡ false = part.unread in cc unread
+
+-- a beginning of a longer one may, of which the rest wasn't read
+abbrev limited : Options → Options
+limited options = record options { selection = record options.selection { limit = Some 3; counts_all = false } }
+
+abbrev begun : RunFacts
+begun = record { input = replicate 65536 0xFF; end_was_read = false; written = []; read_failed = false; write_failed = false }
+
+out_of_memory_by_beginning : (options : Options) → IsAfter {T = ℕ} (limited options) (Err OutOfMemory) begun
+out_of_memory_by_beginning options =
+    inr (record {
+      n = 0;
+      is_asked = record { reaches = omega (arith, length-replicate {A = ℕ} 65536 0xFF); none_before = λ m below. absurd (omega (arith, below)) };
+      unread = refl;
+      says = record { no_device_failed = record { no_read_failed = refl; no_write_failed = refl }; nothing_written = refl; fine = λ whole. record { limit = 3; is = refl; uncounted = refl } };
+    })
+
+-- ---- beginnings
+
+asked : map asked_at (0 ∷ 1 ∷ 2 ∷ []) ≡ 65536 ∷ 131072 ∷ 262144 ∷ []
+asked = refl
+
+-- it isn't asked at 65536 bytes and twice as many more
+three_blocks : (n : ℕ) → ¬ (asked_at n ≡ 196608)
+three_blocks zero is = absurd (omega (arith, is))
+three_blocks (suc zero) is = absurd (omega (arith, is))
+three_blocks (suc (suc n)) is = absurd (let more : 2 ^ 2 ≤ 2 ^ suc (suc n) = pow_mono {i = 2} {j = suc (suc n)} (omega arith) in omega (arith, is, more))
+
+-- nor of an input that is shorter, so no beginning of it is drawn, an empty one neither
+short : (options : Options) (Says : RunFacts → Type 0) → ¬ (IsByBeginning (IsNotEnough options) Says facts)
+short options Says part = absurd (omega (arith, asked_some part.n, part.is_asked.reaches))
+
+-- where the first beginning is enough, neither a longer one is drawn nor the whole input
+later : (options : Options) (facts : RunFacts) (records : List (List Text)) → AreEnough options (whole_lines (asked_front 0 facts.input)) records → (Says : RunFacts → Type 0) → (part : IsByBeginning (IsNotEnough options) Says facts) → part.n ≡ 0
+later options facts records enough Says part = by_turn part.n part.is_asked.none_before
+  where
+    by_turn : (n : ℕ) → ((m : ℕ) → m < n → IsNotEnough options (asked_front m facts.input)) → n ≡ 0
+    by_turn zero none = refl
+    by_turn (suc n) none = absurd (none 0 (omega arith) records enough)
+
+whole : (options : Options) (input : Text) (records : List (List Text)) → 65536 ≤ length input → AreEnough options (whole_lines (asked_front 0 input)) records → ¬ (NoneIsEnough (IsNotEnough options) input)
+whole options input records long enough none = none 0 long records enough
+
+lines : map whole_lines (codes "a\nb\nc" ∷ codes "a\n" ∷ codes "ab" ∷ codes "\n\n\r" ∷ []) ≡ codes "a\nb\n" ∷ codes "a\n" ∷ [] ∷ codes "\n\n" ∷ []
+lines = refl
+
+-- false: csv_tables::laws::outputs_are_one
+two_notes : ¬ (note_for false (Some 3) (Some 12) ≡ note_for false (Some 3) None)
+unfolding digits
+two_notes is = let differ : 16 ≡ 18 = ap length is in absurd (omega (arith, differ))

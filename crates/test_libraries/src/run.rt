@@ -2,6 +2,7 @@
 
 mod counted;
 mod large;
+mod limited;
 mod program;
 mod promised;
 mod records;

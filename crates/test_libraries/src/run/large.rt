@@ -11,7 +11,7 @@ use std::alloc::{Alloc, AllocError, Global};
 use std::process::Abort;
 
 // A text: pieces, each as often as its number says.
-type Pieces = &'static [(&'static str, usize)];
+pub(super) type Pieces = &'static [(&'static str, usize)];
 
 // A table: its input for `run` and for `draw`, and what is drawn of it without a width and in 40
 // terminal columns.
@@ -176,7 +176,7 @@ const SEQUENCES: Large = Large {
     ],
 };
 
-fn text_of(alloc: Global, pieces: Pieces) -> Result<String, AllocError> {
+pub(super) fn text_of(alloc: Global, pieces: Pieces) -> Result<String, AllocError> {
     let mut text = String::new(alloc);
     for (piece, count) in pieces {
         push_repeated(&mut text, piece, *count)?;

@@ -1,0 +1,90 @@
+//! Under a limit: how much of an input is read, however its reader parts it.
+
+use super::large::{Pieces, options, text_of};
+use crate::support::assert_bytes;
+use comfy_run::run::{FromReader, ToWriter};
+use csv_tables::draw;
+use std::alloc::{Alloc, Global};
+use std::io::{self, Read};
+use std::process::Abort;
+
+// A reader that gives at most so many bytes at a call, and how many it gave in all.
+#[derive(Drop)]
+struct PartedReader<'a> {
+    rest: &'a [u8],
+    most: usize,
+    given: usize,
+}
+
+impl Read for PartedReader<'_> {
+    fn read(&mut self, buffer: &mut [u8]) -> io::Result<usize> {
+        let count = buffer.len().min(self.most).min(self.rest.len());
+        let (front, rest) = self.rest.split_at(count);
+        buffer[..count].copy_from_slice(front);
+        self.rest = rest;
+        self.given = self.given.saturating_add(count);
+        Ok(count)
+    }
+}
+
+// A header and 40,000 records of 5 bytes: 200,004 bytes.
+const INPUT: Pieces = &[("a,b\n", 1), ("x,12\n", 40_000)];
+
+// How many bytes are given at a call: all that are asked for, 40,000, 1,000, 7.
+const PARTS: [usize; 4] = [usize::MAX, 40_000, 1_000, 7];
+
+// How many bytes are read under this limit, where at most so many are given at a call, and what is
+// drawn.
+fn drawn(
+    rt: &(impl Abort + Alloc<A = Global>),
+    limit: usize,
+    counts_all: bool,
+    most: usize,
+) -> (usize, Vec<u8>) {
+    let input = text_of(rt.alloc(), INPUT).expect(rt, "memory");
+    let mut reader = PartedReader {
+        rest: input.as_bytes(),
+        most,
+        given: 0,
+    };
+    let mut bytes = Vec::new(rt.alloc());
+    let mut options = options(rt.alloc(), None, false);
+    options.selection.limit = Some(limit);
+    options.selection.counts_all = counts_all;
+    let mut source = FromReader::new(&mut reader);
+    let mut sink = ToWriter::new(&mut bytes);
+    assert!(rt; draw(rt.alloc(), &mut source, &mut sink, &options).is_ok());
+    (reader.given, bytes)
+}
+
+const THREE: &str = "\
++---+----+
+| a |  b |
++========+
+| x | 12 |
+|---+----|
+| x | 12 |
+|---+----|
+| x | 12 |
++---+----+
+3 of more records
+";
+
+#[test]
+fn the_drawing_is_one_however_its_input_is_parted(rt: HostRuntime) {
+    for most in PARTS {
+        let (given, bytes) = drawn(&rt, 3, false, most);
+        assert!(rt; given == 65_536);
+        assert_bytes(&rt, bytes.as_slice(), THREE);
+    }
+}
+
+// 131,072 bytes have 26,213 records, and no beginning of the input has more than all of them.
+#[test]
+fn as_much_is_read_as_the_limit_asks_for(rt: HostRuntime) {
+    for most in [usize::MAX, 40_000] {
+        assert!(rt; drawn(&rt, 20_000, false, most).0 == 131_072);
+        assert!(rt; drawn(&rt, 40_000, false, most).0 == 200_004);
+        assert!(rt; drawn(&rt, 3, true, most).0 == 200_004);
+    }
+}
