@@ -21,6 +21,8 @@ use Rattle.comfy_table.specs.TableValue.{TableValue, ellipsis, measured_table, n
 use Rattle.promises.specs.Headline.{AreColumnsOf, AreContentLines, AreLinesOfRow, IsAround, AreLinesOfText, IsHeadline, IsPiece, IsPlainDrawing, lines_in}
 use Rattle.promises.specs.Promises.{KeepsPromises}
 use Rattle.promises.specs.Shown.{IsStyled}
+use Rattle.promises.specs.Straight.{AreStraightWhereCharactersFit}
+use Rattle.promises.specs.Widths.{KeepToWidthWhereCharactersFit}
 use Rattle.promises.specs.Shown.IsStyled.{nothing as no_byte, byte, sequence}
 use Rattle.test_definitions.proofs.TrialTables.{no_ab_inside}
 
@@ -248,9 +250,16 @@ wide_measures_two : measure wide ≡ 2
 unfolding wrapping wide
 wide_measures_two = refl
 
--- false: promises::straight_fitting_lines, promises::fitting_lines_within
 crooked : (columns : List ColumnInfo) → ¬ (AreColumnsOf (free_cell None (wide ∷ [])) (codes "abc" ∷ codes "a" ∷ []) columns)
 crooked columns (is, are) = (of_two false wide wide_measures_two None (λ cut. refl) (codes "abc" ∷ codes "a" ∷ []) (plain_of Disabled None ellipsis None (wide ∷ []) (codes "abc" ∷ codes "a" ∷ []) is)).1
+
+-- false: promises::straight_fitting_lines
+crooked_lines : (columns : List ColumnInfo) → ¬ (AreStraightWhereCharactersFit (free_cell None (wide ∷ [])) columns (codes "abc" ∷ codes "a" ∷ []))
+crooked_lines columns is = crooked columns is.0
+
+-- false: promises::fitting_lines_within
+crooked_within : (columns : List ColumnInfo) → ¬ (KeepToWidthWhereCharactersFit (free_cell None (wide ∷ [])) columns (codes "abc" ∷ codes "a" ∷ []))
+crooked_within columns is = crooked columns is.0
 
 -- ---- a row that is cut
 

@@ -309,8 +309,7 @@ line_with_a_line_feed :
     ¬ (slice_split (λ b. b == 0x0A) (text_of (codes "a\nb" ∷ [])) ≡ codes "a\nb" ∷ [])
 line_with_a_line_feed found = let is : ab ≡ codes "a\nb" ∷ [] = found in cc is
 
--- false: comfy_table::laws::new_tables_are_straight, promises::straight_lines
--- false: promises::straight_whole_lines, promises::straight_fitting_lines
+-- false: comfy_table::laws::new_tables_are_straight
 pub shorter_line : ¬ (AreEquallyWide (codes "ab" ∷ codes "a" ∷ []))
 unfolding wrapping
 shorter_line (n, all) =

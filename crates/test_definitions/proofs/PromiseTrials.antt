@@ -11,7 +11,9 @@ use Rattle.std.proofs.lemmas.Bool.Decides.{nat_tests}
 use Rattle.std.proofs.lemmas.List.Elements.{All-from_recursion, All-head}
 use Rattle.std.proofs.lemmas.Option.{same_Some}
 use Rattle.std.proofs.lemmas.Str.{NoCharPasses-byte}
-use Rattle.comfy_parts.proofs.CallerLemmas.{All-at, All-every, frame_adds, one_column_characters}
+use Rattle.std.specs.Int.{is_in_range}
+use Rattle.std.proofs.lemmas.List.{length-replicate}
+use Rattle.comfy_parts.proofs.CallerLemmas.{All-at, All-every, frame_adds, measure-printable, one_column_characters}
 use Rattle.comfy_parts.proofs.Computing.{wrapping}
 use Rattle.comfy_parts.specs.CellValue.{ColumnInfo, info_of, new_column, CellValue, ColumnValue, RowValue, plain_cell, plain_row}
 use Rattle.comfy_parts.specs.Columns.{CharactersFit, IsOneColumn, style_characters}
@@ -19,20 +21,25 @@ use Rattle.comfy_parts.specs.Presets as presets
 use Rattle.comfy_parts.specs.Presets.{utf8_full}
 use Rattle.comfy_parts.specs.Text.{HasNo, IsOnly, Text, measure}
 use Rattle.comfy_parts.specs.Wrapping.{IsSlicesWhere}
+use Rattle.comfy_parts.specs.declared.style.table.ContentArrangement.{ContentArrangement}
+use Rattle.comfy_parts.specs.declared.style.table.ContentArrangement.TheVariants.{Disabled, Dynamic, DynamicFullWidth}
 use Rattle.comfy_parts.specs.declared.style.column.ColumnConstraint.TheVariants.{ContentWidth, Hidden}
 use Rattle.comfy_table.specs.HiddenColumns.{without_hidden}
 use Rattle.comfy_table.specs.TableValue.{cell_content_width, TableValue, header_and_rows, new_table, shown_columns, constrained, with_rows}
-use Rattle.promises.specs.Added.{HasRoomFor, StandsBelowAsWide, Stay}
+use Rattle.promises.specs.Added.{AreSameButForHidden, HasRoomFor, StandsBelowAsWide, Stay, StayWithRow}
 use Rattle.promises.specs.Headline.{IsHeadline}
-use Rattle.promises.specs.Kept.{AreShown, AreSlicesOf, IsFrame, ShowsRow, ShowsWholeRow, StandAmong}
+use Rattle.promises.specs.Kept.{AreShown, AreSlicesOf, IsFrame, ShowAllTexts, ShowWholeTexts, ShowsRow, ShowsWholeRow, StandAmong}
+use Rattle.promises.specs.Promises.{KeepsPromises}
 use Rattle.promises.specs.Kept.IsFrame.{nothing as no_frame, space as frame_space, character as frame_character}
 use Rattle.promises.specs.Shown.{AreShownEquallyWide, HasNoControls, IsHarmless, IsStyled, Shows}
 use Rattle.promises.specs.Shown.Shows.{nothing, byte, sequence}
 use Rattle.promises.specs.Tables.{CharactersFitColumns, EachShownText, EachText, HasPlainFrame, IsPlain, IsShownWhole}
-use Rattle.promises.specs.Widths.{IsFree, frame_room}
+use Rattle.promises.specs.Straight.{AreShownStraight, AreStraight, AreStraightWhole}
+use Rattle.promises.specs.Widths.{FillWidth, IsFree, IsNarrow, KeepToWidth, frame_room}
 use Rattle.test_definitions.proofs.StraightTrials.{ellipsis_is_apart}
 use Rattle.test_definitions.proofs.TrialTables as tables
 use Rattle.test_definitions.proofs.HeadlineTrials.{unstyled_same}
+use Rattle.test_definitions.proofs.LawTrials.{shorter_line}
 use Rattle.test_definitions.proofs.TrialTables.{no_ab_inside, utf8}
 
 -- ---- a table
@@ -40,55 +47,62 @@ use Rattle.test_definitions.proofs.TrialTables.{no_ab_inside, utf8}
 abbrev pub row_of : String → String → RowValue
 row_of first second = tables.row_of (first ∷ second ∷ [])
 
--- a header and a row of two cells
+-- a header and a row of two cells, with an arrangement and a width
+abbrev kept_table : ContentArrangement → Option ℕ → String → String → TableValue
+kept_table a w first second =
+    record (tables.table_of utf8_full ("day" ∷ "text" ∷ []) ((first ∷ second ∷ []) ∷ [])) { arrangement = a; set_width = w }
+
 abbrev pub table_of : String → String → TableValue
-table_of first second =
-    tables.table_of utf8_full ("day" ∷ "text" ∷ []) ((first ∷ second ∷ []) ∷ [])
+table_of first second = kept_table Disabled None first second
 
 -- ---- premises that hold
 
-is_plain : (first second : String) → IsPlain (table_of first second)
-is_plain first second = record { no_styles = refl; no_sequences = refl }
+is_plain : (a : ContentArrangement) (w : Option ℕ) (first second : String) → IsPlain (kept_table a w first second)
+is_plain a w first second = record { no_styles = refl; no_sequences = refl }
 
 space : IsOneColumn None
 space = frame_adds 0x20 refl
 
-has_plain_frame : (first second : String) → HasPlainFrame (table_of first second)
+has_plain_frame : (a : ContentArrangement) (w : Option ℕ) (first second : String) → HasPlainFrame (kept_table a w first second)
 unfolding wrapping encode
-has_plain_frame first second =
+has_plain_frame a w first second =
     record {
       style = one_column_characters utf8_full refl;
       delimiter = space;
-      column_delimiters = All-from_recursion (λ (column : ColumnValue). IsOneColumn column.delimiter) (table_of first second).columns (space, (space, tt));
-      cell_delimiters = All-from_recursion (λ (row : RowValue). All (λ (cell : CellValue). IsOneColumn cell.delimiter) row.cells) (header_and_rows (table_of first second)) (own "day" "text", (own first second, tt));
+      column_delimiters = All-from_recursion (λ (column : ColumnValue). IsOneColumn column.delimiter) (kept_table a w first second).columns (space, (space, tt));
+      cell_delimiters = All-from_recursion (λ (row : RowValue). All (λ (cell : CellValue). IsOneColumn cell.delimiter) row.cells) (header_and_rows (kept_table a w first second)) (own "day" "text", (own first second, tt));
       indicator = ellipsis_is_apart;
-      paddings = All-from_recursion (λ (column : ColumnValue). 1 ≤ column.padding.0) (table_of first second).columns (omega arith, (omega arith, tt));
+      paddings = All-from_recursion (λ (column : ColumnValue). 1 ≤ column.padding.0) (kept_table a w first second).columns (omega arith, (omega arith, tt));
     }
   where
     own : (one other : String) → All (λ (cell : CellValue). IsOneColumn cell.delimiter) (row_of one other).cells
     own one other = All-from_recursion (λ (cell : CellValue). IsOneColumn cell.delimiter) (row_of one other).cells (space, (space, tt))
 
-is_free : (first second : String) → IsFree (table_of first second)
-is_free first second = (
+is_free : (a : ContentArrangement) (w : Option ℕ) (first second : String) → IsFree (kept_table a w first second)
+is_free a w first second = (
   omega arith,
   All-from_recursion (λ (column : ColumnValue). column.constraint ≡ None)
-      (table_of first second).columns (refl, (refl, tt)),
+      (kept_table a w first second).columns (refl, (refl, tt)),
 )
 
 -- P holds of each of the four texts
-each_of : (P : Text → Type 0) (first second : String) → P (utf8 "day") → P (utf8 "text") → All P (plain_cell (utf8 first)).text_lines → All P (plain_cell (utf8 second)).text_lines → EachText P (table_of first second)
+each_of : (a : ContentArrangement) (w : Option ℕ) (P : Text → Type 0) (first second : String) → P (utf8 "day") → P (utf8 "text") → All P (plain_cell (utf8 first)).text_lines → All P (plain_cell (utf8 second)).text_lines → EachText P (kept_table a w first second)
 unfolding encode
-each_of P first second day text one other =
-    All-from_recursion (λ (row : RowValue). All (λ (cell : CellValue). All P cell.text_lines) row.cells) (header_and_rows (table_of first second)) (
+each_of a w P first second day text one other =
+    All-from_recursion (λ (row : RowValue). All (λ (cell : CellValue). All P cell.text_lines) row.cells) (header_and_rows (kept_table a w first second)) (
       All-from_recursion (λ (cell : CellValue). All P cell.text_lines) (row_of "day" "text").cells (All-from_recursion P (utf8 "day" ∷ []) (day, tt), (All-from_recursion P (utf8 "text" ∷ []) (text, tt), tt)),
       (All-from_recursion (λ (cell : CellValue). All P cell.text_lines) (row_of first second).cells (one, (other, tt)), tt),
     )
 
 -- Latin with an accent, and Cyrillic
-characters_of_one : EachText (CharactersFit 1) (table_of "3 mai é" "Отчёт")
+characters_of_one : (a : ContentArrangement) (w : Option ℕ) → EachText (CharactersFit 1) (kept_table a w "3 mai é" "Отчёт")
 unfolding wrapping encode
-characters_of_one =
-    each_of (CharactersFit 1) "3 mai é" "Отчёт" refl refl (All-from_recursion (CharactersFit 1) (utf8 "3 mai é" ∷ []) (refl, tt)) (All-from_recursion (CharactersFit 1) (utf8 "Отчёт" ∷ []) (refl, tt))
+characters_of_one a w =
+    each_of a w (CharactersFit 1) "3 mai é" "Отчёт" refl refl (All-from_recursion (CharactersFit 1) (utf8 "3 mai é" ∷ []) (refl, tt)) (All-from_recursion (CharactersFit 1) (utf8 "Отчёт" ∷ []) (refl, tt))
+
+is_narrow : (a : ContentArrangement) (w : Option ℕ) → IsNarrow (kept_table a w "3 mai é" "Отчёт")
+is_narrow a w =
+    (is_plain a w "3 mai é" "Отчёт", has_plain_frame a w "3 mai é" "Отчёт", is_free a w "3 mai é" "Отчёт", characters_of_one a w)
 
 -- three borders, four paddings and two columns take nine terminal columns
 frame_of_two : frame_room (table_of "3 mai é" "Отчёт") ≡ 9
@@ -103,9 +117,9 @@ is_shown_whole : IsShownWhole (table_of "京都" "김철수")
 unfolding wrapping encode
 is_shown_whole =
     record {
-      no_constraint = (is_free "京都" "김철수").1;
+      no_constraint = (is_free Disabled None "京都" "김철수").1;
       uncut = All-from_recursion (λ (row : RowValue). row.max_height ≡ None) (header_and_rows (table_of "京都" "김철수")) (refl, (refl, tt));
-      short = each_of (λ text. measure text ≤ 65535) "京都" "김철수" (omega arith) (omega arith) (All-from_recursion (λ text. measure text ≤ 65535) (utf8 "京都" ∷ []) (omega arith, tt)) (All-from_recursion (λ text. measure text ≤ 65535) (utf8 "김철수" ∷ []) (omega arith, tt));
+      short = each_of Disabled None (λ text. measure text ≤ 65535) "京都" "김철수" (omega arith) (omega arith) (All-from_recursion (λ text. measure text ≤ 65535) (utf8 "京都" ∷ []) (omega arith, tt)) (All-from_recursion (λ text. measure text ≤ 65535) (utf8 "김철수" ∷ []) (omega arith, tt));
     }
 
 -- two columns of these content widths
@@ -171,7 +185,7 @@ no_controls : HasNoControls (table_of "é" "Отчёт")
 unfolding wrapping encode
 no_controls =
     record {
-      texts = shown_of_all (NoCharPasses is_control) (table_of "é" "Отчёт") (each_of (NoCharPasses is_control) "é" "Отчёт" (codes "day", refl, (refl, (refl, (refl, tt)))) (codes "text", refl, (refl, (refl, (refl, (refl, tt)))))
+      texts = shown_of_all (NoCharPasses is_control) (table_of "é" "Отчёт") (each_of Disabled None (NoCharPasses is_control) "é" "Отчёт" (codes "day", refl, (refl, (refl, (refl, tt)))) (codes "text", refl, (refl, (refl, (refl, (refl, tt)))))
           (All-from_recursion (NoCharPasses is_control) (utf8 "é" ∷ []) ((codes "é", refl, (refl, tt)), tt))
           (All-from_recursion (NoCharPasses is_control) (utf8 "Отчёт" ∷ []) ((codes "Отчёт", refl, (refl, (refl, (refl, (refl, (refl, tt)))))), tt)));
       indicator = (0x2026 ∷ [], refl, (refl, tt));
@@ -343,12 +357,21 @@ rows_turned_round (before, behind, made, frame, rest) = by_before before frame m
 -- ---- what no call returns
 
 -- lines of two widths
-uneven : List Text
+abbrev uneven : List Text
 uneven = codes "ab" ∷ codes "a" ∷ []
 
--- false: promises::straight_styled_lines
+-- false: promises::straight_lines
+uneven_lines : ¬ (AreStraight (table_of "3 mai é" "Отчёт") uneven)
+uneven_lines is =
+    shorter_line (is (is_plain Disabled None "3 mai é" "Отчёт") (has_plain_frame Disabled None "3 mai é" "Отчёт") (characters_of_one Disabled None))
+
+-- false: promises::straight_whole_lines
+uneven_whole_lines : ¬ (AreStraightWhole (table_of "京都" "김철수") uneven)
+uneven_whole_lines is =
+    shorter_line (is (is_plain Disabled None "京都" "김철수") (has_plain_frame Disabled None "京都" "김철수") refl is_shown_whole)
+
 uneven_is_not_shown_straight : ¬ (AreShownEquallyWide uneven)
-unfolding wrapping uneven
+unfolding wrapping
 uneven_is_not_shown_straight (n, each) =
     let first = each 0 [] (omega arith) in
     let second = each 1 [] (omega arith) in
@@ -356,15 +379,37 @@ uneven_is_not_shown_straight (n, each) =
     let one : 1 ≡ n = ap measure (sym (shows_itself second.1 refl)) ∙ second.2 in
     absurd (omega (arith, two, one))
 
--- false: promises::lines_within, promises::fitting_lines_within
-wider_than_the_width : ¬ (All (λ line. measure line ≤ max 3 9) (codes "0123456789" ∷ []))
+e_fits : EachText (CharactersFit 1) (table_of "é" "Отчёт")
+unfolding wrapping encode
+e_fits =
+    each_of Disabled None (CharactersFit 1) "é" "Отчёт" refl refl (All-from_recursion (CharactersFit 1) (utf8 "é" ∷ []) (refl, tt)) (All-from_recursion (CharactersFit 1) (utf8 "Отчёт" ∷ []) (refl, tt))
+
+-- false: promises::straight_styled_lines
+uneven_styled_lines : ¬ (AreShownStraight (table_of "é" "Отчёт") uneven)
+uneven_styled_lines is =
+    uneven_is_not_shown_straight (is no_controls (has_plain_frame Disabled None "é" "Отчёт") e_fits)
+
+-- a line of ten terminal columns, where the frame takes nine
+ten : measure (codes "0123456789") ≡ 10
 unfolding wrapping
-wider_than_the_width each = let ten : 10 ≤ 9 = each 0 [] (omega arith) in absurd (omega (arith, ten))
+ten = refl
+
+abbrev ten_wide : List Text
+ten_wide = codes "0123456789" ∷ []
+
+-- false: promises::lines_within
+wider_than_the_width : ¬ (KeepToWidth (kept_table Dynamic (Some 3) "3 mai é" "Отчёт") 3 ten_wide)
+wider_than_the_width is =
+    let few : measure (codes "0123456789") ≤ 9 = is (is_narrow Dynamic (Some 3)) 0 [] (omega arith) in omega (arith, few, ten)
 
 -- false: promises::lines_over
-narrower_than_the_width : ¬ (All (λ line. measure line ≡ max 3 9) (codes "01234567" ∷ []))
-unfolding wrapping
-narrower_than_the_width each = let eight : 8 ≡ 9 = each 0 [] (omega arith) in absurd (omega (arith, eight))
+narrower_than_the_width : ¬ (FillWidth (kept_table DynamicFullWidth (Some 11) "3 mai é" "Отчёт") 11 ten_wide)
+narrower_than_the_width is =
+    let all : measure (codes "0123456789") ≡ 11 = is (is_narrow DynamicFullWidth (Some 11)) (omega arith) 0 [] (omega arith) in omega (arith, all, ten)
+
+wider_than_filled : ¬ (FillWidth (kept_table DynamicFullWidth (Some 9) "3 mai é" "Отчёт") 9 ten_wide)
+wider_than_filled is =
+    let all : measure (codes "0123456789") ≡ 9 = is (is_narrow DynamicFullWidth (Some 9)) (omega arith) 0 [] (omega arith) in omega (arith, all, ten)
 
 -- what stands in nothing is nothing
 nothing_inside : {A : Type 0} (before part behind : List A) → [] ≡ before ++ (part ++ behind) → part ≡ []
@@ -390,7 +435,6 @@ some_slice own (inr cut) none = no_spaces (subst (IsSlicesWhere (λ line tail. U
     no_spaces (zero, is) = cc is
     no_spaces (suc n, is) = let letter : ◌≡◌ {A = ℕ} 0x64 0x20 = cc is in absurd (omega (arith, letter))
 
--- false: promises::lines_with_all_texts
 pub no_lines_lose_texts : ¬ (AreShown (ShowsRow (table_of "3 mai" "oats")) (table_of "3 mai" "oats") [])
 unfolding chars encode
 no_lines_lose_texts is = by_blocks is.blocks (subst (StandAmong (All (IsFrame utf8_full)) is.blocks) (sym (is.unstyled refl)) is.stand) is.show
@@ -488,7 +532,6 @@ word_stands styles line lines is same = by_blocks is.blocks (subst (StandAmong (
             (subst (λ (lines : List Text). StandAmong (IsFrame presets.nothing) (slice_index_or (row.slices (0, new_column 0)) 0 [] ∷ []) (slice_index_or lines 0 [])) own stand)
 
 -- it isn't torn
--- false: promises::lines_with_all_texts
 torn_word : ¬ (AreShown (ShowsRow (styled_word false)) (styled_word false) (codes " a      b " ∷ []))
 torn_word is =
     let stands = word_stands false (codes " a      b ") _ is (sym (is.unstyled refl)) in
@@ -549,7 +592,6 @@ sliced_text shows =
     let stands = shows.stand 0 (omega arith) in
     no_ab_inside (codes " a ") refl stands.0 stands.1 stands.2
 
--- false: promises::lines_with_whole_texts
 no_lines_lose_whole_texts : ¬ (AreShown (ShowsWholeRow (table_of "3 mai" "oats")) (table_of "3 mai" "oats") [])
 unfolding chars encode
 no_lines_lose_whole_texts is = by_blocks is.blocks (subst (StandAmong (All (IsFrame utf8_full)) is.blocks) (sym (is.unstyled refl)) is.stand) is.show
@@ -561,12 +603,9 @@ no_lines_lose_whole_texts is = by_blocks is.blocks (subst (StandAmong (All (IsFr
         let short : 1 ≤ length block = show.0.enough_lines 0 (0, new_column 0) first_column in
         absurd (omega (arith, short, none))
 
--- false: promises::lines_of_both
 one_line_more : ¬ (uneven ≡ codes "a" ∷ uneven)
-unfolding uneven
 one_line_more is = cc is
 
--- false: promises::lines_before_and_after
 changed_line : ¬ (Stay (codes "a" ∷ []) (codes "b" ∷ []))
 changed_line (above, last, added, short, before, after) = by_above above last added before after
   where
@@ -664,7 +703,71 @@ lost_line (above, last, added, short, before, after) =
     let one = ap length after in
     omega (arith, two, one, length-append above last, length-append above (added ++ last), length-append added last)
 
--- a line is wider than a width that is filled
-wider_than_filled : ¬ (All (λ line. measure line ≡ max 3 9) (codes "0123456789" ∷ []))
+-- a text is too long to be drawn whole
+long_text : ¬ (IsShownWhole (record (word_table []) { rows = plain_row (record (plain_cell []) { text_lines = replicate 65536 0x61 ∷ [] } ∷ []) ∷ [] }))
+long_text is =
+    let few : measure (replicate 65536 0x61) ≤ 65535 = is.short 0 (plain_row []) (omega arith) 0 (plain_cell []) (omega arith) 0 [] (omega arith) in
+    let long = measure-printable (replicate 65536 0x61) (printable 65536) in
+    omega (arith, few, long, length-replicate {A = ℕ} 65536 0x61)
+  where
+    printable : (n : ℕ) → list_all (is_in_range 0x20 0x7E) (replicate n 0x61) ≡ true
+    printable zero = refl
+    printable (suc n) = printable n
+
+-- a character takes two terminal columns
+wide_table : ¬ (IsNarrow (word_table (utf8 "京")))
+unfolding encode
+wide_table is = wide_is_refused (is.3 0 (plain_row []) (omega arith) 0 (plain_cell []) (omega arith) 0 [] (omega arith))
+
+-- ---- promises at large
+
+-- false: promises::lines_with_all_texts
+torn_texts : ¬ (ShowAllTexts (styled_word false) (codes " a      b " ∷ []))
+torn_texts is = torn_word (is refl)
+
+one_is_whole : IsShownWhole (word_table (codes "1"))
 unfolding wrapping
-wider_than_filled each = let ten : 10 ≡ 9 = each 0 [] (omega arith) in absurd (omega (arith, ten))
+one_is_whole =
+    record {
+      no_constraint = All-from_recursion (λ (column : ColumnValue). column.constraint ≡ None) (word_table (codes "1")).columns (refl, tt);
+      uncut = All-from_recursion (λ (row : RowValue). row.max_height ≡ None) (header_and_rows (word_table (codes "1"))) (refl, tt);
+      short = All-from_recursion (λ (row : RowValue). All (λ (cell : CellValue). All (λ text. measure text ≤ 65535) cell.text_lines) row.cells) (header_and_rows (word_table (codes "1"))) (All-from_recursion (λ (cell : CellValue). All (λ text. measure text ≤ 65535) cell.text_lines) (plain_cell (codes "1") ∷ []) (All-from_recursion (λ text. measure text ≤ 65535) (codes "1" ∷ []) (omega arith, tt), tt), tt);
+    }
+
+-- false: promises::lines_with_whole_texts
+other_texts : ¬ (ShowWholeTexts (word_table (codes "1")) (codes " 91.50 " ∷ []))
+other_texts is = other_whole_text (is refl refl one_is_whole)
+
+-- false: promises::lines_of_both
+a_hidden_text_tells : ¬ (AreSameButForHidden (hiding "secret") (hiding "other") uneven (codes "a" ∷ uneven))
+a_hidden_text_tells is = one_line_more (is hidden_is_gone)
+
+-- false: promises::lines_before_and_after
+a_line_changes : ¬ (StayWithRow (table_of "3 mai é" "Отчёт") (row_of "day" "text") (codes "a" ∷ []) (codes "b" ∷ []))
+a_line_changes is = changed_line (is refl refl has_room)
+
+-- none of these keeps all promises
+-- false: promises::laws::drawings_keep_the_promises
+uneven_keeps_nothing : ¬ (KeepsPromises (table_of "3 mai é" "Отчёт") uneven)
+uneven_keeps_nothing kept = uneven_lines kept.straight
+
+uneven_whole_keeps_nothing : ¬ (KeepsPromises (table_of "京都" "김철수") uneven)
+uneven_whole_keeps_nothing kept = uneven_whole_lines kept.straight_whole
+
+uneven_styled_keeps_nothing : ¬ (KeepsPromises (table_of "é" "Отчёт") uneven)
+uneven_styled_keeps_nothing kept = uneven_styled_lines kept.straight_styled
+
+wider_keeps_nothing : ¬ (KeepsPromises (kept_table Dynamic (Some 3) "3 mai é" "Отчёт") ten_wide)
+wider_keeps_nothing kept = wider_than_the_width (kept.within 3 refl refl)
+
+narrower_keeps_nothing : ¬ (KeepsPromises (kept_table DynamicFullWidth (Some 11) "3 mai é" "Отчёт") ten_wide)
+narrower_keeps_nothing kept = narrower_than_the_width (kept.over 11 refl refl)
+
+torn_keeps_nothing : ¬ (KeepsPromises (styled_word false) (codes " a      b " ∷ []))
+torn_keeps_nothing kept = torn_texts kept.all_texts
+
+other_keeps_nothing : ¬ (KeepsPromises (word_table (codes "1")) (codes " 91.50 " ∷ []))
+other_keeps_nothing kept = other_texts kept.whole_texts
+
+bell_keeps_nothing : ¬ (KeepsPromises (table_of "é" "Отчёт") ((0x07 ∷ []) ∷ []))
+bell_keeps_nothing kept = bell_is_harmful (kept.harmless no_controls)
