@@ -5,15 +5,16 @@ ghost use Rattle.csv_promises.specs.Messages.{IsTame};
 ghost use Rattle.csv_tables.specs.Drawn.{IsDrawnOf};
 ghost use Rattle.promises.specs.Shown.{IsHarmless};
 
-use devices::{MemorySink, MemorySource};
 use csv_command::laws::drawings_hold_no_controls;
 use csv_command::{OutputContext, Refusal, parse, render_csv};
 use csv_tables::{CsvError, Options, draw};
+use devices::{MemorySink, MemorySource};
 use std::alloc::Global;
 
 /// What the program writes for these arguments and these bytes of a file: nothing where the
-/// arguments ask for no drawing, or where it can't be drawn so. Whatever the arguments, the terminal
-/// and the bytes are, it tells a terminal nothing but characters, line ends, colours and attributes.
+/// arguments ask for no drawing, or where it can't be drawn so. Whatever the arguments, the
+/// terminal and the bytes are, it tells a terminal nothing but characters, line ends, colours and
+/// attributes.
 pub fn harmless_output(
     alloc: Global,
     arguments: &[&str],

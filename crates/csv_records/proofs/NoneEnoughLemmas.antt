@@ -1,5 +1,5 @@
 -- Where a beginning is not enough, whatever its records are.
-use Rattle.std.proofs.Common.{All, ◌≡◌, ◌≢◌, ◌<◌, ◌≤◌, ℕ, Bool, true, false, List, [], ◌∷◌, Some, None, Option, MatchOption, map, ◌++◌, length, sym, refl, ap, ap₂, ◌∙◌, subst, arith}
+use Rattle.std.proofs.Common.{All, ◌≡◌, ◌≢◌, ◌<◌, ◌≤◌, ℕ, List, [], ◌∷◌, Some, None, Option, MatchOption, map, ◌++◌, length, sym, refl, ap, ap₂, ◌∙◌, subst, arith}
 use Rattle.std.proofs.lemmas.List.Elements.{All-head, All-tail}
 use Rattle.comfy_parts.specs.Text.{Text}
 use Rattle.csv.specs.Machine.{Read, next_record}
@@ -10,10 +10,8 @@ use Rattle.csv.specs.declared.parser.State.{State}
 use Rattle.csv.specs.declared.parser.State.TheVariants as st
 use Rattle.csv_records.proofs.OneRecordLemmas.{records_are_one, text_is_one}
 use Rattle.csv_records.specs.Beginning.{IsEnough}
-use Rattle.csv_records.specs.Delimiter.{shows_delimiter}
 use Rattle.csv_records.specs.Encoding.{IsDecoded, IsRefusedIn, encoding_of}
-use Rattle.csv_records.specs.Foreign.{foreign_for}
-use Rattle.csv_records.specs.Input.{AreRecordsOf, SplitsCharacter, config_for}
+use Rattle.csv_records.specs.Input.{config_for}
 use Rattle.csv_records.specs.Reading.{AreRecordsIn, IsDecodedBy, IsTextWithoutRecords, IsWithoutText, parted, reads_quotes}
 use Rattle.csv_records.specs.declared.encoding.Encoding.{Encoding}
 use Rattle.csv_records.specs.declared.encoding.Encoding.TheVariants.{Cp1252, Utf16, Utf8}
@@ -87,11 +85,6 @@ module _ (options : InputOptions) (most : ℕ) (lines text : Text) (is_text : Is
 
   same_records : (all : List (List Text)) → IsEnough options most lines all → AreRecordsIn options text all
   same_records all enough = subst (λ (t : Text). AreRecordsIn options t all) (same_text all enough) enough.are_records
-
-  pub none_shown : shows_delimiter options.delimiter options.has_quotes text ≡ false → (all : List (List Text)) → ¬ (IsEnough options most lines all)
-  none_shown hidden all enough =
-      let shown : shows_delimiter options.delimiter options.has_quotes text ≡ true = subst (λ (t : Text). shows_delimiter options.delimiter options.has_quotes t ≡ true) (same_text all enough) enough.shows in
-      cc (shown, hidden)
 
   pub none_recorded : ((all : List (List Text)) → ¬ (AreRecordsIn options text all)) → (all : List (List Text)) → ¬ (IsEnough options most lines all)
   none_recorded none all enough = none all (same_records all enough)

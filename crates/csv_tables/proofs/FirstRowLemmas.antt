@@ -137,11 +137,7 @@ module _ (options : Options) where
   pub no_memory : (read : Text) (most : ℕ) → options.selection.counts_all ≡ false → option_map (most_drawn options.selection.has_header) options.selection.limit ≡ Some most → IsRefusal options Beginning read err.OutOfMemory
   no_memory read most uncounted enough = (limit_of most uncounted enough).0
 
-  -- where all records are counted, no beginning is enough
-  pub all_counted : (read : Text) → options.selection.counts_all ≡ true → IsNotEnough options read
-  all_counted read counted records enough = let uncounted = enough.has_limit.uncounted in cc (counted, uncounted)
-
-  -- nor where the limit is none, or no text has so many lines
+  -- no beginning is enough where there is no limit, or no text has so many lines
   pub unlimited : (read : Text) → length read < 2 ^ 64 → IfSome options.selection.limit (λ limit. 2 ^ 64 ≤ most_drawn options.selection.has_header limit) → IsNotEnough options read
   unlimited read short none records enough =
       let own = enough.has_limit in

@@ -1,12 +1,12 @@
 -- Of which beginnings of an input it was asked whether they are enough.
-use Rattle.std.proofs.Common.{◌≡◌, ◌⊎◌, inl, inr, ℕ, zero, suc, ◌+◌, ◌<◌, ◌≤◌, ◌*◌, ◌^◌, Bool, true, false, [], ◌++◌, Option, Some, Result, refl, sym, ap, ◌∙◌, subst, length, take, append-nil, length-append, arith}
+use Rattle.std.proofs.Common.{◌≡◌, ◌⊎◌, inl, inr, ℕ, suc, ◌+◌, ◌<◌, ◌≤◌, ◌*◌, ◌^◌, Bool, true, false, [], ◌++◌, Option, Some, Result, refl, sym, ap, ◌∙◌, subst, length, take, append-nil, length-append, arith}
 use Rattle.std.proofs.Math.Nat.{pow-suc}
 use Rattle.std.proofs.Math.Pow.{pow_mono}
 use Rattle.std.proofs.Math.Seq.{take-append_seam}
 use Rattle.std.proofs.lemmas.Bool.{cases_lt}
 use Rattle.std.proofs.lemmas.Nat.{pow_pos}
 use Rattle.devices.specs.Device.{Bytes}
-use Rattle.devices.specs.Outcome.{Beginning, Extent, IsAsked, NoneIsEnough, Whole, asked_at, asked_front}
+use Rattle.devices.specs.Outcome.{Beginning, Extent, NoneIsEnough, Whole, asked_at, asked_front}
 use Rattle.devices.specs.Transfer.{IsAnswer, IsAnswered, Moves}
 
 -- ---- places
@@ -35,9 +35,6 @@ pub record IsAskedNext (IsNotEnough : Bytes → Type 0) (known : Option Bytes) (
   pub none_before : (all : Bytes) → known ≡ Some all → (m : ℕ) → m < n → IsNotEnough (asked_front m all)
 
 module _ (IsNotEnough : Bytes → Type 0) (known now : Option Bytes) where
-  pub asked_first : IsAskedNext IsNotEnough known 65536
-  asked_first = record { n = 0; next = refl; none_before = λ all is m below. absurd (omega (arith, below)) }
-
   module _ (len : ℕ) (read : Bytes) (asked : IsAskedNext IsNotEnough known len) (moved : Moves known now [] read) where
     -- what was read is the front at the next question
     at_front : length read ≡ len → (all : Bytes) → known ≡ Some all → read ≡ asked_front asked.n all

@@ -1,4 +1,3 @@
-use Rattle.std.proofs.Common.{rules}
 use Rattle.csv_records.proofs.NoneEnoughLemmas.{without_records}
 use Rattle.csv_records.specs.declared.error.RecordsError.TheVariants.{SplitCharacter}
 use Rattle.csv_records.proofs.beginning.found_records.Goals as goal

@@ -1,4 +1,3 @@
-use Rattle.std.proofs.Common.{rules}
 use Rattle.csv_records.proofs.NoneEnoughLemmas.{without_text}
 use Rattle.csv_records.specs.declared.error.DecodeError.TheVariants.{NotUtf16}
 use Rattle.csv_records.proofs.beginning.found_text.Goals as goal

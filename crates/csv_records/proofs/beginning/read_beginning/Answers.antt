@@ -1,7 +1,6 @@
-use Rattle.std.proofs.Common.{◌≡◌, ◌≢◌, ◌<◌, ◌≤◌, ap, List, length, count_by, sym, subst, true, ◌∙◌, rules, arith, string_bytes}
+use Rattle.std.proofs.Common.{◌≡◌, ◌≢◌, ◌<◌, ap, length, count_by, sym, subst, true, ◌∙◌, rules, arith, string_bytes}
 use Rattle.memchr.proofs.lemmas.CallerLemmas.{length-places}
 use Rattle.memchr.specs.Find.{is_byte}
-use Rattle.comfy_parts.specs.Text.{Text}
 use Rattle.csv_records.proofs.NoneEnoughLemmas.{none_more, none_recorded}
 use Rattle.csv_records.specs.Beginning.{EndsWithLine, is_line_feed, whole_lines}
 use Rattle.csv_records.specs.Delimiter.{below_lines, shows_delimiter}

@@ -1,4 +1,4 @@
-use Rattle.std.proofs.Common.{◌∙◌, ap, rules, take}
+use Rattle.std.proofs.Common.{◌∙◌, ap, take}
 use Rattle.csv_records.proofs.WholeLineLemmas.{at_place, no_place}
 use Rattle.csv_records.proofs.beginning.whole_lines.Goals as goal
 use Rattle.csv_records.proofs.beginning.whole_lines.Goals.{in-Some, in-None}

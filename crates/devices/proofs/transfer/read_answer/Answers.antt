@@ -1,5 +1,5 @@
-use Rattle.std.proofs.Common.{◌≡◌, ◌<◌, [], Ok, Some, true, false, length, rules, sym, ap, ◌∙◌}
-use Rattle.devices.proofs.AskedLemmas.{answered_by_beginning, answered_by_whole, asked_again, asked_first}
+use Rattle.std.proofs.Common.{◌≡◌, ◌<◌, [], true, length, rules, sym, ◌∙◌}
+use Rattle.devices.proofs.AskedLemmas.{answered_by_beginning, answered_by_whole, asked_again}
 use Rattle.devices.proofs.DeviceLemmas.{moves_on}
 use Rattle.devices.specs.Transfer.{IsRenderedBy}
 use Rattle.devices.proofs.transfer.read_answer.Goals as goal

@@ -1,7 +1,7 @@
 use Rattle.std.proofs.Common.{rules, ◌≡◌, ◌<◌, ◌^◌, None, length, string_bytes}
 use Rattle.csv_records.specs.Beginning.{IsFoundInBeginning}
 use Rattle.csv_tables.specs.Errors.{of_columns}
-use Rattle.csv_tables.proofs.FirstRowLemmas.{all_counted, beginning_doubt, beginning_output, beginning_refused, no_memory, none_found, unlimited}
+use Rattle.csv_tables.proofs.FirstRowLemmas.{beginning_doubt, beginning_output, beginning_refused, no_memory, none_found, unlimited}
 use Rattle.csv_tables.proofs.transfer.OptionsRender.render_beginning.Goals as goal
 
 pub returns-in-Ok-output_of-clause-some : goal.returns-in-Ok-output_of-clause-some
