@@ -5,8 +5,8 @@ ghost use Rattle.promises.specs.Straight.{AreShownStraight, AreStraight, AreStra
 
 use comfy_table::{ArrangedTable, Lines, Result, Table};
 
-/// Where no character takes more than one terminal column, all lines are equally wide, under every
-/// arrangement, width, constraint and height.
+/// Where no character takes more than one terminal column, as `characters_fit(line, 1)` tests, all
+/// lines are equally wide, under every arrangement, width, constraint and height.
 pub fn straight_lines(table: &Table) -> Result<Lines>
     ensures { IfOk result (λ lines. AreStraight table.now lines) }
 {
@@ -20,8 +20,8 @@ pub fn straight_whole_lines(table: &Table) -> Result<Lines>
     table.lines()
 }
 
-/// Where each character has room in its column, all lines are equally wide, whatever the script.
-/// The columns of the drawing are returned with the lines.
+/// Where each character has room in its column, as `characters_fit(line, width)` tests, all lines
+/// are equally wide, whatever the script. The columns of the drawing are returned with the lines.
 pub fn straight_fitting_lines(table: &Table) -> Result<(ArrangedTable<'_>, Lines)>
     ensures { IfOk result (λ drawn. AreStraightWhereCharactersFit table.now drawn.0.infos drawn.1) }
 {
@@ -31,7 +31,8 @@ pub fn straight_fitting_lines(table: &Table) -> Result<(ArrangedTable<'_>, Lines
 }
 
 /// With colours and attributes, all lines show the same number of terminal columns, where no
-/// character takes more than one and no shown text holds a control character.
+/// character takes more than one, as `characters_fit(line, 1)` tests, and no shown text holds a
+/// control character.
 pub fn straight_styled_lines(table: &Table) -> Result<Lines>
     ensures { IfOk result (λ lines. AreShownStraight table.now lines) }
 {

@@ -5,8 +5,8 @@ ghost use Rattle.promises.specs.Widths.{FillWidth, KeepToWidth, KeepToWidthWhere
 
 use comfy_table::{ArrangedTable, ContentArrangement, Lines, Result, Table};
 
-/// No line is wider than the width that was set, or than the frame takes. No character takes more
-/// than one terminal column.
+/// No line is wider than the width that was set, or than the frame takes, where no character takes
+/// more than one terminal column, as `characters_fit(line, 1)` tests.
 pub fn lines_within(table: &mut Table, width: u16) -> Result<Lines>
     ensures { IfOk result (λ lines. KeepToWidth table.old width lines) }
 {
@@ -16,7 +16,7 @@ pub fn lines_within(table: &mut Table, width: u16) -> Result<Lines>
     table.lines()
 }
 
-/// Each line is exactly as wide, where the width has room for the frame and a column is shown.
+/// Then each line is exactly as wide, where the width has room for the frame and a column is shown.
 pub fn lines_over(table: &mut Table, width: u16) -> Result<Lines>
     ensures { IfOk result (λ lines. FillWidth table.old width lines) }
 {
@@ -26,9 +26,9 @@ pub fn lines_over(table: &mut Table, width: u16) -> Result<Lines>
     table.lines()
 }
 
-/// Where each character has room in its column, no line is wider than the width that was set, or
-/// than the frame takes, whatever the script. The columns of the drawing are returned with the
-/// lines.
+/// Where each character has room in its column, as `characters_fit(line, width)` tests, no line is
+/// wider than the width that was set, or than the frame takes, whatever the script. The columns of
+/// the drawing are returned with the lines.
 pub fn fitting_lines_within(table: &Table) -> Result<(ArrangedTable<'_>, Lines)>
     ensures { IfOk result (λ drawn. KeepToWidthWhereCharactersFit table.now drawn.0.infos drawn.1) }
 {
