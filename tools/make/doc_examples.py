@@ -30,7 +30,7 @@ PARAMETERS = {
     "column": ("&mut Column", "&mut Column::new(0)"),
 }
 SPLIT = "comfy_table::utils::formatting::content_split"
-PATHS = {"Global": "std::alloc"} | {it: SPLIT for it in ("ColumnDisplayInfo", "adds_up", "characters_fit", "split_line")}
+PATHS = {"Global": "std::alloc"} | {it: SPLIT for it in ("ColumnDisplayInfo", "characters_fit", "split_line")}
 PATHS |= {it: "comfy_table::presets" for it in ("by_name", "by_position")}
 PATHS |= {it: "super" for it in ("renew", "show")}
 VALUES = {None: "()", "text": "String", "is_so": "bool"}

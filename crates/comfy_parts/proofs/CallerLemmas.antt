@@ -21,7 +21,7 @@ pub use Rattle.comfy_parts.proofs.SequenceLemmas.{BeginsWithSequence, IsSequence
 pub use Rattle.comfy_parts.proofs.ShownLemmas.{Shows, Shows-append, Shows-byte, Shows-clear, Shows-nil, Shows-sequence, visible_text-is}
 pub use Rattle.comfy_parts.proofs.ShrinkLemmas.{shrinking_keeps_lines}
 pub use Rattle.comfy_parts.proofs.SliceLemmas.{scalar-printable}
-pub use Rattle.comfy_parts.proofs.TextFitLemmas.{adding_up_fits, fitting_characters_fit, head-fitting, lines-agree, text_lines_fit}
+pub use Rattle.comfy_parts.proofs.TextFitLemmas.{fitting_characters_fit, head-fitting, lines-agree, text_lines_fit}
 pub use Rattle.comfy_parts.proofs.ValueLemmas.{no_fewer_columns}
 pub use Rattle.comfy_parts.proofs.VisibleLineLemmas.{lines_closed, lines_resumed, lines_visible, visible_lines}
 pub use Rattle.comfy_parts.proofs.VisibleWholeLemmas.{none_at_front, past_sequence, visible_text-whole}

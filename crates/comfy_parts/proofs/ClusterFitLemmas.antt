@@ -1,25 +1,20 @@
 -- A head fits its terminal columns, since its clusters measure at least what it does. So words of which each character fits are cut well.
-use Rattle.std.proofs.Common.{◌≡◌, ◌≤◌, ℕ, ⊎_elim, Bool, true, false, not, ◌&&◌, ◌||◌, ◌==◌, List, [], ◌∷◌, ◌++◌, length, take, refl, sym, ap, ap₂, ◌∙◌, arith, append-nil}
+use Rattle.std.proofs.Common.{◌≡◌, ◌≤◌, ℕ, Bool, true, not, ◌==◌, List, [], ◌∷◌, ◌++◌, length, take, refl, sym, ap, ◌∙◌, arith, append-nil}
 use Rattle.std.specs.List.{list_all, onto_first, slice_split}
 use Rattle.std.specs.Prelude.{chars, encode_utf8, encode_utf8_all, IsUtf8}
 use Rattle.std.specs.Str.{all_scalars}
-use Rattle.std.proofs.lemmas.Bool.{and_from, and_parts, cases_Bool, cond_both, eqb-true, le-leb, leb-true, true≢false}
+use Rattle.std.proofs.lemmas.Bool.{and_from, and_parts, cond_both, leb-true}
 use Rattle.std.proofs.lemmas.List.Folds.{list_all-append}
 use Rattle.std.proofs.lemmas.Str.{chars-append, chars-encodes, encodes-append, encodes-chars, scalars-chars}
-use Rattle.unicode_width.specs.Width.{str_width}
-use Rattle.cluster_width.specs.ClusterSums.{clash, clashes, is_presentation, selectors_agree}
+use Rattle.cluster_width.specs.ClusterSums.{clash, clashes, selectors_agree}
 use Rattle.cluster_width.proofs.Fronts.{agree-front, fronts_bound}
-use Rattle.comfy_parts.specs.Columns.{AddsUp, CharactersFit, HeadFits, SelectorsAgree, character_fits, joins_no_other}
+use Rattle.comfy_parts.specs.Columns.{CharactersFit, HeadFits, SelectorsAgree, character_fits}
 use Rattle.comfy_parts.specs.Text.{Text, first_character, head, measure}
 use Rattle.comfy_parts.specs.Wrapping.{head_or_first}
 use Rattle.comfy_parts.proofs.HeadLemmas.{head_is_longest}
 use Rattle.comfy_parts.proofs.LinesFitLemmas.{IsCut}
 use Rattle.comfy_parts.proofs.PlaceLemmas.{IsFront, head-front, scalars-parts}
-use Rattle.std.proofs.lemmas.List.Sums.{sum_by-cons}
-use Rattle.unicode_width.proofs.Rules.{width_or_zero}
-use Rattle.ucd_table.specs.Rows.{in_ranges}
 use Rattle.cluster_width.proofs.SpaceMeasureLemmas.{measure-nil}
-use Rattle.comfy_parts.proofs.SumKindLemmas.{summed_add_up}
 
 -- ---- heads
 
@@ -112,50 +107,3 @@ parts-agree p (c ∷ cs) agree =
     let parts = and_parts (not (clashes c cs)) (selectors_agree cs) agree in
     let rest = parts-agree p cs parts.1 in
     cond_both (p c) _ _ (λ qs. list_all selectors_agree qs ≡ true) (λ _. rest) (λ _. onto-all c (slice_split p cs) (split-first p c cs parts.0) rest)
-
--- ---- characters that add up fit two columns
-
-not_this : (n c : ℕ) → joins_no_other n ≡ false → joins_no_other c ≡ true → (c == n) ≡ false
-not_this n c joins is =
-    ⊎_elim (λ same. absurd (true≢false (sym is ∙ ap joins_no_other (eqb-true c n same) ∙ joins))) (λ other. other) (cases_Bool (c == n))
-
-quote_joins : joins_no_other 0xFE01 ≡ false
-unfolding in_ranges
-quote_joins = refl
-
-text_joins : joins_no_other 0xFE0E ≡ false
-unfolding in_ranges
-text_joins = refl
-
-emoji_joins : joins_no_other 0xFE0F ≡ false
-unfolding in_ranges
-emoji_joins = refl
-
-no-clash : (c d : ℕ) → joins_no_other c ≡ true → not (clash c d) ≡ true
-no-clash c d joins =
-    ap₂ (λ q e. not ((q && is_presentation d) || (e && (d == 0xFE01)))) (not_this 0xFE01 c quote_joins joins)
-    (ap₂ (λ t e. t || e) (not_this 0xFE0E c text_joins joins) (not_this 0xFE0F c emoji_joins joins))
-
-no-clashes : (c : ℕ) (cs : List ℕ) → joins_no_other c ≡ true → not (clashes c cs) ≡ true
-no-clashes c [] joins = refl
-no-clashes c (d ∷ cs) joins = no-clash c d joins
-
--- a character measures as much as its bytes
-alone : (c : ℕ) → all_scalars (c ∷ []) ≡ true → measure (encode_utf8 c) ≡ str_width false (c ∷ [])
-alone c scalar = ap measure (sym (append-nil (encode_utf8 c))) ∙ ap (str_width false) (chars-encodes (c ∷ []) scalar)
-
-adding-up : (w : ℕ) (cs : List ℕ) → 2 ≤ w → all_scalars cs ≡ true → list_all joins_no_other cs ≡ true → (list_all (character_fits w) cs && selectors_agree cs) ≡ true
-adding-up w [] two scalars each = refl
-adding-up w (c ∷ cs) two scalars each =
-    let parts = and_parts (joins_no_other c) (list_all joins_no_other cs) each in
-    let whole = scalars-parts (c ∷ []) cs scalars in
-    let rest = and_parts (list_all (character_fits w) cs) (selectors_agree cs) (adding-up w cs two whole.1 parts.1) in
-    let same = alone c whole.0 in
-    let one = summed_add_up.sums (c ∷ []) (and_from _ _ parts.0 refl) in
-    let sum = sum_by-cons (width_or_zero false) c [] in
-    let narrow = summed_add_up.narrow c parts.0 in
-    let fits : measure (encode_utf8 c) ≤ w = omega (arith, same, one, sum, narrow, two) in
-    and_from _ _ (and_from _ _ (le-leb _ _ fits) rest.0) (and_from _ _ (no-clashes c cs parts.0) rest.1)
-
-pub adds_up-fits : (w : ℕ) (text : Text) → 2 ≤ w → IsUtf8 text → AddsUp text → CharactersFit w text
-adds_up-fits w text two utf8 each = adding-up w (chars text) two (scalars-chars text utf8) each

@@ -1,16 +1,15 @@
 -- Characters that join no other take their own columns in every text.
-use Rattle.std.proofs.Common.{◌≡◌, ◌≢◌, ◌≤◌, ℕ, ◌+◌, ◌*◌, Bool, true, false, not, ◌&&◌, ◌||◌, ◌==◌, ◌++◌, Option, Some, None, append-nil, length, nat_le, sum_by, zero-add, [], refl, sym, ap, ap₂, ◌∙◌, ⊎_elim, arith}
+use Rattle.std.proofs.Common.{◌≡◌, ◌≢◌, ◌≤◌, ℕ, ◌+◌, ◌*◌, Bool, true, false, not, ◌&&◌, ◌||◌, ◌==◌, ◌++◌, Option, Some, None, append-nil, length, nat_le, sum_by, zero-add, [], refl, sym, ap, ap₂, ◌∙◌, arith}
 use Rattle.std.specs.Char.{IsScalar}
 use Rattle.std.specs.Int.{is_in_range}
 use Rattle.std.specs.List.{list_all}
-use Rattle.std.specs.Option.{is_some}
 use Rattle.std.specs.Prelude.{if◌then◌else◌, chars, encode_utf8, unwrap_or, IsUtf8}
 use Rattle.std.proofs.StrCases.{chars_of_empty}
 use Rattle.std.proofs.lemmas.List.{length-append}
 use Rattle.std.proofs.lemmas.List.Sums.{sum_by-cons}
 use Rattle.std.proofs.lemmas.Str.{IsUtf8-past_char, chars_past_char}
 use Rattle.unicode_segmentation.proofs.TextLemmas.{encode_utf8_nonempty}
-use Rattle.std.proofs.lemmas.Bool.{and_parts, eqb-true, or_cases, or_left}
+use Rattle.std.proofs.lemmas.Bool.{eqb-true, or_left}
 use Rattle.std.proofs.lemmas.Bool.Decides.{nat_tests}
 use Rattle.ucd_table.specs.Rows.{in_ranges}
 use Rattle.unicode_width.proofs.Rules.{width_or_zero}
@@ -89,26 +88,6 @@ ideograph-two c is =
     let within = or_left (is_in_range 0x4E00 0x9FFF c) false is in
     let two = eqb-true (own_number c) 2 (implied (in_ranges ideographs c) _ (ideographs-wide c) within) in
     ap of_number (sym two) ∙ sym (own-columns c)
-
--- ---- the others have none
-
-has_columns : (c : ℕ) → joins_no_other c ≡ true → is_some (char_width false c) ≡ true
-unfolding char_width
-has_columns c apart =
-    ⊎_elim
-    (λ low. let one : char_width false c ≡ Some 1 = grind (arith, nat_tests, low) in ap is_some one)
-    (λ other.
-    let high = (and_parts (nat_le 0xA0 c) (not (in_ranges joining_characters c)) other).0 in
-    let own : char_width false c ≡ Some (alone false c).0 = grind (arith, nat_tests, high) in
-    ap is_some own)
-    (or_cases (is_in_range 0x20 0x7E c) (nat_le 0xA0 c && not (in_ranges joining_characters c)) apart)
-
-pub has_own : (c : ℕ) → is_some (own_width c) ≡ joins_no_other c
-has_own c = by_joins (joins_no_other c) refl
-  where
-    by_joins : (b : Bool) → joins_no_other c ≡ b → is_some (if b then char_width false c else None) ≡ b
-    by_joins true apart = has_columns c apart
-    by_joins false apart = refl
 
 -- ---- and in a text
 

@@ -1,21 +1,17 @@
 -- The lines of text lines whose words fit are no wider than their column.
-use Rattle.std.proofs.Common.{◌<◌, ◌+◌, ap₂, false, ◌≤◌, inl, inr, ⊎_elim, ℕ, ◌==◌, List, [], ◌∷◌, ◌++◌, ◌&&◌, nat_le, slice_index_or, sym, ap, ◌∙◌, subst, arith}
+use Rattle.std.proofs.Common.{◌<◌, ◌+◌, ◌≤◌, inl, inr, ⊎_elim, ℕ, ◌==◌, List, [], ◌∷◌, ◌++◌, ◌&&◌, nat_le, slice_index_or, ap, ◌∙◌, subst, arith}
 use Rattle.std.specs.Char.{IsScalar}
 use Rattle.std.specs.List.{All, list_all, slice_split}
 use Rattle.std.specs.Prelude.{chars, encode_utf8_all, IsUtf8}
 use Rattle.std.specs.Str.{all_scalars}
 use Rattle.std.proofs.Math.Utf8.{scalar as scalar_of}
-use Rattle.std.proofs.lemmas.Bool.{and_from, and_parts, cond_both}
-use Rattle.std.proofs.lemmas.List.Folds.{list_all-append}
+use Rattle.std.proofs.lemmas.Bool.{and_from, cond_both}
 use Rattle.std.proofs.lemmas.Bool.Decides.{nat_tests}
 use Rattle.std.proofs.lemmas.List.Elements.{All-cons, All-nil, All-map, All-weaker}
-use Rattle.std.proofs.lemmas.Str.{chars-append, chars-encodes, scalars-chars}
-use Rattle.std.specs.List.{sum_by}
-use Rattle.std.proofs.lemmas.List.Sums.{sum_by-append}
-use Rattle.unicode_width.proofs.Rules.{width_or_zero}
-use Rattle.comfy_parts.specs.Columns.{AddingUpFits, AddsUp, CharactersFit, FittingCharactersFit, PartsAddUp, SelectorsAgree, TextFits, TextLinesFit, WordFits, character_fits, joins_no_other}
+use Rattle.std.proofs.lemmas.Str.{chars-encodes, scalars-chars}
+use Rattle.comfy_parts.specs.Columns.{CharactersFit, FittingCharactersFit, SelectorsAgree, TextFits, TextLinesFit, WordFits, character_fits}
 use Rattle.cluster_width.specs.ClusterSums.{selectors_agree}
-use Rattle.comfy_parts.proofs.ClusterFitLemmas.{adds_up-fits, agree-texts, fitting-parts, head-cuts, head_fits, head_or_first-cuts, parts-agree}
+use Rattle.comfy_parts.proofs.ClusterFitLemmas.{agree-texts, fitting-parts, head-cuts, head_fits, head_or_first-cuts, parts-agree}
 use Rattle.comfy_parts.proofs.PlaceLemmas.{head-utf8}
 use Rattle.comfy_parts.specs.Text.{Text, measure, head, elements}
 use Rattle.comfy_parts.specs.Wrapping.{IsWrapped, head_or_first, lines_of_text, wrapped}
@@ -24,7 +20,6 @@ use Rattle.comfy_parts.proofs.PrintableLineLemmas.{parts-all}
 use Rattle.cluster_width.proofs.SpaceMeasureLemmas.{measure-nil}
 use Rattle.comfy_parts.proofs.UncutLemmas.{only-utf8}
 use Rattle.std.proofs.lemmas.List.Sums.{AllPass-from_list_all}
-use Rattle.comfy_parts.proofs.SumKindLemmas.{summed_add_up}
 use Rattle.comfy_parts.proofs.WrappedLemmas.{wrapped_is_wrapped}
 
 -- ---- words
@@ -82,27 +77,6 @@ elements-fit w d text utf8 each =
 pub fitting_characters_fit : (w d : ℕ) (text : Text) → FittingCharactersFit w d text
 fitting_characters_fit w d text adds utf8 each =
     inr (adds, All-weaker (CharactersFit w) (WordFits w) (λ word own. inr own) (elements d text) (elements-fit w d text utf8 each))
-
--- so such a text fits each column of two or more
-pub adding_up_fits : (w d : ℕ) (text : Text) → AddingUpFits w d text
-adding_up_fits w d text two adds utf8 each = fitting_characters_fit w d text adds utf8 (adds_up-fits w text two utf8 each)
-
--- ---- texts whose characters add up
-
--- two texts add up where the whole does
-add_up-parts : (front back : Text) → IsUtf8 front → AddsUp (front ++ back) → AddsUp front × AddsUp back
-add_up-parts front back utf8 each =
-    and_parts (list_all joins_no_other (chars front)) (list_all joins_no_other (chars back))
-    (sym (list_all-append joins_no_other (chars front) (chars back)) ∙ sym (ap (list_all joins_no_other) (chars-append front back utf8)) ∙ each)
-
--- and their measures add up to the whole one
-pub parts_add_up : (front back : Text) → PartsAddUp front back
-parts_add_up front back utf8 each =
-    let both = add_up-parts front back utf8 each in
-    let whole = summed_add_up.sums (chars (front ++ back)) each in
-    let one = summed_add_up.sums (chars front) both.0 in
-    let other = summed_add_up.sums (chars back) both.1 in
-    whole ∙ (ap (sum_by (width_or_zero false)) (chars-append front back utf8) ∙ (sum_by-append (width_or_zero false) (chars front) (chars back) ∙ ap₂ ◌+◌ (sym one) (sym other)))
 
 -- ---- texts whose selectors agree
 

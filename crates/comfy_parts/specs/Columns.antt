@@ -102,18 +102,6 @@ abbrev pub joins_no_other : ℕ → Bool
 joins_no_other c =
     is_in_range 0x20 0x7E c || (nat_le 0xA0 c && not (in_ranges joining_characters c))
 
--- a text of such characters
-abbrev pub adds_up : Text → Bool
-adds_up text = list_all joins_no_other (chars text)
-
-abbrev pub AddsUp : Text → Type 0
-AddsUp text = adds_up text ≡ true
-
--- wherever it is divided, its parts add up to its measure
-abbrev pub PartsAddUp : Text → Text → Type 0
-PartsAddUp front back =
-    IsUtf8 front → AddsUp (front ++ back) → measure (front ++ back) ≡ measure front + measure back
-
 -- ---- lines
 
 -- nowhere in the text does U+FE01 stand directly beside U+FE0E or U+FE0F
@@ -153,10 +141,6 @@ HeadFits k text = IsUtf8 text → SelectorsAgree text → measure (head k text) 
 abbrev pub FittingCharactersFit : ℕ → ℕ → Text → Type 0
 FittingCharactersFit w d text =
     AddsOneColumn d → IsUtf8 text → CharactersFit w text → TextFits w d text
-
--- a text whose characters add up fits each column of two or more
-abbrev pub AddingUpFits : ℕ → ℕ → Text → Type 0
-AddingUpFits w d text = 2 ≤ w → AddsOneColumn d → IsUtf8 text → AddsUp text → TextFits w d text
 
 -- ---- presets
 

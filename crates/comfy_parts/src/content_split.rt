@@ -20,7 +20,7 @@ use crate::error::Result;
 pub use bytes::{are_digits, has_control, is_printable};
 pub use display_info::ColumnDisplayInfo;
 pub use fitting::characters_fit;
-pub use joining::{adds_one_column, adds_up};
+pub use joining::adds_one_column;
 pub use lines::{WrappedLines, wrapped_lines};
 pub use prefix::split_long_word;
 pub(crate) use sequences::cursor::Cursor;

@@ -7,7 +7,7 @@ ghost use Rattle.std.specs.Prelude.{◌≡◌, All, true, ℕ, List, []};
 ghost use Rattle.std.specs.Char.{IsScalar};
 ghost use Rattle.std.specs.Cmp.{IsTotalOrder};
 ghost use Rattle.comfy_parts.specs.CellEquality.{cell_eq, cell_hash};
-ghost use Rattle.comfy_parts.specs.Columns.{AddingUpFits, FittingCharactersFit, FrameCharactersAddOneColumn, FrameTextsAreApart, HeadFits, IsOneColumnPreset, OneCharacterTakesThree, PartsAddUp, SpaceAddsOneColumn, TakesTwoAtMost, TextLinesFit, presets_all};
+ghost use Rattle.comfy_parts.specs.Columns.{FittingCharactersFit, FrameCharactersAddOneColumn, FrameTextsAreApart, HeadFits, IsOneColumnPreset, OneCharacterTakesThree, SpaceAddsOneColumn, TakesTwoAtMost, TextLinesFit, presets_all};
 ghost use Rattle.comfy_parts.specs.Comparisons.{ascends, attribute_cmp, attribute_eq, attribute_hash, attributes_in_order, color_cmp, color_eq, color_hash, colors_in_order, EqHashesAlike, EqIsSame, EqualIsSame};
 ghost use Rattle.comfy_parts.specs.Laws.{ActiveIsResumed, ClosedTextsLeaveNone, CutLinesAreFull, HeadIsLongest, IsCutOutsideNarrow, LinesAreFew, LinesAreFewest, LinesAreResumed, LinesAreVisible, LinesFit, LinesKeepTheText, NeighboursFillALine, NoneIsLeftOpen, OtherBytesAreVisible, PrintableClustersAreCharacters, PrintableAddsOneColumnEach, PrintableMeasuresItsLength, SequencesAreTakenOut, SequencesLeaveTheLines, WrappedIsOne, WrappedIsWrapped};
 ghost use Rattle.comfy_parts.specs.Text.{Text};
@@ -90,15 +90,11 @@ pub fn presets_have_columns_of_one()
 
 /// Where each word of a text fits its width, or each character of the word does, each line fits.
 /// U+FE01 stands nowhere directly beside U+FE0E or U+FE0F there, and the delimiter adds one
-/// terminal column. A head never measures more than its terminal columns. A text where `adds_up`
-/// says yes fits each width of at least 2, and wherever it is divided, its parts add up to its
-/// width.
+/// terminal column. A head never measures more than its terminal columns.
 pub fn lines_of_every_script_fit()
     ensures lines { (w d : ℕ) (text : Text) → TextLinesFit w d text }
     ensures characters { (w d : ℕ) (text : Text) → FittingCharactersFit w d text }
     ensures heads { (k : ℕ) (text : Text) → HeadFits k text }
-    ensures adds_up { (w d : ℕ) (text : Text) → AddingUpFits w d text }
-    ensures parts { (front back : Text) → PartsAddUp front back }
 {}
 
 /// Printable ASCII measures its length, and each of its characters is a cluster.

@@ -3,7 +3,7 @@
 use super::{renew, show};
 use comfy_table::presets::{ASCII_FULL, UTF8_FULL, by_name, by_position};
 use comfy_table::utils::formatting::content_split::{
-    ColumnDisplayInfo, adds_up, characters_fit, split_line,
+    ColumnDisplayInfo, characters_fit, split_line,
 };
 use comfy_table::{
     Attribute, Cell, CellAlignment, Color, Column, ColumnConstraint, ContentArrangement,
@@ -49,7 +49,6 @@ fn silent_2(alloc: Global, table: &mut Table) -> Result<()> {
 fn shown_1(rt: &HostRuntime, table: &mut Table, new_table: &mut Table) -> anyhow::Result<()> {
     let alloc = rt.alloc();
     println!(rt; "{}", characters_fit_example())?;
-    println!(rt; "{}", adds_up_example())?;
     table_error_example(rt, table)?;
     renew(alloc, new_table);
     show(rt, row_max_height_example(alloc, new_table))?;
@@ -115,10 +114,6 @@ fn column_display_info_example(alloc: Global) -> Result<()> {
 
 fn characters_fit_example() -> bool {
     characters_fit("كتاب 👨‍👩‍👧", 2) && !characters_fit("年度", 1)
-}
-
-fn adds_up_example() -> bool {
-    adds_up("年度 Ωmega é ✅") && !adds_up("👨‍👩‍👧")
 }
 
 fn into_cell_example(alloc: Global) -> Result<()> {

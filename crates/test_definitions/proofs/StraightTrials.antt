@@ -8,7 +8,7 @@ use Rattle.std.specs.Str.{IsUtf8}
 use Rattle.comfy_parts.proofs.Computing.{wrapping}
 use Rattle.comfy_parts.proofs.CallerLemmas.{frame_apart, one_character, one_column_characters}
 use Rattle.comfy_parts.specs.CellValue.{CellValue, ColumnValue, RowValue, new_column, plain_cell, plain_row}
-use Rattle.comfy_parts.specs.Columns.{AddsOneColumn, IsApart, WordFits, adds_up, characters_fit, has_frame_characters}
+use Rattle.comfy_parts.specs.Columns.{AddsOneColumn, IsApart, WordFits, characters_fit, has_frame_characters}
 use Rattle.comfy_parts.specs.Presets.{nothing, utf8_full}
 use Rattle.comfy_parts.specs.Text.{Text, measure, head, clusters}
 use Rattle.comfy_parts.specs.Wrapping.{lines_of_text}
@@ -82,28 +82,6 @@ number_sign_is_no_frame_character = refl
 wide_character_is_no_frame_character : has_frame_characters (bordered_by 0x5E74) ≡ false
 unfolding wrapping
 wide_character_is_no_frame_character = refl
-
--- ---- texts
-
-chinese_and_latin_add_up : adds_up (utf8 "年é") ≡ true
-unfolding wrapping
-chinese_and_latin_add_up = refl
-
-cyrillic_adds_up : adds_up (utf8 "Отчёт") ≡ true
-unfolding wrapping
-cyrillic_adds_up = refl
-
-alef_does_not_add_up : adds_up (encode_utf8_all (0x627 ∷ [])) ≡ false
-unfolding wrapping
-alef_does_not_add_up = refl
-
-joiner_does_not_add_up : adds_up (encode_utf8_all (0x200D ∷ [])) ≡ false
-unfolding wrapping
-joiner_does_not_add_up = refl
-
-no_break_space_adds_up : adds_up (encode_utf8_all (0x31 ∷ 0xA0 ∷ 0x6B ∷ [])) ≡ true
-unfolding wrapping
-no_break_space_adds_up = refl
 
 -- ---- characters that fit
 
@@ -191,10 +169,6 @@ wide_delimiter_in_a_line = refl
 abbrev quoted : Text
 quoted = encode_utf8_all (0x201C ∷ 0xFE0F ∷ 0xFE01 ∷ 0x627 ∷ [])
 
-quoted_does_not_add_up : adds_up quoted ≡ false
-unfolding wrapping
-quoted_does_not_add_up = refl
-
 its_clusters_measure_one : map measure (clusters quoted) ≡ 1 ∷ 1 ∷ []
 unfolding wrapping
 its_clusters_measure_one = refl
@@ -236,10 +210,6 @@ row = plain_row (family ∷ letter ∷ [])
 
 abbrev table : TableValue
 table = with_row row (new_table utf8_full)
-
-family_does_not_add_up : map adds_up family.text_lines ≡ false ∷ []
-unfolding wrapping
-family_does_not_add_up = refl
 
 -- borders and paddings take seven columns, the texts four and one
 total_is_twelve : line_total table (widths_by_content table) ≡ 12

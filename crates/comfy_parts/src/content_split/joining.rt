@@ -1,10 +1,9 @@
-//! Which characters add one terminal column wherever they stand, and which join no other.
+//! Which characters add one terminal column wherever they stand.
 
 ghost use Rattle.std.specs.Prelude.{◌≡◌, true, unwrap_or};
 ghost use Rattle.std.specs.List.{list_all};
-ghost use Rattle.comfy_parts.specs.Columns.{AddsOneColumn, IsOneColumnStyle, adds_up, has_frame_characters, is_frame_character, joins_no_other};
+ghost use Rattle.comfy_parts.specs.Columns.{AddsOneColumn, IsOneColumnStyle, has_frame_characters, is_frame_character};
 
-use crate::content_split::own_width::own_width;
 use crate::style::TableStyle;
 
 /// Whether the character adds one terminal column between any two texts, of every script. So do box
@@ -52,28 +51,4 @@ fn are_one_column(characters: &[Option<char>]) -> bool
     characters
         .iter()
         .all(|character| adds_one_column(character.unwrap_or(' ')))
-}
-
-/// Whether no character of the text is one that joins others, so that the widths of its characters
-/// add up to its width. Texts in Chinese, Japanese, Korean, Greek, Cyrillic, in Latin letters with
-/// accents and in most other scripts are such, and so are emoji without a joiner, a variation
-/// selector or a skin tone. An Arabic alef, a Hebrew lamed and Khmer letters join others. Of a text
-/// with one of these this says no, though its widths may still add up. So it does of a control
-/// character. The second text here has three emoji and two joiners, which are drawn as one.
-///
-/// ```
-/// let is_so = adds_up("年度 Ωmega é ✅") && !adds_up("👨‍👩‍👧");
-/// // true
-/// ```
-pub fn adds_up(text: &str) -> bool
-    ensures { result ≡ adds_up text.now }
-{
-    text.chars().all(joins_no_other)
-}
-
-// Whether the character joins no other one.
-fn joins_no_other(character: char) -> bool
-    ensures { result ≡ joins_no_other character }
-{
-    own_width(character).is_some()
 }

@@ -1,42 +1,7 @@
-//! Which texts add up, which characters fit, and that presets are of one column.
+//! Which characters fit, and that presets are of one column.
 
-use comfy_parts::content_split::{adds_up, characters_fit};
+use comfy_parts::content_split::characters_fit;
 use comfy_parts::style::presets::ALL;
-
-// Each text, and whether its characters join no other.
-const TEXTS: [(&str, bool); 17] = [
-    ("年度报告", true),
-    ("日本語カナ", true),
-    ("한국어", true),
-    ("Отчёт", true),
-    ("Έκθεση", true),
-    // a Latin letter with an accent behind it
-    ("e\u{301}", true),
-    // Arabic without an alef, and with one
-    ("\u{645}\u{62d}\u{645}\u{62f}", true),
-    ("\u{643}\u{62a}\u{627}\u{628}", false),
-    ("✅", true),
-    ("", true),
-    // Hebrew with a lamed
-    ("\u{5e9}\u{5dc}\u{5d5}\u{5dd}", false),
-    // Khmer
-    ("\u{1781}\u{17d2}\u{1798}\u{17c2}\u{179a}", false),
-    // a family, and a flag
-    ("\u{1f468}\u{200d}\u{1f469}", false),
-    ("\u{1f1eb}\u{1f1f7}", false),
-    ("\u{1b}", false),
-    // a space that is kept together with its words
-    ("10\u{a0}km", true),
-    // Chinese with a variation selector
-    ("年\u{fe0f}", false),
-];
-
-#[test]
-fn most_scripts_add_up(rt: HostRuntime) {
-    for (text, wanted) in &TEXTS {
-        assert!(rt; adds_up(text) == *wanted);
-    }
-}
 
 // Each text, a width in terminal columns, and whether each of its characters fits and no two
 // selectors clash.
