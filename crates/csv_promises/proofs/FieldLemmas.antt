@@ -1,5 +1,5 @@
 -- All fields of records stand in what is written of them.
-use Rattle.std.proofs.Common.{◌≡◌, ◌<◌, ◌≤◌, ℕ, zero, suc, ◌+◌, Bool, true, false, List, [], ◌∷◌, ◌++◌, Option, Some, None, length, map, max, flat_map, refl, sym, ap, ap₂, ◌∙◌, subst, arith, append-nil, slice_index_or, unwrap_or}
+use Rattle.std.proofs.Common.{◌≡◌, ◌≤◌, ℕ, zero, suc, ◌+◌, Bool, true, false, List, [], ◌∷◌, ◌++◌, Option, Some, None, length, map, max, flat_map, refl, sym, ap, ap₂, ◌∙◌, subst, arith, append-nil, slice_index_or, unwrap_or}
 use Rattle.std.specs.List.{All, AllByRecursion, AllZip, concat, enumerate_from, range_with_len, slice_get}
 use Rattle.std.specs.Prelude.{Contains, chars, fold, MatchOption, option_map, option_to_list}
 use Rattle.std.specs.Str.{IsUtf8}
@@ -20,7 +20,7 @@ use Rattle.csv_tables.proofs.BuiltLemmas.{each_field}
 use Rattle.csv_tables.proofs.RowLemmas.{with_rows-rows}
 use Rattle.csv_tables.proofs.SeparatorLemmas.{condensed-all, separated}
 use Rattle.csv_tables.proofs.WholeColumnLemmas.{IsPaddedColumn}
-use Rattle.csv_tables.specs.Cells.{cell_for, cells_for, field_or_blank, field_text, header_for, kept_by, reached, row_for, with_weight}
+use Rattle.csv_tables.specs.Cells.{cell_for, cells_for, field_or_blank, field_text, header_for, reached, row_for, with_weight}
 use Rattle.csv_tables.specs.Drawn.{condensed_style, empty_table, headed_table}
 use Rattle.csv_tables.specs.Laws.{HasSpacesBehind}
 use Rattle.csv_tables.specs.declared.options.DrawnColumn.{DrawnColumn}
@@ -144,12 +144,12 @@ at_map f none [] i = sym none
 at_map f none (field ∷ fields) zero = refl
 at_map f none (field ∷ fields) (suc i) = at_map f none fields i
 
-module _ (look : Look) (tidy : look.is_raw ≡ false) (unkept : look.has_sequences ≡ false) (none : look.is_markdown ≡ false) where
+module _ (look : Look) (unkept : look.has_sequences ≡ false) (none : look.is_markdown ≡ false) where
   abbrev pub clean : Text → Text
-  clean field = cleaned (kept_by look) field
+  clean field = cleaned look.has_sequences field
 
   clean-nil : clean [] ≡ []
-  clean-nil = ap (λ (b : Bool). (fold (after_piece (kept_by look)) start (pieces b (chars []))).text) unkept ∙ ap (λ (cs : List ℕ). (fold (after_piece (kept_by look)) start (pieces false cs)).text) chars-nil
+  clean-nil = ap (λ (b : Bool). (fold after_piece start (pieces b (chars []))).text) unkept ∙ ap (λ (cs : List ℕ). (fold after_piece start (pieces false cs)).text) chars-nil
 
   abbrev cell_of : Bool → List Text → DrawnColumn → CellValue
   cell_of is_bold fields column = with_weight is_bold (cell_for look column.alignment (field_or_blank fields column.position))
@@ -191,8 +191,8 @@ module _ (look : Look) (tidy : look.is_raw ≡ false) (unkept : look.has_sequenc
 
       same : filled (concat (plain_cell (field_text look (field_or_blank drawn i))).text_lines) ≡ filled (field_or_blank (map clean fields) i)
       same =
-          filled-field look tidy unkept none (field_or_blank drawn i) ∙ ap (λ (t : Text). filled (clean t)) (spaced.1 i).1
-          ∙ filled-spaced look tidy unkept none field (spaced.1 i).0 (each_field IsUtf8 IsUtf8-nil fields i utf8) ∙ ap filled (sym (at_map clean clean-nil fields i))
+          filled-field look unkept none (field_or_blank drawn i) ∙ ap (λ (t : Text). filled (clean t)) (spaced.1 i).1
+          ∙ filled-spaced look unkept none field (spaced.1 i).0 (each_field IsUtf8 IsUtf8-nil fields i utf8) ∙ ap filled (sym (at_map clean clean-nil fields i))
 
       by_option : (o : Option CellValue) → MatchOption o (length columns ≤ i) (λ cell. (cell.delimiter ≡ None) × (cell.text_lines ≡ (plain_cell (field_text look (field_or_blank drawn (0 + i)))).text_lines))
           → MatchOption o (filled (field_or_blank (map clean fields) i) ≡ []) (λ cell. (cell.delimiter ≡ None) × (filled (concat cell.text_lines) ≡ filled (field_or_blank (map clean fields) i)))

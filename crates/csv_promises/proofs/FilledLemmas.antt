@@ -1,5 +1,5 @@
 -- What of texts is no space and no line feed.
-use Rattle.std.proofs.Common.{◌≡◌, ◌==◌, ◌&&◌, ◌||◌, inl, inr, ℕ, zero, suc, Bool, true, false, not, List, [], ◌∷◌, ◌++◌, flat_map, chars, encode_utf8, refl, sym, ap, ap₂, ◌∙◌, arith, append-nil, append_assoc, cond}
+use Rattle.std.proofs.Common.{◌≡◌, ◌==◌, ◌||◌, inl, inr, ℕ, zero, suc, Bool, true, false, not, List, [], ◌∷◌, ◌++◌, flat_map, chars, refl, sym, ap, ap₂, ◌∙◌, arith, append-nil, append_assoc, cond}
 use Rattle.std.specs.List.{AllZip, concat, join_with_byte, slice_split}
 use Rattle.std.specs.Prelude.{fold, if◌then◌else◌, replicate, slice_index, ◌<◌}
 use Rattle.std.proofs.lemmas.List.{map-append}
@@ -13,9 +13,8 @@ use Rattle.std.proofs.lemmas.Str.{chars-append, chars-IsAscii, encode_ascii}
 use Rattle.comfy_parts.specs.Text.{IsOnly, Text, spaces}
 use Rattle.comfy_parts.specs.CellValue.{plain_cell}
 use Rattle.comfy_parts.specs.Wrapping.{IsSlicesWhere}
-use Rattle.csv_records.specs.Cleaning.{CleanedText, after_character, after_piece, cleaned, is_replaced, pieces, start, turns_direction}
-use Rattle.csv_records.specs.declared.cleaning.CleanOptions.{CleanOptions}
-use Rattle.csv_tables.specs.Cells.{field_text, is_blank, kept_by, kept_for_markdown, marked, unless_blank}
+use Rattle.csv_records.specs.Cleaning.{CleanedText, after_character, after_piece, cleaned, pieces, start}
+use Rattle.csv_tables.specs.Cells.{field_text, is_blank, marked, unless_blank}
 use Rattle.csv_tables.specs.declared.options.Look.{Look}
 use Rattle.promises.specs.Kept.{AreSlicesOf}
 use Rattle.csv_promises.specs.Fields.{filled}
@@ -87,19 +86,12 @@ filled-unless text = by_test (is_blank text) refl
 
 -- ---- spaces behind a field
 
-module _ (kept : CleanOptions) (none : kept.sequences ≡ false) where
-  stays : is_replaced kept 0x20 ≡ false
-  stays = by_test kept.directions
-    where
-      by_test : (b : Bool) → (false || (not b && turns_direction 0x20)) ≡ false
-      by_test true = refl
-      by_test false = refl
-
-  after_spaces : (n : ℕ) (s : CleanedText) → (fold (after_piece kept) s (pieces false (spaces n))).text ≡ s.text ++ spaces n
+module _ (keeps : Bool) (none : keeps ≡ false) where
+  after_spaces : (n : ℕ) (s : CleanedText) → (fold after_piece s (pieces false (spaces n))).text ≡ s.text ++ spaces n
   after_spaces zero s = sym (append-nil s.text)
   after_spaces (suc n) s =
-      let here : (after_character kept s 0x20).text ≡ s.text ++ 0x20 ∷ [] = ap (λ (b : Bool). s.text ++ encode_utf8 (if b then 0xFFFD else 0x20)) stays ∙ ap (λ (t : Text). s.text ++ t) (encode_ascii 0x20 (omega arith)) in
-      after_spaces n (after_character kept s 0x20) ∙ ap (λ (t : Text). t ++ spaces n) here ∙ append_assoc s.text (0x20 ∷ []) (spaces n)
+      let here : (after_character s 0x20).text ≡ s.text ++ 0x20 ∷ [] = ap (λ (t : Text). s.text ++ t) (encode_ascii 0x20 (omega arith)) in
+      after_spaces n (after_character s 0x20) ∙ ap (λ (t : Text). t ++ spaces n) here ∙ append_assoc s.text (0x20 ∷ []) (spaces n)
 
   space_below : (n i : ℕ) → slice_index (spaces n) i < 128
   space_below zero i = omega arith
@@ -110,30 +102,30 @@ module _ (kept : CleanOptions) (none : kept.sequences ≡ false) where
   single c = record { is_sequence = false; bytes = c ∷ [] }
 
   abbrev folded : CleanedText → List ℕ → CleanedText
-  folded s cs = fold (after_piece kept) s (pieces false cs)
+  folded s cs = fold after_piece s (pieces false cs)
 
-  as_folded : (field : Text) → cleaned kept field ≡ (folded start (chars field)).text
-  as_folded field = ap (λ (b : Bool). (fold (after_piece kept) start (pieces b (chars field))).text) none
+  as_folded : (field : Text) → cleaned keeps field ≡ (folded start (chars field)).text
+  as_folded field = ap (λ (b : Bool). (fold after_piece start (pieces b (chars field))).text) none
 
-  pub cleaned-spaced : (field : Text) (n : ℕ) → IsUtf8 field → cleaned kept (field ++ spaces n) ≡ cleaned kept field ++ spaces n
+  pub cleaned-spaced : (field : Text) (n : ℕ) → IsUtf8 field → cleaned keeps (field ++ spaces n) ≡ cleaned keeps field ++ spaces n
   cleaned-spaced field n utf8 =
       as_folded (field ++ spaces n)
       ∙ ap (λ (cs : List ℕ). (folded start cs).text) (chars-append field (spaces n) utf8 ∙ ap (λ (cs : List ℕ). chars field ++ cs) (chars-IsAscii (spaces n) (space_below n)))
-      ∙ ap (λ (ps : List Part). (fold (after_piece kept) start ps).text) (map-append single (chars field) (spaces n))
-      ∙ ap (λ (s : CleanedText). s.text) (fold-append (after_piece kept) start (pieces false (chars field)) (pieces false (spaces n)))
+      ∙ ap (λ (ps : List Part). (fold after_piece start ps).text) (map-append single (chars field) (spaces n))
+      ∙ ap (λ (s : CleanedText). s.text) (fold-append after_piece start (pieces false (chars field)) (pieces false (spaces n)))
       ∙ after_spaces n (folded start (chars field))
       ∙ ap (λ (t : Text). t ++ spaces n) (sym (as_folded field))
 
 -- ---- a field as its cell has it
 
-module _ (look : Look) (tidy : look.is_raw ≡ false) (unkept : look.has_sequences ≡ false) (table : look.is_markdown ≡ false) where
-  pub filled-field : (field : Text) → filled (concat (plain_cell (field_text look field)).text_lines) ≡ filled (cleaned (kept_by look) field)
+module _ (look : Look) (unkept : look.has_sequences ≡ false) (table : look.is_markdown ≡ false) where
+  pub filled-field : (field : Text) → filled (concat (plain_cell (field_text look field)).text_lines) ≡ filled (cleaned look.has_sequences field)
   filled-field field =
       filled-cell (field_text look field)
-      ∙ ap₂ (λ (m r : Bool). filled (if m then marked (cleaned (kept_for_markdown look) field) else if r then unless_blank field else unless_blank (cleaned (kept_by look) field))) table tidy
-      ∙ filled-unless (cleaned (kept_by look) field)
+      ∙ ap (λ (m : Bool). filled (if m then marked (cleaned false field) else unless_blank (cleaned look.has_sequences field))) table
+      ∙ filled-unless (cleaned look.has_sequences field)
 
   -- spaces behind it are none of it
-  pub filled-spaced : (field : Text) (n : ℕ) → IsUtf8 field → filled (cleaned (kept_by look) (field ++ spaces n)) ≡ filled (cleaned (kept_by look) field)
+  pub filled-spaced : (field : Text) (n : ℕ) → IsUtf8 field → filled (cleaned look.has_sequences (field ++ spaces n)) ≡ filled (cleaned look.has_sequences field)
   filled-spaced field n utf8 =
-      ap filled (cleaned-spaced (kept_by look) unkept field n utf8) ∙ filled-append (cleaned (kept_by look) field) (spaces n) ∙ ap (λ (t : Text). filled (cleaned (kept_by look) field) ++ t) (filled-spaces n) ∙ append-nil (filled (cleaned (kept_by look) field))
+      ap filled (cleaned-spaced look.has_sequences unkept field n utf8) ∙ filled-append (cleaned look.has_sequences field) (spaces n) ∙ ap (λ (t : Text). filled (cleaned look.has_sequences field) ++ t) (filled-spaces n) ∙ append-nil (filled (cleaned look.has_sequences field))

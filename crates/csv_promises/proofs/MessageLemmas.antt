@@ -12,7 +12,7 @@ use Rattle.std.proofs.lemmas.Str.{NoCharPasses-append, NoCharPasses-nil, encode_
 use Rattle.comfy_parts.specs.Text.{Text, is_printable_ascii}
 use Rattle.csv_command.specs.Ending.{about, columns_reason, decoding_reason, encoding_hint, foreign_reason, input_name, is_of_input, message_for, reading_reason, reason_for, records_reason, shown_name}
 use Rattle.csv_command.specs.declared.arguments.Invocation.{Invocation}
-use Rattle.csv_records.specs.Cleaning.{is_replaced, nothing_kept, shown, turns_direction}
+use Rattle.csv_records.specs.Cleaning.{is_replaced, shown, turns_direction}
 use Rattle.csv_records.specs.declared.encoding.Encoding.{Encoding}
 use Rattle.csv_records.specs.declared.error.DecodeError.{DecodeError}
 use Rattle.csv_records.specs.declared.error.DecodeError.TheVariants as decode
@@ -49,21 +49,21 @@ line_feed = (0x0A ∷ [], append-nil _ ∙ encode_ascii 0x0A (omega arith), (ref
 
 -- a name as it is said
 name : (text : Text) → IsTame (shown_name text)
-name text = (map (shown nothing_kept) (chars text), refl, none (chars text))
+name text = (map (shown) (chars text), refl, none (chars text))
   where
-    one : (c : ℕ) → is_wild (shown nothing_kept c) ≡ false
-    one c = by_test (is_replaced nothing_kept c) refl
+    one : (c : ℕ) → is_wild (shown c) ≡ false
+    one c = by_test (is_replaced c) refl
       where
-        by_test : (b : Bool) → is_replaced nothing_kept c ≡ b → is_wild (if b then 0xFFFD else c) ≡ false
+        by_test : (b : Bool) → is_replaced c ≡ b → is_wild (if b then 0xFFFD else c) ≡ false
         by_test true is = refl
         by_test false is = by_parts (is_control c) (turns_direction c) is
           where
-            by_parts : (a d : Bool) → (a || (true && d)) ≡ false → ((a && not (c == 0x0A)) || d) ≡ false
+            by_parts : (a d : Bool) → (a || d) ≡ false → ((a && not (c == 0x0A)) || d) ≡ false
             by_parts true d is = absurd (cc is)
             by_parts false true is = absurd (cc is)
             by_parts false false is = refl
 
-    none : (cs : List ℕ) → NonePass is_wild (map (shown nothing_kept) cs)
+    none : (cs : List ℕ) → NonePass is_wild (map (shown) cs)
     none [] = tt
     none (c ∷ cs) = (one c, none cs)
 

@@ -128,13 +128,13 @@ restyled style other gives fields block own =
       stand = λ k below. among_weaker (IsFrame style) (IsFrame other) gives (map (λ (column : List Text). slice_index_or column k []) own.pieces) (slice_index_or block k []) (own.stand k below);
     }
 
-module _ (look : Look) (tidy : look.is_raw ≡ false) (unkept : look.has_sequences ≡ false) (table : look.is_markdown ≡ false) (columns : List DrawnColumn) (positions : map (λ (column : DrawnColumn). column.position) columns ≡ range_with_len 0 (length columns))
+module _ (look : Look) (unkept : look.has_sequences ≡ false) (table : look.is_markdown ≡ false) (columns : List DrawnColumn) (positions : map (λ (column : DrawnColumn). column.position) columns ≡ range_with_len 0 (length columns))
     (content : ContentValue) (has : Bool) (t : TableValue) (own : HasLook look content has t) where
   abbrev cleaned_records : List (List Text) → List (List Text)
-  cleaned_records records = map (map (clean look tidy unkept table)) records
+  cleaned_records records = map (map (clean look unkept table)) records
 
   -- the rows show the records
-  each_shown : (count : ℕ) → count ≤ length t.columns → (records : List (List Text)) (rows : List RowValue) (blocks : List (List Text)) → AllZip (Good look tidy unkept table columns positions count) records rows → AllZip (ShowsRow t) rows blocks
+  each_shown : (count : ℕ) → count ≤ length t.columns → (records : List (List Text)) (rows : List RowValue) (blocks : List (List Text)) → AllZip (Good look unkept table columns positions count) records rows → AllZip (ShowsRow t) rows blocks
       → AllZip (ShowsRecord look.style) (cleaned_records records) blocks
   each_shown count few [] [] [] good shows = tt
   each_shown count few [] [] (block ∷ blocks) good shows = absurd shows
@@ -142,10 +142,10 @@ module _ (look : Look) (tidy : look.is_raw ≡ false) (unkept : look.has_sequenc
   each_shown count few (fields ∷ records) [] blocks good shows = absurd good
   each_shown count few (fields ∷ records) (row ∷ rows) [] good shows = absurd shows
   each_shown count few (fields ∷ records) (row ∷ rows) (block ∷ blocks) good shows =
-      let long = length-map fields (clean look tidy unkept table) in
+      let long = length-map fields (clean look unkept table) in
       let room = good.0.room in (
-        restyled t.style look.style in_look (map (clean look tidy unkept table) fields) block
-            (shows_record t own.spaced own.shown own.padded (map (clean look tidy unkept table) fields) row block good.0.own good.0.uncut (omega (arith, long, room, few)) shows.0),
+        restyled t.style look.style in_look (map (clean look unkept table) fields) block
+            (shows_record t own.spaced own.shown own.padded (map (clean look unkept table) fields) row block good.0.own good.0.uncut (omega (arith, long, room, few)) shows.0),
         each_shown count few records rows blocks good.1 shows.1,
       )
     where
@@ -153,7 +153,7 @@ module _ (look : Look) (tidy : look.is_raw ≡ false) (unkept : look.has_sequenc
       in_look text frame = frame_of has look text (subst (λ (style : TableStyle). IsFrame style text) own.style frame)
 
   -- and the lines of a drawing the table
-  pub lines_shown : (records : List (List Text)) (lines : List Text) (text : Text) → AreLinesOf text lines → IsTableDrawing t lines → AllZip (Good look tidy unkept table columns positions (length (rows_table look content).columns)) records (header_and_rows (rows_table look content))
+  pub lines_shown : (records : List (List Text)) (lines : List Text) (text : Text) → AreLinesOf text lines → IsTableDrawing t lines → AllZip (Good look unkept table columns positions (length (rows_table look content).columns)) records (header_and_rows (rows_table look content))
       → ShowsRecords look (cleaned_records records) text
   lines_shown records lines text are drawing good =
       let shown = all_texts_stand t lines drawing (own.no_sequences ∙ unkept) in
@@ -167,14 +167,13 @@ module _ (look : Look) (tidy : look.is_raw ≡ false) (unkept : look.has_sequenc
         stand = among_weaker (All (IsFrame t.style)) (All (IsFrame look.style))
             (λ ls. All-weaker (IsFrame t.style) (IsFrame look.style) (λ line frame. frame_of has look line (subst (λ (style : TableStyle). IsFrame style line) own.style frame)) ls) shown.blocks shown.plain shown.stand;
         show = each_shown (length (rows_table look content).columns) (omega (arith, own.as_many)) records (header_and_rows t) shown.blocks
-            (subst (AllZip (Good look tidy unkept table columns positions (length (rows_table look content).columns)) records) (sym own.rows) good) shown.show;
+            (subst (AllZip (Good look unkept table columns positions (length (rows_table look content).columns)) records) (sym own.rows) good) shown.show;
       }
 
 -- ---- outputs
 
 -- what options ask for that draw all fields
 pub record DrawsAll (o : Options) : Type 0 where
-  pub tidy : o.look.is_raw ≡ false
   pub unkept : o.look.has_sequences ≡ false
   pub table : o.look.is_markdown ≡ false
   pub flat : (content : ContentValue) → is_table_expanded o.look content ≡ false
@@ -244,11 +243,11 @@ module _ (o : Options) (all : DrawsAll o) (records : List (List Text)) (texts : 
   rows_are : content.rows ≡ rows
   rows_are = sym (ap (λ (c : ContentValue). c.rows) found.2) ∙ ap (λ (b : Bool). rows_beside b rows) all.unnumbered
 
-  pub good : AllZip (Good look all.tidy all.unkept all.table found.0 positions (length (rows_table look fitting).columns)) records (header_and_rows (rows_table look fitting))
+  pub good : AllZip (Good look all.unkept all.table found.0 positions (length (rows_table look fitting).columns)) records (header_and_rows (rows_table look fitting))
   good =
-      subst (λ (t : TableValue). AllZip (Good look all.tidy all.unkept all.table found.0 positions (length t.columns)) records (header_and_rows t)) (sym table_is)
-      (subst (λ (each : List (List Text)). AllZip (Good look all.tidy all.unkept all.table found.0 positions (length made_table.columns)) each (header_and_rows made_table)) all_drawn
-      (good_table look all.tidy all.unkept all.table found.0 positions all.uncut names rows fitting.rows (subst (λ (each : List (List Text)). AllZip AreSpaced each fitting.rows) rows_are (rows_spaced content.rows fitting.rows (spaces_alone look content)))
+      subst (λ (t : TableValue). AllZip (Good look all.unkept all.table found.0 positions (length t.columns)) records (header_and_rows t)) (sym table_is)
+      (subst (λ (each : List (List Text)). AllZip (Good look all.unkept all.table found.0 positions (length made_table.columns)) each (header_and_rows made_table)) all_drawn
+      (good_table look all.unkept all.table found.0 positions all.uncut names rows fitting.rows (subst (λ (each : List (List Text)). AllZip AreSpaced each fitting.rows) rows_are (rows_spaced content.rows fitting.rows (spaces_alone look content)))
       (subst (λ (n : ℕ). AllByRecursion (HasRoom n) (option_to_list names ++ rows)) (sym long) (all_have_room names rows))
       (subst (All (All IsUtf8)) (sym all_drawn) (All-weaker AllText (All IsUtf8) text_fields records texts))))
     where
@@ -257,9 +256,9 @@ module _ (o : Options) (all : DrawsAll o) (records : List (List Text)) (texts : 
 
 -- the text of the table of records, and nothing below it
 pub output_shown : (o : Options) → DrawsAll o → IsStyleWithout 0x0A o.look.style → (records : List (List Text)) → All AllText records → (output : Text) → RendersRecords o records output
-    → (tidy : o.look.is_raw ≡ false) (unkept : o.look.has_sequences ≡ false) (table : o.look.is_markdown ≡ false) → ShowsRecords o.look (map (map (clean o.look tidy unkept table)) records) output
-output_shown o all style records texts output made tidy unkept table =
-    lines_shown o.look all.tidy all.unkept all.table (found o all records texts made.content made.is_content).0 (positions o all records texts made.content made.is_content) fitting has the_table
+    → (unkept : o.look.has_sequences ≡ false) (table : o.look.is_markdown ≡ false) → ShowsRecords o.look (map (map (clean o.look unkept table)) records) output
+output_shown o all style records texts output made unkept table =
+    lines_shown o.look all.unkept all.table (found o all records texts made.content made.is_content).0 (positions o all records texts made.content made.is_content) fitting has the_table
     (subst (HasLook o.look fitting has) (ap (separated_table has) (sym whole.1)) (has_look o.look fitting has whole.0)) records lines output
     (subst (λ (t : Text). AreLinesOf t lines) (sym joined) (subst (λ (e : Bool). HasLines e made.content lines made.text) expanded (with_lines o records output made text all.table style).has_lines))
     (subst (λ (e : Bool). IsTableDrawing (separated_table has (output_table e o.look made.content)) lines) expanded text.drawn.is_arranged.headline)
@@ -324,20 +323,20 @@ module _ (arguments : List Text) (context : OutputContext) (invocation : Invocat
   options = invocation.options
 
   pub fields_shown : IsFlat options.look → options.look.max_height ≡ None → options.selection.limit ≡ None → options.selection.is_numbered ≡ false → options.selection.columns.items ≡ [] → options.selection.dropped.items ≡ []
-      → ShowsRecords options.look (map (map (clean options.look is.tidy is.unkept is.no_markdown)) records) output
+      → ShowsRecords options.look (map (map (clean options.look is.unkept is.no_markdown)) records) output
   fields_shown never uncut all unnumbered none_chosen none_dropped = by_made is.made
     where
       style : IsStyleWithout 0x0A options.look.style
       style = unbroken_without options.look.style (parsed_style_without_controls arguments context invocation is.is_asked)
 
       draws : DrawsAll (counting options)
-      draws = record { tidy = is.tidy; unkept = is.unkept; table = is.no_markdown; flat = flat_by options.look never; uncut = uncut; all_records = all; unnumbered = unnumbered; none_chosen = none_chosen; none_dropped = none_dropped }
+      draws = record { unkept = is.unkept; table = is.no_markdown; flat = flat_by options.look never; uncut = uncut; all_records = all; unnumbered = unnumbered; none_chosen = none_chosen; none_dropped = none_dropped }
 
-      any : (rs : List (List Text)) → RendersAnyRecords (counting options) rs output → All AllText rs → ShowsRecords options.look (map (map (clean options.look is.tidy is.unkept is.no_markdown)) rs) output
+      any : (rs : List (List Text)) → RendersAnyRecords (counting options) rs output → All AllText rs → ShowsRecords options.look (map (map (clean options.look is.unkept is.no_markdown)) rs) output
       any [] nothing texts = subst (ShowsRecords options.look []) (sym nothing) (none_shown options.look)
-      any (r ∷ rs) made texts = output_shown (counting options) draws style (r ∷ rs) texts output made is.tidy is.unkept is.no_markdown
+      any (r ∷ rs) made texts = output_shown (counting options) draws style (r ∷ rs) texts output made is.unkept is.no_markdown
 
-      by_made : IsDrawnOf options input output → ShowsRecords options.look (map (map (clean options.look is.tidy is.unkept is.no_markdown)) records) output
+      by_made : IsDrawnOf options input output → ShowsRecords options.look (map (map (clean options.look is.unkept is.no_markdown)) records) output
       by_made (inl (none, made)) = any records (subst (λ (rs : List (List Text)). RendersAnyRecords (counting options) rs output) (read_is_one options.input input made.records records made.are_records is.are) made.is_output) is.are.are_records.are_records.are_text
       by_made (inr (n, asked, made)) = absurd (cc (sym all ∙ made.are_enough.has_limit.is))
 

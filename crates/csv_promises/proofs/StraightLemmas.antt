@@ -1,5 +1,5 @@
 -- What is written for arguments is straight: where no character takes more than one terminal column, or where no width is kept to.
-use Rattle.std.proofs.Common.{ap, ◌≡◌, ◌==◌, ◌&&◌, ◌||◌, inl, ℕ, Bool, true, false, not, List, [], ◌∷◌, Option, Some, None, is_some, arith, chars, nat_le, refl, sym, ap₂, ◌∙◌, subst, inr, ◌++◌}
+use Rattle.std.proofs.Common.{ap, ◌≡◌, ◌==◌, ◌&&◌, ◌||◌, inl, ℕ, Bool, true, false, not, List, [], ◌∷◌, Option, Some, None, is_some, arith, chars, nat_le, refl, sym, ◌∙◌, subst, inr, ◌++◌}
 use Rattle.std.specs.Char.{is_control}
 use Rattle.std.specs.List.{All, list_any}
 use Rattle.std.specs.Prelude.{encode_utf8, if◌then◌else◌}
@@ -18,12 +18,11 @@ use Rattle.comfy_table.specs.Laws.{HasNoBreak}
 use Rattle.csv.specs.Records.{AllText}
 use Rattle.csv_records.proofs.CleaningLemmas.{drawn_so}
 use Rattle.csv_tables.proofs.BlankLemmas.{unless_blank-keeps}
-use Rattle.csv_tables.specs.Cells.{field_text, kept_by, kept_for_markdown, marked, unless_blank}
-use Rattle.csv_records.specs.Cleaning.{cleaned, is_replaced, turns_direction}
+use Rattle.csv_tables.specs.Cells.{field_text, marked, unless_blank}
+use Rattle.csv_records.specs.Cleaning.{cleaned, turns_direction}
 use Rattle.csv_tables.specs.Controls.{IsStyleWithoutControls}
 use Rattle.csv_command.specs.declared.arguments.Invocation.{Invocation}
 use Rattle.csv_command.specs.declared.arguments.OutputContext.{OutputContext}
-use Rattle.csv_records.specs.declared.cleaning.CleanOptions.{CleanOptions}
 use Rattle.csv_tables.specs.declared.options.Look.{Look}
 use Rattle.csv_tables.specs.declared.options.Options.{Options}
 use Rattle.csv_tables.proofs.CleanCharacterLemmas.{lines_pass}
@@ -58,9 +57,9 @@ replacement_is_narrow : is_narrow 0xFFFD ≡ true
 unfolding wrapping encode
 replacement_is_narrow = refl
 
-module _ (look : Look) (tidy : look.is_raw ≡ false) (unkept : look.has_sequences ≡ false) (none : look.is_markdown ≡ false) where
+module _ (look : Look) (unkept : look.has_sequences ≡ false) (none : look.is_markdown ≡ false) where
   field_fits : (field : Text) → IsUtf8 field → HasCharactersWithin 1 field → EachLine (CharactersFit 1) look field
-  field_fits field utf8 own = All-weaker (HasCharactersWithin 1) (CharactersFit 1) (text_fits 1 1 (omega arith)) _ (lines_pass is_narrow space_is_narrow replacement_is_narrow look none tidy unkept field utf8 own)
+  field_fits field utf8 own = All-weaker (HasCharactersWithin 1) (CharactersFit 1) (text_fits 1 1 (omega arith)) _ (lines_pass is_narrow space_is_narrow replacement_is_narrow look none unkept field utf8 own)
 
   fields_fit : (records : List (List Text)) → All AllText records → EachField (HasCharactersWithin 1) records → EachText (CharactersFit 1) look records
   fields_fit records text each k default under i other below = field_fits _ (text_fields _ (text k default under) i other below) (each k default under i other below)
@@ -81,24 +80,10 @@ module _ (look : Look) (tidy : look.is_raw ≡ false) (unkept : look.has_sequenc
       unbroken : HasNoBreak field
       unbroken = none_by_characters is_control 0x0A (omega arith) refl field (chars field, encodes-chars field utf8, no_controls (chars field) is.plain)
 
-      kept : CleanOptions
-      kept = kept_by look
-
-      none_replaced : (cs : List ℕ) → list_any (λ c. is_control c || turns_direction c) cs ≡ false → list_any (is_replaced kept) cs ≡ false
-      none_replaced [] none = refl
-      none_replaced (c ∷ cs) none =
-          let each = or_parts (is_control c || turns_direction c) (list_any (λ d. is_control d || turns_direction d) cs) none in
-          let own = or_parts (is_control c) (turns_direction c) each.0 in
-          rw own.0 (rw own.1 (by_directions kept.directions (none_replaced cs each.1)))
-        where
-          by_directions : (b : Bool) → list_any (is_replaced kept) cs ≡ false → ((not b && false) || list_any (is_replaced kept) cs) ≡ false
-          by_directions true rest = rest
-          by_directions false rest = rest
-
       same : field_text look field ≡ unless_blank field
       same =
-          ap₂ (λ (m r : Bool). if m then marked (cleaned (kept_for_markdown look) field) else if r then unless_blank field else unless_blank (cleaned kept field)) none tidy
-          ∙ ap unless_blank (sym (drawn_so kept field utf8 (none_replaced (chars field) is.plain)))
+          ap (λ (m : Bool). if m then marked (cleaned false field) else unless_blank (cleaned look.has_sequences field)) none
+          ∙ ap unless_blank (sym (drawn_so look.has_sequences field utf8 is.plain))
 
   plain_fields_are_short : (records : List (List Text)) → All AllText records → EachField IsPlainField records → EachText IsShort look records
   plain_fields_are_short records text each k default under i other below = plain_field_is_short _ (text_fields _ (text k default under) i other below) (each k default under i other below)
@@ -146,9 +131,6 @@ module _ (arguments : List Text) (context : OutputContext) (invocation : Invocat
 
   -- by a look that arguments ask for
   module _ (o : Options) (same : o.look ≡ options.look) (rs : List (List Text)) (text : All AllText rs) where
-    own_tidy : o.look.is_raw ≡ false
-    own_tidy = ap (λ (l : Look). l.is_raw) same ∙ is.tidy
-
     own_unkept : o.look.has_sequences ≡ false
     own_unkept = ap (λ (l : Look). l.has_sequences) same ∙ is.unkept
 
@@ -162,14 +144,14 @@ module _ (arguments : List Text) (context : OutputContext) (invocation : Invocat
     own_columns = subst (λ (l : Look). IsOneColumnStyle l.style) (sym same) one_column
 
     plain : ArePlainLines true o.look rs
-    plain = record { seen = (record { cleaned = own_tidy; style = own_clear }, text); unbroken = unbroken_without o.look.style own_clear; no_sequences = own_unkept }
+    plain = record { seen = (own_clear, text); unbroken = unbroken_without o.look.style own_clear; no_sequences = own_unkept }
 
     narrow_law : EachField (HasCharactersWithin 1) rs → RendersRecords o rs output → IsStraight output
-    narrow_law each made = straight_text o rs output own_table (narrow_is_straight true o rs output own_table own_columns plain (fields_fit o.look own_tidy own_unkept own_table rs text each) made)
+    narrow_law each made = straight_text o rs output own_table (narrow_is_straight true o rs output own_table own_columns plain (fields_fit o.look own_unkept own_table rs text each) made)
 
     whole_law : options.look.width ≡ None → options.look.max_height ≡ None → EachField IsPlainField rs → RendersRecords o rs output → IsStraight output
     whole_law no_width uncut each made =
-        straight_text o rs output own_table (whole_is_straight true o rs output own_columns plain (ap (λ (l : Look). l.width) same ∙ no_width) (inl (ap (λ (l : Look). l.max_height) same ∙ uncut)) (plain_fields_are_short o.look own_tidy own_unkept own_table rs text each) made)
+        straight_text o rs output own_table (whole_is_straight true o rs output own_columns plain (ap (λ (l : Look). l.width) same ∙ no_width) (inl (ap (λ (l : Look). l.max_height) same ∙ uncut)) (plain_fields_are_short o.look own_unkept own_table rs text each) made)
 
   -- where no character takes more than one terminal column
   pub narrow_for : EachField (HasCharactersWithin 1) records → IsStraight output

@@ -1,12 +1,11 @@
 -- Where the fields of records stand in what is written of them.
 -- Source: this library's own.
-use Rattle.std.specs.Prelude.{◌≡◌, ◌≤◌, ◌==◌, ◌||◌, not, false, List, [], ◌∷◌, All, EachIndex, filter, length, map, slice_index_or, IsUtf8, chars}
+use Rattle.std.specs.Prelude.{◌≡◌, ◌≤◌, ◌==◌, ◌||◌, not, Bool, false, List, [], ◌∷◌, All, EachIndex, filter, length, map, slice_index_or, IsUtf8, chars}
 use Rattle.std.specs.List.{AllZip, concat, list_any}
 use Rattle.comfy_parts.specs.Text.{Text}
 use Rattle.comfy_parts.specs.declared.style.table_style.TableStyle.{TableStyle}
 use Rattle.comfy_table.specs.Laws.{AreLinesOf}
 use Rattle.csv_records.specs.Cleaning.{cleaned, is_replaced}
-use Rattle.csv_records.specs.declared.cleaning.CleanOptions.{CleanOptions}
 use Rattle.csv_tables.specs.declared.options.Look.{Look}
 use Rattle.promises.specs.Kept.{IsFrame, StandAmong}
 use Rattle.promises.specs.Shown.{IsStyled}
@@ -46,6 +45,6 @@ pub record ShowsRecords (look : Look) (records : List (List Text)) (text : Text)
   pub show : AllZip (ShowsRecord look.style) records blocks
 
 -- a field of which no character is replaced stays as it is
-abbrev pub StaysAsItIs : CleanOptions → Text → Type 0
-StaysAsItIs kept field =
-    IsUtf8 field → list_any (is_replaced kept) (chars field) ≡ false → cleaned kept field ≡ field
+abbrev pub StaysAsItIs : Bool → Text → Type 0
+StaysAsItIs keeps_sequences field =
+    IsUtf8 field → list_any is_replaced (chars field) ≡ false → cleaned keeps_sequences field ≡ field

@@ -13,7 +13,6 @@ use Rattle.csv_tables.specs.Drawn.{IsDrawnOf}
 pub record IsWritten (arguments : List Text) (context : OutputContext) (invocation : Invocation)
     (input : Text) (records : List (List Text)) (output : Text) : Type 0 where
   pub is_asked : IsParsed arguments context invocation
-  pub tidy : invocation.options.look.is_raw ≡ false
   pub unkept : invocation.options.look.has_sequences ≡ false
   pub no_markdown : invocation.options.look.is_markdown ≡ false
   pub are : AreRecordsFor invocation.options.input input records

@@ -1,20 +1,18 @@
 //! No field is lost.
 
-ghost use Rattle.std.specs.Prelude.{ℕ, List, IfSome, map};
+ghost use Rattle.std.specs.Prelude.{ℕ, Bool, List, IfSome, map};
 ghost use Rattle.csv_promises.specs.Fields.{ShowsRecords, StaysAsItIs};
 ghost use Rattle.csv_records.specs.Cleaning.{cleaned};
-ghost use Rattle.csv_records.specs.declared.cleaning.CleanOptions.{CleanOptions};
-ghost use Rattle.csv_tables.specs.Cells.{kept_by};
 
 use crate::straight::written;
-use comfy_run::run::MemorySink;
 use csv_command::{Invocation, OutputContext};
 use csv_records::Records;
 use csv_tables::Expansion;
+use devices::MemorySink;
 use std::alloc::Global;
 
 /// What the arguments ask for, the records of a file's bytes, and what the program writes of them:
-/// nothing where the arguments ask for raw fields, for sequences in fields or for Markdown; where
+/// nothing where the arguments ask for sequences in fields or for Markdown; where
 /// records may be expanded, or columns, rows or lines are left out, chosen or numbered; or for no
 /// drawing, or where it can't be drawn so. Whatever the width and the script, each record is shown
 /// below the one before, and its fields from left to right, as they are cleaned: between and around
@@ -29,7 +27,7 @@ pub fn output_with_all_fields(
 ) -> Option<(Invocation, Records, MemorySink)>
     ensures { IfSome result (λ drawn.
         ShowsRecords drawn.0.options.look
-        (map (map (cleaned (kept_by drawn.0.options.look))) drawn.1) drawn.2.bytes) }
+        (map (map (cleaned drawn.0.options.look.has_sequences)) drawn.1) drawn.2.bytes) }
 {
     let (invocation, records, sink) = written(alloc, arguments, context, input, room)?;
     let look = invocation.options.look;
@@ -51,8 +49,8 @@ pub fn output_with_all_fields(
     Some((invocation, records, sink))
 }
 
-/// Cleaning leaves a field as it is that has no character to replace: no control character and,
-/// unless these are kept, none that turns the direction of text.
+/// Cleaning leaves a field as it is that has no character to replace: no control character, and
+/// none that turns the direction of text.
 pub fn plain_fields_stay()
-    ensures { (kept : CleanOptions) (field : List ℕ) → StaysAsItIs kept field }
+    ensures { (keeps_sequences : Bool) (field : List ℕ) → StaysAsItIs keeps_sequences field }
 {}
