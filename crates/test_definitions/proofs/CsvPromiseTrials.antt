@@ -20,7 +20,7 @@ use Rattle.comfy_table.specs.Drawing.{terminated_text_of}
 use Rattle.comfy_table.specs.Laws.{AreLinesOf}
 use Rattle.csv_promises.specs.Fields.{AreFields, ShowsRecord, ShowsRecords, filled}
 use Rattle.csv_promises.specs.Messages.{IsTame}
-use Rattle.csv_records.specs.Cleaning.{cleaned, nothing_kept, turns_direction}
+use Rattle.csv_records.specs.Cleaning.{cleaned, turns_direction}
 use Rattle.promises.specs.Kept.{IsFrame, StandAmong}
 use Rattle.csv_promises.specs.Straight.{CountsRecords, IsStraight, counted}
 use Rattle.test_definitions.proofs.OutputLineTrials.{found, two_lines}
@@ -77,7 +77,7 @@ two_widths_are_not_straight is =
 
 -- the look of a table with a header in bold
 abbrev bold : Look
-bold = record { style = utf8_full; separators = Styled; expansion = Auto; width = None; fills_width = false; max_height = None; has_bold_header = true; aligns_decimals = true; has_sequences = false; keeps_bidi = false; is_raw = false; is_markdown = false }
+bold = record { style = utf8_full; separators = Styled; expansion = Auto; width = None; fills_width = false; max_height = None; has_bold_header = true; aligns_decimals = true; has_sequences = false; is_markdown = false }
 
 -- a look without a bold header
 abbrev unbold : Look
@@ -169,6 +169,6 @@ bell_is_wild own =
 
 -- false: csv_promises::plain_fields_stay
 -- a control character is replaced
-control_is_replaced : ¬ (cleaned nothing_kept (0x07 ∷ []) ≡ 0x07 ∷ [])
+control_is_replaced : ¬ (cleaned false (0x07 ∷ []) ≡ 0x07 ∷ [])
 unfolding chars encode
 control_is_replaced same = cc same
