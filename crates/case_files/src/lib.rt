@@ -6,10 +6,10 @@ mod case;
 mod cases;
 mod fault;
 mod tally;
-mod text;
 mod trial;
+mod words;
 
 pub use cases::Cases;
 pub use fault::{Fault, Result};
-pub use text::{first_or_empty, push_lines, text};
 pub use trial::Build;
+pub use words::{first_or_empty, push_lines, text};

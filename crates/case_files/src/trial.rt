@@ -2,7 +2,7 @@
 
 use crate::case::Case;
 use crate::fault::{Fault, Result};
-use crate::text::{first_or_empty, parts};
+use crate::words::{first_or_empty, parts};
 use std::alloc::Global;
 
 /// What the lines of a case build.
