@@ -3,7 +3,6 @@
 
 mod arguments;
 mod error;
-pub mod laws;
 mod rows;
 pub mod run;
 mod settings;

@@ -121,4 +121,5 @@ pub record ShowsRecords (options : Options) (records : List (List Text)) (text :
 -- a field of which no character is replaced stays as it is
 abbrev pub StaysAsItIs : Bool → Text → Type 0
 StaysAsItIs keeps_sequences field =
-    IsUtf8 field → list_any is_replaced (chars field) ≡ false → cleaned keeps_sequences field ≡ field
+    IsUtf8 field → list_any is_replaced (chars field) ≡ false
+    → cleaned keeps_sequences field ≡ field

@@ -1,5 +1,5 @@
 -- What is written for small inputs.
-use Rattle.std.proofs.Common.{◌≡◌, ℕ, List, [], ◌∷◌, refl, Option, Some, None, lit<, map, true, false}
+use Rattle.std.proofs.Common.{◌≡◌, ℕ, List, [], ◌∷◌, refl, Option, Some, None, lit<, map}
 use Rattle.std.specs.Prelude.{codes}
 use Prim.Native.String.{String}
 use Rattle.comfy_parts.proofs.Computing.{wrapping}
@@ -8,8 +8,6 @@ use Rattle.comfy_parts.specs.Presets.{ascii_full, ascii_markdown}
 use Rattle.comfy_parts.specs.Text.{Text}
 use Rattle.comfy_parts.specs.declared.style.table.ContentArrangement.{ContentArrangement}
 use Rattle.comfy_parts.specs.declared.style.table_style.TableStyle.{TableStyle}
-use Rattle.std.specs.List.{list_all}
-use Rattle.comfy_run.specs.Counts.{is_printable_input_byte}
 use Rattle.comfy_run.specs.Input.{input_table}
 use Rattle.comfy_table.specs.Arrangement.{IsDrawingOf}
 use Rattle.comfy_table.specs.Drawing.{terminated_text_of}
@@ -80,10 +78,3 @@ markdown = (
   (5 ∷ 5 ∷ [], at_widths refl refl refl, refl),
   refl,
 )
-
--- letters, TAB and U+000B are plain, a byte of `é` isn't
-printable_line : list_all is_printable_input_byte (codes "a\tb\u{b}c") ≡ true
-printable_line = refl
-
-accented_line : list_all is_printable_input_byte (0x63 ∷ 0xC3 ∷ 0xA9 ∷ []) ≡ false
-accented_line = refl

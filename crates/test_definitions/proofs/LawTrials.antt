@@ -14,7 +14,6 @@ use Rattle.comfy_parts.specs.Text.{AddsOneColumnEach, Text, begins_with, measure
 use Rattle.comfy_parts.specs.VisibleLines.{CellLine}
 use Rattle.comfy_parts.specs.VisibleText.{visible_text}
 use Rattle.comfy_parts.specs.Wrapping.{IsSliceOf, IsSlicesWhere, lines_of_text, wrapped}
-use Rattle.comfy_parts.specs.declared.style.table.ContentArrangement.TheVariants.{Dynamic}
 use Rattle.comfy_parts.specs.declared.style.table_style.TableStyle.{TableStyle}
 use Rattle.comfy_table.specs.Drawing.{text_of}
 use Rattle.comfy_table.specs.Dynamic.{Steps}
@@ -24,10 +23,10 @@ use Rattle.comfy_table.specs.Levels.{IsLevelled}
 use Rattle.comfy_table.specs.NewTables.{AreEquallyWide}
 use Rattle.comfy_table.specs.Straight.{IsStraightTable}
 use Rattle.comfy_table.specs.TableLaws.{wider_total}
-use Rattle.comfy_table.specs.TableValue.{TableValue, table_width}
+use Rattle.comfy_table.specs.TableValue.{TableValue}
 use Rattle.comfy_table.specs.Widths.{ColumnNeeds}
 use Rattle.test_definitions.proofs.StraightTrials.{number_sign_adds_two}
-use Rattle.test_definitions.proofs.TrialTables.{arranged, rows_of, texts, utf8}
+use Rattle.test_definitions.proofs.TrialTables.{rows_of, texts, utf8}
 
 -- ---- lines of a text
 
@@ -351,7 +350,3 @@ other_lines same = let is : ◌≡◌ {A = ℕ} 0x61 0x62 = cc same in omega (ar
 front_of_three : ¬ (measure (codes "abc") ≤ measure [] + 2)
 unfolding wrapping
 front_of_three bounded = let is : 3 ≤ 2 = bounded in omega (arith, is)
-
--- false: comfy_run::laws::input_tables_have_their_settings
-other_width : ¬ (table_width (arranged Dynamic 10 table) ≡ Some 11)
-other_width same = let is : ◌≡◌ {A = ℕ} 10 11 = cc same in omega (arith, is)

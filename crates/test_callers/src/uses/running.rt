@@ -1,22 +1,8 @@
 //! Callers that run the program, and make its devices.
 
 ghost use Rattle.std.specs.Prelude.{◌≡◌, ◌≤◌, ◌++◌, IfOk, List, None, Some, false, is_some, length, take, true, ℕ};
-ghost use Rattle.comfy_parts.specs.Presets.{ascii_full};
-ghost use Rattle.comfy_parts.specs.Text.{measure};
-ghost use Rattle.comfy_run.specs.Counts.{EachLineHas, IsPrintableInput};
-ghost use Rattle.comfy_run.specs.Input.{input_table};
-ghost use Rattle.comfy_run.specs.Straight.{EachText, IsStraightOutput};
-ghost use Rattle.comfy_table.specs.Laws.{least_total};
 
-use crate::uses::output_for;
-use comfy_run::laws::{outputs_are_straight, outputs_keep_to_a_width};
-use comfy_run::run::{
-    DeviceFault, FromReader, MemorySink, MemorySource, RunError, Settings, Sink, Source, ToWriter,
-    program, run,
-};
-use comfy_table::ContentArrangement;
-use comfy_table::laws::presets_have_columns_of_one;
-use comfy_table::presets::ASCII_FULL;
+use comfy_run::run::{DeviceFault, FromReader, MemorySink, Sink, Source, ToWriter, program};
 use std::alloc::Global;
 use std::io::{Read, Write};
 
@@ -72,17 +58,6 @@ pub fn write_once<W: Sink>(sink: &mut W, piece: &[u8]) -> Result<usize, DeviceFa
     sink.write(piece)
 }
 
-/// A sink that holds the output for an input, both in memory. All its lines are equally many
-/// terminal columns wide, whatever the script.
-pub fn straight_output_for(alloc: Global, input: &[u8], room: usize) -> Result<MemorySink, RunError>
-    ensures { IfOk result (λ sink. EachText (λ text. measure text ≤ 65535) input.now
-        → IsStraightOutput sink.bytes) }
-{
-    outputs_are_straight();
-    presets_have_columns_of_one();
-    output_for(alloc, input, room)
-}
-
 /// Runs the program over a reader and writers, as the standard streams are. On yes the reader's end
 /// was read, and neither the reader nor the writer has failed.
 pub fn drew_all<R: Read, W: Write, E: Write>(
@@ -96,30 +71,4 @@ pub fn drew_all<R: Read, W: Write, E: Write>(
     ensures written { result ≡ true → sink.old.failed ≡ false → sink.new.failed ≡ false }
 {
     program(alloc, words, source, sink, messages) == 0
-}
-
-/// A sink that holds the output for an input at a width, both in memory. No line of it is longer,
-/// where the input is printable ASCII and the width is enough for borders, paddings and one
-/// character in each column.
-pub fn output_within(
-    alloc: Global,
-    input: &[u8],
-    room: usize,
-    width: u16,
-) -> Result<MemorySink, RunError>
-    ensures { IfOk result (λ sink. IsPrintableInput input.now
-        → least_total (input_table (Some width) ContentArrangement.Dynamic ascii_full input.now)
-        ≤ width
-        → EachLineHas (λ n. n ≤ width) sink.bytes) }
-{
-    outputs_keep_to_a_width();
-    let mut source = MemorySource::new(input, 0);
-    let mut sink = MemorySink::new(alloc, room, 0)?;
-    let settings = Settings {
-        width: Some(width),
-        arrangement: ContentArrangement::Dynamic,
-        style: ASCII_FULL,
-    };
-    run(alloc, &mut source, &mut sink, settings)?;
-    Ok(sink)
 }
