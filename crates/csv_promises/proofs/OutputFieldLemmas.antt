@@ -31,6 +31,8 @@ use Rattle.csv_tables.specs.Cells.{row_for}
 use Rattle.csv_tables.specs.Columns.{columns_for, count_of, seen}
 use Rattle.csv_tables.specs.Drawn.{ContentValue, IsDrawnOf, RendersAnyRecords, RendersAsTable, RendersRecords, RendersTable, aligned_content, columns_beside, content_with, count_below, count_text, counting, drawn_fields, drawn_rows, empty_table, fitting_content, has_room_for, headed_table, is_expanded_in, limited, most_drawn, names_beside, names_of, note_for, output_table, pairs_in, record_line, record_text, records_below, rows_beside, rows_table, separated_table, some_lines, table_text}
 use Rattle.csv_tables.specs.declared.options.DrawnColumn.{DrawnColumn}
+use Rattle.csv_tables.specs.declared.options.Expansion.{Expansion}
+use Rattle.csv_tables.specs.declared.options.Expansion.TheVariants.{Always, Auto, Never}
 use Rattle.csv_tables.specs.declared.options.Look.{Look}
 use Rattle.csv_tables.specs.declared.options.Options.{Options}
 use Rattle.devices.specs.Outcome.{asked_front}
@@ -40,7 +42,7 @@ use Rattle.csv_promises.proofs.FieldLemmas.{IsWholeRow, are_pairs, are_rows, is_
 use Rattle.csv_promises.proofs.PositionLemmas.{kept_positions}
 use Rattle.csv_promises.proofs.RecordLemmas.{AreDrawnFirst, all_drawn, first_are_drawn, with_rows-header}
 use Rattle.csv_promises.proofs.ShownTableLemmas.{HasRowsOf, has_rows_of, part_shows}
-use Rattle.csv_promises.specs.Fields.{ShowsDrawn, ShowsExpanded, ShowsRecords, ShowsRows, fields_at, pairs_at, positions_in}
+use Rattle.csv_promises.specs.Fields.{MayExpand, ShowsDrawn, ShowsExpanded, ShowsRecords, ShowsRows, fields_at, pairs_at, positions_in}
 use Rattle.csv_promises.specs.Written.{IsWritten}
 
 -- of no rows nothing
@@ -184,11 +186,17 @@ module _ (look : Look) (all : DrawsAll look) (names : Option (List Text)) (rows 
 
 -- ---- outputs
 
+may_expand : (expansion : Expansion) (room is_expanded : Bool) → is_expanded ≡ is_expanded_in expansion room → MayExpand expansion is_expanded
+may_expand Always room is_expanded own = own
+may_expand Never room is_expanded own = own
+may_expand Auto room is_expanded own = tt
+
 -- an output shows these names, where there are any, and these rows, with the line on further records
 record IsShown (o : Options) (names : Option (List Text)) (rows : List (List Text)) (count : Option ℕ) (output : Text) : Type 0 where
-  has_room : Bool
+  is_expanded : Bool
+  expansion : MayExpand o.look.expansion is_expanded
   drawn : Text
-  shows : ShowsDrawn (is_expanded_in o.look.expansion has_room) o names rows count drawn
+  shows : ShowsDrawn is_expanded o names rows count drawn
   joined : output ≡ drawn ++ note_for false o.selection.limit count
 
 module _ (o : Options) (all : DrawsAll o.look) (unnumbered : o.selection.is_numbered ≡ false) (records : List (List Text)) (texts : All AllText records) where
@@ -219,9 +227,10 @@ module _ (o : Options) (all : DrawsAll o.look) (unnumbered : o.selection.is_numb
   output_shown : (output : Text) → RendersRecords o records output → IsShown o names rows (count_below o records) output
   output_shown output made =
       record {
-        has_room = (length rows == 0) || has_room_for look own (fitting_content look own);
+        is_expanded = text.is_expanded;
+        expansion = may_expand look.expansion ((length rows == 0) || has_room_for look own (fitting_content look own)) text.is_expanded text.expansion;
         drawn = made.text;
-        shows = subst (λ (b : Bool). ShowsDrawn b o names rows (count_below o records) made.text) text.expansion (by_kind found.0 found.1 text.is_expanded made.text text.drawn);
+        shows = by_kind found.0 found.1 text.is_expanded made.text text.drawn;
         joined = made.joined ∙ ap₂ (λ (b : Bool) (count : Option ℕ). made.text ++ note_for b o.selection.limit count) all.table (ap (λ (c : ContentValue). c.count) same);
       }
     where
@@ -240,9 +249,9 @@ module _ (o : Options) (all : DrawsAll o.look) (unnumbered : o.selection.is_numb
       text = subst (λ (c : ContentValue). RendersAsTable look c made.text) same (is_table_text o records output made all.table)
 
 -- whether records are counted makes no difference to what is shown
-uncounted : (o : Options) (is_expanded : Bool) (names : Option (List Text)) (rows : List (List Text)) (count : Option ℕ) (text : Text) → ShowsDrawn is_expanded (counting o) names rows count text → ShowsDrawn is_expanded o names rows count text
-uncounted o true _ _ count text own = own
-uncounted o false _ _ count text own = own
+uncounted : (o : Options) (is_expanded : Bool) (own : Option (List Text)) (below : List (List Text)) (count : Option ℕ) (text : Text) → ShowsDrawn is_expanded (counting o) own below count text → ShowsDrawn is_expanded o own below count text
+uncounted o true own below count text shows = shows
+uncounted o false own below count text shows = shows
 
 -- ---- no records
 
@@ -277,21 +286,28 @@ module _ (arguments : List Text) (context : OutputContext) (invocation : Invocat
       no_rows (Some zero) = refl
       no_rows (Some (suc n)) = refl
 
-      by_kind : (b : Bool) (count : Option ℕ) → ShowsDrawn b options None [] count []
-      by_kind false count = none_shown options.look
+      either : (expansion : Expansion) → (is_expanded : Bool) × MayExpand expansion is_expanded
+      either Always = (true, refl)
+      either Never = (false, refl)
+      either Auto = (false, tt)
+
+      by_kind : (is_expanded : Bool) (count : Option ℕ) → ShowsDrawn is_expanded options None [] count []
       by_kind true count = refl
+      by_kind false count = none_shown options.look
 
       none : ShowsRecords options [] []
       none =
+          let count = Some (length (records_below header [])) in
+          let kind = either options.look.expansion in
           record {
-            count = Some (length (records_below header []));
+            count = count;
             is_count = refl;
-            has_room = true;
+            is_expanded = kind.0;
+            expansion = kind.1;
             drawn = [];
             shows =
-                subst (λ (own : Option (List Text)). ShowsDrawn (is_expanded_in options.look.expansion true) options own (drawn_rows options []) (Some (length (records_below header []))) []) (sym (no_records header).0)
-                (subst (λ (own : List (List Text)). ShowsDrawn (is_expanded_in options.look.expansion true) options None own (Some (length (records_below header []))) [])
-                (sym (ap (limited options.selection.limit) (no_records header).1 ∙ no_rows options.selection.limit)) (by_kind (is_expanded_in options.look.expansion true) (Some (length (records_below header [])))));
+                subst (λ (own : Option (List Text)). ShowsDrawn kind.0 options own (drawn_rows options []) count []) (sym (no_records header).0)
+                (subst (λ (own : List (List Text)). ShowsDrawn kind.0 options None own count []) (sym (ap (limited options.selection.limit) (no_records header).1 ∙ no_rows options.selection.limit)) (by_kind kind.0 count));
             joined = nothing options.selection.limit ∙ ap (λ (below : List (List Text)). note_for false options.selection.limit (Some (length below))) (sym (no_records header).1);
           }
 
@@ -299,7 +315,7 @@ module _ (arguments : List Text) (context : OutputContext) (invocation : Invocat
       any [] empty texts = subst (ShowsRecords options []) (sym empty) none
       any (r ∷ rs) made texts =
           let shown = output_shown (counting options) all unnumbered (r ∷ rs) texts output made in
-          record { count = Some (length (records_below header (r ∷ rs))); is_count = refl; has_room = shown.has_room; drawn = shown.drawn; shows = uncounted options _ _ _ _ _ shown.shows; joined = shown.joined }
+          record { count = Some (length (records_below header (r ∷ rs))); is_count = refl; is_expanded = shown.is_expanded; expansion = shown.expansion; drawn = shown.drawn; shows = uncounted options _ _ _ _ _ shown.shows; joined = shown.joined }
 
       by_made : IsDrawnOf options input output → ShowsRecords options records output
       by_made (inl (none_enough, made)) = any records (subst (λ (rs : List (List Text)). RendersAnyRecords (counting options) rs output) (read_is_one options.input input made.records records made.are_records is.are) made.is_output) is.are.are_records.are_records.are_text
@@ -320,7 +336,8 @@ module _ (arguments : List Text) (context : OutputContext) (invocation : Invocat
           record {
             count = None;
             is_count = subst (λ (l : Option ℕ). length (limited l (records_below header records)) < length (records_below header records)) (sym enough.has_limit.is) first.fewer;
-            has_room = shown.has_room;
+            is_expanded = shown.is_expanded;
+            expansion = shown.expansion;
             drawn = shown.drawn;
             shows = shown.shows;
             joined = shown.joined;

@@ -8,7 +8,9 @@ use Rattle.comfy_table.specs.Laws.{AreLinesOf}
 use Rattle.csv_records.specs.Cleaning.{cleaned, is_replaced}
 use Rattle.csv_tables.specs.Cells.{field_or_blank}
 use Rattle.csv_tables.specs.Columns.{columns_chosen, count_of, name_at, positions_between, without}
-use Rattle.csv_tables.specs.Drawn.{drawn_rows, is_expanded_in, names_of, note_for, record_line, records_below}
+use Rattle.csv_tables.specs.Drawn.{drawn_rows, names_of, note_for, record_line, records_below}
+use Rattle.csv_tables.specs.declared.options.Expansion.{Expansion}
+use Rattle.csv_tables.specs.declared.options.Expansion.TheVariants.{Always, Auto, Never}
 use Rattle.csv_tables.specs.declared.options.Look.{Look}
 use Rattle.csv_tables.specs.declared.options.Options.{Options}
 use Rattle.promises.specs.Kept.{IsFrame, StandAmong}
@@ -102,21 +104,28 @@ ShowsDrawn true options names rows count text =
     ShowsExpanded options.look (unwrap_or names [])
     (positions_in options (unwrap_or names []) rows) count 1 rows text
 
--- a text shows records: the header, where there is one, and as many below it as options ask for,
--- expanded or not as they say, or by the room that there is; and says below how many there are,
--- where there are more. That is the number of records below the header, or not known
-pub record ShowsRecords (options : Options) (records : List (List Text)) (text : Text) : Type 0
-  where
-    pub count : Option ℕ
-    pub is_count : MatchOption count
-        (length (drawn_rows options records)
-        < length (records_below options.selection.has_header records))
-        (λ n. n ≡ length (records_below options.selection.has_header records))
-    pub has_room : Bool
-    pub drawn : Text
-    pub shows : ShowsDrawn (is_expanded_in options.look.expansion has_room) options
-        (names_of options.selection.has_header records) (drawn_rows options records) count drawn
-    pub joined : text ≡ drawn ++ note_for false options.selection.limit count
+-- records are expanded always, never, or where there is no room for rows
+abbrev pub MayExpand : Expansion → Bool → Type 0
+MayExpand Always is_expanded = is_expanded ≡ true
+MayExpand Never is_expanded = is_expanded ≡ false
+MayExpand Auto is_expanded = Unit {0}
+
+-- a text shows records: the header, where there is one, and as many below it as options ask for;
+-- and says below them how many there are, where there are more. That is the number of records below
+-- the header; or it isn't known, but that there are more
+pub record ShowsRecords (options : Options) (records : List (List Text)) (text : Text)
+    : Type 0 where
+  pub count : Option ℕ
+  pub is_count : MatchOption count
+      (length (drawn_rows options records)
+      < length (records_below options.selection.has_header records))
+      (λ n. n ≡ length (records_below options.selection.has_header records))
+  pub is_expanded : Bool
+  pub expansion : MayExpand options.look.expansion is_expanded
+  pub drawn : Text
+  pub shows : ShowsDrawn is_expanded options (names_of options.selection.has_header records)
+      (drawn_rows options records) count drawn
+  pub joined : text ≡ drawn ++ note_for false options.selection.limit count
 
 -- a field of which no character is replaced stays as it is
 abbrev pub StaysAsItIs : Bool → Text → Type 0
