@@ -98,8 +98,8 @@ abbrev pub ShowsDrawn :
     Bool → Options → Option (List Text) → List (List Text) → Option ℕ → Text → Type 0
 ShowsDrawn false options names rows count text =
     ShowsRows options.look
-    (map (fields_at (positions_in options (unwrap_or names []) rows)) (option_to_list names ++ rows))
-    text
+    (map (fields_at (positions_in options (unwrap_or names []) rows))
+    (option_to_list names ++ rows)) text
 ShowsDrawn true options names rows count text =
     ShowsExpanded options.look (unwrap_or names [])
     (positions_in options (unwrap_or names []) rows) count 1 rows text
