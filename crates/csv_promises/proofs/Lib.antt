@@ -1,9 +1,12 @@
-mod FieldLemmas
-mod FilledLemmas
+pub mod ExpandedLemmas
+pub mod FieldLemmas
+pub mod FilledLemmas
 pub mod LineLemmas
 mod MessageLemmas
-mod OutputFieldLemmas
+pub mod OutputFieldLemmas
 pub mod OutputLemmas
+pub mod PositionLemmas
 pub mod RecordLemmas
 pub mod ResultLemmas
+pub mod ShownTableLemmas
 pub mod StraightLemmas

@@ -26,7 +26,7 @@ pub mod OneOutputLemmas
 pub mod OutputControlLemmas
 pub mod OutputLemmas
 pub mod PrintableTableLemmas
-mod ReachedLemmas
+pub mod ReachedLemmas
 pub mod RowLemmas
 pub mod SeenLemmas
 pub mod SeparatorLemmas
