@@ -1,5 +1,5 @@
-//! What is so of every drawing, and of all that arguments ask for. Each function does nothing: its clauses are the law,
-//! so that a proof of yours can cite it.
+//! What is so of every drawing, and of all that arguments ask for. Each function does nothing: its
+//! clauses are the law, so that a proof of yours can cite it.
 
 ghost use Rattle.std.specs.Prelude.{List, Option};
 ghost use Rattle.comfy_parts.specs.Text.{Text};

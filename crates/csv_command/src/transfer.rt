@@ -122,14 +122,11 @@ fn output_of(
 {
     let selection = options.selection;
     let rows = records.rows();
-    let names = selection.names(&rows);
-    let count_all = selection.column_count(&rows);
-    let columns = columns_of(alloc, &names, count_all, &options.columns)?;
-    let look = options.look;
+    let (names, columns) = (selection.names(&rows), selection.column_count(&rows));
     let layout = Layout {
         selection,
-        columns,
-        look,
+        columns: columns_of(alloc, &names, columns, &options.columns)?,
+        look: options.look,
     };
     Ok(text_of_records(alloc, records, count, &layout)?)
 }

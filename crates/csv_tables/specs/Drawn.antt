@@ -46,7 +46,7 @@ names_of has_header records = if has_header then slice_get records 0 else None
 abbrev pub records_below : Bool → List (List Text) → List (List Text)
 records_below has_header records = if has_header then drop 1 records else records
 
--- the same, or a record without fields
+-- the fields of the header, or none
 abbrev pub names_or_none : Selection → List (List Text) → List Text
 names_or_none selection records = unwrap_or (names_of selection.has_header records) []
 

@@ -78,7 +78,8 @@ pub fn outputs_are_straight()
     ensures whole { (visible : Bool)
         (counted : Option ℕ) (layout : Layout) (records : List (List Text)) (output : Text)
         → WholeOutputIsStraight visible counted layout records output }
-    ensures markdown { (counted : Option ℕ) (layout : Layout) (records : List (List Text)) (output : Text)
+    ensures markdown { (counted : Option ℕ) (layout : Layout) (records : List (List Text))
+        (output : Text)
         → MarkdownOutputIsStraight counted layout records output }
     ensures narrow { (visible : Bool)
         (counted : Option ℕ) (layout : Layout) (records : List (List Text)) (output : Text)
@@ -113,6 +114,7 @@ pub fn escaped_texts_are_read_back()
 
 /// Records have one output: two that are drawn of them by the same layout are equal.
 pub fn outputs_are_one()
-    ensures { (counted : Option ℕ) (layout : Layout) (records : List (List Text)) (output other : Text)
+    ensures { (counted : Option ℕ) (layout : Layout) (records : List (List Text))
+        (output other : Text)
         → OutputIsOne counted layout records output other }
 {}
