@@ -11,9 +11,7 @@ ghost use Rattle.devices.specs.Run.{IsNoted};
 use crate::arguments::Options;
 use crate::columns::columns_of;
 use crate::error::{ColumnsError, CsvError};
-use csv_records::{
-    BeginningRecords, Records, decoded, doubtful_delimiter, read_beginning, read_first_records,
-};
+use csv_records::{Records, decoded, read_beginning, read_first_records};
 use csv_tables::{Layout, Selection, text_of_records};
 use devices::{Render, Rendered, Sink, Source};
 use std::alloc::Global;
@@ -86,9 +84,10 @@ impl Render for Options {
         let Ok(found) = read_beginning(alloc, read, &self.input, most) else {
             return Some(Err(CsvError::OutOfMemory));
         };
-        let BeginningRecords { records, doubt } = found?;
-        match output_of(alloc, records, None, self) {
-            Ok(text) => Some(Ok(Rendered { text, note: doubt })),
+        let first = found?;
+        let note = first.doubt;
+        match output_of(alloc, first.records, None, self) {
+            Ok(text) => Some(Ok(Rendered { text, note })),
             Err(error) => Some(Err(CsvError::from(error))),
         }
     }
@@ -156,7 +155,7 @@ fn rendered_input(
     // The other records are only counted.
     let most = most_drawn(&options.selection).unwrap_or(usize::MAX);
     let first = read_first_records(alloc, text.as_str(), &options.input, most)?;
-    let note = doubtful_delimiter(alloc, text.as_str(), &options.input)?;
+    let note = first.doubt;
     if first.count == 0 {
         let output = String::new(alloc);
         return Ok(Rendered { text: output, note });

@@ -1,10 +1,9 @@
 use Rattle.std.proofs.Common.{ap₂, ◌≡◌, ◌<◌, ◌^◌, ◌-◌, Err, ℕ, length, rules, arith, unwrap_or, string_bytes, ◌∙◌}
 use Rattle.std.specs.Prelude.{if◌then◌else◌}
 use Rattle.csv_records.specs.Reading.{IsDecodedBy}
-use Rattle.csv_command.proofs.FirstRowLemmas.{drawn_alike, whole_no_memory, whole_output, whole_refused}
+use Rattle.csv_command.proofs.FirstRowLemmas.{drawn_alike, whole_output, whole_refused}
 use Rattle.csv_command.proofs.RunLemmas.{of_no_text}
 use Rattle.csv_command.specs.Errors.{of_columns, of_decoding}
-use Rattle.csv_command.specs.declared.error.CsvError.TheVariants.{OutOfMemory}
 use Rattle.csv_command.proofs.transfer.rendered_input.Goals as goal
 
 pub returns-in_err-text-clause-refused : goal.returns-in_err-text-clause-refused
@@ -12,14 +11,6 @@ returns-in_err-text-clause-refused c =
     let e = c.in_err-text.field-0.0 in
     let same : c.from_residual.result ≡ Err (of_decoding e) = search rules in
     rw same (of_no_text c.args.options.now _ e c.in_err-text.ensures.refused)
-
-pub returns-in_err-note-clause-refused : goal.returns-in_err-note-clause-refused
-returns-in_err-note-clause-refused c =
-    let options = c.args.options.now in
-    let text = string_bytes c.in_ok-text.text in
-    let is_text : IsDecodedBy options.input c.args.input.items text = search rules in
-    let same : c.from_residual-in_err-note.result ≡ Err OutOfMemory = search rules in
-    rw same (whole_no_memory options c.args.input.items text is_text)
 
 pub returns-in_err-output-clause-refused : goal.returns-in_err-output-clause-refused
 returns-in_err-output-clause-refused c =

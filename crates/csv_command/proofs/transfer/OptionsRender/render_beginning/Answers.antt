@@ -8,19 +8,19 @@ pub returns-in-Ok-output_of-clause-some : goal.returns-in-Ok-output_of-clause-so
 returns-in-Ok-output_of-clause-some c =
     let options = c.args.self.now in
     let most = c.in_ok-most.most in
-    let records = c.in_ok-records.field-0.records in
-    let found : IsFoundInBeginning options.input most c.args.read.now c.in_ok-records.field-0 = search rules in
+    let records = c.in_ok-first.first.records in
+    let found : IsFoundInBeginning options.input most c.args.read.now c.in_ok-first.first = search rules in
     let first = found.are_first in (
       beginning_output options c.args.read.now most records c.if-self.false c.in_ok-most.ensures.some first (string_bytes c.in-Ok-output_of.text) c.in-Ok-output_of.ensures.output,
-      beginning_doubt options c.args.read.now most records c.if-self.false c.in_ok-most.ensures.some first c.in_ok-records.field-0.doubt found.doubt,
+      beginning_doubt options c.args.read.now most records c.if-self.false c.in_ok-most.ensures.some first c.in_ok-first.first.doubt found.doubt,
     )
 
 pub returns-in-Err-clause-some : goal.returns-in-Err-clause-some
 returns-in-Err-clause-some c =
     let options = c.args.self.now in
     let most = c.in_ok-most.most in
-    let records = c.in_ok-records.field-0.records in
-    let found : IsFoundInBeginning options.input most c.args.read.now c.in_ok-records.field-0 = search rules in
+    let records = c.in_ok-first.first.records in
+    let found : IsFoundInBeginning options.input most c.args.read.now c.in_ok-first.first = search rules in
     let same : c.from.result ≡ of_columns c.in-Err.error = search rules in
     rw same (beginning_refused options c.args.read.now most records c.if-self.false c.in_ok-most.ensures.some found.are_first c.in-Err.error c.in-Err.ensures.refused)
 
@@ -33,8 +33,8 @@ returns-in_err-most-clause-none c =
     let short : length c.args.read.now < 2 ^ 64 = search rules in
     rw same (unlimited c.args.self.now c.args.read.now short c.in_err-most.ensures.none)
 
-pub returns-in_err-records-clause-none : goal.returns-in_err-records-clause-none
-returns-in_err-records-clause-none c =
-    let same : c.from_residual-in_err-records.result ≡ None = search rules in
+pub returns-in_err-first-clause-none : goal.returns-in_err-first-clause-none
+returns-in_err-first-clause-none c =
+    let same : c.from_residual-in_err-first.result ≡ None = search rules in
     let found : c.in-Ok.found ≡ None = search rules in
     rw same (none_found c.args.self.now c.args.read.now c.in_ok-most.most c.in_ok-most.ensures.some (rw found at c.in-Ok.ensures.none))
