@@ -8,11 +8,11 @@ use Rattle.std.specs.Str.{IsUtf8}
 use Rattle.comfy_parts.specs.Text.{Text}
 use Rattle.csv_records.specs.Encoding.{IsRefusedIn, encoding_of}
 use Rattle.csv_records.specs.Lines.{below_lines}
-use Rattle.csv_records.specs.Foreign.{foreign_for}
+use Rattle.csv_records.specs.NotText.{not_text_for}
 use Rattle.csv_records.specs.Reading.{IsWithoutText}
 use Rattle.csv_records.specs.declared.encoding.Encoding.{Encoding}
 use Rattle.csv_records.specs.declared.encoding.Encoding.TheVariants.{Utf8}
-use Rattle.csv_records.specs.declared.foreign.Foreign.{Foreign}
+use Rattle.csv_records.specs.declared.not_text.NotText.{NotText}
 use Rattle.csv_records.specs.declared.error.DecodeError.{DecodeError}
 use Rattle.csv_records.specs.declared.error.DecodeError.TheVariants as decode
 use Rattle.csv_command.specs.Drawn.{IsNotEnough, RendersExtent}
@@ -69,14 +69,14 @@ beginning_parts n input =
 
 module _ (options : Options) (input : Text) where
   -- where memory ran out, nothing was seen by which it's no text, and it isn't to be UTF-8
-  no_memory : (o : Option Foreign) → MatchOption o (IsRefusedIn (encoding_of options.input.encoding input) options.input.skip input decode.OutOfMemory) (λ foreign. decode.OutOfMemory ≡ decode.Foreign foreign)
+  no_memory : (o : Option NotText) → MatchOption o (IsRefusedIn (encoding_of options.input.encoding input) options.input.skip input decode.OutOfMemory) (λ other. decode.OutOfMemory ≡ decode.NotText other)
       → encoding_of options.input.encoding input ≢ Utf8
   no_memory None why wanted = subst (λ (encoding : Encoding). IsRefusedIn encoding options.input.skip input decode.OutOfMemory) wanted why
-  no_memory (Some foreign) why wanted = cc why
+  no_memory (Some other) why wanted = cc why
 
   -- an input that has no text is refused
   pub of_no_text : (e : DecodeError) → IsWithoutText options.input input e → IsInputRefusal options input (of_decoding e)
-  of_no_text decode.OutOfMemory why = λ wanted. absurd (no_memory (foreign_for options.input.encoding options.input.skip input) why wanted)
-  of_no_text (decode.Foreign foreign) why = ((λ is. cc is), why)
+  of_no_text decode.OutOfMemory why = λ wanted. absurd (no_memory (not_text_for options.input.encoding options.input.skip input) why wanted)
+  of_no_text (decode.NotText other) why = ((λ is. cc is), why)
   of_no_text (decode.NotUtf8 line may_be) why = ((λ is. cc is), why)
   of_no_text (decode.NotUtf16 line) why = ((λ is. cc is), why)

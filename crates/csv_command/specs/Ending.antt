@@ -14,8 +14,8 @@ use Rattle.csv_command.specs.declared.arguments.Invocation.{Invocation}
 use Rattle.csv_records.specs.declared.encoding.Encoding.{Encoding}
 use Rattle.csv_records.specs.declared.error.DecodeError.{DecodeError}
 use Rattle.csv_records.specs.declared.error.DecodeError.TheVariants as decode
-use Rattle.csv_records.specs.declared.foreign.Foreign.{Foreign}
-use Rattle.csv_records.specs.declared.foreign.Foreign.TheVariants as foreign
+use Rattle.csv_records.specs.declared.not_text.NotText.{NotText}
+use Rattle.csv_records.specs.declared.not_text.NotText.TheVariants as not_text
 use Rattle.csv_records.specs.declared.error.RecordsError.{RecordsError}
 use Rattle.csv_records.specs.declared.error.RecordsError.TheVariants as records
 use Rattle.csv_command.specs.declared.error.ColumnsError.{ColumnsError}
@@ -49,18 +49,18 @@ encoding_hint None may_be_cp1252 = if may_be_cp1252 then codes "; try -e cp1252"
 encoding_hint (Some encoding) may_be_cp1252 = []
 
 -- what an input is that is no text in UTF-8, and what helps
-abbrev pub foreign_reason : Foreign → Text
-foreign_reason foreign.Gzip = codes "compressed by gzip; try zcat FILE | csvtable"
-foreign_reason foreign.Zip =
+abbrev pub not_text_reason : NotText → Text
+not_text_reason not_text.Gzip = codes "compressed by gzip; try zcat FILE | csvtable"
+not_text_reason not_text.Zip =
     codes "a zip archive; try unzip -p FILE | csvtable, or save a spreadsheet as CSV"
-foreign_reason foreign.Utf16 = codes "looks like UTF-16; try -e utf-16"
-foreign_reason (foreign.Binary number) =
+not_text_reason not_text.Utf16 = codes "looks like UTF-16; try -e utf-16"
+not_text_reason (not_text.Binary number) =
     (codes "line " ++ decimal number)
     ++ codes " has a NUL byte, so this isn't text; -e utf-8 reads it anyway"
 
 -- why an input has no text
 abbrev pub decoding_reason : Option Encoding → DecodeError → Text
-decoding_reason encoding (decode.Foreign foreign) = foreign_reason foreign
+decoding_reason encoding (decode.NotText other) = not_text_reason other
 decoding_reason encoding (decode.NotUtf8 number may_be_cp1252) =
     ((codes "line " ++ decimal number) ++ codes " isn't UTF-8")
     ++ encoding_hint encoding may_be_cp1252

@@ -14,7 +14,7 @@ use crate::styles::{is_compact, is_named, style_names, style_of};
 use clap::error::ErrorKind;
 use clap::parser::ArgMatches;
 use clap::{Command, Error};
-use csv_records::{Delimiter, Encoding, InputOptions, number_of, only_ascii};
+use csv_records::{Delimiter, Encoding, InputOptions, only_ascii, parse_digits};
 use csv_tables::{Expansion, Look, RowSeparators, Selection};
 use std::alloc::{AllocError, Global};
 
@@ -112,7 +112,7 @@ fn parse_by<'a>(
 {
     let matches = match command.try_get_matches_from_mut(arguments) {
         Ok(matches) => matches,
-        Err(error) => return Err(explained(alloc, command, arguments, error)),
+        Err(error) => return Err(with_clearer_message(alloc, command, arguments, error)),
     };
     match wanted_delimiter(&matches) {
         Some(delimiter) => Ok(invocation_of(alloc, &matches, delimiter, context)?),
@@ -121,7 +121,7 @@ fn parse_by<'a>(
 }
 
 // A refusal by clap, in our own words where a number is wrong.
-fn explained<'a>(
+fn with_clearer_message<'a>(
     alloc: Global,
     command: &mut Command<'a>,
     arguments: &[&str],
@@ -410,7 +410,7 @@ fn terminal_width(columns: Option<&str>) -> u16
     ensures { result ≡ terminal_width (option_map (λ c. c.now) columns.entry) }
 {
     match columns {
-        Some(columns) => number_of(columns)
+        Some(columns) => parse_digits(columns)
             .and_then(some_columns)
             .unwrap_or(TERMINAL_WIDTH),
         None => TERMINAL_WIDTH,

@@ -7,7 +7,7 @@ ghost use Rattle.csv_command.specs.Columns.{IsColumnsRefusal, at_two_sides, chos
 
 use crate::error::ColumnsError;
 use crate::hints::hint_of;
-use csv_records::{Record, number_of};
+use csv_records::{Record, parse_digits};
 use csv_tables::{Columns, name_from};
 use std::alloc::{AllocError, Global};
 
@@ -191,7 +191,7 @@ fn column_of(names: &Record<'_>, count: usize, word: &str) -> Option<usize>
     ensures value { result ≡ column_of names.now count word.now }
     ensures below { IfSome result (λ position. position < 2 ^ 64 - 1) }
 {
-    if let Some(number) = number_of(word) {
+    if let Some(number) = parse_digits(word) {
         if let Some(position) = numbered(count, number) {
             return Some(position);
         }

@@ -3,12 +3,12 @@
 ghost use Rattle.std.specs.Prelude.{◌≡◌, ◌++◌, IfErr, IfOk, OnOk, option_map, string_bytes, true};
 ghost use Rattle.clap.specs.Words.{kind_of};
 ghost use Rattle.csv_command.specs.declared.ending.Message.TheVariants.{OutOfMemory, Text};
-ghost use Rattle.csv_command.specs.Ending.{IsEndOfOutcome, IsEndOfRefusal, IsEndOfUnwritten, IsEndWithoutArguments, IsHarmless, IsSilent, about, columns_reason, decoding_reason, delimiter_name, doubt_line, encoding_hint, is_of_input, message_for, reading_reason, reason_for, records_reason, text_of, foreign_reason, waiting_notice};
+ghost use Rattle.csv_command.specs.Ending.{IsEndOfOutcome, IsEndOfRefusal, IsEndOfUnwritten, IsEndWithoutArguments, IsHarmless, IsSilent, about, columns_reason, decoding_reason, delimiter_name, doubt_line, encoding_hint, is_of_input, message_for, reading_reason, reason_for, records_reason, text_of, not_text_reason, waiting_notice};
 
 use crate::arguments::Invocation;
 use crate::error::{ColumnsError, CsvError};
 use clap::error::{Error, ErrorKind};
-use csv_records::{DecodeError, Encoding, Foreign, RecordsError, shown_text};
+use csv_records::{DecodeError, Encoding, NotText, RecordsError, shown_text};
 use std::alloc::{AllocError, Global};
 use std::io;
 
@@ -274,7 +274,7 @@ fn decoding_reason(
     ensures { IfOk result (λ text. string_bytes text ≡ decoding_reason encoding error) }
 {
     match error {
-        DecodeError::Foreign(foreign) => foreign_reason(alloc, foreign),
+        DecodeError::NotText(other) => not_text_reason(alloc, other),
         DecodeError::NotUtf8 {
             line,
             may_be_cp1252,
@@ -289,14 +289,14 @@ fn decoding_reason(
 }
 
 // What an input is that is no text in UTF-8, and what helps.
-fn foreign_reason(alloc: Global, foreign: Foreign) -> Result<String, AllocError>
-    ensures { IfOk result (λ text. string_bytes text ≡ foreign_reason foreign) }
+fn not_text_reason(alloc: Global, other: NotText) -> Result<String, AllocError>
+    ensures { IfOk result (λ text. string_bytes text ≡ not_text_reason other) }
 {
-    match foreign {
-        Foreign::Gzip => String::from_str(alloc, GZIP),
-        Foreign::Zip => String::from_str(alloc, ZIP),
-        Foreign::Utf16 => String::from_str(alloc, "looks like UTF-16; try -e utf-16"),
-        Foreign::Binary(line) => {
+    match other {
+        NotText::Gzip => String::from_str(alloc, GZIP),
+        NotText::Zip => String::from_str(alloc, ZIP),
+        NotText::Utf16 => String::from_str(alloc, "looks like UTF-16; try -e utf-16"),
+        NotText::Binary(line) => {
             format!(in alloc;
                 "line {line} has a NUL byte, so this isn't text; -e utf-8 reads it anyway"
             )

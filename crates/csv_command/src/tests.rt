@@ -5,7 +5,7 @@ use crate::ending::{
     Ending, Outcome, ending_of_outcome, ending_of_refusal, ending_without_arguments, waiting_notice,
 };
 use crate::error::{ColumnsError, CsvError};
-use csv_records::{DecodeError, Foreign, RecordsError};
+use csv_records::{DecodeError, NotText, RecordsError};
 use std::alloc::{Alloc, Global};
 use std::io::ErrorKind;
 use std::process::Abort;
@@ -150,25 +150,25 @@ fn an_input_that_is_something_else(rt: HostRuntime) {
     let invocation = parse_by(&rt, &arguments);
     let lines = [
         (
-            Foreign::Gzip,
+            NotText::Gzip,
             "csvtable: a: compressed by gzip; try zcat FILE | csvtable\n",
         ),
         (
-            Foreign::Zip,
+            NotText::Zip,
             "csvtable: a: a zip archive; try unzip -p FILE | csvtable, \
                 or save a spreadsheet as CSV\n",
         ),
         (
-            Foreign::Utf16,
+            NotText::Utf16,
             "csvtable: a: looks like UTF-16; try -e utf-16\n",
         ),
         (
-            Foreign::Binary(7),
+            NotText::Binary(7),
             "csvtable: a: line 7 has a NUL byte, so this isn't text; -e utf-8 reads it anyway\n",
         ),
     ];
-    for (foreign, text) in lines {
-        let error = CsvError::Decode(DecodeError::Foreign(foreign));
+    for (other, text) in lines {
+        let error = CsvError::Decode(DecodeError::NotText(other));
         assert_message(&rt, &invocation, error, None, text);
     }
 }

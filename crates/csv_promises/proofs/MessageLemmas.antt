@@ -10,7 +10,7 @@ use Rattle.std.proofs.lemmas.Bool.{and_parts}
 use Rattle.std.proofs.lemmas.Bool.Decides.{nat_tests}
 use Rattle.std.proofs.lemmas.Str.{NoCharPasses-append, NoCharPasses-nil, encode_ascii}
 use Rattle.comfy_parts.specs.Text.{Text, is_printable_ascii}
-use Rattle.csv_command.specs.Ending.{about, columns_reason, decoding_reason, encoding_hint, foreign_reason, input_name, is_of_input, message_for, reading_reason, reason_for, records_reason, shown_name}
+use Rattle.csv_command.specs.Ending.{about, columns_reason, decoding_reason, encoding_hint, not_text_reason, input_name, is_of_input, message_for, reading_reason, reason_for, records_reason, shown_name}
 use Rattle.csv_command.specs.declared.arguments.Invocation.{Invocation}
 use Rattle.csv_records.specs.Cleaning.{is_replaced, shown, turns_direction}
 use Rattle.csv_records.specs.declared.encoding.Encoding.{Encoding}
@@ -18,8 +18,8 @@ use Rattle.csv_records.specs.declared.error.DecodeError.{DecodeError}
 use Rattle.csv_records.specs.declared.error.DecodeError.TheVariants as decode
 use Rattle.csv_records.specs.declared.error.RecordsError.{RecordsError}
 use Rattle.csv_records.specs.declared.error.RecordsError.TheVariants as records
-use Rattle.csv_records.specs.declared.foreign.Foreign.{Foreign}
-use Rattle.csv_records.specs.declared.foreign.Foreign.TheVariants as foreign
+use Rattle.csv_records.specs.declared.not_text.NotText.{NotText}
+use Rattle.csv_records.specs.declared.not_text.NotText.TheVariants as not_text
 use Rattle.csv_tables.proofs.FieldLemmas.{number_is_printable}
 use Rattle.csv_command.specs.declared.error.ColumnsError.{ColumnsError}
 use Rattle.csv_command.specs.declared.error.ColumnsError.TheVariants as columns
@@ -93,14 +93,14 @@ message invocation fault e = both _ (codes "\n") (both (about (is_of_input e) (o
     hint None false = printable [] refl
     hint (Some encoding) may = printable [] refl
 
-    of_foreign : (f : Foreign) → IsTame (foreign_reason f)
-    of_foreign foreign.Gzip = printable (foreign_reason foreign.Gzip) refl
-    of_foreign foreign.Zip = printable (foreign_reason foreign.Zip) refl
-    of_foreign foreign.Utf16 = printable (foreign_reason foreign.Utf16) refl
-    of_foreign (foreign.Binary n) = both _ (codes " has a NUL byte, so this isn't text; -e utf-8 reads it anyway") (both (codes "line ") (decimal n) (printable (codes "line ") refl) (number n)) (printable (codes " has a NUL byte, so this isn't text; -e utf-8 reads it anyway") refl)
+    of_not_text : (f : NotText) → IsTame (not_text_reason f)
+    of_not_text not_text.Gzip = printable (not_text_reason not_text.Gzip) refl
+    of_not_text not_text.Zip = printable (not_text_reason not_text.Zip) refl
+    of_not_text not_text.Utf16 = printable (not_text_reason not_text.Utf16) refl
+    of_not_text (not_text.Binary n) = both _ (codes " has a NUL byte, so this isn't text; -e utf-8 reads it anyway") (both (codes "line ") (decimal n) (printable (codes "line ") refl) (number n)) (printable (codes " has a NUL byte, so this isn't text; -e utf-8 reads it anyway") refl)
 
     decoding : (encoding : Option Encoding) (d : DecodeError) → IsTame (decoding_reason encoding d)
-    decoding encoding (decode.Foreign f) = of_foreign f
+    decoding encoding (decode.NotText f) = of_not_text f
     decoding encoding (decode.NotUtf8 n may) = both _ (encoding_hint encoding may) (both _ (codes " isn't UTF-8") (both (codes "line ") (decimal n) (printable (codes "line ") refl) (number n)) (printable (codes " isn't UTF-8") refl)) (hint encoding may)
     decoding encoding (decode.NotUtf16 n) = both _ (codes " isn't UTF-16") (both (codes "line ") (decimal n) (printable (codes "line ") refl) (number n)) (printable (codes " isn't UTF-16") refl)
     decoding encoding decode.OutOfMemory = printable (codes "out of memory") refl

@@ -8,7 +8,7 @@ pub mod DelimiterLemmas
 pub mod EncodingLemmas
 pub mod FigureLemmas
 pub mod FirstLemmas
-pub mod ForeignLemmas
+pub mod NotTextLemmas
 pub mod LineLemmas
 pub mod NoneEnoughLemmas
 pub mod NumberLemmas

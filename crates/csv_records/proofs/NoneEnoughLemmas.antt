@@ -19,7 +19,7 @@ use Rattle.csv_records.specs.declared.error.DecodeError.{DecodeError}
 use Rattle.csv_records.specs.declared.error.DecodeError.TheVariants as decode
 use Rattle.csv_records.specs.declared.error.RecordsError.{RecordsError}
 use Rattle.csv_records.specs.declared.error.RecordsError.TheVariants as records
-use Rattle.csv_records.specs.declared.foreign.Foreign.{Foreign}
+use Rattle.csv_records.specs.declared.not_text.NotText.{NotText}
 use Rattle.csv_records.specs.declared.options.InputOptions.{InputOptions}
 
 -- ---- texts
@@ -37,21 +37,21 @@ all_paired (c ∷ all) (b ∷ before) after is =
 refused_in : (encoding : Encoding) (skip : ℕ) (input text : Text) (e : DecodeError) → e ≢ decode.OutOfMemory → IsRefusedIn encoding skip input e → IsDecoded encoding skip input text → ⊥
 refused_in Utf8 skip input text (decode.NotUtf8 line may_be) other why is = why.no_text is.0
 refused_in Utf8 skip input text (decode.NotUtf16 line) other why is = why
-refused_in Utf8 skip input text (decode.Foreign foreign) other why is = why
+refused_in Utf8 skip input text (decode.NotText what) other why is = why
 refused_in Utf8 skip input text decode.OutOfMemory other why is = why
 refused_in Cp1252 skip input text e other why is = other why
 refused_in Utf16 skip input text (decode.NotUtf16 line) other why is = all_paired is.characters why.before why.after (sym is.are_all ∙ why.first)
 refused_in Utf16 skip input text (decode.NotUtf8 line may_be) other why is = why
-refused_in Utf16 skip input text (decode.Foreign foreign) other why is = why
+refused_in Utf16 skip input text (decode.NotText what) other why is = why
 refused_in Utf16 skip input text decode.OutOfMemory other why is = other refl
 
 pub without_text : (options : InputOptions) (input text : Text) (e : DecodeError) → e ≢ decode.OutOfMemory → IsWithoutText options input e → IsDecodedBy options input text → ⊥
 without_text options input text e other why is =
     refused_in (encoding_of options.encoding input) options.skip input text e other (by_sign _ is.is_text why) is.is_decoded
   where
-    by_sign : (sign : Option Foreign) → sign ≡ None → MatchOption sign (IsRefusedIn (encoding_of options.encoding input) options.skip input e) (λ foreign. e ≡ decode.Foreign foreign) → IsRefusedIn (encoding_of options.encoding input) options.skip input e
+    by_sign : (sign : Option NotText) → sign ≡ None → MatchOption sign (IsRefusedIn (encoding_of options.encoding input) options.skip input e) (λ what. e ≡ decode.NotText what) → IsRefusedIn (encoding_of options.encoding input) options.skip input e
     by_sign None none why = why
-    by_sign (Some foreign) none why = absurd (cc none)
+    by_sign (Some what) none why = absurd (cc none)
 
 -- ---- records
 

@@ -5,7 +5,7 @@ pub mod Decimals
 pub mod Delimiter
 pub mod Encoding
 pub mod First
-pub mod Foreign
+pub mod NotText
 pub mod Input
 pub mod Lines
 pub mod Number

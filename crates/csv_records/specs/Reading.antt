@@ -6,7 +6,7 @@ use Rattle.csv.specs.Reading.{strip_bom}
 use Rattle.csv.specs.declared.parser.State.TheVariants as st
 use Rattle.csv_records.specs.Delimiter.{delimited}
 use Rattle.csv_records.specs.Encoding.{IsDecoded, IsRefusedIn, encoding_of}
-use Rattle.csv_records.specs.Foreign.{foreign_for}
+use Rattle.csv_records.specs.NotText.{not_text_for}
 use Rattle.csv_records.specs.Input.{AreRecordsOf, SplitsCharacter, line_number}
 use Rattle.csv_records.specs.Quotes.{IsUnclosed, state_after}
 use Rattle.csv_records.specs.Spaces.{tabbed_text}
@@ -22,14 +22,14 @@ use Rattle.csv_records.specs.declared.options.InputOptions.{InputOptions}
 -- found
 pub record IsDecodedBy (options : InputOptions) (input text : Text) : Type 0 where
   pub is_decoded : IsDecoded (encoding_of options.encoding input) options.skip input text
-  pub is_text : foreign_for options.encoding options.skip input ≡ None
+  pub is_text : not_text_for options.encoding options.skip input ≡ None
 
 -- why it has none: it's seen to be no text in UTF-8, else it isn't in its encoding
 abbrev pub IsWithoutText : InputOptions → Text → DecodeError → Type 0
 IsWithoutText options input e =
-    MatchOption (foreign_for options.encoding options.skip input)
+    MatchOption (not_text_for options.encoding options.skip input)
     (IsRefusedIn (encoding_of options.encoding input) options.skip input e)
-    (λ foreign. e ≡ decode.Foreign foreign)
+    (λ what. e ≡ decode.NotText what)
 
 -- what is read of a text: with TABs between fields, where spaces stand there
 abbrev pub read_text : Delimiter → Text → Text

@@ -71,7 +71,7 @@ fn found_text(
     match decoded(alloc, Vec::from_slice(alloc, bytes)?, options) {
         Ok(text) => Ok(Some(text)),
         Err(DecodeError::OutOfMemory) => Err(AllocError),
-        Err(DecodeError::Foreign(_)) => Ok(None),
+        Err(DecodeError::NotText(_)) => Ok(None),
         Err(DecodeError::NotUtf8 { .. }) => Ok(None),
         Err(DecodeError::NotUtf16(_)) => Ok(None),
     }

@@ -9,8 +9,8 @@ ghost use Rattle.csv_records.specs.Input.{IsTextRefusal, line_number};
 ghost use Rattle.csv_records.specs.Reading.{IsDecodedBy, IsWithoutText};
 
 use crate::error::DecodeError;
-use crate::foreign::foreign_for;
 use crate::lines::below_lines;
+use crate::not_text::not_text_for;
 use crate::options::InputOptions;
 use crate::text::{line_number, text_of};
 use std::alloc::Global;
@@ -42,8 +42,8 @@ pub fn decoded(alloc: Global, input: Vec<u8>, options: &InputOptions) -> Result<
         → string_vec text ≡ input) }
     ensures refused { IfErr result (λ e. IsWithoutText options.now input.items e) }
 {
-    if let Some(foreign) = foreign_for(options.encoding, options.skip, input.as_slice()) {
-        return Err(DecodeError::Foreign(foreign));
+    if let Some(what) = not_text_for(options.encoding, options.skip, input.as_slice()) {
+        return Err(DecodeError::NotText(what));
     }
     let encoding = encoding_of(options.encoding, input.as_slice());
     text_below(alloc, input, encoding, options.skip)

@@ -4,7 +4,7 @@ ghost use Rattle.std.specs.Prelude.{◌≡◌};
 ghost use Rattle.csv_records.specs.declared.error.DecodeError.TheVariants as decode;
 ghost use Rattle.csv_records.specs.declared.error.RecordsError.TheVariants as records;
 
-use crate::foreign::Foreign;
+use crate::not_text::NotText;
 use std::alloc::{AllocError, AllocFailed};
 use thiserror::Error;
 
@@ -14,7 +14,7 @@ use thiserror::Error;
 pub enum DecodeError {
     /// No encoding was asked for, and the input is seen to be another thing than text in UTF-8.
     #[error("{0}")]
-    Foreign(Foreign),
+    NotText(NotText),
     /// The input isn't UTF-8.
     #[error("line {line} isn't UTF-8")]
     NotUtf8 {

@@ -7,7 +7,7 @@ ghost use Rattle.std.specs.Str.{IsCharBoundary};
 ghost use Rattle.csv_records.specs.Number.{are_parted_digits, back_of, before, begins, behind, ends, figure_of, from_other, front_of, halves, has_groups, has_groups_before, is_address, is_amount, is_bare_neutral, is_bare_number, is_blank, is_code, is_currency, is_decimal, is_digits, is_enclosed, is_end, is_exponent, is_figure, is_fraction, is_group_len, is_grouped, is_inner, is_missing, is_money, is_name, is_neutral, is_number, is_octet, is_one, is_outer, is_scientific, is_sign, is_signed, is_size, is_space, is_time, is_unit, is_word, to_other, trimmed, without_first, without_last, without_spaces_before, without_spaces_behind};
 
 use crate::characters::split_first;
-use crate::numerals::number_of;
+use crate::digits::parse_digits;
 use comfy_parts::content_split::are_digits;
 use ucd_category::GeneralCategory;
 
@@ -459,7 +459,7 @@ fn is_address(text: &str) -> bool
 fn is_octet(text: &str) -> bool
     ensures { result ≡ is_octet text.now }
 {
-    match number_of(text) {
+    match parse_digits(text) {
         Some(number) => number <= 255,
         None => false,
     }

@@ -2,30 +2,30 @@
 -- Source: CommonMark, entity and numeric character references.
 use Rattle.std.specs.Prelude.{ℕ, Bool, false, ◌==◌, ◌&&◌, ◌||◌, List, [], ◌∷◌, if◌then◌else◌}
 use Rattle.std.specs.Char.{is_ascii_alphabetic, is_ascii_alphanumeric, is_ascii_digit, is_ascii_hexdigit}
-use Rattle.csv_tables.specs.declared.references.Part.{Part}
-use Rattle.csv_tables.specs.declared.references.Part.TheVariants.{Decimal, Hexadecimal, Name}
+use Rattle.csv_tables.specs.declared.references.ReferenceKind.{ReferenceKind}
+use Rattle.csv_tables.specs.declared.references.ReferenceKind.TheVariants.{Decimal, Hexadecimal, Name}
 
 -- a character that a name or a number goes on with
-abbrev pub is_part : Part → ℕ → Bool
-is_part Name c = is_ascii_alphanumeric c
-is_part Decimal c = is_ascii_digit c
-is_part Hexadecimal c = is_ascii_hexdigit c
+abbrev pub is_of_kind : ReferenceKind → ℕ → Bool
+is_of_kind Name c = is_ascii_alphanumeric c
+is_of_kind Decimal c = is_ascii_digit c
+is_of_kind Hexadecimal c = is_ascii_hexdigit c
 
 -- one that it begins with
-abbrev pub begins_part : Part → ℕ → Bool
-begins_part Name c = is_ascii_alphabetic c
-begins_part Decimal c = is_ascii_digit c
-begins_part Hexadecimal c = is_ascii_hexdigit c
+abbrev pub begins_kind : ReferenceKind → ℕ → Bool
+begins_kind Name c = is_ascii_alphabetic c
+begins_kind Decimal c = is_ascii_digit c
+begins_kind Hexadecimal c = is_ascii_hexdigit c
 
 -- `;` follows what goes on with it
-abbrev pub closes : Part → List ℕ → Bool
-closes part [] = false
-closes part (c ∷ rest) = if is_part part c then closes part rest else c == 0x3B
+abbrev pub closes : ReferenceKind → List ℕ → Bool
+closes kind [] = false
+closes kind (c ∷ rest) = if is_of_kind kind c then closes kind rest else c == 0x3B
 
 -- a name or a number, and `;`
-abbrev pub is_closed : Part → List ℕ → Bool
-is_closed part [] = false
-is_closed part (c ∷ rest) = begins_part part c && closes part rest
+abbrev pub is_closed : ReferenceKind → List ℕ → Bool
+is_closed kind [] = false
+is_closed kind (c ∷ rest) = begins_kind kind c && closes kind rest
 
 -- digits, or hexadecimal ones behind `x`, and `;`
 abbrev pub begins_number : List ℕ → Bool

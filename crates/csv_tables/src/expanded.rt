@@ -41,7 +41,7 @@ pub(crate) fn records_text(content: &Content, arranged: &ArrangedTable<'_>) -> R
     for (at, row) in content.rows().enumerate() {
         let count = content.drawn_fields(&row);
         push_record_line(&mut text, at, content.count())?;
-        push_part(&mut text, arranged, first, count)?;
+        push_record_rows(&mut text, arranged, first, count)?;
         first = place_behind(first, count)?;
     }
     Ok(text)
@@ -66,7 +66,7 @@ fn push_record_line(text: &mut String, at: usize, count: Option<usize>) -> Resul
 }
 
 // Appends a part of a table, where it has a row.
-fn push_part(
+fn push_record_rows(
     text: &mut String,
     arranged: &ArrangedTable<'_>,
     first: usize,

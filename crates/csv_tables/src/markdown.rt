@@ -46,13 +46,13 @@ pub fn push_rule(
 {
     text.push('|')?;
     for (column, width) in columns.iter().zip(widths) {
-        push_part(text, column, *width)?;
+        push_rule_segment(text, column, *width)?;
     }
     text.push('\n')
 }
 
 // What a column of this width adds to the line.
-fn push_part(text: &mut String, column: &DrawnColumn, width: u16) -> Result<(), AllocError>
+fn push_rule_segment(text: &mut String, column: &DrawnColumn, width: u16) -> Result<(), AllocError>
     ensures { OnOk result (string_bytes text.new
         ≡ string_bytes text.old ++ rule_part (column.now, width)) }
 {

@@ -1,13 +1,13 @@
 //! Character references of Markdown, as `&amp;`, `&#42;` and `&#x2a;`.
 
 ghost use Rattle.std.specs.Prelude.{◌≡◌, chars};
-ghost use Rattle.csv_tables.specs.References.{begins_number, begins_part, begins_reference, closes, is_closed, is_part};
+ghost use Rattle.csv_tables.specs.References.{begins_kind, begins_number, begins_reference, closes, is_closed, is_of_kind};
 
 use csv_records::split_first;
 
-/// What stands in a reference before `;`.
+/// What stands in a reference before `;`: a name, or the digits of a number.
 #[derive(Clone, Copy)]
-pub(crate) enum Part {
+pub(crate) enum ReferenceKind {
     Name,
     Decimal,
     Hexadecimal,
@@ -20,7 +20,7 @@ pub(crate) fn begins_reference(behind: &str) -> bool
 {
     match split_first(behind) {
         Some(('#', number)) => begins_number(number),
-        Some(_) => is_closed(Part::Name, behind),
+        Some(_) => is_closed(ReferenceKind::Name, behind),
         None => false,
     }
 }
@@ -29,29 +29,29 @@ fn begins_number(text: &str) -> bool
     ensures { result ≡ begins_number (chars text.now) }
 {
     match split_first(text) {
-        Some(('x' | 'X', digits)) => is_closed(Part::Hexadecimal, digits),
-        Some(_) => is_closed(Part::Decimal, text),
+        Some(('x' | 'X', digits)) => is_closed(ReferenceKind::Hexadecimal, digits),
+        Some(_) => is_closed(ReferenceKind::Decimal, text),
         None => false,
     }
 }
 
-// Whether a text begins with such a part, and `;`.
-fn is_closed(part: Part, text: &str) -> bool
-    ensures { result ≡ is_closed part (chars text.now) }
+// Whether a text begins with what such a reference has, and `;`.
+fn is_closed(kind: ReferenceKind, text: &str) -> bool
+    ensures { result ≡ is_closed kind (chars text.now) }
 {
     match split_first(text) {
-        Some((c, rest)) => begins_part(part, c) && closes(part, rest),
+        Some((c, rest)) => begins_kind(kind, c) && closes(kind, rest),
         None => false,
     }
 }
 
-// Whether `;` follows what goes on with a part.
-fn closes(part: Part, text: &str) -> bool
-    ensures { result ≡ closes part (chars text.now) }
+// Whether `;` follows what goes on so.
+fn closes(kind: ReferenceKind, text: &str) -> bool
+    ensures { result ≡ closes kind (chars text.now) }
 {
     let mut rest = text;
     while let Some((c, behind)) = split_first(rest) {
-        if !is_part(part, c) {
+        if !is_of_kind(kind, c) {
             return c == ';';
         }
         rest = behind;
@@ -59,21 +59,21 @@ fn closes(part: Part, text: &str) -> bool
     false
 }
 
-fn begins_part(part: Part, c: char) -> bool
-    ensures { result ≡ begins_part part c }
+fn begins_kind(kind: ReferenceKind, c: char) -> bool
+    ensures { result ≡ begins_kind kind c }
 {
-    match part {
-        Part::Name => c.is_ascii_alphabetic(),
-        Part::Decimal | Part::Hexadecimal => is_part(part, c),
+    match kind {
+        ReferenceKind::Name => c.is_ascii_alphabetic(),
+        ReferenceKind::Decimal | ReferenceKind::Hexadecimal => is_of_kind(kind, c),
     }
 }
 
-fn is_part(part: Part, c: char) -> bool
-    ensures { result ≡ is_part part c }
+fn is_of_kind(kind: ReferenceKind, c: char) -> bool
+    ensures { result ≡ is_of_kind kind c }
 {
-    match part {
-        Part::Name => c.is_ascii_alphanumeric(),
-        Part::Decimal => c.is_ascii_digit(),
-        Part::Hexadecimal => c.is_ascii_hexdigit(),
+    match kind {
+        ReferenceKind::Name => c.is_ascii_alphanumeric(),
+        ReferenceKind::Decimal => c.is_ascii_digit(),
+        ReferenceKind::Hexadecimal => c.is_ascii_hexdigit(),
     }
 }

@@ -47,7 +47,7 @@ impl<R: Read> FromReader<R> {
     }
 
     // What the reader said of so much room, as the source keeps and answers it.
-    fn kept(&mut self, said: io::Result<usize>, room: usize) -> Result<usize, DeviceFault>
+    fn note_result(&mut self, said: io::Result<usize>, room: usize) -> Result<usize, DeviceFault>
         ensures count { IfOk result (λ count. said ≡ Ok count) }
         ensures fault { is_err result ≡ is_err said }
         ensures after { self.new ≡ record self.old {
@@ -87,7 +87,7 @@ impl<R: Read> Source for FromReader<R> {
             return Ok(0);
         }
         let said = self.reader.read(buffer);
-        self.kept(said, buffer.len())
+        self.note_result(said, buffer.len())
     }
 }
 
@@ -129,7 +129,7 @@ impl<W: Write> ToWriter<W> {
     }
 
     // What the writer said of a piece of so many bytes, as the sink keeps and answers it.
-    fn kept(&mut self, said: io::Result<usize>, bytes: usize) -> Result<usize, DeviceFault>
+    fn note_result(&mut self, said: io::Result<usize>, bytes: usize) -> Result<usize, DeviceFault>
         ensures count { IfOk result (λ count. said ≡ Ok count) }
         ensures fault { is_err result ≡ (is_err said || is_end said bytes) }
         ensures after { self.new ≡ record self.old {
@@ -162,6 +162,6 @@ impl<W: Write> Sink for ToWriter<W> {
             return Err(DeviceFault);
         }
         let said = self.writer.write(piece);
-        self.kept(said, piece.len())
+        self.note_result(said, piece.len())
     }
 }

@@ -15,13 +15,13 @@ use Rattle.csv_records.specs.Lines.{below_lines}
 use Rattle.csv_records.specs.Delimiter.{agreement, delimited, delimiter_in, doubtful_delimiter, is_poor}
 use Rattle.csv_tables.specs.Unbroken.{is_unbroken}
 use Rattle.csv_command.specs.Arguments.{delimiter_for, encoding_for}
-use Rattle.csv_records.specs.Foreign.{foreign_for}
+use Rattle.csv_records.specs.NotText.{not_text_for}
 use Rattle.csv_records.specs.Input.{is_like_cp1252}
 use Rattle.csv_records.specs.declared.delimiter.Delimiter.{Delimiter}
 use Rattle.csv_records.specs.declared.delimiter.Delimiter.TheVariants.{Auto, Byte, NamedOrTab}
 use Rattle.csv_records.specs.declared.encoding.Encoding.TheVariants.{Cp1252, Utf16, Utf8}
 use Rattle.csv_records.specs.declared.error.DecodeError.TheVariants as decode
-use Rattle.csv_records.specs.declared.foreign.Foreign.TheVariants.{Binary, Gzip, Utf16 as UnmarkedUtf16, Zip}
+use Rattle.csv_records.specs.declared.not_text.NotText.TheVariants.{Binary, Gzip, Utf16 as UnmarkedUtf16, Zip}
 use Rattle.csv_command.specs.declared.error.CsvError.TheVariants as err
 
 abbrev texts : List String → List Text
@@ -130,20 +130,20 @@ broken = refl
 -- ---- signs that an input is no text in UTF-8
 
 -- where no encoding is asked for: gzip, zip, NULs at every second byte, in either order, and other NULs
-foreign_inputs :
-    map (foreign_for None 0) ((0x1F ∷ 0x8B ∷ []) ∷ (0x50 ∷ 0x4B ∷ 3 ∷ 4 ∷ []) ∷ (0x61 ∷ 0 ∷ 0x2C ∷ 0 ∷ []) ∷ (0 ∷ 0x61 ∷ 0 ∷ 0x2C ∷ []) ∷ (0x61 ∷ 0x0A ∷ 0 ∷ []) ∷ (0 ∷ 0 ∷ 0 ∷ 0 ∷ []) ∷ [])
+not_text_inputs :
+    map (not_text_for None 0) ((0x1F ∷ 0x8B ∷ []) ∷ (0x50 ∷ 0x4B ∷ 3 ∷ 4 ∷ []) ∷ (0x61 ∷ 0 ∷ 0x2C ∷ 0 ∷ []) ∷ (0 ∷ 0x61 ∷ 0 ∷ 0x2C ∷ []) ∷ (0x61 ∷ 0x0A ∷ 0 ∷ []) ∷ (0 ∷ 0 ∷ 0 ∷ 0 ∷ []) ∷ [])
     ≡ Some Gzip ∷ Some Zip ∷ Some UnmarkedUtf16 ∷ Some UnmarkedUtf16 ∷ Some (Binary 2) ∷ Some (Binary 1) ∷ []
-foreign_inputs = refl
+not_text_inputs = refl
 
 -- words that begin so, a mark of UTF-16, and an encoding that is asked for
-no_signs : map (foreign_for None 0) ((0x1F ∷ []) ∷ (0x50 ∷ 0x4B ∷ 0x2C ∷ 4 ∷ []) ∷ (0xFF ∷ 0xFE ∷ 0x61 ∷ 0 ∷ []) ∷ []) ≡ None ∷ None ∷ None ∷ []
+no_signs : map (not_text_for None 0) ((0x1F ∷ []) ∷ (0x50 ∷ 0x4B ∷ 0x2C ∷ 4 ∷ []) ∷ (0xFF ∷ 0xFE ∷ 0x61 ∷ 0 ∷ []) ∷ []) ≡ None ∷ None ∷ None ∷ []
 no_signs = refl
 
-asked_for : foreign_for (Some Utf8) 0 (0x61 ∷ 0 ∷ 0x2C ∷ 0 ∷ []) ≡ None
+asked_for : not_text_for (Some Utf8) 0 (0x61 ∷ 0 ∷ 0x2C ∷ 0 ∷ []) ≡ None
 asked_for = refl
 
 -- NULs in lines that are left out are none, and lines count from the input's front
-below_a_nul : map (λ (skip : ℕ). foreign_for None skip (0 ∷ 0x0A ∷ 0x61 ∷ 0x0A ∷ 0 ∷ [])) (0 ∷ 1 ∷ 2 ∷ 3 ∷ []) ≡ Some (Binary 1) ∷ Some (Binary 3) ∷ Some (Binary 3) ∷ None ∷ []
+below_a_nul : map (λ (skip : ℕ). not_text_for None skip (0 ∷ 0x0A ∷ 0x61 ∷ 0x0A ∷ 0 ∷ [])) (0 ∷ 1 ∷ 2 ∷ 3 ∷ []) ≡ Some (Binary 1) ∷ Some (Binary 3) ∷ Some (Binary 3) ∷ None ∷ []
 below_a_nul = refl
 
 -- of control characters TAB, line feed, form feed and carriage return are text; five bytes of Windows-1252 are none

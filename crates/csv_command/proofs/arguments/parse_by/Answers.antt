@@ -5,7 +5,7 @@ use Rattle.csv_command.proofs.arguments.parse_by.Goals as goal
 
 pub returns-in-Err-clause-refused : goal.returns-in-Err-clause-refused
 returns-in-Err-clause-refused c other =
-    let kind = c.explained.ensures other in
+    let kind = c.with_clearer_message.ensures other in
     let kinds = c.in-Err.ensures.kinds (csvtable_is_free _ c.requires) in
     rw kind (inl (not_taken (app_of c.args.command.now) _ c.in-Err.error c.requires c.in-Err.ensures.passes kinds (λ none. other (kind ∙ none))))
 

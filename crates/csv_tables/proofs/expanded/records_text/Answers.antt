@@ -26,8 +26,8 @@ loop-at-preserved c =
     let arranged = c.args.arranged.now in
     let part : ℕ → ℕ → Text = λ (first count : ℕ). terminated_text_of (some_lines arranged first count) in
     let at : c.in-Some.at ≡ k = steps.1 in
-    let line : string_bytes c.push_part.new.text ≡ string_bytes c.loop-at.text ++ record_text content arranged k =
-    c.in_ok-push_part.ensures
+    let line : string_bytes c.push_record_rows.new.text ≡ string_bytes c.loop-at.text ++ record_text content arranged k =
+    c.in_ok-push_record_rows.ensures
     ∙ ap₂ (λ (t p : Text). t ++ p) (c.in_ok-push_record_line.ensures ∙ ap₂ (λ (n : ℕ) (m : Option ℕ). string_bytes c.loop-at.text ++ record_line (n + 1) m) at c.count.ensures) (ap₂ part had.first count)
     ∙ append_assoc (string_bytes c.loop-at.text) (record_line (k + 1) content.count) (part (sum_by (drawn_fields content) (take k rows)) (drawn_fields content (slice_index_or rows k []))) in
     record {

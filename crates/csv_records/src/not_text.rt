@@ -2,7 +2,7 @@
 
 ghost use Rattle.std.specs.Prelude.{◌≡◌, ◌==◌};
 ghost use Rattle.std.specs.List.{position};
-ghost use Rattle.csv_records.specs.Foreign.{foreign_by_nuls, foreign_for, foreign_in, is_gzip, is_like_utf16, is_zip, nul_line};
+ghost use Rattle.csv_records.specs.NotText.{not_text_by_nuls, not_text_for, not_text_in, is_gzip, is_like_utf16, is_zip, nul_line};
 
 use crate::encoding::{Encoding, is_marked};
 use crate::lines::below_lines;
@@ -12,7 +12,7 @@ use thiserror::Error;
 
 /// What an input is that is no text in UTF-8, as its bytes show.
 #[derive(Clone, Copy, Debug, PartialEq, Eq, Error)]
-pub enum Foreign {
+pub enum NotText {
     /// A file of gzip: it begins with the bytes 0x1F and 0x8B.
     #[error("compressed by gzip")]
     Gzip,
@@ -30,26 +30,26 @@ pub enum Foreign {
 
 /// What an input is seen to be, where no encoding is asked for and no mark says that it is UTF-16.
 /// NULs count below the lines that are left out.
-pub(crate) fn foreign_for(encoding: Option<Encoding>, skip: usize, input: &[u8]) -> Option<Foreign>
-    ensures { result ≡ foreign_for encoding skip input.now }
+pub(crate) fn not_text_for(encoding: Option<Encoding>, skip: usize, input: &[u8]) -> Option<NotText>
+    ensures { result ≡ not_text_for encoding skip input.now }
 {
     match encoding {
         Some(_) => None,
         None if is_marked(input) => None,
-        None => foreign_in(skip, input),
+        None => not_text_in(skip, input),
     }
 }
 
 // What an input is by its first bytes, or by its NULs.
-fn foreign_in(skip: usize, input: &[u8]) -> Option<Foreign>
-    ensures { result ≡ foreign_in skip input.now }
+fn not_text_in(skip: usize, input: &[u8]) -> Option<NotText>
+    ensures { result ≡ not_text_in skip input.now }
 {
     if is_gzip(input) {
-        Some(Foreign::Gzip)
+        Some(NotText::Gzip)
     } else if is_zip(input) {
-        Some(Foreign::Zip)
+        Some(NotText::Zip)
     } else {
-        foreign_by_nuls(skip, below_lines(input, skip))
+        not_text_by_nuls(skip, below_lines(input, skip))
     }
 }
 
@@ -66,13 +66,13 @@ fn is_zip(input: &[u8]) -> bool
 }
 
 // What bytes below so many lines are by their NULs.
-fn foreign_by_nuls(above: usize, bytes: &[u8]) -> Option<Foreign>
-    ensures { result ≡ foreign_by_nuls above bytes.now }
+fn not_text_by_nuls(above: usize, bytes: &[u8]) -> Option<NotText>
+    ensures { result ≡ not_text_by_nuls above bytes.now }
 {
     if is_like_utf16(bytes) {
-        return Some(Foreign::Utf16);
+        return Some(NotText::Utf16);
     }
-    nul_line(above, bytes).map(Foreign::Binary)
+    nul_line(above, bytes).map(NotText::Binary)
 }
 
 // Whether of the first four bytes every second one is NUL, and no other.

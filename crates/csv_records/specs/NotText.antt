@@ -7,8 +7,8 @@ use Rattle.csv_records.specs.Lines.{below_lines}
 use Rattle.csv_records.specs.Encoding.{marked_order}
 use Rattle.csv_records.specs.Input.{line_number}
 use Rattle.csv_records.specs.declared.encoding.Encoding.{Encoding}
-use Rattle.csv_records.specs.declared.foreign.Foreign.{Foreign}
-use Rattle.csv_records.specs.declared.foreign.Foreign.TheVariants.{Binary, Gzip, Utf16, Zip}
+use Rattle.csv_records.specs.declared.not_text.NotText.{NotText}
+use Rattle.csv_records.specs.declared.not_text.NotText.TheVariants.{Binary, Gzip, Utf16, Zip}
 
 -- a file of gzip begins so
 abbrev pub is_gzip : Text → Bool
@@ -31,20 +31,20 @@ nul_line above bytes =
     option_map (λ at. line_number above (take at bytes)) (position (λ b. b == 0) bytes)
 
 -- what bytes below so many lines are by their NULs, where they have any
-abbrev pub foreign_by_nuls : ℕ → Text → Option Foreign
-foreign_by_nuls above bytes =
+abbrev pub not_text_by_nuls : ℕ → Text → Option NotText
+not_text_by_nuls above bytes =
     if is_like_utf16 bytes then Some Utf16 else option_map Binary (nul_line above bytes)
 
 -- what an input is by its first bytes, or by its NULs below the lines that are left out
-abbrev pub foreign_in : ℕ → Text → Option Foreign
-foreign_in skip input =
+abbrev pub not_text_in : ℕ → Text → Option NotText
+not_text_in skip input =
     if is_gzip input then Some Gzip
     else if is_zip input then Some Zip
-    else foreign_by_nuls skip (below_lines skip input)
+    else not_text_by_nuls skip (below_lines skip input)
 
 -- what it is for all that is asked for: such signs count where no encoding is asked for, and no
 -- mark says that it is UTF-16
-abbrev pub foreign_for : Option Encoding → ℕ → Text → Option Foreign
-foreign_for (Some encoding) skip input = None
-foreign_for None skip input =
-    if is_some (marked_order input) then None else foreign_in skip input
+abbrev pub not_text_for : Option Encoding → ℕ → Text → Option NotText
+not_text_for (Some encoding) skip input = None
+not_text_for None skip input =
+    if is_some (marked_order input) then None else not_text_in skip input

@@ -7,7 +7,7 @@ use comfy_parts::content_split::are_digits;
 
 /// The number that a word is. `parse` alone would take a plus sign too.
 #[tactic(auto, using(crate::proofs::NumeralLemmas::other, crate::proofs::NumeralLemmas::parsed))]
-pub fn number_of(word: &str) -> Option<usize>
+pub fn parse_digits(word: &str) -> Option<usize>
     ensures { result ≡ number_for 64 word.now }
 {
     if are_digits(word.as_bytes()) {

@@ -1,7 +1,7 @@
 use Rattle.std.proofs.Common.{◌++◌, lit<, string_bytes, codes, ap, ap₂, sym, ◌∙◌, append_assoc}
 use Rattle.comfy_parts.proofs.CallerLemmas.{repeat_more}
 use Rattle.std.specs.List.{repeat}
-use Rattle.csv_tables.proofs.markdown.push_part.Goals as goal
+use Rattle.csv_tables.proofs.markdown.push_rule_segment.Goals as goal
 
 pub loop-preserved : goal.loop-preserved
 loop-preserved c =
