@@ -11,5 +11,5 @@ abbrev pub invariant-loop-c : goal.invariant-loop-c
 invariant-loop-c l =
     record {
       utf8 : shadow (Utf8 l.rest);
-      left : closes l.part (chars l.rest) ≡ closes l.part (chars l.text);
+      left : closes l.kind (chars l.rest) ≡ closes l.kind (chars l.text);
     }
