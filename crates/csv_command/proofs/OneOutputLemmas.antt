@@ -1,12 +1,12 @@
 -- An input has one output by the same options.
-use Rattle.std.proofs.Common.{◌≡◌, ◌⊎◌, inl, inr, ◌<◌, ◌≤◌, ℕ, ◌==◌, Bool, false, List, [], ◌∷◌, Option, Some, None, Result, Ok, map, length, fold, refl, sym, ap, ap₂, ◌∙◌, arith, suc, subst, string_bytes, String}
+use Rattle.std.proofs.Common.{◌≡◌, ◌⊎◌, inl, inr, ◌<◌, ◌≤◌, ℕ, ◌==◌, false, List, [], ◌∷◌, Option, Some, None, Result, Ok, map, length, fold, refl, sym, ap, ap₂, ◌∙◌, arith, suc, subst, string_bytes, String}
 use Rattle.std.specs.List.{range_with_len}
 use Rattle.std.proofs.lemmas.Bool.{cases_lt}
 use Rattle.std.proofs.lemmas.Bool.Decides.{nat_tests}
 use Rattle.std.specs.Prelude.{if◌then◌else◌}
 use Rattle.comfy_parts.specs.Text.{Text}
 use Rattle.csv_command.specs.Columns.{ColumnFault, chosen_columns, columns_by, columns_for, columns_with, joined, kept_columns, less, positions_of, positions_of_word}
-use Rattle.csv_command.specs.Drawn.{AreEnough, IsDrawnOf, RendersBeginning, RendersChosen, RendersCounted, layout_with, most_drawn}
+use Rattle.csv_command.specs.Drawn.{AreEnough, RendersBeginning, RendersChosen, RendersCounted, layout_with, most_drawn}
 use Rattle.csv_command.specs.OneOutput.{AreSameOptions, OutputIsOne, WrittenIsOne}
 use Rattle.csv_command.specs.declared.arguments.Options.{Options}
 use Rattle.csv_records.proofs.OneRecordLemmas.{read_is_one}
