@@ -1,5 +1,7 @@
+mod ColumnLemmas
 mod FieldLemmas
 mod FilledLemmas
+mod FrameLemmas
 pub mod LineLemmas
 mod MessageLemmas
 mod OutputFieldLemmas
@@ -7,3 +9,4 @@ pub mod OutputLemmas
 pub mod RecordLemmas
 pub mod ResultLemmas
 pub mod StraightLemmas
+mod WidthLemmas

@@ -1,10 +1,11 @@
 -- What is written for arguments is straight: where no character takes more than one terminal column, or where no width is kept to.
-use Rattle.std.proofs.Common.{ap, ◌≡◌, ◌==◌, ◌&&◌, ◌||◌, inl, ℕ, Bool, true, false, not, List, [], ◌∷◌, Option, Some, None, is_some, arith, chars, nat_le, refl, sym, ◌∙◌, subst, inr, ◌++◌}
+use Rattle.std.proofs.Common.{ap, ◌≡◌, ◌==◌, ◌&&◌, ◌||◌, inl, ℕ, ◌≤◌, Bool, true, false, not, List, [], ◌∷◌, Option, Some, None, is_some, append-nil, arith, chars, length, nat_le, refl, sym, ◌∙◌, subst, inr, ◌++◌}
 use Rattle.std.specs.Char.{is_control}
 use Rattle.std.specs.List.{All, list_any}
 use Rattle.std.specs.Prelude.{encode_utf8, if◌then◌else◌}
 use Rattle.std.specs.Str.{IsUtf8, NonePass}
 use Rattle.std.proofs.lemmas.Bool.{or_parts}
+use Rattle.std.proofs.lemmas.List.{take-append-le}
 use Rattle.std.proofs.lemmas.List.Elements.{All-cons, All-head, All-nil, All-tail, All-weaker}
 use Rattle.std.proofs.lemmas.List.Splits.{slice_split_none}
 use Rattle.std.proofs.lemmas.Str.{encodes-chars}
@@ -37,7 +38,7 @@ use Rattle.csv_tables.proofs.MarkdownWidthLemmas.{whole_is_straight}
 use Rattle.csv_tables.proofs.StraightLemmas.{IsShort, narrow_is_straight, empty_is_short}
 use Rattle.csv_command.proofs.StyleColumnLemmas.{parsed_style_is_one_column, parsed_style_without_controls}
 use Rattle.csv_tables.proofs.TextTableLemmas.{EachLine}
-use Rattle.csv_tables.specs.Drawn.{IsDrawnOf, RendersRecords, RendersAnyRecords, counting, most_drawn}
+use Rattle.csv_tables.specs.Drawn.{IsDrawnOf, RendersRecords, RendersAnyRecords, counting, drawn_rows, limited, most_drawn, records_below}
 use Rattle.csv_tables.specs.Laws.{ArePlainLines, EachText}
 use Rattle.promises.proofs.FittingLemmas.{text_fits}
 use Rattle.promises.specs.Tables.{HasCharactersWithin}
@@ -90,8 +91,14 @@ module _ (look : Look) (unkept : look.has_sequences ≡ false) (none : look.is_m
 
 -- ---- outputs
 
+-- more records than are drawn leave those that are drawn
+enough_rows : (has_header : Bool) (limit : ℕ) (records more : List (List Text)) → most_drawn has_header limit ≤ length records → limited (Some limit) (records_below has_header records) ≡ limited (Some limit) (records_below has_header (records ++ more))
+enough_rows false limit records more enough = sym (take-append-le limit records more enough)
+enough_rows true limit [] more enough = absurd (omega (arith, enough))
+enough_rows true limit (r ∷ records) more enough = sym (take-append-le limit records more (omega (arith, enough)))
+
 -- what holds of all elements holds of the first ones
-All-front : {A : Type 0} (P : A → Type 0) (xs ys : List A) → All P (xs ++ ys) → All P xs
+pub All-front : {A : Type 0} (P : A → Type 0) (xs ys : List A) → All P (xs ++ ys) → All P xs
 All-front P [] ys all = All-nil P
 All-front P (x ∷ xs) ys all = All-cons P x xs (All-head P x (xs ++ ys) all) (All-front P xs ys (All-tail P x (xs ++ ys) all))
 
@@ -108,58 +115,88 @@ module _ (arguments : List Text) (context : OutputContext) (invocation : Invocat
   texts : All AllText records
   texts = is.are.are_records.are_records.are_text
 
-  -- P holds of fields of records, and an output for these by such a look is straight
-  abbrev Law : (Text → Type 0) → Type 0
-  Law P = (o : Options) → o.look ≡ options.look → (rs : List (List Text)) → All AllText rs → EachField P rs → RendersRecords o rs output → IsStraight output
+  -- the output is drawn of these by options that differ in counting alone: of all records, or of the first ones, as many as are drawn
+  pub record IsDrawnBy (o : Options) (rs : List (List Text)) : Type 0 where
+    pub same : counting o ≡ counting options
+    pub text : All AllText rs
+    pub made : RendersRecords o rs output
+    pub more : List (List Text)
+    pub front : records ≡ rs ++ more
+    pub rows : drawn_rows o rs ≡ drawn_rows options records
 
-  -- so an output is straight that is written of the whole input, or of a beginning that is enough
-  by_extent : (P : Text → Type 0) → Law P → EachField P records → IsStraight output
-  by_extent P law each = by_made is.made
+  -- it is nothing, or so drawn
+  pub by_extent : (Good : Type 0) → (output ≡ [] → Good) → ((o : Options) (rs : List (List Text)) → IsDrawnBy o rs → Good) → Good
+  by_extent Good empty law = by_made is.made
     where
-      any : (rs : List (List Text)) → RendersAnyRecords (counting options) rs output → All AllText rs → EachField P rs → IsStraight output
-      any [] nothing text fields = subst IsStraight (sym nothing) nothing_is_straight
-      any (r ∷ rs) drawn text fields = law (counting options) refl (r ∷ rs) text fields drawn
+      any : (rs : List (List Text)) → records ≡ rs → RendersAnyRecords (counting options) rs output → Good
+      any [] same nothing = empty nothing
+      any (r ∷ rs) same drawn =
+          law (counting options) (r ∷ rs)
+          (record { same = refl; text = subst (All AllText) same texts; made = drawn; more = []; front = same ∙ sym (append-nil (r ∷ rs)); rows = ap (drawn_rows options) (sym same) })
 
-      by_made : IsDrawnOf options input output → IsStraight output
-      by_made (inl (none, made)) = any records (subst (λ (rs : List (List Text)). RendersAnyRecords (counting options) rs output) (read_is_one options.input input made.records records made.are_records is.are) made.is_output) texts each
+      by_made : IsDrawnOf options input output → Good
+      by_made (inl (none, made)) = any records refl (subst (λ (rs : List (List Text)). RendersAnyRecords (counting options) rs output) (read_is_one options.input input made.records records made.are_records is.are) made.is_output)
       by_made (inr (n, asked, made)) =
           let beginning = whole_lines (asked_front n input) in
           let parts = beginning_parts n input in
-          let are = made.are_enough.are in
-          let found = first_records_stay options.input (most_drawn options.selection.has_header made.are_enough.has_limit.limit) beginning parts.0 made.records records are (subst (λ (t : Text). AreRecordsFor options.input t records) parts.1 is.are) in
-          law options refl made.records are.are_records.are_records.are_text (All-front (All P) made.records found.0 (subst (All (All P)) found.1 each)) made.is_output
+          let enough = made.are_enough in
+          let limit = enough.has_limit.limit in
+          let h = options.selection.has_header in
+          let found = first_records_stay options.input (most_drawn h limit) beginning parts.0 made.records records enough.are (subst (λ (t : Text). AreRecordsFor options.input t records) parts.1 is.are) in
+          law options made.records
+          (record {
+            same = refl;
+            text = enough.are.are_records.are_records.are_text;
+            made = made.is_output;
+            more = found.0;
+            front = found.1;
+            rows = subst (λ (l : Option ℕ). limited l (records_below h made.records) ≡ limited l (records_below h records)) (sym enough.has_limit.is)
+                (enough_rows h limit made.records found.0 (omega (arith, enough.are.more)) ∙ ap (λ (rs : List (List Text)). limited (Some limit) (records_below h rs)) (sym found.1));
+          })
 
-  -- by a look that arguments ask for
-  module _ (o : Options) (same : o.look ≡ options.look) (rs : List (List Text)) (text : All AllText rs) where
-    own_unkept : o.look.has_sequences ≡ false
-    own_unkept = ap (λ (l : Look). l.has_sequences) same ∙ is.unkept
+  module _ (o : Options) (rs : List (List Text)) (by : IsDrawnBy o rs) where
+    pub own_look : o.look ≡ options.look
+    own_look = ap (λ (all : Options). all.look) by.same
 
-    own_table : o.look.is_markdown ≡ false
-    own_table = ap (λ (l : Look). l.is_markdown) same ∙ is.no_markdown
+    pub own_unkept : o.look.has_sequences ≡ false
+    own_unkept = ap (λ (l : Look). l.has_sequences) own_look ∙ is.unkept
+
+    pub own_table : o.look.is_markdown ≡ false
+    own_table = ap (λ (l : Look). l.is_markdown) own_look ∙ is.no_markdown
 
     own_clear : IsStyleWithoutControls o.look.style
-    own_clear = subst (λ (l : Look). IsStyleWithoutControls l.style) (sym same) clear
+    own_clear = subst (λ (l : Look). IsStyleWithoutControls l.style) (sym own_look) clear
 
-    own_columns : IsOneColumnStyle o.look.style
-    own_columns = subst (λ (l : Look). IsOneColumnStyle l.style) (sym same) one_column
+    pub own_columns : IsOneColumnStyle o.look.style
+    own_columns = subst (λ (l : Look). IsOneColumnStyle l.style) (sym own_look) one_column
 
-    plain : ArePlainLines true o.look rs
-    plain = record { seen = (own_clear, text); unbroken = unbroken_without o.look.style own_clear; no_sequences = own_unkept }
+    pub plain : ArePlainLines true o.look rs
+    plain = record { seen = (own_clear, by.text); unbroken = unbroken_without o.look.style own_clear; no_sequences = own_unkept }
 
-    narrow_law : EachField (HasCharactersWithin 1) rs → RendersRecords o rs output → IsStraight output
-    narrow_law each made = straight_text o rs output own_table (narrow_is_straight true o rs output own_table own_columns plain (fields_fit o.look own_unkept own_table rs text each) made)
+    -- what holds of all fields holds of those that are drawn
+    own_fields : (P : Text → Type 0) → EachField P records → EachField P rs
+    own_fields P each = All-front (All P) rs by.more (subst (All (All P)) by.front each)
 
-    whole_law : options.look.width ≡ None → options.look.max_height ≡ None → EachField IsPlainField rs → RendersRecords o rs output → IsStraight output
-    whole_law no_width uncut each made =
-        straight_text o rs output own_table (whole_is_straight true o rs output own_columns plain (ap (λ (l : Look). l.width) same ∙ no_width) (inl (ap (λ (l : Look). l.max_height) same ∙ uncut)) (plain_fields_are_short o.look own_unkept own_table rs text each) made)
+    pub own_fit : EachField (HasCharactersWithin 1) records → EachText (CharactersFit 1) o.look rs
+    own_fit each = fields_fit o.look own_unkept own_table rs by.text (own_fields (HasCharactersWithin 1) each)
+
+  nothing : output ≡ [] → IsStraight output
+  nothing empty = subst IsStraight (sym empty) nothing_is_straight
 
   -- where no character takes more than one terminal column
   pub narrow_for : EachField (HasCharactersWithin 1) records → IsStraight output
-  narrow_for each = by_extent (HasCharactersWithin 1) narrow_law each
+  narrow_for each =
+      by_extent (IsStraight output) nothing
+      (λ o rs by. straight_text o rs output (own_table o rs by) (narrow_is_straight true o rs output (own_table o rs by) (own_columns o rs by) (plain o rs by) (own_fit o rs by each) by.made))
 
   -- and where no width is kept to and no row is cut
   pub whole_for : options.look.width ≡ None → options.look.max_height ≡ None → EachField IsPlainField records → IsStraight output
-  whole_for no_width uncut each = by_extent IsPlainField (λ o same rs text fields made. whole_law o same rs text no_width uncut fields made) each
+  whole_for no_width uncut each =
+      by_extent (IsStraight output) nothing
+      (λ o rs by.
+          straight_text o rs output (own_table o rs by)
+          (whole_is_straight true o rs output (own_columns o rs by) (plain o rs by) (ap (λ (l : Look). l.width) (own_look o rs by) ∙ no_width) (inl (ap (λ (l : Look). l.max_height) (own_look o rs by) ∙ uncut))
+          (plain_fields_are_short o.look (own_unkept o rs by) (own_table o rs by) rs by.text (own_fields o rs by IsPlainField each)) by.made))
 
 -- what isn't some is none
 pub none_where : {A : Type 0} (o : Option A) → false ≡ is_some o → o ≡ None

@@ -25,8 +25,7 @@ pub mod NumberedLemmas
 pub mod OneOutputLemmas
 pub mod OutputControlLemmas
 pub mod OutputLemmas
-pub mod PrintableTableLemmas
-mod ReachedLemmas
+pub mod ReachedLemmas
 pub mod RowLemmas
 pub mod RunLemmas
 pub mod SeenLemmas

@@ -18,7 +18,7 @@ use Rattle.csv_tables.specs.declared.options.Look.{Look}
 use Rattle.csv_tables.specs.declared.options.Options.{Options}
 use Rattle.csv_tables.specs.declared.options.RowSeparators.{RowSeparators}
 use Rattle.csv_tables.specs.declared.options.RowSeparators.TheVariants.{Styled, Needed, Never}
-use Rattle.csv_tables.specs.Drawn.{AreEnough, ContentValue, columns_beside, HasSeparators, IsDrawnOf, RendersAsMarkdown, RendersBeginning, RendersRecords, RendersAnyRecords, RendersContent, RendersTable, below_first, content_of, content_with, counting, drawn_rows, limited, markdown_table, most_drawn, names_beside, names_of, note_for, ok_map, output_table, records_below, rows_beside, separated_table, separators_in, table_text}
+use Rattle.csv_tables.specs.Drawn.{AreEnough, ContentValue, columns_beside, HasSeparators, RendersAsMarkdown, RendersBeginning, RendersRecords, RendersAnyRecords, RendersContent, RendersTable, below_first, content_of, content_with, counting, drawn_rows, limited, markdown_table, most_drawn, names_beside, names_of, note_for, ok_map, output_table, records_below, rows_beside, separated_table, separators_in, table_text}
 use Rattle.csv_tables.specs.OneOutput.{AreSameOptions, OutputIsOne, OutputOfIsOne, WrittenIsOne}
 use Rattle.csv_records.proofs.OneRecordLemmas.{read_is_one}
 use Rattle.csv_records.specs.Beginning.{IsEnough, whole_lines}
