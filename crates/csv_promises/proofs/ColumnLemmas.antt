@@ -1,11 +1,10 @@
 -- How many columns are drawn of records.
-use Rattle.std.proofs.Common.{◌≡◌, ◌≤◌, ◌<◌, ◌==◌, ◌||◌, ℕ, zero, suc, ◌+◌, Bool, true, false, List, [], ◌∷◌, Option, Some, None, Result, Ok, Err, cond, fold, length, map, max, nat_lt, unwrap_or, refl, sym, ap, ap₂, ◌∙◌, subst, arith}
-use Rattle.std.specs.List.{All, list_any, range_with_len}
+use Rattle.std.proofs.Common.{◌≡◌, ◌≤◌, ◌<◌, ◌==◌, ◌||◌, ℕ, suc, ◌+◌, Bool, true, false, List, [], ◌∷◌, Option, Some, None, Result, Ok, Err, cond, fold, length, map, max, nat_lt, unwrap_or, refl, sym, ap, ap₂, ◌∙◌, subst, arith}
+use Rattle.std.specs.List.{All, list_any}
 use Rattle.std.specs.Prelude.{if◌then◌else◌, not}
 use Rattle.std.proofs.lemmas.Bool.Decides.{nat_tests}
 use Rattle.std.proofs.lemmas.List.{length-map}
 use Rattle.std.proofs.lemmas.List.Elements.{All-cons, All-drop, All-filter, All-head, All-nil, All-tail, All-take, All-weaker}
-use Rattle.std.proofs.lemmas.List.FromFn.{length-range_with_len}
 use Rattle.std.proofs.lemmas.List.Sums.{count_by-le-length, length-filter}
 use Rattle.comfy_parts.proofs.CallerLemmas.{All-of_map}
 use Rattle.comfy_parts.specs.Text.{Text, greatest}
@@ -18,7 +17,10 @@ use Rattle.csv_tables.specs.Columns.ColumnFault.{none_left}
 use Rattle.csv_tables.specs.Drawn.{ContentValue, columns_beside, content_of, content_with, drawn_rows, limited, names_beside, names_of, records_below, rows_beside}
 use Rattle.csv_tables.specs.declared.options.DrawnColumn.{DrawnColumn}
 use Rattle.csv_tables.specs.declared.options.Options.{Options}
+use Rattle.csv_promises.proofs.ChosenLemmas.{AreOf, chosen_few, more_chosen}
 use Rattle.csv_promises.proofs.FrameLemmas.{reaches}
+use Rattle.csv_promises.proofs.RecordLemmas.{all_have_room}
+use Rattle.csv_promises.specs.Width.{most_chosen}
 
 -- ---- positions
 
@@ -44,10 +46,6 @@ are_left (Ok positions) (Ok dropped) left is = (positions, refl, by_test (length
     by_test false test is =
         subst (AreLeft positions) (cc is)
         (record { few = omega (arith, length-filter stays positions, count_by-le-length stays positions); some = grind (arith, nat_tests, test); below = λ most all. All-filter stays (λ (k : ℕ). k < most) positions all })
-
-range_below : (a n most : ℕ) → a + n ≤ most → All (λ (k : ℕ). k < most) (range_with_len a n)
-range_below a zero most within = All-nil (λ (k : ℕ). k < most)
-range_below a (suc n) most within = All-cons (λ (k : ℕ). k < most) a (range_with_len (a + 1) n) (omega (arith, within)) (range_below (a + 1) n most (omega (arith, within)))
 
 -- ---- counts of fields
 
@@ -92,7 +90,7 @@ numbered-length n (fields ∷ rows) = ap suc (numbered-length (n + 1) rows)
 
 -- ---- contents
 
-module _ (options : Options) (records : List (List Text)) (content : ContentValue) (is : content_of options records ≡ Ok content) (none_chosen : options.selection.columns.items ≡ []) where
+module _ (options : Options) (records : List (List Text)) (content : ContentValue) (is : content_of options records ≡ Ok content) where
   abbrev is_numbered : Bool
   is_numbered = options.selection.is_numbered
 
@@ -114,11 +112,11 @@ module _ (options : Options) (records : List (List Text)) (content : ContentValu
   left : (positions : List ℕ) × (chosen_columns names (count_of names rows) options.selection.columns.items ≡ Ok positions) × AreLeft positions (map (λ (column : DrawnColumn). column.position) found.0)
   left = are_left _ _ _ (chosen names (map (seen options.look.has_sequences) rows) _ _ _ found.0 found.1)
 
-  whole : range_with_len 0 (count_of names rows) ≡ left.0
-  whole = let same : ◌≡◌ {A = Result (List ℕ) ColumnFault} (Ok (range_with_len 0 (count_of names rows))) (Ok left.0) = ap (λ words. chosen_columns names (count_of names rows) words) (sym none_chosen) ∙ left.1 in cc same
+  chosen_few_of : AreOf (count_of names rows) (most_chosen (count_of names rows) options.selection.columns.items) left.0
+  chosen_few_of = chosen_few names (count_of names rows) (all_have_room (Some names) rows).0 options.selection.columns.items left.0 left.1
 
-  long : length found.0 ≤ count_of names rows
-  long = omega (arith, length-map found.0 (λ (column : DrawnColumn). column.position), left.2.few, ap length whole, length-range_with_len 0 (count_of names rows))
+  long : length found.0 ≤ most_chosen (count_of names rows) options.selection.columns.items
+  long = omega (arith, length-map found.0 (λ (column : DrawnColumn). column.position), left.2.few, chosen_few_of.few)
 
   some : 1 ≤ length found.0
   some = omega (arith, length-map found.0 (λ (column : DrawnColumn). column.position), left.2.some)
@@ -126,7 +124,7 @@ module _ (options : Options) (records : List (List Text)) (content : ContentValu
   below : All (λ (column : DrawnColumn). column.position < count_of names rows) found.0
   below =
       All-of_map (λ (p : ℕ). p < count_of names rows) (λ (column : DrawnColumn). column.position) found.0
-      (left.2.below (count_of names rows) (subst (All (λ (p : ℕ). p < count_of names rows)) whole (range_below 0 (count_of names rows) (count_of names rows) (omega arith))))
+      (left.2.below (count_of names rows) chosen_few_of.below)
 
   beside-length : (b : Bool) (columns : List DrawnColumn) → length (columns_beside b columns) ≡ length columns + (if b then 1 else 0)
   beside-length true columns = omega (arith, length-map columns (λ (column : DrawnColumn). record column { position = column.position + 1 }))
@@ -138,9 +136,9 @@ module _ (options : Options) (records : List (List Text)) (content : ContentValu
   pub some_column : 1 ≤ length content.columns
   some_column = omega (arith, some, count-is)
 
-  -- no more columns than fields, and that of numbers
-  pub few_columns : (most : ℕ) → All (λ (fields : List Text). length fields ≤ most) records → length content.columns ≤ most + (if is_numbered then 1 else 0)
-  few_columns most each = let few = most_fields rows (length names) most (of_names options.selection.has_header records each) (of_limit options.selection.limit _ (of_below options.selection.has_header records each)) in omega (arith, few, long, count-is)
+  -- no more columns than are chosen of the fields, and that of numbers
+  pub few_columns : (most : ℕ) → All (λ (fields : List Text). length fields ≤ most) records → length content.columns ≤ most_chosen most options.selection.columns.items + (if is_numbered then 1 else 0)
+  few_columns most each = let few = most_fields rows (length names) most (of_names options.selection.has_header records each) (of_limit options.selection.limit _ (of_below options.selection.has_header records each)) in omega (arith, more_chosen (count_of names rows) most options.selection.columns.items few, long, count-is)
     where
       Few : List Text → Type 0
       Few fields = length fields ≤ most

@@ -1,3 +1,4 @@
+mod ChosenLemmas
 mod ColumnLemmas
 mod FieldLemmas
 mod FilledLemmas

@@ -1,5 +1,5 @@
 -- What is written for arguments keeps to their width.
-use Rattle.std.proofs.Common.{◌≡◌, ◌≤◌, ◌<◌, ◌==◌, ◌||◌, ◌⊎◌, inl, inr, ℕ, zero, suc, ◌+◌, Bool, true, false, not, List, [], ◌∷◌, ◌++◌, Some, flat_map, length, map, max, nat_lt, unwrap_or, refl, sym, ap, ap₂, ◌∙◌, subst, arith}
+use Rattle.std.proofs.Common.{◌≡◌, ◌≤◌, ◌<◌, ◌==◌, ◌||◌, ◌⊎◌, inl, inr, ℕ, zero, suc, ◌+◌, Bool, true, false, not, List, [], ◌∷◌, ◌++◌, Some, flat_map, length, map, max, nat_lt, unwrap_or, refl, sym, ap, ◌∙◌, subst, arith}
 use Rattle.std.specs.List.{All, slice_index_or}
 use Rattle.std.specs.Prelude.{Contains, if◌then◌else◌, sum_by, take}
 use Rattle.std.proofs.lemmas.List.{length-map}
@@ -32,7 +32,7 @@ use Rattle.csv_promises.proofs.FrameLemmas.{column_is_shown, frame_has_room, wid
 use Rattle.csv_promises.proofs.LineLemmas.{HasGoodLines, no_lines, output_lines, shown_line}
 use Rattle.csv_promises.proofs.StraightLemmas.{All-front, IsDrawnBy, by_extent, own_columns, own_fit, own_look, own_table, plain}
 use Rattle.csv_promises.specs.Straight.{CountsRecords, EachField}
-use Rattle.csv_promises.specs.Width.{KeepToWidth, KeepsTo, all_columns, columns_by, frame_room, framed_columns}
+use Rattle.csv_promises.specs.Width.{KeepToWidth, KeepsTo, all_columns, columns_by, frame_room, framed_columns, most_chosen}
 use Rattle.csv_promises.specs.Written.{IsWritten}
 
 -- ---- expanded records without a field
@@ -68,7 +68,7 @@ module _ (look : Look) (content : ContentValue) (arranged : ArrangedValue) (none
 
 -- ---- what is drawn by options
 
-module _ (w : ℕ) (o : Options) (records : List (List Text)) (output : Text) (none_chosen : o.selection.columns.items ≡ []) (wide : o.look.width ≡ Some w) (table : o.look.is_markdown ≡ false) (one_column : IsOneColumnStyle o.look.style) (plain : ArePlainLines true o.look records)
+module _ (w : ℕ) (o : Options) (records : List (List Text)) (output : Text) (wide : o.look.width ≡ Some w) (table : o.look.is_markdown ≡ false) (one_column : IsOneColumnStyle o.look.style) (plain : ArePlainLines true o.look records)
     (fit : EachText (CharactersFit 1) o.look records) (made : RendersRecords o records output) where
   abbrev content : ContentValue
   content = made.content
@@ -91,13 +91,13 @@ module _ (w : ℕ) (o : Options) (records : List (List Text)) (output : Text) (n
   -- the frame has room in one for so many columns, or in the width
   module _ (most : ℕ) (few : All (λ (fields : List Text). length fields ≤ most) records) where
     abbrev all : ℕ
-    all = most + (if o.selection.is_numbered then 1 else 0)
+    all = most_chosen most o.selection.columns.items + (if o.selection.is_numbered then 1 else 0)
 
     abbrev room : ℕ
     room = max w (frame_room (columns_by o.look.expansion (not (length (drawn_rows o records) == 0)) all))
 
     of_all : 1 ≤ all
-    of_all = omega (arith, some_column o records content made.is_content none_chosen, few_columns o records content made.is_content none_chosen most few)
+    of_all = omega (arith, some_column o records content made.is_content, few_columns o records content made.is_content most few)
 
     framed : (e : Bool) (n : ℕ) → 1 ≤ n → (if e then 2 else length content.columns) ≤ n → least_total (separated_table has (output_table e o.look content)) ≤ max w (frame_room n)
     framed e n some few = let own = frame_has_room e has o.look content n some few in omega (arith, own)
@@ -106,16 +106,16 @@ module _ (w : ℕ) (o : Options) (records : List (List Text)) (output : Text) (n
     by_look Always rows has_room true is fits = framed true 2 (omega arith) (omega arith)
     by_look Always rows has_room false is fits = absurd (cc is)
     by_look Never rows has_room true is fits = absurd (cc is)
-    by_look Never rows has_room false is fits = framed false all of_all (few_columns o records content made.is_content none_chosen most few)
+    by_look Never rows has_room false is fits = framed false all of_all (few_columns o records content made.is_content most few)
     by_look Auto true has_room true is fits = absurd (cc is)
-    by_look Auto true has_room false is fits = framed false all of_all (few_columns o records content made.is_content none_chosen most few)
+    by_look Auto true has_room false is fits = framed false all of_all (few_columns o records content made.is_content most few)
     by_look Auto false has_room true is fits = framed true 2 (omega arith) (omega arith)
     by_look Auto false true false is fits = let own = width_has_room o.look content has w wide fits in omega (arith, own)
     by_look Auto false false false is fits = absurd (cc is)
 
     least_fits : least_total t ≤ room
     least_fits =
-        subst (λ (b : Bool). least_total t ≤ max w (frame_room (columns_by o.look.expansion (not b) all))) (no_rows-is o records content made.is_content none_chosen)
+        subst (λ (b : Bool). least_total t ≤ max w (frame_room (columns_by o.look.expansion (not b) all))) (no_rows-is o records content made.is_content)
         (by_look o.look.expansion (length content.rows == 0) (has_room_for o.look content (fitting_content o.look content)) text.is_expanded expanded refl)
 
     abbrev frame : ℕ
@@ -164,7 +164,7 @@ module _ (w : ℕ) (o : Options) (records : List (List Text)) (output : Text) (n
     keep = by_pairs text.is_expanded refl (flat_map (pairs_in o.look content) content.rows) refl
       where
         shown : (text.is_expanded ≡ true → ¬ (flat_map (pairs_in o.look content) content.rows ≡ [])) → Good
-        shown pairs = kept (column_is_shown text.is_expanded has o.look content (some_column o records content made.is_content none_chosen) (reaches_one o records content made.is_content none_chosen) pairs)
+        shown pairs = kept (column_is_shown text.is_expanded has o.look content (some_column o records content made.is_content) (reaches_one o records content made.is_content) pairs)
 
         by_pairs : (e : Bool) → text.is_expanded ≡ e → (pairs : List RowValue) → flat_map (pairs_in o.look content) content.rows ≡ pairs → Good
         by_pairs true is [] none = empty is none
@@ -177,8 +177,8 @@ module _ (arguments : List Text) (context : OutputContext) (invocation : Invocat
   abbrev options : Options
   options = invocation.options
 
-  pub keeps_width : options.selection.columns.items ≡ [] → (w : ℕ) → options.look.width ≡ Some w → EachField (HasCharactersWithin 1) records → KeepToWidth w (frame_room (framed_columns options records)) options.look.fills_width output
-  keeps_width none_chosen w wide each = by_extent arguments context invocation input records output is (KeepToWidth w frame options.look.fills_width output) nothing drawn_by
+  pub keeps_width : (w : ℕ) → options.look.width ≡ Some w → EachField (HasCharactersWithin 1) records → KeepToWidth w (frame_room (framed_columns options records)) options.look.fills_width output
+  keeps_width w wide each = by_extent arguments context invocation input records output is (KeepToWidth w frame options.look.fills_width output) nothing drawn_by
     where
       frame : ℕ
       frame = frame_room (framed_columns options records)
@@ -191,11 +191,10 @@ module _ (arguments : List Text) (context : OutputContext) (invocation : Invocat
           let fits = own_fit arguments context invocation input records output is o rs by each in
           let look = own_look arguments context invocation input records output is o rs by in
           let own =
-          keep w o rs output (ap (λ (all : Options). all.selection.columns.items) by.same ∙ none_chosen) (ap (λ (l : Look). l.width) look ∙ wide) (own_table arguments context invocation input records output is o rs by) (own_columns arguments context invocation input records output is o rs by)
+          keep w o rs output (ap (λ (l : Look). l.width) look ∙ wide) (own_table arguments context invocation input records output is o rs by) (own_columns arguments context invocation input records output is o rs by)
           (plain arguments context invocation input records output is o rs by) fits by.made (greatest (map length records)) (All-front (λ (fields : List Text). length fields ≤ greatest (map length records)) rs by.more (subst (All (λ (fields : List Text). length fields ≤ greatest (map length records))) by.front (greatest_each records))) in
-          let same_frame : frame_room (columns_by o.look.expansion (not (length (drawn_rows o rs) == 0)) (greatest (map length records) + (if o.selection.is_numbered then 1 else 0))) ≡ frame =
-          ap₂ (λ (l : Look) (b : Bool). frame_room (columns_by l.expansion (not (length (drawn_rows o rs) == 0)) (greatest (map length records) + (if b then 1 else 0)))) look (ap (λ (all : Options). all.selection.is_numbered) by.same)
-          ∙ ap (λ (rows : List (List Text)). frame_room (columns_by options.look.expansion (not (length rows == 0)) (all_columns options records))) by.rows in
+          let framed : Options → List (List Text) → ℕ = λ all rows. frame_room (columns_by all.look.expansion (not (length rows == 0)) (all_columns all records)) in
+          let same_frame : framed o (drawn_rows o rs) ≡ frame = ap (λ (all : Options). framed all (drawn_rows o rs)) by.same ∙ ap (framed options) by.rows in
           subst (λ (f : ℕ). KeepToWidth w f options.look.fills_width output) same_frame
-          (subst (λ (b : Bool). KeepToWidth w (frame_room (columns_by o.look.expansion (not (length (drawn_rows o rs) == 0)) (greatest (map length records) + (if o.selection.is_numbered then 1 else 0)))) b output) (ap (λ (l : Look). l.fills_width) look)
+          (subst (λ (b : Bool). KeepToWidth w (framed o (drawn_rows o rs)) b output) (ap (λ (l : Look). l.fills_width) look)
           (record { lines = own.lines; are = own.are; keep = own.good }))

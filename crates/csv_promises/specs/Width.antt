@@ -1,6 +1,7 @@
 -- Lines that keep to a width.
 -- Source: this library's own.
-use Rattle.std.specs.Prelude.{◌≡◌, ◌==◌, ◌⊎◌, ◌+◌, ◌*◌, ◌≤◌, ℕ, Bool, true, not, List, Some, All, length, map, max, if◌then◌else◌}
+use Rattle.std.specs.Prelude.{◌≡◌, ◌==◌, ◌⊎◌, ◌+◌, ◌*◌, ◌≤◌, ℕ, Bool, true, not, List, String, Some, All, length, map, max, string_bytes, sum_by, if◌then◌else◌}
+use Rattle.std.specs.List.{list_any}
 use Rattle.comfy_parts.specs.Text.{Text, greatest}
 use Rattle.comfy_table.specs.Laws.{AreLinesOf}
 use Rattle.csv_tables.specs.Drawn.{drawn_rows}
@@ -15,10 +16,23 @@ use Rattle.csv_promises.specs.Straight.{CountsRecords, EachField}
 abbrev pub frame_room : ℕ → ℕ
 frame_room n = 1 + 4 * n
 
--- the fields of the longest record, and its number, where that is drawn
+-- the most columns that a word of `-c` chooses of so many: all, where it may be a range
+abbrev pub columns_of_word : ℕ → Text → ℕ
+columns_of_word count word = if list_any (λ b. b == 0x2D) word then count else 1
+
+-- the most columns that are chosen: all where there is no word
+abbrev pub most_chosen : {A : Type 0} → ℕ → List (String A) → ℕ
+most_chosen {A} count words =
+    if length words == 0
+    then count
+    else sum_by (λ (word : String A). columns_of_word count (string_bytes word)) words
+
+-- the most columns that are drawn: those that are chosen of the longest record's, and that of
+-- numbers
 abbrev pub all_columns : Options → List (List Text) → ℕ
 all_columns options records =
-    greatest (map length records) + (if options.selection.is_numbered then 1 else 0)
+    most_chosen (greatest (map length records)) options.selection.columns.items
+    + (if options.selection.is_numbered then 1 else 0)
 
 -- how many columns a frame is drawn for: all; or, where records are expanded, as they are where a
 -- width has no room, those of names and fields, unless no record is drawn below the header

@@ -10,11 +10,12 @@ use devices::MemorySink;
 use std::alloc::Global;
 
 /// What the arguments ask for, the records of a file's bytes, and what the program writes of them:
-/// nothing where the arguments ask for sequences in fields or for Markdown, where columns are
-/// chosen, or for no drawing, or where it can't be drawn so. Where a width is kept and no character
-/// of a field takes more than one terminal column, no line shows more than the width, or than the
-/// frame takes, but those that count records. Where the width is filled and has room for the frame,
-/// each line shows exactly as many.
+/// nothing where the arguments ask for sequences in fields or for Markdown, or for no drawing, or
+/// where it can't be drawn so. Where a width is kept and no character of a field takes more than
+/// one terminal column, no line shows more than the width, or than the frame takes, but those that
+/// count records. Where the width is filled and has room for the frame, each line shows exactly as
+/// many. The frame is that of two columns where records are expanded at need, else of all that are
+/// drawn.
 pub fn output_within(
     alloc: Global,
     arguments: &[&str],
@@ -25,8 +26,5 @@ pub fn output_within(
     ensures { IfSome result (λ drawn. KeepsItsWidth drawn.0.options drawn.1 drawn.2.bytes) }
 {
     let (invocation, records, sink) = written(alloc, arguments, context, input, room)?;
-    if !invocation.options.selection.columns.is_empty() {
-        return None;
-    }
     Some((invocation, records, sink))
 }

@@ -8,7 +8,7 @@ use Rattle.csv_tables.specs.declared.options.Expansion.{Expansion}
 use Rattle.csv_tables.specs.declared.options.Expansion.TheVariants.{Always, Auto, Never}
 use Rattle.csv_tables.specs.declared.options.Options.{Options}
 use Rattle.csv_promises.specs.Straight.{CountsRecords}
-use Rattle.csv_promises.specs.Width.{KeepToWidth, KeepsTo, frame_room, framed_columns}
+use Rattle.csv_promises.specs.Width.{KeepToWidth, KeepsTo, columns_of_word, frame_room, framed_columns}
 use Rattle.test_definitions.proofs.CsvPromiseTrials.{bold, no_count, one_column, two_columns}
 use Rattle.test_definitions.proofs.OutputLineTrials.{found, one_line, unended}
 use Rattle.test_definitions.proofs.PromiseTrials.{shows_itself}
@@ -53,6 +53,13 @@ uncounted = no_count (codes "2 records") (omega arith)
 
 -- ---- frames
 
+-- a name chooses one of three columns, a range all of them at most
+one_name : columns_of_word 3 (codes "note") ≡ 1
+one_name = refl
+
+range : columns_of_word 3 (codes "b-c") ≡ 3
+range = refl
+
 abbrev three_names : List (List Text)
 three_names = (codes "a" ∷ codes "b" ∷ codes "c" ∷ []) ∷ []
 
@@ -61,9 +68,9 @@ abbrev three_columns : List (List Text)
 three_columns = (codes "a" ∷ codes "b" ∷ codes "c" ∷ []) ∷ (codes "d" ∷ codes "e" ∷ []) ∷ []
 
 -- what a frame takes under a header
-room_by : Options → Expansion → Bool → List (List Text) → ℕ
+abbrev room_by : Options → Expansion → Bool → List (List Text) → ℕ
 room_by options expansion is_numbered records =
-    frame_room (framed_columns (record options { selection = record options.selection { has_header = true; limit = None; is_numbered = is_numbered }; look = record bold { expansion = expansion } }) records)
+    frame_room (framed_columns (record options { selection = record options.selection { has_header = true; limit = None; is_numbered = is_numbered; columns = record options.selection.columns { items = [] } }; look = record bold { expansion = expansion } }) records)
 
 -- `|_a_|_b_|_c_|` are thirteen columns, and the numbers take four more
 unfolded : (options : Options) → room_by options Never false three_columns ≡ 13
