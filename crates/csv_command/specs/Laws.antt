@@ -3,7 +3,7 @@
 use Rattle.std.specs.Prelude.{◌≡◌, List, option_map, string_bytes}
 use Rattle.comfy_parts.specs.Text.{Text}
 use Rattle.comfy_parts.specs.VisibleText.{visible_text}
-use Rattle.csv_command.specs.Refusals.{IsRendered, not_a_terminal}
+use Rattle.csv_command.specs.Refusals.{IsRendered}
 use Rattle.csv_command.specs.Arguments.{IsParsed}
 use Rattle.csv_command.specs.declared.arguments.Invocation.{Invocation}
 use Rattle.csv_command.specs.declared.arguments.OutputContext.{OutputContext}

@@ -1,5 +1,5 @@
 -- What the frame of a drawn table takes, and which columns it has.
-use Rattle.std.proofs.Common.{◌≡◌, ◌≤◌, ◌<◌, ◌||◌, ℕ, suc, ◌+◌, ◌-◌, Bool, true, false, not, List, [], ◌∷◌, Option, Some, None, filter, flat_map, length, map, nat_lt, refl, sym, ap, ap₂, ◌∙◌, subst, arith, sum_by}
+use Rattle.std.proofs.Common.{◌≡◌, ◌≤◌, ◌<◌, ◌||◌, ℕ, ◌+◌, Bool, true, false, not, List, [], ◌∷◌, Option, Some, None, filter, flat_map, length, map, nat_lt, refl, sym, ap, ap₂, ◌∙◌, subst, arith, sum_by}
 use Rattle.std.specs.List.{All, AllByRecursion, AllZip, enumerate_from, list_any}
 use Rattle.std.specs.Prelude.{if◌then◌else◌}
 use Rattle.std.proofs.lemmas.Bool.{leb-true}
@@ -11,13 +11,12 @@ use Rattle.std.proofs.lemmas.List.Sums.{count_by-le-length, length-filter, sum_b
 use Rattle.comfy_parts.proofs.CallerLemmas.{All-every, no_fewer_columns}
 use Rattle.comfy_parts.specs.CellValue.{ColumnValue, RowValue, column_padding, is_hidden_column}
 use Rattle.comfy_parts.specs.Text.{Text}
-use Rattle.comfy_parts.specs.declared.style.table_style.TableStyle.{TableStyle}
 use Rattle.comfy_table.proofs.BuiltTableLemmas.{IsNewColumn}
-use Rattle.comfy_table.specs.Frame.{border_count, draws_left_border, draws_right_border, draws_vertical_lines}
 use Rattle.comfy_table.specs.Laws.{least_total}
 use Rattle.comfy_table.specs.TableValue.{TableValue, max_content_widths, shown_columns, with_row, with_rows}
 use Rattle.comfy_table.specs.Widths.{shown_count}
 use Rattle.csv_tables.proofs.DecimalLawLemmas.{spaces_alone}
+use Rattle.csv_tables.proofs.KeptWidthLemmas.{same_length}
 use Rattle.csv_tables.proofs.LineLemmas.{Any, any_built, any_drawn}
 use Rattle.csv_tables.proofs.ReachedLemmas.{reached-length}
 use Rattle.csv_tables.proofs.SeparatorLemmas.{separated}
@@ -29,24 +28,11 @@ use Rattle.csv_tables.specs.Laws.{HasSpacesBehind}
 use Rattle.csv_tables.specs.Unbroken.{constrained_columns, framed_width, has_room, kept_unbroken, kept_unbroken_fields, needed_contents, with_constrained, with_field_width, with_second}
 use Rattle.csv_tables.specs.declared.options.DrawnColumn.{DrawnColumn}
 use Rattle.csv_tables.specs.declared.options.Look.{Look}
+use Rattle.promises.proofs.FrameLemmas.{borders}
 use Rattle.csv_promises.proofs.RecordLemmas.{with_rows-columns}
 use Rattle.csv_promises.specs.Width.{frame_room}
 
 -- ---- frames
-
--- borders at both sides, and one between each two columns
-borders : (style : TableStyle) (n : ℕ) → border_count style n ≤ 2 + (n - 1)
-borders style n = by_tests (draws_left_border style) (draws_right_border style) (draws_vertical_lines style)
-  where
-    by_tests : (a b c : Bool) → (if a then 1 else 0) + (if b then 1 else 0) + (if c then n - 1 else 0) ≤ 2 + (n - 1)
-    by_tests true true true = omega arith
-    by_tests true true false = omega arith
-    by_tests true false true = omega arith
-    by_tests true false false = omega arith
-    by_tests false true true = omega arith
-    by_tests false true false = omega arith
-    by_tests false false true = omega arith
-    by_tests false false false = omega arith
 
 abbrev IsPadded : ℕ × ColumnValue → Type 0
 IsPadded p = IsPaddedColumn p.1
@@ -77,11 +63,6 @@ rows_at_most n (row ∷ rows) table each below =
     let grown = no_fewer_columns (length row.cells) table.columns in
     rows_at_most n rows (with_row row table) (All-tail (λ (r : RowValue). length r.cells ≤ n) row rows each) (omega (arith, own, grown, below))
 
-constrained-length : (whole : List Bool) (columns : List ColumnValue) → length (constrained_columns whole columns) ≡ length columns
-constrained-length [] columns = refl
-constrained-length (b ∷ whole) [] = refl
-constrained-length (b ∷ whole) (column ∷ columns) = ap suc (constrained-length whole columns)
-
 second-length : (field : ℕ) (columns : List ColumnValue) → length (with_second field columns) ≡ length columns
 second-length field [] = refl
 second-length field (names ∷ []) = refl
@@ -96,7 +77,7 @@ kept-length None whole table = refl
 kept-length (Some w) whole table = by_room (has_room (Some w) whole table)
   where
     by_room : (b : Bool) → length (if b then with_constrained whole table else table).columns ≡ length table.columns
-    by_room true = constrained-length whole table.columns
+    by_room true = same_length whole table.columns
     by_room false = refl
 
 kept_fields-length : (width : Option ℕ) (table : TableValue) → length (kept_unbroken_fields width table).columns ≡ length table.columns
@@ -246,8 +227,8 @@ rows_shown has look content = by_width look.width
     own = recursion_from_All IsNewColumn table.columns (any_built false look (fitting look content)).columns
 
     shown : (wholes : List Bool) (h : Bool) → length table.columns ≤ shown_count (separated_table h (with_constrained wholes table))
-    shown wholes true = omega (arith, ap length (all_shown wholes table.columns own), length-enumerate_from 0 (constrained_columns wholes table.columns), constrained-length wholes table.columns)
-    shown wholes false = omega (arith, ap length (all_shown wholes table.columns own), length-enumerate_from 0 (constrained_columns wholes table.columns), constrained-length wholes table.columns)
+    shown wholes true = omega (arith, ap length (all_shown wholes table.columns own), length-enumerate_from 0 (constrained_columns wholes table.columns), same_length wholes table.columns)
+    shown wholes false = omega (arith, ap length (all_shown wholes table.columns own), length-enumerate_from 0 (constrained_columns wholes table.columns), same_length wholes table.columns)
 
     by_width : (width : Option ℕ) → length table.columns ≤ shown_count (separated_table has (kept_unbroken width (unbroken_in look content) table))
     by_width None = shown [] has

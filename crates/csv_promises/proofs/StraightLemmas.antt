@@ -194,9 +194,9 @@ module _ (arguments : List Text) (context : OutputContext) (invocation : Invocat
   whole_for no_width uncut each =
       by_extent (IsStraight output) nothing
       (λ o rs by.
-          straight_text o rs output (own_table o rs by)
-          (whole_is_straight true o rs output (own_columns o rs by) (plain o rs by) (ap (λ (l : Look). l.width) (own_look o rs by) ∙ no_width) (inl (ap (λ (l : Look). l.max_height) (own_look o rs by) ∙ uncut))
-          (plain_fields_are_short o.look (own_unkept o rs by) (own_table o rs by) rs by.text (own_fields o rs by IsPlainField each)) by.made))
+      straight_text o rs output (own_table o rs by)
+      (whole_is_straight true o rs output (own_columns o rs by) (plain o rs by) (ap (λ (l : Look). l.width) (own_look o rs by) ∙ no_width) (inl (ap (λ (l : Look). l.max_height) (own_look o rs by) ∙ uncut))
+      (plain_fields_are_short o.look (own_unkept o rs by) (own_table o rs by) rs by.text (own_fields o rs by IsPlainField each)) by.made))
 
 -- what isn't some is none
 pub none_where : {A : Type 0} (o : Option A) → false ≡ is_some o → o ≡ None

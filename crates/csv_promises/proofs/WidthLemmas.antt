@@ -37,7 +37,7 @@ use Rattle.csv_promises.specs.Written.{IsWritten}
 
 -- ---- expanded records without a field
 
--- of two texts without an element neither has one
+-- where nothing is joined, both lists are empty
 both_empty : {A : Type 0} (xs ys : List A) → xs ++ ys ≡ [] → (xs ≡ []) × (ys ≡ [])
 both_empty [] ys none = (refl, none)
 both_empty (x ∷ xs) ys none = absurd (cc none)
@@ -88,13 +88,13 @@ module _ (w : ℕ) (o : Options) (records : List (List Text)) (output : Text) (w
   expanded : text.is_expanded ≡ is_expanded_in o.look.expansion ((length content.rows == 0) || has_room_for o.look content (fitting_content o.look content))
   expanded = text.expansion
 
-  -- the frame has room in one for so many columns, or in the width
+  -- what the table needs fits the width, or a frame of so many columns
   module _ (most : ℕ) (few : All (λ (fields : List Text). length fields ≤ most) records) where
     abbrev all : ℕ
     all = most_chosen most o.selection.columns.items + (if o.selection.is_numbered then 1 else 0)
 
-    abbrev room : ℕ
-    room = max w (frame_room (columns_by o.look.expansion (not (length (drawn_rows o records) == 0)) all))
+    abbrev frame : ℕ
+    frame = frame_room (columns_by o.look.expansion (not (length (drawn_rows o records) == 0)) all)
 
     of_all : 1 ≤ all
     of_all = omega (arith, some_column o records content made.is_content, few_columns o records content made.is_content most few)
@@ -113,13 +113,10 @@ module _ (w : ℕ) (o : Options) (records : List (List Text)) (output : Text) (w
     by_look Auto false true false is fits = let own = width_has_room o.look content has w wide fits in omega (arith, own)
     by_look Auto false false false is fits = absurd (cc is)
 
-    least_fits : least_total t ≤ room
+    least_fits : least_total t ≤ max w frame
     least_fits =
         subst (λ (b : Bool). least_total t ≤ max w (frame_room (columns_by o.look.expansion (not b) all))) (no_rows-is o records content made.is_content)
         (by_look o.look.expansion (length content.rows == 0) (has_room_for o.look content (fitting_content o.look content)) text.is_expanded expanded refl)
-
-    abbrev frame : ℕ
-    frame = frame_room (columns_by o.look.expansion (not (length (drawn_rows o records) == 0)) all)
 
     abbrev IsGood : Text → Type 0
     IsGood line = CountsRecords line ⊎ KeepsTo w frame o.look.fills_width line
@@ -146,7 +143,7 @@ module _ (w : ℕ) (o : Options) (records : List (List Text)) (output : Text) (w
             let exact = own.1 in
             inr (record { columns = measure (visible_text line); shows = shown_line (measure (visible_text line)) line (clear_lines k default under) refl; within = omega (arith, own.0, least_fits); exact = λ filled room. let is = exact filled in omega (arith, is, room, least_fits) })
 
-    -- and there are none else
+    -- else there are none
     empty : text.is_expanded ≡ true → flat_map (pairs_in o.look content) content.rows ≡ [] → Good
     empty is none =
         output_lines IsGood (λ line. inl) o records output [] table

@@ -1,14 +1,14 @@
 -- Lines that the promise on a width refuses, lines that it allows, and the columns of frames.
-use Rattle.std.proofs.Common.{◌≡◌, ◌⊎◌, inl, inr, ◌≤◌, ℕ, Bool, true, false, List, [], ◌∷◌, None, Some, arith, codes, length, refl, sym, ap, ◌∙◌, subst}
+use Rattle.std.proofs.Common.{◌≡◌, ◌⊎◌, inl, inr, ◌≤◌, ◌+◌, ℕ, Bool, true, false, List, [], ◌∷◌, None, arith, codes, length, refl, sym, ap, ◌∙◌, subst}
 use Rattle.std.specs.List.{All, slice_split}
 use Rattle.std.specs.Prelude.{◌==◌}
-use Rattle.std.proofs.lemmas.List.Elements.{All-cons, All-head, All-nil}
+use Rattle.std.proofs.lemmas.List.Elements.{All-head}
 use Rattle.comfy_parts.specs.Text.{Text, measure}
 use Rattle.csv_tables.specs.declared.options.Expansion.{Expansion}
 use Rattle.csv_tables.specs.declared.options.Expansion.TheVariants.{Always, Auto, Never}
 use Rattle.csv_tables.specs.declared.options.Options.{Options}
 use Rattle.csv_promises.specs.Straight.{CountsRecords}
-use Rattle.csv_promises.specs.Width.{KeepToWidth, KeepsTo, columns_of_word, frame_room, framed_columns}
+use Rattle.csv_promises.specs.Width.{KeepToWidth, KeepsTo, columns_of_word, frame_room, framed_columns, most_chosen}
 use Rattle.test_definitions.proofs.CsvPromiseTrials.{bold, no_count, one_column, two_columns}
 use Rattle.test_definitions.proofs.OutputLineTrials.{found, one_line, unended}
 use Rattle.test_definitions.proofs.PromiseTrials.{shows_itself}
@@ -70,14 +70,14 @@ three_columns = (codes "a" ∷ codes "b" ∷ codes "c" ∷ []) ∷ (codes "d" �
 -- what a frame takes under a header
 abbrev room_by : Options → Expansion → Bool → List (List Text) → ℕ
 room_by options expansion is_numbered records =
-    frame_room (framed_columns (record options { selection = record options.selection { has_header = true; limit = None; is_numbered = is_numbered; columns = record options.selection.columns { items = [] } }; look = record bold { expansion = expansion } }) records)
+    frame_room (framed_columns (record options { selection = record options.selection { has_header = true; limit = None; is_numbered = is_numbered }; look = record bold { expansion = expansion } }) records)
 
 -- `|_a_|_b_|_c_|` are thirteen columns, and the numbers take four more
-unfolded : (options : Options) → room_by options Never false three_columns ≡ 13
-unfolded options = refl
+unfolded : (options : Options) → options.selection.columns.items ≡ [] → room_by options Never false three_columns ≡ 13
+unfolded options none = ap (λ words. frame_room (most_chosen 3 words + 0)) none
 
-with_numbers : (options : Options) → room_by options Never true three_columns ≡ 17
-with_numbers options = refl
+with_numbers : (options : Options) → options.selection.columns.items ≡ [] → room_by options Never true three_columns ≡ 17
+with_numbers options none = ap (λ words. frame_room (most_chosen 3 words + 1)) none
 
 -- a name and a field take nine, and they are drawn where there is no room; but for a header alone
 expanded : (options : Options) → room_by options Always true three_columns ≡ 9
@@ -86,5 +86,5 @@ expanded options = refl
 expanded_at_need : (options : Options) → room_by options Auto true three_columns ≡ 9
 expanded_at_need options = refl
 
-only_names : (options : Options) → room_by options Auto false three_names ≡ 13
-only_names options = refl
+only_names : (options : Options) → options.selection.columns.items ≡ [] → room_by options Auto false three_names ≡ 13
+only_names options none = ap (λ words. frame_room (most_chosen 3 words + 0)) none
