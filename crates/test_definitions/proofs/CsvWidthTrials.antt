@@ -7,6 +7,7 @@ use Rattle.comfy_parts.specs.Text.{Text, measure}
 use Rattle.csv_tables.specs.declared.options.Expansion.{Expansion}
 use Rattle.csv_tables.specs.declared.options.Expansion.TheVariants.{Always, Auto, Never}
 use Rattle.csv_tables.specs.declared.options.Options.{Options}
+use Rattle.promises.specs.Shown.Shows.{byte, nothing}
 use Rattle.csv_promises.specs.Straight.{CountsRecords}
 use Rattle.csv_promises.specs.Width.{KeepToWidth, KeepsTo, columns_of_word, frame_room, framed_columns, most_chosen}
 use Rattle.test_definitions.proofs.CsvPromiseTrials.{bold, no_count, one_column, two_columns}
@@ -42,6 +43,10 @@ narrow_line is =
     let one : own.columns ≡ 1 = sym own.shows.2 ∙ ap measure (shows_itself own.shows.1 refl) ∙ one_column in
     let two = own.exact refl (omega arith) in
     absurd (omega (arith, one, two))
+
+-- a frame that has no room in the width is drawn beyond it
+frame_line : KeepsTo 1 2 true (codes "ba")
+frame_line = record { columns = 2; shows = (codes "ba", byte 0x62 (codes "a") (codes "a") refl (byte 0x61 [] [] refl nothing), two_columns); within = omega arith; exact = λ filled room. absurd (omega (arith, room)) }
 
 -- a line that ends with no line feed is none
 open_line : ¬ (KeepToWidth 9 9 false (codes "a"))
