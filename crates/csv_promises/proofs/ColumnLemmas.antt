@@ -1,66 +1,125 @@
 -- How many columns are drawn of records.
-use Rattle.std.proofs.Common.{◌≡◌, ◌≤◌, ◌<◌, ◌==◌, ◌||◌, ℕ, suc, ◌+◌, Bool, true, false, List, [], ◌∷◌, Option, Some, None, Result, Ok, Err, cond, fold, length, map, max, nat_lt, unwrap_or, refl, sym, ap, ap₂, ◌∙◌, subst, arith}
-use Rattle.std.specs.List.{All, list_any}
-use Rattle.std.specs.Prelude.{if◌then◌else◌, not}
-use Rattle.std.proofs.lemmas.Bool.Decides.{nat_tests}
+use Rattle.std.proofs.Common.{◌≡◌, ◌≤◌, ◌<◌, ◌==◌, ◌&&◌, ◌||◌, ℕ, zero, suc, ◌+◌, ◌-◌, Bool, true, false, List, [], ◌∷◌, Option, Some, None, Ok, drop, fold, get_or, length, map, max, nat_le, nat_lt, option_map, string_bytes, take, unwrap_or, refl, sym, ap, ap₂, ◌∙◌, subst, arith}
+use Rattle.std.specs.List.{All, list_any, range_with_len}
+use Rattle.std.specs.Option.{option_or}
+use Rattle.std.specs.Prelude.{String, if◌then◌else◌, not}
 use Rattle.std.proofs.lemmas.List.{length-map}
-use Rattle.std.proofs.lemmas.List.Elements.{All-cons, All-drop, All-filter, All-head, All-nil, All-tail, All-take, All-weaker}
-use Rattle.std.proofs.lemmas.List.Sums.{count_by-le-length, length-filter}
-use Rattle.comfy_parts.proofs.CallerLemmas.{All-of_map}
-use Rattle.comfy_parts.specs.Text.{Text, greatest}
+use Rattle.std.proofs.lemmas.List.Elements.{All-cons, All-filter, All-head, All-nil}
+use Rattle.comfy_parts.proofs.CallerLemmas.{All-every, All-flat_map, All-of_map}
+use Rattle.comfy_parts.specs.Text.{Text}
+use Rattle.csv_command.specs.Columns.{column_by, column_of, columns_chosen, columns_for, end_of, first_answer, positions_between, range_at, range_of, rising, single_or}
+use Rattle.csv_command.specs.Drawn.{layout_with}
+use Rattle.csv_command.specs.declared.arguments.Options.{Options}
 use Rattle.csv_records.specs.Numbered.{numbered_from}
-use Rattle.csv_tables.proofs.BuiltLemmas.{made_of}
-use Rattle.csv_tables.proofs.RowLemmas.{chosen}
+use Rattle.csv_records.specs.Numerals.{number_for}
+use Rattle.csv_tables.proofs.RowLemmas.{positions-shown}
 use Rattle.csv_tables.specs.Cells.{has_field}
-use Rattle.csv_tables.specs.Columns.{ColumnFault, chosen_columns, columns_for, count_of, less, seen, without}
-use Rattle.csv_tables.specs.Columns.ColumnFault.{none_left}
-use Rattle.csv_tables.specs.Drawn.{ContentValue, columns_beside, content_of, content_with, drawn_rows, limited, names_beside, names_of, records_below, rows_beside}
+use Rattle.csv_tables.specs.Columns.{ColumnsValue, count_of, seen}
+use Rattle.csv_tables.specs.Drawn.{ContentValue, columns_beside, columns_of, content_of, drawn_rows, names_beside, names_of, names_or_none, rows_beside}
 use Rattle.csv_tables.specs.declared.options.DrawnColumn.{DrawnColumn}
-use Rattle.csv_tables.specs.declared.options.Options.{Options}
-use Rattle.csv_promises.proofs.ChosenLemmas.{AreOf, chosen_few, more_chosen}
 use Rattle.csv_promises.proofs.FrameLemmas.{reaches}
-use Rattle.csv_promises.proofs.RecordLemmas.{all_have_room}
-use Rattle.csv_promises.specs.Width.{most_chosen}
+use Rattle.csv_promises.proofs.PositionLemmas.{chosen, kept_positions, some_kept}
+use Rattle.csv_promises.specs.Fields.{positions_by, positions_in}
+use Rattle.csv_promises.specs.Width.{all_columns}
 
 -- ---- positions
 
--- positions that are left of chosen ones: there is one
-record AreLeft (chosen left : List ℕ) : Type 0 where
-  few : length left ≤ length chosen
-  some : 1 ≤ length left
-  below : (most : ℕ) → All (λ (k : ℕ). k < most) chosen → All (λ (k : ℕ). k < most) left
+-- without names, words choose positions of so many columns
+module _ (count : ℕ) where
+  abbrev Below : ℕ → Type 0
+  Below k = k < count
 
-are_left : (chosen dropped : Result (List ℕ) ColumnFault) (left : List ℕ) → less chosen dropped ≡ Ok left → (positions : List ℕ) × (chosen ≡ Ok positions) × AreLeft positions left
-are_left (Err fault) dropped left is = absurd (cc is)
-are_left (Ok positions) (Err fault) left is = absurd (cc is)
-are_left (Ok positions) (Ok dropped) left is = (positions, refl, by_test (length rest == 0) refl is)
+  range_below : (a n : ℕ) → a + n ≤ count → All Below (range_with_len a n)
+  range_below a zero within = All-nil Below
+  range_below a (suc n) within = All-cons Below a (range_with_len (a + 1) n) (omega (arith, within)) (range_below (a + 1) n (omega (arith, within)))
+
+  column-below : (word : Text) (k : ℕ) → column_of [] count word ≡ Some k → k < count
+  column-below word k is = by_number (number_for 64 word) is
+    where
+      by_numbered : (number : ℕ) (b : Bool) → (nat_lt 0 number && nat_le number count) ≡ b → option_or (if b then Some (number - 1) else None) None ≡ Some k → k < count
+      by_numbered number true test own = let same : number - 1 ≡ k = cc own in grind (arith, test, same)
+      by_numbered number false test own = absurd (cc own)
+
+      by_number : (o : Option ℕ) → column_by [] count word o ≡ Some k → k < count
+      by_number None own = absurd (cc own)
+      by_number (Some number) own = by_numbered number (nat_lt 0 number && nat_le number count) refl own
+
+  end-below : (word : Text) (end : ℕ) → end_of [] count word ≡ Some end → end ≤ count
+  end-below word end is = by_length (length word == 0) is
+    where
+      by_column : (o : Option ℕ) → column_of [] count word ≡ o → option_map (λ (position : ℕ). position + 1) o ≡ Some end → end ≤ count
+      by_column None own found = absurd (cc found)
+      by_column (Some k) own found = let same : k + 1 ≡ end = cc found in let below = column-below word k own in omega (arith, same, below)
+
+      by_length : (b : Bool) → (if b then Some count else option_map (λ (position : ℕ). position + 1) (column_of [] count word)) ≡ Some end → end ≤ count
+      by_length true own = let same : count ≡ end = cc own in omega (arith, same)
+      by_length false own = by_column (column_of [] count word) refl own
+
+  -- a range ends at the last column at most
+  rising-below : (word : Text) (a : Option ℕ) (ends : ℕ × ℕ) → rising a (end_of [] count word) ≡ Some ends → ends.1 ≤ count
+  rising-below word a ends is = by_end a (end_of [] count word) (end-below word) is
+    where
+      by_end : (a b : Option ℕ) → ((end : ℕ) → b ≡ Some end → end ≤ count) → rising a b ≡ Some ends → ends.1 ≤ count
+      by_end None b below own = absurd (cc own)
+      by_end (Some start) None below own = absurd (cc own)
+      by_end (Some start) (Some end) below own = by_order (nat_lt start end) own
+        where
+          by_order : (b : Bool) → (if b then Some (start, end) else None) ≡ Some ends → ends.1 ≤ count
+          by_order true found = let same : (start, end) ≡ ends = cc found in subst (λ (p : ℕ × ℕ). p.1 ≤ count) same (below end refl)
+          by_order false found = absurd (cc found)
+
+  range_at-below : (word : Text) (at : ℕ) (ends : ℕ × ℕ) → range_at [] count word at ≡ Some ends → ends.1 ≤ count
+  range_at-below word at ends is = by_hyphen (get_or word at 0 == 0x2D) is
+    where
+      by_hyphen : (b : Bool) → (if b then rising (column_of [] count (take at word)) (end_of [] count (drop (at + 1) word)) else None) ≡ Some ends → ends.1 ≤ count
+      by_hyphen true own = rising-below (drop (at + 1) word) (column_of [] count (take at word)) ends own
+      by_hyphen false own = absurd (cc own)
+
+  range-below : (word : Text) (places : List ℕ) (ends : ℕ × ℕ) → first_answer (range_at [] count word) places ≡ Some ends → ends.1 ≤ count
+  range-below word [] ends is = absurd (cc is)
+  range-below word (at ∷ places) ends is = by_first (range_at [] count word at) (range_at-below word at ends) is (range-below word places ends)
+    where
+      by_first : (o : Option (ℕ × ℕ)) → (o ≡ Some ends → ends.1 ≤ count) → option_or o (first_answer (range_at [] count word) places) ≡ Some ends → (first_answer (range_at [] count word) places ≡ Some ends → ends.1 ≤ count) → ends.1 ≤ count
+      by_first None own found later = later found
+      by_first (Some first) own found later = own found
+
+  abbrev by_word : Text → List ℕ
+  by_word word = unwrap_or (option_map positions_between (columns_chosen [] count word)) []
+
+  word-below : (word : Text) → All Below (by_word word)
+  word-below word = by_column (column_of [] count word) refl
+    where
+      between : (ends : ℕ × ℕ) → ends.1 ≤ count → All Below (positions_between ends)
+      between ends within = by_order (nat_le ends.0 ends.1) refl
+        where
+          by_order : (b : Bool) → nat_le ends.0 ends.1 ≡ b → All Below (positions_between ends)
+          by_order true order = range_below ends.0 (ends.1 - ends.0) (grind (arith, order, within))
+          by_order false order = let none : ends.1 - ends.0 ≡ 0 = grind (arith, order) in subst (λ (n : ℕ). All Below (range_with_len ends.0 n)) (sym none) (All-nil Below)
+
+      by_range : (o : Option (ℕ × ℕ)) → range_of [] count word ≡ o → All Below (unwrap_or (option_map positions_between o) [])
+      by_range None own = All-nil Below
+      by_range (Some ends) own = between ends (range-below word (range_with_len 0 (length word)) ends own)
+
+      by_column : (o : Option ℕ) → column_of [] count word ≡ o → All Below (unwrap_or (option_map positions_between (single_or o (range_of [] count word))) [])
+      by_column None own = by_range (range_of [] count word) refl
+      by_column (Some k) own = let below = column-below word k own in between (k, k + 1) (omega (arith, below))
+
+  words-below : {A : Type 0} (words : List (String A)) → All Below (positions_by [] count words)
+  words-below {A} words = All-flat_map Below (λ (word : String A). by_word (string_bytes word)) words (All-every (λ (word : String A). All Below (by_word (string_bytes word))) words (λ word. word-below (string_bytes word)))
+
+-- so do options
+positions-below : (options : Options) (rows : List (List Text)) → All (Below (count_of [] rows)) (positions_in options [] rows)
+positions-below options rows =
+    All-filter (λ (position : ℕ). not (list_any (λ (other : ℕ). other == position) (positions_by [] count options.columns.dropped.items))) (Below count) _ (by_words (length options.columns.chosen.items == 0))
   where
-    stays : ℕ → Bool
-    stays position = not (list_any (λ (other : ℕ). other == position) dropped)
+    count : ℕ
+    count = count_of [] rows
 
-    rest : List ℕ
-    rest = without positions dropped
+    by_words : (b : Bool) → All (Below count) (if b then range_with_len 0 count else positions_by [] count options.columns.chosen.items)
+    by_words true = range_below count 0 count (omega arith)
+    by_words false = words-below count options.columns.chosen.items
 
-    by_test : (b : Bool) → (length rest == 0) ≡ b → cond b (Err none_left) (Ok rest) ≡ Ok left → AreLeft positions left
-    by_test true test is = absurd (cc is)
-    by_test false test is =
-        subst (AreLeft positions) (cc is)
-        (record { few = omega (arith, length-filter stays positions, count_by-le-length stays positions); some = grind (arith, nat_tests, test); below = λ most all. All-filter stays (λ (k : ℕ). k < most) positions all })
-
--- ---- counts of fields
-
-pub greatest_each : (records : List (List Text)) → All (λ (fields : List Text). length fields ≤ greatest (map length records)) records
-greatest_each [] = All-nil (λ (fields : List Text). length fields ≤ 0)
-greatest_each (fields ∷ records) =
-    let most = max (length fields) (greatest (map length records)) in
-    All-cons (λ (f : List Text). length f ≤ most) fields records (omega arith)
-    (All-weaker (λ (f : List Text). length f ≤ greatest (map length records)) (λ (f : List Text). length f ≤ most) (λ f own. omega (arith, own)) records (greatest_each records))
-
-most_fields : (rows : List (List Text)) (n most : ℕ) → n ≤ most → All (λ (fields : List Text). length fields ≤ most) rows → fold (λ (m : ℕ) (fields : List Text). max m (length fields)) n rows ≤ most
-most_fields [] n most within each = within
-most_fields (fields ∷ rows) n most within each =
-    let own = All-head (λ (f : List Text). length f ≤ most) fields rows each in
-    most_fields rows (max n (length fields)) most (omega (arith, own, within)) (All-tail (λ (f : List Text). length f ≤ most) fields rows each)
+-- ---- fields at positions
 
 -- a position that only a row explains is in one
 in_row : (p : ℕ) (rows : List (List Text)) (n : ℕ) → n ≤ p → p < fold (λ (m : ℕ) (fields : List Text). max m (length fields)) n rows → list_any (λ (fields : List Text). nat_lt p (length fields)) rows ≡ true
@@ -90,74 +149,47 @@ numbered-length n (fields ∷ rows) = ap suc (numbered-length (n + 1) rows)
 
 -- ---- contents
 
-module _ (options : Options) (records : List (List Text)) (content : ContentValue) (is : content_of options records ≡ Ok content) where
+module _ (options : Options) (records : List (List Text)) (known : Option ℕ) (own : ColumnsValue) (found : columns_for options records ≡ Ok own) (content : ContentValue) (is : content_of known (layout_with options own) records ≡ content) where
   abbrev is_numbered : Bool
   is_numbered = options.selection.is_numbered
 
-  abbrev own_names : Option (List Text)
-  own_names = names_of options.selection.has_header records
-
   abbrev names : List Text
-  names = unwrap_or own_names []
+  names = names_or_none options.selection records
 
   abbrev rows : List (List Text)
-  rows = drawn_rows options records
+  rows = drawn_rows options.selection records
 
-  found : (columns : List DrawnColumn) × (columns_for options names rows ≡ Ok columns) × (content_with options records columns ≡ content)
-  found = made_of (content_with options records) (columns_for options names rows) content is
+  abbrev columns : List DrawnColumn
+  columns = columns_of (layout_with options own) records
 
-  position : DrawnColumn → ℕ
-  position column = column.position
+  positions : own.drawn ≡ positions_in options names rows
+  positions = kept_positions names (count_of names rows) options.columns.chosen.items options.columns.dropped.items own.drawn (chosen names _ _ _ own found)
 
-  left : (positions : List ℕ) × (chosen_columns names (count_of names rows) options.selection.columns.items ≡ Ok positions) × AreLeft positions (map (λ (column : DrawnColumn). column.position) found.0)
-  left = are_left _ _ _ (chosen names (map (seen options.look.has_sequences) rows) _ _ _ found.0 found.1)
+  placed : map (λ (column : DrawnColumn). column.position) columns ≡ own.drawn
+  placed = positions-shown own.right own.left (map (seen options.look.has_sequences) rows) own.drawn
 
-  chosen_few_of : AreOf (count_of names rows) (most_chosen (count_of names rows) options.selection.columns.items) left.0
-  chosen_few_of = chosen_few names (count_of names rows) (all_have_room (Some names) rows).0 options.selection.columns.items left.0 left.1
+  long : length columns ≡ length own.drawn
+  long = omega (arith, length-map columns (λ (column : DrawnColumn). column.position), ap length placed)
 
-  long : length found.0 ≤ most_chosen (count_of names rows) options.selection.columns.items
-  long = omega (arith, length-map found.0 (λ (column : DrawnColumn). column.position), left.2.few, chosen_few_of.few)
+  some : 1 ≤ length columns
+  some = omega (arith, long, some_kept names (count_of names rows) options.columns.chosen.items options.columns.dropped.items own.drawn (chosen names _ _ _ own found))
 
-  some : 1 ≤ length found.0
-  some = omega (arith, length-map found.0 (λ (column : DrawnColumn). column.position), left.2.some)
+  beside-length : (b : Bool) (cs : List DrawnColumn) → length (columns_beside b cs) ≡ length cs + (if b then 1 else 0)
+  beside-length true cs = omega (arith, length-map cs (λ (column : DrawnColumn). record column { position = column.position + 1 }))
+  beside-length false cs = omega arith
 
-  below : All (λ (column : DrawnColumn). column.position < count_of names rows) found.0
-  below =
-      All-of_map (λ (p : ℕ). p < count_of names rows) (λ (column : DrawnColumn). column.position) found.0
-      (left.2.below (count_of names rows) chosen_few_of.below)
-
-  beside-length : (b : Bool) (columns : List DrawnColumn) → length (columns_beside b columns) ≡ length columns + (if b then 1 else 0)
-  beside-length true columns = omega (arith, length-map columns (λ (column : DrawnColumn). record column { position = column.position + 1 }))
-  beside-length false columns = omega arith
-
-  count-is : length content.columns ≡ length found.0 + (if is_numbered then 1 else 0)
-  count-is = sym (ap (λ (c : ContentValue). length c.columns) found.2) ∙ beside-length is_numbered found.0
+  beside : length content.columns ≡ length columns + (if is_numbered then 1 else 0)
+  beside = sym (ap (λ (c : ContentValue). length c.columns) is) ∙ beside-length is_numbered columns
 
   pub some_column : 1 ≤ length content.columns
-  some_column = omega (arith, some, count-is)
+  some_column = omega (arith, some, beside)
 
-  -- no more columns than are chosen of the fields, and that of numbers
-  pub few_columns : (most : ℕ) → All (λ (fields : List Text). length fields ≤ most) records → length content.columns ≤ most_chosen most options.selection.columns.items + (if is_numbered then 1 else 0)
-  few_columns most each = let few = most_fields rows (length names) most (of_names options.selection.has_header records each) (of_limit options.selection.limit _ (of_below options.selection.has_header records each)) in omega (arith, more_chosen (count_of names rows) most options.selection.columns.items few, long, count-is)
-    where
-      Few : List Text → Type 0
-      Few fields = length fields ≤ most
-
-      of_names : (h : Bool) (rs : List (List Text)) → All Few rs → length (unwrap_or (names_of h rs) []) ≤ most
-      of_names true [] own = omega arith
-      of_names true (r ∷ rs) own = All-head Few r rs own
-      of_names false rs own = omega arith
-
-      of_below : (h : Bool) (rs : List (List Text)) → All Few rs → All Few (records_below h rs)
-      of_below true rs own = All-drop Few 1 rs own
-      of_below false rs own = own
-
-      of_limit : (limit : Option ℕ) (rs : List (List Text)) → All Few rs → All Few (limited limit rs)
-      of_limit None rs own = own
-      of_limit (Some n) rs own = All-take Few n rs own
+  -- the columns are those of the positions, and that of numbers
+  pub drawn_count : length content.columns ≡ all_columns options records
+  drawn_count = beside ∙ ap (λ (n : ℕ). n + (if is_numbered then 1 else 0)) (long ∙ ap length positions)
 
   same_rows : content.rows ≡ rows_beside is_numbered rows
-  same_rows = sym (ap (λ (c : ContentValue). c.rows) found.2)
+  same_rows = sym (ap (λ (c : ContentValue). c.rows) is)
 
   -- there are rows where records are drawn below the header
   pub no_rows-is : (length content.rows == 0) ≡ (length rows == 0)
@@ -170,8 +202,8 @@ module _ (options : Options) (records : List (List Text)) (content : ContentValu
   -- without names a row has the field of a column
   pub reaches_one : content.names ≡ None → reaches content.columns content.rows ≡ true
   reaches_one none =
-      ap₂ (λ (columns : List DrawnColumn) (rs : List (List Text)). reaches columns rs) (sym (ap (λ (c : ContentValue). c.columns) found.2)) same_rows
-      ∙ by_columns is_numbered found.0 some below
+      ap₂ (λ (cs : List DrawnColumn) (rs : List (List Text)). reaches cs rs) (sym (ap (λ (c : ContentValue). c.columns) is)) same_rows
+      ∙ by_columns is_numbered columns some below
     where
       no_names : (b : Bool) (o : Option (List Text)) → names_beside b o ≡ None → o ≡ None
       no_names false o is = is
@@ -179,21 +211,26 @@ module _ (options : Options) (records : List (List Text)) (content : ContentValu
       no_names true (Some n) is = absurd (cc is)
 
       unnamed : names ≡ []
-      unnamed = ap (λ (o : Option (List Text)). unwrap_or o []) (no_names is_numbered own_names (ap (λ (c : ContentValue). c.names) found.2 ∙ none))
+      unnamed = ap (λ (o : Option (List Text)). unwrap_or o []) (no_names is_numbered (names_of options.selection.has_header records) (ap (λ (c : ContentValue). c.names) is ∙ none))
 
-      by_columns : (b : Bool) (columns : List DrawnColumn) → 1 ≤ length columns → All (λ (column : DrawnColumn). column.position < count_of names rows) columns → reaches (columns_beside b columns) (rows_beside b rows) ≡ true
+      IsIn : DrawnColumn → Type 0
+      IsIn column = column.position < count_of [] rows
+
+      below : All IsIn columns
+      below =
+          All-of_map (Below (count_of [] rows)) (λ (column : DrawnColumn). column.position) columns
+          (subst (All (Below (count_of [] rows))) (sym (placed ∙ positions ∙ ap (λ (ns : List Text). positions_in options ns rows) unnamed)) (positions-below options rows))
+
+      by_columns : (b : Bool) (cs : List DrawnColumn) → 1 ≤ length cs → All IsIn cs → reaches (columns_beside b cs) (rows_beside b rows) ≡ true
       by_columns b [] one inside = absurd (omega (arith, one))
-      by_columns b (column ∷ columns) one inside = by_numbers b (in_row column.position rows 0 (omega arith) within)
+      by_columns b (column ∷ cs) one inside = by_numbers b (in_row column.position rows 0 (omega arith) (All-head IsIn column cs inside))
         where
-          within : column.position < count_of [] rows
-          within = subst (λ (own : List Text). column.position < count_of own rows) unnamed (All-head (λ (c : DrawnColumn). c.position < count_of names rows) column columns inside)
-
-          by_rows : (rs : List (List Text)) → list_any (λ (fields : List Text). nat_lt column.position (length fields)) rs ≡ true → reaches (columns_beside true (column ∷ columns)) (rows_beside true rs) ≡ true
+          by_rows : (rs : List (List Text)) → list_any (λ (fields : List Text). nat_lt column.position (length fields)) rs ≡ true → reaches (columns_beside true (column ∷ cs)) (rows_beside true rs) ≡ true
           by_rows [] none = absurd (cc none)
           by_rows (fields ∷ rs) some = let own : nat_lt 0 (suc (length fields)) ≡ true = grind arith in rw own refl
 
-          by_numbers : (b : Bool) → list_any (λ (fields : List Text). nat_lt column.position (length fields)) rows ≡ true → reaches (columns_beside b (column ∷ columns)) (rows_beside b rows) ≡ true
+          by_numbers : (b : Bool) → list_any (λ (fields : List Text). nat_lt column.position (length fields)) rows ≡ true → reaches (columns_beside b (column ∷ cs)) (rows_beside b rows) ≡ true
           by_numbers true some = by_rows rows some
           by_numbers false some =
-              any_more (λ (fields : List Text). nat_lt column.position (length fields)) (λ (fields : List Text). list_any (has_field fields) (column ∷ columns))
-              (λ fields own. ap (λ (b : Bool). b || list_any (has_field fields) columns) own) rows some
+              any_more (λ (fields : List Text). nat_lt column.position (length fields)) (λ (fields : List Text). list_any (has_field fields) (column ∷ cs))
+              (λ fields own. ap (λ (b : Bool). b || list_any (has_field fields) cs) own) rows some

@@ -1,27 +1,28 @@
--- All fields of records stand in what is written of them.
-use Rattle.std.proofs.Common.{◌≡◌, ◌≤◌, ℕ, zero, suc, ◌+◌, Bool, true, false, List, [], ◌∷◌, ◌++◌, Option, Some, None, length, map, max, flat_map, refl, sym, ap, ap₂, ◌∙◌, subst, arith, append-nil, slice_index_or, unwrap_or}
-use Rattle.std.specs.List.{All, AllByRecursion, AllZip, concat, enumerate_from, range_with_len, slice_get}
-use Rattle.std.specs.Prelude.{Contains, chars, fold, MatchOption, option_map, option_to_list}
+-- Fields of records in rows of cells, and in the lines that show these.
+use Rattle.std.proofs.Common.{◌≡◌, ◌⊎◌, ◌<◌, ◌≤◌, inl, inr, ℕ, zero, suc, ◌+◌, Bool, true, false, List, [], ◌∷◌, Option, Some, None, cond, filter, length, map, max, flat_map, get_or, nat_lt, refl, sym, ap, ap₂, ◌∙◌, subst, arith, append-nil, slice_index_or, unwrap_or}
+use Rattle.std.specs.List.{All, AllByRecursion, AllZip, concat, enumerate_from, slice_get}
+use Rattle.std.specs.Prelude.{Contains, fold, MatchOption, option_map}
 use Rattle.std.specs.Str.{IsUtf8}
-use Rattle.std.proofs.lemmas.List.{length-map}
 use Rattle.std.proofs.lemmas.List.Elements.{All-head, All-map, All-tail}
+use Rattle.std.proofs.lemmas.Option.{slice_get_cases, slice_get_past}
 use Rattle.std.proofs.lemmas.Simd.{map-map}
 use Rattle.std.proofs.lemmas.Str.{IsUtf8-nil, chars-nil}
-use Rattle.comfy_parts.proofs.CallerLemmas.{no_fewer_columns}
-use Rattle.comfy_parts.specs.CellValue.{CellValue, ColumnValue, RowValue, plain_cell}
+use Rattle.comfy_parts.specs.CellValue.{CellValue, ColumnValue, RowValue}
 use Rattle.comfy_parts.specs.Columns.{style_characters}
 use Rattle.comfy_parts.specs.Text.{Text}
+use Rattle.comfy_parts.specs.declared.style.cell.CellAlignment.{CellAlignment}
 use Rattle.comfy_parts.specs.declared.style.table_style.TableStyle.{TableStyle}
 use Rattle.comfy_table.specs.Lines.{cell_delimiter}
-use Rattle.comfy_table.specs.TableValue.{TableValue, header_and_rows, shown_columns, with_row, with_rows}
+use Rattle.comfy_table.specs.TableValue.{TableValue, shown_columns}
 use Rattle.csv.specs.Records.{field_at}
 use Rattle.csv_records.specs.Cleaning.{after_piece, cleaned, pieces, start}
 use Rattle.csv_tables.proofs.BuiltLemmas.{each_field}
-use Rattle.csv_tables.proofs.RowLemmas.{with_rows-rows}
+use Rattle.csv_tables.proofs.ReachedLemmas.{mapped_at, reached-at, reached-length, unmapped_at}
 use Rattle.csv_tables.proofs.SeparatorLemmas.{condensed-all, separated}
 use Rattle.csv_tables.proofs.WholeColumnLemmas.{IsPaddedColumn}
-use Rattle.csv_tables.specs.Cells.{cell_for, cells_for, field_or_blank, field_text, header_for, reached, row_for, with_weight}
-use Rattle.csv_tables.specs.Drawn.{condensed_style, empty_table, headed_table}
+use Rattle.csv_tables.specs.Cells.{cell_for, cells_for, field_or_blank, header_for, held, pair_for, reached, row_for, with_weight}
+use Rattle.csv_command.specs.Columns.{name_at}
+use Rattle.csv_tables.specs.Drawn.{condensed_style, pairs_of}
 use Rattle.csv_tables.specs.Laws.{HasSpacesBehind}
 use Rattle.csv_tables.specs.declared.options.DrawnColumn.{DrawnColumn}
 use Rattle.csv_tables.specs.declared.options.Look.{Look}
@@ -29,8 +30,8 @@ use Rattle.promises.proofs.AmongLemmas.{same_at}
 use Rattle.promises.specs.Kept.{AreSlicesOf, IsFrame, ShowsRow, StandAmong}
 use Rattle.promises.specs.Kept.IsFrame.{nothing, space, character as of_style}
 use Rattle.csv_promises.proofs.FilledLemmas.{filled-field, filled-spaced, filled-texts}
-use Rattle.csv_promises.proofs.RecordLemmas.{HasRoom, first_columns, with_rows-columns, with_rows-header}
-use Rattle.csv_promises.specs.Fields.{AreFields, ShowsRecord, filled}
+use Rattle.csv_promises.proofs.RecordLemmas.{HasColumns}
+use Rattle.csv_promises.specs.Fields.{AreFields, ShowsFields, fields_at, filled, pairs_at}
 
 -- ---- frames
 
@@ -62,6 +63,11 @@ abbrev pub IsRowOf : List Text → RowValue → Type 0
 IsRowOf fields row = (i : ℕ) → MatchOption (slice_get row.cells i) (filled (field_or_blank fields i) ≡ [])
     (λ cell. (cell.delimiter ≡ None) × (filled (concat cell.text_lines) ≡ filled (field_or_blank fields i)))
 
+-- and nothing cuts it
+pub record IsWholeRow (fields : List Text) (row : RowValue) : Type 0 where
+  pub own : IsRowOf fields row
+  pub uncut : row.max_height ≡ None
+
 module _ (table : TableValue) (spaced : table.delimiter ≡ None) (shown : shown_columns table ≡ enumerate_from 0 table.columns) (padded : AllByRecursion IsPaddedColumn table.columns) where
   -- the slices of a cell at a place
   abbrev HasSlices : RowValue → (ℕ × ColumnValue → List Text) → ℕ × ColumnValue → Type 0
@@ -80,13 +86,23 @@ module _ (table : TableValue) (spaced : table.delimiter ≡ None) (shown : shown
       ap₂ (λ (a b : Option ℕ). unwrap_or a (unwrap_or b (unwrap_or table.delimiter 0x20))) no_delimiter pad.no_delimiter ∙ ap (λ (o : Option ℕ). unwrap_or o 0x20) spaced in
       ap (λ (ls : List Text). filled (concat ls)) all ∙ filled-texts cell.text_lines of_texts (subst (λ (n : ℕ). AllZip (AreSlicesOf n) cell.text_lines of_texts) d slices) ∙ is
 
-  fields_are : (row : RowValue) (fields : List Text) → IsRowOf fields row → (slices : ℕ × ColumnValue → List Text) (n : ℕ) (columns : List ColumnValue) → AllByRecursion IsPaddedColumn columns → All (HasSlices row slices) (enumerate_from n columns)
-      → (rest : List Text) → length rest ≤ length columns → ((i : ℕ) → field_or_blank rest i ≡ field_or_blank fields (n + i)) → AreFields rest (map slices (enumerate_from n columns))
+  -- blank fields need no column
+  without_columns : (rest : List Text) → ((i : ℕ) → filled (field_or_blank rest i) ≡ []) → AreFields rest []
   unfolding field_at
-  fields_are row fields own slices n [] pad each [] few same = tt
-  fields_are row fields own slices n [] pad each (field ∷ rest) few same = absurd (omega (arith, few))
-  fields_are row fields own slices n (column ∷ columns) pad each rest few same =
-      by_rest (λ others less. fields_are row fields own slices (n + 1) columns pad.1 (All-tail (HasSlices row slices) (n, column) (enumerate_from (n + 1) columns) each) others less) rest few same
+  without_columns [] blank = tt
+  without_columns (field ∷ rest) blank = (blank 0, without_columns rest (λ i. blank (suc i)))
+
+  fields_are : (row : RowValue) (fields : List Text) → IsRowOf fields row → length row.cells ≤ length table.columns → (slices : ℕ × ColumnValue → List Text) (n : ℕ) (columns : List ColumnValue) → n + length columns ≡ length table.columns → AllByRecursion IsPaddedColumn columns
+      → All (HasSlices row slices) (enumerate_from n columns) → (rest : List Text) → ((i : ℕ) → field_or_blank rest i ≡ field_or_blank fields (n + i)) → AreFields rest (map slices (enumerate_from n columns))
+  unfolding field_at
+  fields_are row fields own few slices n [] all pad each rest same = without_columns rest (λ i. ap filled (same i) ∙ past (n + i) (omega (arith, all)))
+    where
+      past : (i : ℕ) → length table.columns ≤ i → filled (field_or_blank fields i) ≡ []
+      past i behind =
+          subst (λ (o : Option CellValue). MatchOption o (filled (field_or_blank fields i) ≡ []) (λ cell. (cell.delimiter ≡ None) × (filled (concat cell.text_lines) ≡ filled (field_or_blank fields i))))
+          (slice_get_past row.cells i (omega (arith, few, behind))) (own i)
+  fields_are row fields own few slices n (column ∷ columns) all pad each rest same =
+      by_rest (λ others less. fields_are row fields own few slices (n + 1) columns (omega (arith, all)) pad.1 (All-tail (HasSlices row slices) (n, column) (enumerate_from (n + 1) columns) each) others less) rest same
     where
       head : filled (concat (slices (n, column))) ≡ filled (field_or_blank fields n)
       head = one_field (slice_get row.cells n) column pad.0 (field_or_blank fields n) (slices (n, column)) (own n) (All-head (HasSlices row slices) (n, column) (enumerate_from (n + 1) columns) each)
@@ -97,160 +113,159 @@ module _ (table : TableValue) (spaced : table.delimiter ≡ None) (shown : shown
       start : n + 0 ≡ n
       start = omega arith
 
-      by_rest : ((others : List Text) → length others ≤ length columns → ((i : ℕ) → field_or_blank others i ≡ field_or_blank fields (n + 1 + i)) → AreFields others (map slices (enumerate_from (n + 1) columns))) → (rest : List Text) → length rest ≤ suc (length columns) → ((i : ℕ) → field_or_blank rest i ≡ field_or_blank fields (n + i)) → AreFields rest (slices (n, column) ∷ map slices (enumerate_from (n + 1) columns))
-      by_rest more [] few same = (head ∙ ap filled (ap (field_or_blank fields) (sym start) ∙ sym (same 0)), more [] (omega arith) (λ i. same (suc i) ∙ ap (field_or_blank fields) (sym (here i))))
-      by_rest more (field ∷ rest) few same = (head ∙ ap filled (ap (field_or_blank fields) (sym start) ∙ sym (same 0)), more rest (omega (arith, few)) (λ i. same (suc i) ∙ ap (field_or_blank fields) (sym (here i))))
+      by_rest : ((others : List Text) → ((i : ℕ) → field_or_blank others i ≡ field_or_blank fields (n + 1 + i)) → AreFields others (map slices (enumerate_from (n + 1) columns))) → (rest : List Text) → ((i : ℕ) → field_or_blank rest i ≡ field_or_blank fields (n + i)) → AreFields rest (slices (n, column) ∷ map slices (enumerate_from (n + 1) columns))
+      by_rest more [] same = (head ∙ ap filled (ap (field_or_blank fields) (sym start) ∙ sym (same 0)), more [] (λ i. same (suc i) ∙ ap (field_or_blank fields) (sym (here i))))
+      by_rest more (field ∷ rest) same = (head ∙ ap filled (ap (field_or_blank fields) (sym start) ∙ sym (same 0)), more rest (λ i. same (suc i) ∙ ap (field_or_blank fields) (sym (here i))))
 
-  pub shows_record : (fields : List Text) (row : RowValue) (block : List Text) → IsRowOf fields row → row.max_height ≡ None → length fields ≤ length table.columns → ShowsRow table row block → ShowsRecord table.style fields block
-  shows_record fields row block own uncut few shows =
+  pub shows_fields : (fields : List Text) (row : RowValue) (block : List Text) → IsWholeRow fields row → HasColumns table row → ShowsRow table row block → ShowsFields table.style fields block
+  shows_fields fields row block is few shows =
       record {
         pieces = map shows.slices (shown_columns table);
         are_fields = subst (λ (ps : List (ℕ × ColumnValue)). AreFields fields (map shows.slices ps)) (sym shown)
-            (fields_are row fields own shows.slices 0 table.columns padded (subst (All (HasSlices row shows.slices)) shown (shows.are_slices uncut)) fields few (λ i. let moved : i ≡ 0 + i = omega arith in ap (field_or_blank fields) moved));
+            (fields_are row fields is.own few shows.slices 0 table.columns (omega arith) padded (subst (All (HasSlices row shows.slices)) shown (shows.are_slices is.uncut)) fields (λ i. let moved : i ≡ 0 + i = omega arith in ap (field_or_blank fields) moved));
         enough_lines = All-map (λ (column : List Text). length column ≤ length block) shows.slices (shown_columns table) shows.stand.enough_lines;
         stand = λ k below.
             subst (λ (parts : List Text). StandAmong (IsFrame table.style) parts (slice_index_or block k [])) (sym (map-map (λ (column : List Text). slice_index_or column k []) shows.slices (shown_columns table))) (shows.stand.stand k below);
       }
 
--- ---- rows of fields
+-- ---- fields with spaces behind them
 
 -- fields, of which some have spaces behind them
 abbrev pub AreSpaced : List Text → List Text → Type 0
-AreSpaced fields drawn = (length drawn ≡ length fields) × ((i : ℕ) → HasSpacesBehind (field_or_blank fields i) (field_or_blank drawn i))
+AreSpaced fields drawn = (i : ℕ) → HasSpacesBehind (field_or_blank fields i) (field_or_blank drawn i)
 
-pub as_they_are : (fields : List Text) → AreSpaced fields fields
-as_they_are fields = (refl, λ i. (0, sym (append-nil (field_or_blank fields i))))
+as_they_are : (fields : List Text) → AreSpaced fields fields
+as_they_are fields i = (0, sym (append-nil (field_or_blank fields i)))
 
-pub all_spaced : (fields drawn : List Text) → AllZip HasSpacesBehind fields drawn → AreSpaced fields drawn
+all_spaced : (fields drawn : List Text) → AllZip HasSpacesBehind fields drawn → AreSpaced fields drawn
 unfolding field_at
 all_spaced [] [] zip = as_they_are []
 all_spaced [] (x ∷ drawn) zip = absurd zip
 all_spaced (field ∷ fields) [] zip = absurd zip
-all_spaced (field ∷ fields) (x ∷ drawn) zip = let rest = all_spaced fields drawn zip.1 in (ap suc rest.0, at rest.1)
+all_spaced (field ∷ fields) (x ∷ drawn) zip = at (all_spaced fields drawn zip.1)
   where
-    at : ((i : ℕ) → HasSpacesBehind (field_or_blank fields i) (field_or_blank drawn i)) → (i : ℕ) → HasSpacesBehind (field_or_blank (field ∷ fields) i) (field_or_blank (x ∷ drawn) i)
+    at : AreSpaced fields drawn → AreSpaced (field ∷ fields) (x ∷ drawn)
     at each zero = zip.0
     at each (suc i) = each i
 
-blank_past : (fields : List Text) (i : ℕ) → length fields ≤ i → field_or_blank fields i ≡ []
-unfolding field_at
-blank_past [] i past = refl
-blank_past (field ∷ fields) zero past = absurd (omega (arith, past))
-blank_past (field ∷ fields) (suc i) past = blank_past fields i (omega (arith, past))
+clean-nil : cleaned false [] ≡ []
+clean-nil = ap (λ (cs : List ℕ). (fold after_piece start (pieces false cs)).text) chars-nil
 
-at_map : (f : Text → Text) → f [] ≡ [] → (fields : List Text) (i : ℕ) → field_or_blank (map f fields) i ≡ f (field_or_blank fields i)
-unfolding field_at
-at_map f none [] i = sym none
-at_map f none (field ∷ fields) zero = refl
-at_map f none (field ∷ fields) (suc i) = at_map f none fields i
+spaced-same : (field drawn : Text) → HasSpacesBehind field drawn → IsUtf8 field → filled (cleaned false drawn) ≡ filled (cleaned false field)
+spaced-same field drawn (n, is) utf8 = ap (λ (t : Text). filled (cleaned false t)) is ∙ filled-spaced field n utf8
+
+-- ---- fields at positions
+
+abbrev pub positions_of : List DrawnColumn → List ℕ
+positions_of columns = map (λ (column : DrawnColumn). column.position) columns
+
+module _ (f : ℕ → Text) where
+  at_column : (columns : List DrawnColumn) (i : ℕ) (d : DrawnColumn) → slice_get columns i ≡ Some d → field_or_blank (map f (positions_of columns)) i ≡ f d.position
+  unfolding field_at
+  at_column [] i d found = absurd (cc found)
+  at_column (column ∷ columns) zero d found = let same : column ≡ d = cc found in ap (λ (c : DrawnColumn). f c.position) same
+  at_column (column ∷ columns) (suc i) d found = at_column columns i d found
+
+  past_columns : (columns : List DrawnColumn) (i : ℕ) → slice_get columns i ≡ None → field_or_blank (map f (positions_of columns)) i ≡ []
+  unfolding field_at
+  past_columns [] i none = refl
+  past_columns (column ∷ columns) zero none = absurd (cc none)
+  past_columns (column ∷ columns) (suc i) none = past_columns columns i none
 
 module _ (look : Look) (unkept : look.has_sequences ≡ false) (none : look.is_markdown ≡ false) where
-  abbrev pub clean : Text → Text
-  clean field = cleaned look.has_sequences field
-
-  clean-nil : clean [] ≡ []
-  clean-nil = ap (λ (b : Bool). (fold after_piece start (pieces b (chars []))).text) unkept ∙ ap (λ (cs : List ℕ). (fold after_piece start (pieces false cs)).text) chars-nil
-
   abbrev cell_of : Bool → List Text → DrawnColumn → CellValue
-  cell_of is_bold fields column = with_weight is_bold (cell_for look column.alignment (field_or_blank fields column.position))
+  cell_of is_bold drawn column = with_weight is_bold (cell_for look column.alignment (field_or_blank drawn column.position))
 
-  -- the cell at a position has the field there
-  cell_at : (is_bold : Bool) (fields : List Text) (drawn : List DrawnColumn) (n i : ℕ) → map (λ (column : DrawnColumn). column.position) drawn ≡ range_with_len n (length drawn)
-      → MatchOption (slice_get (map (cell_of is_bold fields) drawn) i) (length drawn ≤ i) (λ cell. (cell.delimiter ≡ None) × (cell.text_lines ≡ (plain_cell (field_text look (field_or_blank fields (n + i)))).text_lines))
-  cell_at is_bold fields [] n i are = omega arith
-  cell_at is_bold fields (column ∷ drawn) n zero are = by_weight is_bold
+  -- a cell of a field
+  abbrev IsCellOf : Text → CellValue → Type 0
+  IsCellOf field cell = (cell.delimiter ≡ None) × (filled (concat cell.text_lines) ≡ filled (cleaned false field))
+
+  cell_is : (is_bold : Bool) (alignment : Option CellAlignment) (field : Text) → IsCellOf field (with_weight is_bold (cell_for look alignment field))
+  cell_is true alignment field = (refl, filled-field look unkept none field)
+  cell_is false alignment field = (refl, filled-field look unkept none field)
+
+  -- cells for these columns, of which those that aren't drawn are blank
+  abbrev Reaches : List Text → List DrawnColumn → List DrawnColumn → Type 0
+  Reaches drawn columns own = (i : ℕ) → MatchOption (slice_get columns i) (slice_get own i ≡ None) (λ d. (slice_get own i ≡ Some d) ⊎ ((slice_get own i ≡ None) × (field_or_blank drawn d.position ≡ [])))
+
+  cells_are : (is_bold : Bool) (columns own : List DrawnColumn) (fields drawn : List Text) → Reaches drawn columns own → AreSpaced fields drawn → All IsUtf8 fields → IsRowOf (fields_at (positions_of columns) fields) (cells_for look is_bold own drawn)
+  cells_are is_bold columns own fields drawn reaches spaced utf8 i = by_column (slice_get columns i) refl (reaches i)
     where
-      here : column.position ≡ n + 0
-      here = let own : column.position ≡ n = cc are in omega (arith, own)
+      Is : Option CellValue → Type 0
+      Is o = MatchOption o (filled (field_or_blank (fields_at (positions_of columns) fields) i) ≡ []) (λ cell. (cell.delimiter ≡ None) × (filled (concat cell.text_lines) ≡ filled (field_or_blank (fields_at (positions_of columns) fields) i)))
 
-      same : (plain_cell (field_text look (field_or_blank fields column.position))).text_lines ≡ (plain_cell (field_text look (field_or_blank fields (n + 0)))).text_lines
-      same = ap (λ (at : ℕ). (plain_cell (field_text look (field_or_blank fields at))).text_lines) here
+      clean_at : ℕ → Text
+      clean_at position = cleaned false (field_or_blank fields position)
 
-      by_weight : (b : Bool) → ((cell_of b fields column).delimiter ≡ None) × ((cell_of b fields column).text_lines ≡ (plain_cell (field_text look (field_or_blank fields (n + 0)))).text_lines)
-      by_weight true = (refl, same)
-      by_weight false = (refl, same)
-  cell_at is_bold fields (column ∷ drawn) n (suc i) are =
-      let moved : n + 1 + i ≡ n + suc i = omega arith in
-      by_option (slice_get (map (cell_of is_bold fields) drawn) i) moved (cell_at is_bold fields drawn (n + 1) i (cc are))
+      by_column : (o : Option DrawnColumn) → slice_get columns i ≡ o → MatchOption o (slice_get own i ≡ None) (λ d. (slice_get own i ≡ Some d) ⊎ ((slice_get own i ≡ None) × (field_or_blank drawn d.position ≡ []))) → Is (slice_get (map (cell_of is_bold drawn) own) i)
+      by_column None is gone = subst Is (sym (unmapped_at (cell_of is_bold drawn) own i gone)) (ap filled (past_columns clean_at columns i is))
+      by_column (Some d) is (inl found) =
+          let cell = cell_is is_bold d.alignment (field_or_blank drawn d.position) in
+          let same = spaced-same (field_or_blank fields d.position) (field_or_blank drawn d.position) (spaced d.position) (each_field IsUtf8 IsUtf8-nil fields d.position utf8) in
+          subst Is (sym (mapped_at (cell_of is_bold drawn) own i d found)) (cell.0, cell.1 ∙ same ∙ ap filled (sym (at_column clean_at columns i d is)))
+      by_column (Some d) is (inr (gone, blank)) =
+          let same = spaced-same (field_or_blank fields d.position) (field_or_blank drawn d.position) (spaced d.position) (each_field IsUtf8 IsUtf8-nil fields d.position utf8) in
+          subst Is (sym (unmapped_at (cell_of is_bold drawn) own i gone))
+          (ap filled (at_column clean_at columns i d is) ∙ sym same ∙ ap (λ (t : Text). filled (cleaned false t)) blank ∙ ap filled clean-nil)
+
+  -- a row has cells up to the last field of its record
+  reaches : (drawn : List Text) (columns : List DrawnColumn) → Reaches drawn columns (reached drawn columns)
+  reaches drawn columns i = by_column (slice_get columns i) refl
     where
-      by_option : (o : Option CellValue) → n + 1 + i ≡ n + suc i → MatchOption o (length drawn ≤ i) (λ cell. (cell.delimiter ≡ None) × (cell.text_lines ≡ (plain_cell (field_text look (field_or_blank fields (n + 1 + i)))).text_lines))
-          → MatchOption o (suc (length drawn) ≤ suc i) (λ cell. (cell.delimiter ≡ None) × (cell.text_lines ≡ (plain_cell (field_text look (field_or_blank fields (n + suc i)))).text_lines))
-      by_option None moved past = omega (arith, past)
-      by_option (Some cell) moved own = (own.0, own.1 ∙ ap (λ (at : ℕ). (plain_cell (field_text look (field_or_blank fields at))).text_lines) moved)
+      by_column : (o : Option DrawnColumn) → slice_get columns i ≡ o → MatchOption o (slice_get (reached drawn columns) i ≡ None) (λ d. (slice_get (reached drawn columns) i ≡ Some d) ⊎ ((slice_get (reached drawn columns) i ≡ None) × (field_or_blank drawn d.position ≡ [])))
+      by_column None is = by_place (slice_get_cases columns i).1
+        where
+          by_place : ((x : DrawnColumn) × (i < length columns) × (slice_get columns i ≡ Some x) × (get_or columns i x ≡ x)) ⊎ ((length columns ≤ i) × (slice_get columns i ≡ None)) → slice_get (reached drawn columns) i ≡ None
+          by_place (inl (x, below, found, at)) = absurd (cc (sym is ∙ found))
+          by_place (inr (past, gone)) = let short = reached-length drawn columns in slice_get_past (reached drawn columns) i (omega (arith, past, short))
+      by_column (Some d) is = reached-at drawn columns i d is
 
-  -- so cells for columns are those of the fields
-  cells_are : (is_bold : Bool) (columns : List DrawnColumn) (fields drawn : List Text) → map (λ (column : DrawnColumn). column.position) columns ≡ range_with_len 0 (length columns) → length fields ≤ length columns → AreSpaced fields drawn → All IsUtf8 fields
-      → IsRowOf (map clean fields) (cells_for look is_bold columns drawn)
-  cells_are is_bold columns fields drawn positions room spaced utf8 i = by_option (slice_get (map (cell_of is_bold drawn) columns) i) (cell_at is_bold drawn columns 0 i positions)
+  -- the header has one for each
+  all_own : (drawn : List Text) (columns : List DrawnColumn) → Reaches drawn columns columns
+  all_own drawn columns i = by_column (slice_get columns i) refl
     where
-      blank : length columns ≤ i → filled (field_or_blank (map clean fields) i) ≡ []
-      blank past = ap filled (at_map clean clean-nil fields i ∙ ap clean (blank_past fields i (omega (arith, room, past))) ∙ clean-nil)
-
-      field : Text
-      field = field_or_blank fields i
-
-      same : filled (concat (plain_cell (field_text look (field_or_blank drawn i))).text_lines) ≡ filled (field_or_blank (map clean fields) i)
-      same =
-          filled-field look unkept none (field_or_blank drawn i) ∙ ap (λ (t : Text). filled (clean t)) (spaced.1 i).1
-          ∙ filled-spaced look unkept none field (spaced.1 i).0 (each_field IsUtf8 IsUtf8-nil fields i utf8) ∙ ap filled (sym (at_map clean clean-nil fields i))
-
-      by_option : (o : Option CellValue) → MatchOption o (length columns ≤ i) (λ cell. (cell.delimiter ≡ None) × (cell.text_lines ≡ (plain_cell (field_text look (field_or_blank drawn (0 + i)))).text_lines))
-          → MatchOption o (filled (field_or_blank (map clean fields) i) ≡ []) (λ cell. (cell.delimiter ≡ None) × (filled (concat cell.text_lines) ≡ filled (field_or_blank (map clean fields) i)))
-      by_option None past = blank past
-      by_option (Some cell) own =
-          let moved : 0 + i ≡ i = omega arith in
-          (own.0, ap (λ (ls : List Text). filled (concat ls)) (own.1 ∙ ap (λ (at : ℕ). (plain_cell (field_text look (field_or_blank drawn at))).text_lines) moved) ∙ same)
+      by_column : (o : Option DrawnColumn) → slice_get columns i ≡ o → MatchOption o (slice_get columns i ≡ None) (λ d. (slice_get columns i ≡ Some d) ⊎ ((slice_get columns i ≡ None) × (field_or_blank drawn d.position ≡ [])))
+      by_column None is = is
+      by_column (Some d) is = inl is
 
   -- ---- rows of a table
 
-  module _ (columns : List DrawnColumn) (positions : map (λ (column : DrawnColumn). column.position) columns ≡ range_with_len 0 (length columns)) where
-    -- a row of fields: it has these, nothing cuts it, and it has room
-    pub record Good (count : ℕ) (fields : List Text) (row : RowValue) : Type 0 where
-      pub own : IsRowOf (map clean fields) row
-      pub uncut : row.max_height ≡ None
-      pub room : length fields ≤ count
+  module _ (whole : look.max_height ≡ None) (columns : List DrawnColumn) where
+    pub is_header : (names : List Text) → All IsUtf8 names → IsWholeRow (fields_at (positions_of columns) names) (header_for look columns names)
+    is_header names utf8 = record { own = cells_are look.has_bold_header columns columns names names (all_own names columns) (as_they_are names) utf8; uncut = refl }
 
-    pub good_header : (count : ℕ) (names : List Text) → HasRoom (length columns) names → length columns ≤ count → All IsUtf8 names → Good count names (header_for look columns names)
-    good_header count names room enough utf8 =
-        record { own = cells_are look.has_bold_header columns names names positions room (as_they_are names) utf8; uncut = refl; room = omega (arith, room, enough) }
+    pub are_rows : (rows drawn : List (List Text)) → AllZip (AllZip HasSpacesBehind) rows drawn → All (All IsUtf8) rows → AllZip IsWholeRow (map (fields_at (positions_of columns)) rows) (map (row_for look columns) drawn)
+    are_rows [] [] zip utf8 = tt
+    are_rows [] (x ∷ drawn) zip utf8 = absurd zip
+    are_rows (fields ∷ rows) [] zip utf8 = absurd zip
+    are_rows (fields ∷ rows) (x ∷ drawn) zip utf8 = (
+      record { own = cells_are false columns (reached x columns) fields x (reaches x columns) (all_spaced fields x zip.0) (All-head (All IsUtf8) fields rows utf8); uncut = ap (option_map (max 1)) whole },
+      are_rows rows drawn zip.1 (All-tail (All IsUtf8) fields rows utf8),
+    )
 
-    pub good_row : (count : ℕ) (fields drawn : List Text) → look.max_height ≡ None → AreSpaced fields drawn → HasRoom (length columns) fields → length (row_for look columns drawn).cells ≤ count → All IsUtf8 fields → Good count fields (row_for look columns drawn)
-    good_row count fields drawn whole spaced room few utf8 =
-        let long = spaced.0 in
-        let first = first_columns columns positions drawn (omega (arith, room, long)) in
-        let reach = first.1 in
-        let cells : length (row_for look columns drawn).cells ≡ length fields = length-map (reached drawn columns) (cell_of false drawn) ∙ reach ∙ long in
-        record {
-          own = cells_are false (reached drawn columns) fields drawn first.0 (omega (arith, reach, long)) spaced utf8;
-          uncut = ap (option_map (max 1)) whole;
-          room = omega (arith, cells, few);
-        }
+    -- a name and a field
+    is_pair : (name field : Text) → IsWholeRow (cleaned false name ∷ cleaned false field ∷ []) (pair_for look name field)
+    unfolding field_at
+    is_pair name field = record { own = own; uncut = ap (option_map (max 1)) whole }
+      where
+        own : IsRowOf (cleaned false name ∷ cleaned false field ∷ []) (pair_for look name field)
+        own zero = cell_is look.has_bold_header None name
+        own (suc zero) = cell_is false None field
+        own (suc (suc i)) = refl
 
-    -- the rows of records, whose cells all have columns
-    pub good_rows : look.max_height ≡ None → (rows drawn : List (List Text)) (t : TableValue) (count : ℕ) → length (with_rows (map (row_for look columns) drawn) t).columns ≤ count → AllZip AreSpaced rows drawn → AllByRecursion (HasRoom (length columns)) rows
-        → All (All IsUtf8) rows → AllZip (Good count) rows (map (row_for look columns) drawn)
-    good_rows whole [] [] t count wide zip room utf8 = tt
-    good_rows whole [] (x ∷ drawn) t count wide zip room utf8 = absurd zip
-    good_rows whole (fields ∷ rows) [] t count wide zip room utf8 = absurd zip
-    good_rows whole (fields ∷ rows) (x ∷ drawn) t count wide zip room utf8 =
-        let row = row_for look columns x in
-        let grown = no_fewer_columns (length row.cells) t.columns in
-        let kept = with_rows-columns (length row.cells) (map (row_for look columns) drawn) (with_row row t) (omega (arith, grown)) in
-        (good_row count fields x whole zip.0 room.0 (omega (arith, kept, wide)) (All-head (All IsUtf8) fields rows utf8), good_rows whole rows drawn (with_row row t) count wide zip.1 room.1 (All-tail (All IsUtf8) fields rows utf8))
+    -- those of a record
+    pub are_pairs : (names fields : List Text) (own : List DrawnColumn) → AllZip IsWholeRow (pairs_at names (positions_of own) fields) (pairs_of look 1 own names fields)
+    are_pairs names fields [] = tt
+    are_pairs names fields (column ∷ own) = by_test (nat_lt column.position (length fields)) (are_pairs names fields own)
+      where
+        pair_at : ℕ → List Text
+        pair_at position = cleaned false (name_at names position) ∷ cleaned false (field_or_blank fields position) ∷ []
 
-    -- the header and the rows of the table of records
-    pub good_table : look.max_height ≡ None → (names : Option (List Text)) (rows drawn : List (List Text)) → AllZip AreSpaced rows drawn → AllByRecursion (HasRoom (length columns)) (option_to_list names ++ rows) → All (All IsUtf8) (option_to_list names ++ rows)
-        → let t : TableValue = with_rows (map (row_for look columns) drawn) (headed_table look columns names) in AllZip (Good (length t.columns)) (option_to_list names ++ rows) (header_and_rows t)
-    good_table whole None rows drawn zip room utf8 =
-        let made = map (row_for look columns) drawn in
-        let t : TableValue = with_rows made (empty_table look) in
-        subst (AllZip (Good (length t.columns)) rows) (sym (ap₂ (λ (header : Option RowValue) (own : List RowValue). option_to_list header ++ own) (with_rows-header made (empty_table look)) (with_rows-rows made (empty_table look))))
-        (good_rows whole rows drawn (empty_table look) (length t.columns) (omega arith) zip room utf8)
-    good_table whole (Some names) rows drawn zip room utf8 =
-        let made = map (row_for look columns) drawn in
-        let headed : TableValue = headed_table look columns (Some names) in
-        let t : TableValue = with_rows made headed in
-        let cells : length (header_for look columns names).cells ≡ length columns = length-map columns (cell_of look.has_bold_header names) in
-        let kept = with_rows-columns (length columns) made headed (omega (arith, cells, no_fewer_columns (length (header_for look columns names).cells) [])) in
-        subst (AllZip (Good (length t.columns)) (names ∷ rows)) (sym (ap₂ (λ (header : Option RowValue) (own : List RowValue). option_to_list header ++ own) (with_rows-header made headed) (with_rows-rows made headed)))
-        (good_header (length t.columns) names room.0 kept (All-head (All IsUtf8) names rows utf8), good_rows whole rows drawn headed (length t.columns) (omega arith) zip room.1 (All-tail (All IsUtf8) names rows utf8))
+        row_of : DrawnColumn → RowValue
+        row_of c = pair_for look (name_at names c.position) (field_or_blank fields c.position)
+
+        by_test : (b : Bool) → AllZip IsWholeRow (pairs_at names (positions_of own) fields) (pairs_of look 1 own names fields)
+            → AllZip IsWholeRow (map pair_at (cond b (column.position ∷ filter (λ position. nat_lt position (length fields)) (positions_of own)) (filter (λ position. nat_lt position (length fields)) (positions_of own))))
+            (map row_of (cond b (column ∷ held fields own) (held fields own)))
+        by_test true rest = (is_pair (name_at names column.position) (field_or_blank fields column.position), rest)
+        by_test false rest = rest

@@ -86,46 +86,39 @@ filled-unless text = by_test (is_blank text) refl
 
 -- ---- spaces behind a field
 
-module _ (keeps : Bool) (none : keeps ≡ false) where
-  after_spaces : (n : ℕ) (s : CleanedText) → (fold after_piece s (pieces false (spaces n))).text ≡ s.text ++ spaces n
-  after_spaces zero s = sym (append-nil s.text)
-  after_spaces (suc n) s =
-      let here : (after_character s 0x20).text ≡ s.text ++ 0x20 ∷ [] = ap (λ (t : Text). s.text ++ t) (encode_ascii 0x20 (omega arith)) in
-      after_spaces n (after_character s 0x20) ∙ ap (λ (t : Text). t ++ spaces n) here ∙ append_assoc s.text (0x20 ∷ []) (spaces n)
+after_spaces : (n : ℕ) (s : CleanedText) → (fold after_piece s (pieces false (spaces n))).text ≡ s.text ++ spaces n
+after_spaces zero s = sym (append-nil s.text)
+after_spaces (suc n) s =
+    let here : (after_character s 0x20).text ≡ s.text ++ 0x20 ∷ [] = ap (λ (t : Text). s.text ++ t) (encode_ascii 0x20 (omega arith)) in
+    after_spaces n (after_character s 0x20) ∙ ap (λ (t : Text). t ++ spaces n) here ∙ append_assoc s.text (0x20 ∷ []) (spaces n)
 
-  space_below : (n i : ℕ) → slice_index (spaces n) i < 128
-  space_below zero i = omega arith
-  space_below (suc n) zero = omega arith
-  space_below (suc n) (suc i) = space_below n i
+space_below : (n i : ℕ) → slice_index (spaces n) i < 128
+space_below zero i = omega arith
+space_below (suc n) zero = omega arith
+space_below (suc n) (suc i) = space_below n i
 
-  abbrev single : ℕ → Part
-  single c = record { is_sequence = false; bytes = c ∷ [] }
+abbrev single : ℕ → Part
+single c = record { is_sequence = false; bytes = c ∷ [] }
 
-  abbrev folded : CleanedText → List ℕ → CleanedText
-  folded s cs = fold after_piece s (pieces false cs)
+abbrev folded : CleanedText → List ℕ → CleanedText
+folded s cs = fold after_piece s (pieces false cs)
 
-  as_folded : (field : Text) → cleaned keeps field ≡ (folded start (chars field)).text
-  as_folded field = ap (λ (b : Bool). (fold after_piece start (pieces b (chars field))).text) none
+cleaned-spaced : (field : Text) (n : ℕ) → IsUtf8 field → cleaned false (field ++ spaces n) ≡ cleaned false field ++ spaces n
+cleaned-spaced field n utf8 =
+    ap (λ (cs : List ℕ). (folded start cs).text) (chars-append field (spaces n) utf8 ∙ ap (λ (cs : List ℕ). chars field ++ cs) (chars-IsAscii (spaces n) (space_below n)))
+    ∙ ap (λ (ps : List Part). (fold after_piece start ps).text) (map-append single (chars field) (spaces n))
+    ∙ ap (λ (s : CleanedText). s.text) (fold-append after_piece start (pieces false (chars field)) (pieces false (spaces n)))
+    ∙ after_spaces n (folded start (chars field))
 
-  pub cleaned-spaced : (field : Text) (n : ℕ) → IsUtf8 field → cleaned keeps (field ++ spaces n) ≡ cleaned keeps field ++ spaces n
-  cleaned-spaced field n utf8 =
-      as_folded (field ++ spaces n)
-      ∙ ap (λ (cs : List ℕ). (folded start cs).text) (chars-append field (spaces n) utf8 ∙ ap (λ (cs : List ℕ). chars field ++ cs) (chars-IsAscii (spaces n) (space_below n)))
-      ∙ ap (λ (ps : List Part). (fold after_piece start ps).text) (map-append single (chars field) (spaces n))
-      ∙ ap (λ (s : CleanedText). s.text) (fold-append after_piece start (pieces false (chars field)) (pieces false (spaces n)))
-      ∙ after_spaces n (folded start (chars field))
-      ∙ ap (λ (t : Text). t ++ spaces n) (sym (as_folded field))
+-- they are none of it
+pub filled-spaced : (field : Text) (n : ℕ) → IsUtf8 field → filled (cleaned false (field ++ spaces n)) ≡ filled (cleaned false field)
+filled-spaced field n utf8 =
+    ap filled (cleaned-spaced field n utf8) ∙ filled-append (cleaned false field) (spaces n) ∙ ap (λ (t : Text). filled (cleaned false field) ++ t) (filled-spaces n) ∙ append-nil (filled (cleaned false field))
 
 -- ---- a field as its cell has it
 
-module _ (look : Look) (unkept : look.has_sequences ≡ false) (table : look.is_markdown ≡ false) where
-  pub filled-field : (field : Text) → filled (concat (plain_cell (field_text look field)).text_lines) ≡ filled (cleaned look.has_sequences field)
-  filled-field field =
-      filled-cell (field_text look field)
-      ∙ ap (λ (m : Bool). filled (if m then marked (cleaned false field) else unless_blank (cleaned look.has_sequences field))) table
-      ∙ filled-unless (cleaned look.has_sequences field)
-
-  -- spaces behind it are none of it
-  pub filled-spaced : (field : Text) (n : ℕ) → IsUtf8 field → filled (cleaned look.has_sequences (field ++ spaces n)) ≡ filled (cleaned look.has_sequences field)
-  filled-spaced field n utf8 =
-      ap filled (cleaned-spaced look.has_sequences unkept field n utf8) ∙ filled-append (cleaned look.has_sequences field) (spaces n) ∙ ap (λ (t : Text). filled (cleaned look.has_sequences field) ++ t) (filled-spaces n) ∙ append-nil (filled (cleaned look.has_sequences field))
+pub filled-field : (look : Look) → look.has_sequences ≡ false → look.is_markdown ≡ false → (field : Text) → filled (concat (plain_cell (field_text look field)).text_lines) ≡ filled (cleaned false field)
+filled-field look unkept table field =
+    filled-cell (field_text look field)
+    ∙ ap₂ (λ (m keeps : Bool). filled (if m then marked (cleaned false field) else unless_blank (cleaned keeps field))) table unkept
+    ∙ filled-unless (cleaned false field)

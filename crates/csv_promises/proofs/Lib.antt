@@ -1,13 +1,15 @@
-mod ChosenLemmas
 mod ColumnLemmas
-mod FieldLemmas
-mod FilledLemmas
+pub mod ExpandedLemmas
+pub mod FieldLemmas
+pub mod FilledLemmas
 mod FrameLemmas
 pub mod LineLemmas
 mod MessageLemmas
-mod OutputFieldLemmas
+pub mod OutputFieldLemmas
 pub mod OutputLemmas
+pub mod PositionLemmas
 pub mod RecordLemmas
 pub mod ResultLemmas
+pub mod ShownTableLemmas
 pub mod StraightLemmas
 mod WidthLemmas

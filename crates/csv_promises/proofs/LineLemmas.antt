@@ -14,7 +14,7 @@ use Rattle.csv_tables.proofs.FieldLemmas.{printable_unbroken}
 use Rattle.csv_tables.proofs.OutputControlLemmas.{counts_are_printable}
 use Rattle.csv_tables.specs.Drawn.{ContentValue, are_more, count_text, note_for, record_line}
 use Rattle.csv_tables.specs.Laws.{HasLines, IsOutputWith, IsStraightOutput, numbered_lines}
-use Rattle.csv_tables.specs.declared.options.Options.{Options}
+use Rattle.csv_tables.specs.declared.options.Layout.{Layout}
 use Rattle.promises.proofs.ShownLemmas.{shows_visible}
 use Rattle.promises.specs.Shown.{ShowsColumns}
 use Rattle.csv_promises.specs.Straight.{CountsRecords, IsStraight, counted}
@@ -101,11 +101,11 @@ module _ (IsGood : Text → Type 0) (counts : (line : Text) → CountsRecords li
           (both (record_line (at + 1) content.count) (terminated_text_of (parts at)) (record_counts (at + 1) content.count) (part at)) (records places)
 
   -- the output of a table, with the line on further records
-  pub output_lines : (options : Options) (records : List (List Text)) (output : Text) (lines : List Text) → options.look.is_markdown ≡ false → IsOutputWith options records output lines → All IsGood lines → HasGoodLines output
-  output_lines options records output lines none made good =
-      let limit = options.selection.limit in
+  pub output_lines : (known : Option ℕ) (layout : Layout) (records : List (List Text)) (output : Text) (lines : List Text) → layout.look.is_markdown ≡ false → IsOutputWith known layout records output lines → All IsGood lines → HasGoodLines output
+  output_lines known layout records output lines none made good =
+      let limit = layout.selection.limit in
       subst HasGoodLines (sym made.joined)
-      (both made.text (note_for options.look.is_markdown limit made.content.count) (table_lines made.is_expanded made.content lines made.text made.has_lines good)
+      (both made.text (note_for layout.look.is_markdown limit made.content.count) (table_lines made.is_expanded made.content lines made.text made.has_lines good)
       (subst (λ (b : Bool). HasGoodLines (note_for b limit made.content.count)) (sym none) (note_counts limit made.content.count)))
 
 -- what is visible of a line without control characters is shown
@@ -114,13 +114,13 @@ shown_line columns line none is =
     (visible_text line, shows_visible (suc (length line)) line (omega arith) (none_by_characters is_control 0x1B (omega arith) refl (visible_text line) none), is)
 
 -- an output that isn't for Markdown is straight where its lines without their sequences are
-pub straight_text : (options : Options) (records : List (List Text)) (output : Text) → options.look.is_markdown ≡ false → IsStraightOutput true options records output → IsStraight output
-straight_text options records output none is =
+pub straight_text : (known : Option ℕ) (layout : Layout) (records : List (List Text)) (output : Text) → layout.look.is_markdown ≡ false → IsStraightOutput true known layout records output → IsStraight output
+straight_text known layout records output none is =
     let columns = is.equally_wide.0 in
     let IsGood = λ (line : Text). CountsRecords line ⊎ ShowsColumns columns line in
     let seen = All-of_map (λ (line : Text). measure line ≡ columns) visible_text is.lines is.equally_wide.1 in
     let clear = All-of_map HasNoControl visible_text is.lines (is.clear refl) in
-    let own = output_lines IsGood (λ line. inl) options records output is.lines none is.is_output (λ k default below. inr (shown_line columns _ (clear k default below) (seen k default below))) in
+    let own = output_lines IsGood (λ line. inl) known layout records output is.lines none is.is_output (λ k default below. inr (shown_line columns _ (clear k default below) (seen k default below))) in
     record { lines = own.lines; are = own.are; columns = columns; show = own.good }
 
 -- nothing is straight

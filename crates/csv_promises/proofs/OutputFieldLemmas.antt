@@ -1,295 +1,54 @@
 -- What is written of records shows all of their fields.
-use Rattle.std.proofs.Common.{◌≡◌, ◌⊎◌, not, ◌||◌, ◌==◌, inl, inr, ◌≤◌, ℕ, suc, Bool, true, false, List, [], ◌∷◌, ◌++◌, Option, Some, None, Ok, length, map, refl, sym, ap, ap₂, ◌∙◌, subst, arith, append-nil, slice_index_or, unwrap_or}
-use Rattle.std.specs.List.{All, AllByRecursion, AllZip, enumerate_from, range_with_len}
-use Rattle.std.specs.Prelude.{if◌then◌else◌, option_to_list}
+use Rattle.std.proofs.Common.{◌≡◌, ◌<◌, ◌==◌, ◌||◌, inl, inr, ℕ, zero, suc, ◌+◌, Bool, true, false, List, [], ◌∷◌, ◌++◌, Option, Some, None, Ok, drop, flat_map, length, map, nat_lt, take, refl, sym, ap, ap₂, ◌∙◌, subst, arith, append_assoc, length-append, slice_index_or, unwrap_or}
+use Rattle.std.specs.List.{All, AllZip, range_with_len}
+use Rattle.std.specs.Prelude.{if◌then◌else◌, codes, decimal, option_to_list, sum_by}
 use Rattle.std.specs.Str.{IsUtf8}
-use Rattle.std.proofs.lemmas.Bool.Decides.{nat_tests}
-use Rattle.std.proofs.lemmas.List.{length-map}
-use Rattle.std.proofs.lemmas.List.Elements.{All-nil, All-weaker, recursion_from_All}
-use Rattle.std.proofs.lemmas.List.FromFn.{length-range_with_len}
-use Rattle.comfy_parts.specs.CellValue.{ColumnValue, RowValue}
+use Rattle.std.proofs.Math.Seq.{take-length}
+use Rattle.std.proofs.lemmas.List.Elements.{All-head, All-nil, All-tail, All-weaker}
+use Rattle.comfy_parts.specs.CellValue.{RowValue}
 use Rattle.comfy_parts.specs.Text.{Text}
-use Rattle.comfy_parts.specs.declared.style.table_style.TableStyle.{TableStyle}
-use Rattle.comfy_table.proofs.BuiltTableLemmas.{IsNewColumn}
+use Rattle.comfy_table.specs.Drawing.{drawing, drawing_of_infos, infos_of, terminated_text_of}
 use Rattle.comfy_table.specs.Headline.{IsTableDrawing}
-use Rattle.comfy_table.specs.Laws.{AreLinesOf, HasNoBreak, IsStyleWithout}
-use Rattle.comfy_table.specs.TableValue.{TableValue, header_and_rows, is_tty, should_style, shown_columns, with_rows}
+use Rattle.comfy_table.specs.Laws.{HasNoBreak, IsStyleWithout}
+use Rattle.comfy_table.specs.Parts.{ArrangedValue, with_rows_alone}
+use Rattle.comfy_table.specs.TableValue.{TableValue, header_and_rows, with_rows}
 use Rattle.csv.specs.Records.{AllText}
 use Rattle.csv_command.proofs.StyleColumnLemmas.{parsed_style_without_controls}
 use Rattle.csv_command.specs.declared.arguments.Invocation.{Invocation}
 use Rattle.csv_command.specs.declared.arguments.OutputContext.{OutputContext}
+use Rattle.csv_records.proofs.BeginningLemmas.{first_records_stay}
 use Rattle.csv_records.proofs.OneRecordLemmas.{read_is_one}
-use Rattle.csv_tables.proofs.BuiltLemmas.{Built, made_of}
+use Rattle.csv_records.specs.Beginning.{whole_lines}
+use Rattle.csv_records.specs.Reading.{AreRecordsFor}
+use Rattle.csv_tables.proofs.BuiltLemmas.{plain_table}
 use Rattle.csv_tables.proofs.DecimalLawLemmas.{spaces_alone}
-use Rattle.csv_tables.proofs.LineLemmas.{Any, any_built, drawn, is_table_text, with_lines}
+use Rattle.csv_tables.proofs.FittingLemmas.{drawn_content}
+use Rattle.csv_tables.proofs.LineLemmas.{is_table_text}
 use Rattle.csv_tables.proofs.OutputControlLemmas.{text_fields, unbroken_without}
-use Rattle.csv_tables.proofs.RowLemmas.{chosen}
-use Rattle.csv_tables.proofs.SeparatorLemmas.{separated}
-use Rattle.csv_tables.proofs.WholeColumnLemmas.{IsPaddedColumn, all_shown, padded_columns}
+use Rattle.csv_tables.proofs.RowLemmas.{positions-shown, with_rows-rows}
+use Rattle.csv_command.proofs.RunLemmas.{beginning_parts}
 use Rattle.csv_tables.specs.Cells.{row_for}
-use Rattle.csv_tables.specs.Columns.{columns_for, count_of, kept_columns, seen, some_left}
-use Rattle.csv_tables.specs.Drawn.{ContentValue, IsDrawnOf, RendersAnyRecords, RendersAsTable, RendersRecords, columns_beside, condensed_style, content_of, content_with, counting, drawn_rows, empty_table, fitting_content, aligned_content, has_room_for, headed_table, is_expanded_in, is_table_expanded, limited, names_beside, names_of, note_for, output_table, records_below, rows_beside, rows_table, separated_table, unbroken_in}
-use Rattle.csv_tables.specs.Laws.{HasLines, HasSpacesBehind}
-use Rattle.csv_tables.specs.Unbroken.{constrained_columns, has_room, kept_unbroken, with_constrained}
+use Rattle.csv_tables.specs.Columns.{ColumnsValue, count_of, seen}
+use Rattle.csv_command.specs.Columns.{columns_for}
+use Rattle.csv_tables.specs.Drawn.{ContentValue, RendersAsTable, RendersTable, aligned_content, columns_beside, columns_of, count_below, count_text, drawn_fields, drawn_rows, empty_table, fitting_content, has_room_for, headed_table, is_expanded_in, limited, names_beside, names_of, note_for, output_table, pairs_in, record_line, record_text, records_below, rows_beside, rows_table, separated_table, some_lines, table_text}
+use Rattle.csv_command.specs.Drawn.{IsDrawnOf, RendersChosen, RendersCounted, layout_with, most_drawn}
 use Rattle.csv_tables.specs.declared.options.DrawnColumn.{DrawnColumn}
 use Rattle.csv_tables.specs.declared.options.Expansion.{Expansion}
-use Rattle.csv_tables.specs.declared.options.Expansion.TheVariants.{Auto, Never}
+use Rattle.csv_tables.specs.declared.options.Expansion.TheVariants.{Always, Auto, Never}
 use Rattle.csv_tables.specs.declared.options.Look.{Look}
-use Rattle.csv_tables.specs.declared.options.Options.{Options}
-use Rattle.promises.proofs.KeptLemmas.{all_texts_stand}
-use Rattle.promises.specs.Kept.{IsFrame, ShowsRow}
-use Rattle.csv_promises.proofs.FieldLemmas.{AreSpaced, Good, all_spaced, among_weaker, clean, frame_of, good_table, shows_record}
-use Rattle.csv_promises.proofs.RecordLemmas.{HasRoom, all_have_room, all_records, left_as_they_are, none_left_out}
-use Rattle.csv_promises.specs.Fields.{ShowsRecord, ShowsRecords}
+use Rattle.csv_command.specs.declared.arguments.Options.{Options}
+use Rattle.devices.specs.Outcome.{asked_front}
+use Rattle.promises.specs.Kept.{IsFrame}
+use Rattle.csv_promises.proofs.ExpandedLemmas.{rows_at}
+use Rattle.csv_promises.proofs.FieldLemmas.{IsWholeRow, are_pairs, are_rows, is_header, positions_of}
+use Rattle.csv_promises.proofs.PositionLemmas.{chosen, kept_positions}
+use Rattle.csv_promises.proofs.RecordLemmas.{AreDrawnFirst, all_drawn, first_are_drawn, with_rows-header}
+use Rattle.csv_promises.proofs.ShownTableLemmas.{HasRowsOf, has_rows_of, part_shows}
+use Rattle.csv_promises.specs.Fields.{MayExpand, ShowsDrawn, ShowsExpanded, ShowsRecords, ShowsRows, fields_at, pairs_at, positions_in}
 use Rattle.csv_promises.specs.Written.{IsWritten}
 
--- ---- the table that is drawn
-
--- where a width is kept some columns are whole
-whole_of : (width : Option ℕ) (unbroken : List Bool) (table : TableValue) → (whole : List Bool) × (kept_unbroken width unbroken table ≡ with_constrained whole table)
-whole_of None unbroken table = ([], refl)
-whole_of (Some w) unbroken table = by_room (has_room (Some w) unbroken table)
-  where
-    by_room : (b : Bool) → (whole : List Bool) × ((if b then with_constrained unbroken table else table) ≡ with_constrained whole table)
-    by_room true = (unbroken, refl)
-    by_room false = ([], refl)
-
--- there are as many of them
-constrained-length : (whole : List Bool) (columns : List ColumnValue) → length (constrained_columns whole columns) ≡ length columns
-constrained-length [] columns = refl
-constrained-length (b ∷ whole) [] = refl
-constrained-length (b ∷ whole) (column ∷ columns) = ap suc (constrained-length whole columns)
-
--- a table of records, some of whose columns are whole, with lines between rows or without them
-module _ (look : Look) (content : ContentValue) (has : Bool) (whole : List Bool) where
-  abbrev base : TableValue
-  base = rows_table look content
-
-  abbrev pub made : TableValue
-  made = separated_table has (with_constrained whole base)
-
-  built : Built look Any content base
-  built = any_built false look content
-
-  new : AllByRecursion IsNewColumn base.columns
-  new = recursion_from_All IsNewColumn base.columns built.columns
-
-  styles : look.has_bold_header ≡ false → should_style base ≡ false
-  styles none = ap should_style built.is ∙ ap (λ (b : Bool). b || is_tty (empty_table look)) none
-
--- what a table has of a look
-pub record HasLook (look : Look) (content : ContentValue) (has : Bool) (t : TableValue) : Type 0 where
-  pub rows : header_and_rows t ≡ header_and_rows (rows_table look content)
-  pub as_many : length t.columns ≡ length (rows_table look content).columns
-  pub shown : shown_columns t ≡ enumerate_from 0 t.columns
-  pub padded : AllByRecursion IsPaddedColumn t.columns
-  pub style : t.style ≡ (separated has look).style
-  pub spaced : t.delimiter ≡ None
-  pub no_sequences : t.custom_styling ≡ look.has_sequences
-  pub plain : look.has_bold_header ≡ false → should_style t ≡ false
-
-has_look : (look : Look) (content : ContentValue) (has : Bool) (whole : List Bool) → HasLook look content has (separated_table has (with_constrained whole (rows_table look content)))
-has_look look content true whole =
-    let own = built look content true whole in
-    let columns = new look content true whole in
-    record {
-      rows = refl;
-      as_many = constrained-length whole (rows_table look content).columns;
-      shown = all_shown whole (rows_table look content).columns columns;
-      padded = padded_columns whole (rows_table look content).columns columns;
-      style = ap (λ (t : TableValue). t.style) own.is;
-      spaced = ap (λ (t : TableValue). t.delimiter) own.is;
-      no_sequences = ap (λ (t : TableValue). t.custom_styling) own.is;
-      plain = styles look content true whole;
-    }
-has_look look content false whole =
-    let own = built look content false whole in
-    let columns = new look content false whole in
-    record {
-      rows = refl;
-      as_many = constrained-length whole (rows_table look content).columns;
-      shown = all_shown whole (rows_table look content).columns columns;
-      padded = padded_columns whole (rows_table look content).columns columns;
-      style = ap (λ (t : TableValue). condensed_style t.style) own.is;
-      spaced = ap (λ (t : TableValue). t.delimiter) own.is;
-      no_sequences = ap (λ (t : TableValue). t.custom_styling) own.is;
-      plain = styles look content false whole;
-    }
-
--- ---- records
-
--- a shown record by the style that was asked for
-restyled : (style other : TableStyle) → ((text : Text) → IsFrame style text → IsFrame other text) → (fields block : List Text) → ShowsRecord style fields block → ShowsRecord other fields block
-restyled style other gives fields block own =
-    record {
-      pieces = own.pieces;
-      are_fields = own.are_fields;
-      enough_lines = own.enough_lines;
-      stand = λ k below. among_weaker (IsFrame style) (IsFrame other) gives (map (λ (column : List Text). slice_index_or column k []) own.pieces) (slice_index_or block k []) (own.stand k below);
-    }
-
-module _ (look : Look) (unkept : look.has_sequences ≡ false) (table : look.is_markdown ≡ false) (columns : List DrawnColumn) (positions : map (λ (column : DrawnColumn). column.position) columns ≡ range_with_len 0 (length columns))
-    (content : ContentValue) (has : Bool) (t : TableValue) (own : HasLook look content has t) where
-  abbrev cleaned_records : List (List Text) → List (List Text)
-  cleaned_records records = map (map (clean look unkept table)) records
-
-  -- the rows show the records
-  each_shown : (count : ℕ) → count ≤ length t.columns → (records : List (List Text)) (rows : List RowValue) (blocks : List (List Text)) → AllZip (Good look unkept table columns positions count) records rows → AllZip (ShowsRow t) rows blocks
-      → AllZip (ShowsRecord look.style) (cleaned_records records) blocks
-  each_shown count few [] [] [] good shows = tt
-  each_shown count few [] [] (block ∷ blocks) good shows = absurd shows
-  each_shown count few [] (row ∷ rows) blocks good shows = absurd good
-  each_shown count few (fields ∷ records) [] blocks good shows = absurd good
-  each_shown count few (fields ∷ records) (row ∷ rows) [] good shows = absurd shows
-  each_shown count few (fields ∷ records) (row ∷ rows) (block ∷ blocks) good shows =
-      let long = length-map fields (clean look unkept table) in
-      let room = good.0.room in (
-        restyled t.style look.style in_look (map (clean look unkept table) fields) block
-            (shows_record t own.spaced own.shown own.padded (map (clean look unkept table) fields) row block good.0.own good.0.uncut (omega (arith, long, room, few)) shows.0),
-        each_shown count few records rows blocks good.1 shows.1,
-      )
-    where
-      in_look : (text : Text) → IsFrame t.style text → IsFrame look.style text
-      in_look text frame = frame_of has look text (subst (λ (style : TableStyle). IsFrame style text) own.style frame)
-
-  -- and the lines of a drawing the table
-  pub lines_shown : (records : List (List Text)) (lines : List Text) (text : Text) → AreLinesOf text lines → IsTableDrawing t lines → AllZip (Good look unkept table columns positions (length (rows_table look content).columns)) records (header_and_rows (rows_table look content))
-      → ShowsRecords look (cleaned_records records) text
-  lines_shown records lines text are drawing good =
-      let shown = all_texts_stand t lines drawing (own.no_sequences ∙ unkept) in
-      record {
-        lines = lines;
-        are = are;
-        plain = shown.plain;
-        styled = shown.styled;
-        unstyled = λ none. shown.unstyled (own.plain none);
-        blocks = shown.blocks;
-        stand = among_weaker (All (IsFrame t.style)) (All (IsFrame look.style))
-            (λ ls. All-weaker (IsFrame t.style) (IsFrame look.style) (λ line frame. frame_of has look line (subst (λ (style : TableStyle). IsFrame style line) own.style frame)) ls) shown.blocks shown.plain shown.stand;
-        show = each_shown (length (rows_table look content).columns) (omega (arith, own.as_many)) records (header_and_rows t) shown.blocks
-            (subst (AllZip (Good look unkept table columns positions (length (rows_table look content).columns)) records) (sym own.rows) good) shown.show;
-      }
-
--- ---- outputs
-
--- what options ask for that draw all fields
-pub record DrawsAll (o : Options) : Type 0 where
-  pub unkept : o.look.has_sequences ≡ false
-  pub table : o.look.is_markdown ≡ false
-  pub flat : (content : ContentValue) → is_table_expanded o.look content ≡ false
-  pub uncut : o.look.max_height ≡ None
-  pub all_records : o.selection.limit ≡ None
-  pub unnumbered : o.selection.is_numbered ≡ false
-  pub none_chosen : o.selection.columns.items ≡ []
-  pub none_dropped : o.selection.dropped.items ≡ []
-
--- a content with spaces is the content with other rows
-fitting-is : (look : Look) (content : ContentValue) → fitting_content look content ≡ record content { rows = (fitting_content look content).rows }
-fitting-is look content = by_room (has_room_for look content (aligned_content look content))
-  where
-    by_room : (b : Bool) → (if b then aligned_content look content else content) ≡ record content { rows = (if b then aligned_content look content else content).rows }
-    by_room true = refl
-    by_room false = refl
-
-rows_spaced : (rows others : List (List Text)) → AllZip (AllZip HasSpacesBehind) rows others → AllZip AreSpaced rows others
-rows_spaced [] [] zip = tt
-rows_spaced [] (x ∷ others) zip = absurd zip
-rows_spaced (fields ∷ rows) [] zip = absurd zip
-rows_spaced (fields ∷ rows) (x ∷ others) zip = (all_spaced fields x zip.0, rows_spaced rows others zip.1)
-
-module _ (o : Options) (all : DrawsAll o) (records : List (List Text)) (texts : All AllText records) (content : ContentValue) (is : content_of o records ≡ Ok content) where
-  abbrev look : Look
-  look = o.look
-
-  abbrev names : Option (List Text)
-  names = names_of o.selection.has_header records
-
-  abbrev rows : List (List Text)
-  rows = drawn_rows o records
-
-  abbrev count : ℕ
-  count = count_of (unwrap_or names []) rows
-
-  abbrev fitting : ContentValue
-  fitting = fitting_content look content
-
-  all_drawn : option_to_list names ++ rows ≡ records
-  all_drawn = ap (λ (limit : Option ℕ). option_to_list names ++ limited limit (records_below o.selection.has_header records)) all.all_records ∙ all_records o.selection.has_header records
-
-  pub found : (columns : List DrawnColumn) × (columns_for o (unwrap_or names []) rows ≡ Ok columns) × (content_with o records columns ≡ content)
-  found = made_of (content_with o records) (columns_for o (unwrap_or names []) rows) content is
-
-  are : map (λ (column : DrawnColumn). column.position) found.0 ≡ range_with_len 0 count
-  are =
-      let kept = chosen (unwrap_or names []) (map (seen look.has_sequences) rows) _ _ _ found.0 found.1 in
-      let whole : kept_columns (unwrap_or names []) count o.selection.columns.items o.selection.dropped.items ≡ some_left (range_with_len 0 count) =
-      ap₂ (λ words dropped. kept_columns (unwrap_or names []) count words dropped) all.none_chosen all.none_dropped ∙ ap some_left (none_left_out (range_with_len 0 count)) in
-      left_as_they_are (range_with_len 0 count) _ (sym whole ∙ kept)
-
-  long : length found.0 ≡ count
-  long = sym (length-map found.0 (λ (column : DrawnColumn). column.position)) ∙ ap length are ∙ length-range_with_len 0 count
-
-  pub positions : map (λ (column : DrawnColumn). column.position) found.0 ≡ range_with_len 0 (length found.0)
-  positions = are ∙ ap (range_with_len 0) (sym long)
-
-  -- the table of the content
-  table_is : rows_table look fitting ≡ with_rows (map (row_for look found.0) fitting.rows) (headed_table look found.0 names)
-  table_is =
-      ap (rows_table look) (fitting-is look content)
-      ∙ ap₂ (λ (columns : List DrawnColumn) (names : Option (List Text)). with_rows (map (row_for look columns) fitting.rows) (headed_table look columns names))
-      (sym (ap (λ (c : ContentValue). c.columns) found.2) ∙ ap (λ (b : Bool). columns_beside b found.0) all.unnumbered)
-      (sym (ap (λ (c : ContentValue). c.names) found.2) ∙ ap (λ (b : Bool). names_beside b names) all.unnumbered)
-
-  rows_are : content.rows ≡ rows
-  rows_are = sym (ap (λ (c : ContentValue). c.rows) found.2) ∙ ap (λ (b : Bool). rows_beside b rows) all.unnumbered
-
-  pub good : AllZip (Good look all.unkept all.table found.0 positions (length (rows_table look fitting).columns)) records (header_and_rows (rows_table look fitting))
-  good =
-      subst (λ (t : TableValue). AllZip (Good look all.unkept all.table found.0 positions (length t.columns)) records (header_and_rows t)) (sym table_is)
-      (subst (λ (each : List (List Text)). AllZip (Good look all.unkept all.table found.0 positions (length made_table.columns)) each (header_and_rows made_table)) all_drawn
-      (good_table look all.unkept all.table found.0 positions all.uncut names rows fitting.rows (subst (λ (each : List (List Text)). AllZip AreSpaced each fitting.rows) rows_are (rows_spaced content.rows fitting.rows (spaces_alone look content)))
-      (subst (λ (n : ℕ). AllByRecursion (HasRoom n) (option_to_list names ++ rows)) (sym long) (all_have_room names rows))
-      (subst (All (All IsUtf8)) (sym all_drawn) (All-weaker AllText (All IsUtf8) text_fields records texts))))
-    where
-      made_table : TableValue
-      made_table = with_rows (map (row_for look found.0) fitting.rows) (headed_table look found.0 names)
-
--- the text of the table of records, and nothing below it
-pub output_shown : (o : Options) → DrawsAll o → IsStyleWithout 0x0A o.look.style → (records : List (List Text)) → All AllText records → (output : Text) → RendersRecords o records output
-    → (unkept : o.look.has_sequences ≡ false) (table : o.look.is_markdown ≡ false) → ShowsRecords o.look (map (map (clean o.look unkept table)) records) output
-output_shown o all style records texts output made unkept table =
-    lines_shown o.look all.unkept all.table (found o all records texts made.content made.is_content).0 (positions o all records texts made.content made.is_content) fitting has the_table
-    (subst (HasLook o.look fitting has) (ap (separated_table has) (sym whole.1)) (has_look o.look fitting has whole.0)) records lines output
-    (subst (λ (t : Text). AreLinesOf t lines) (sym joined) (subst (λ (e : Bool). HasLines e made.content lines made.text) expanded (with_lines o records output made text all.table style).has_lines))
-    (subst (λ (e : Bool). IsTableDrawing (separated_table has (output_table e o.look made.content)) lines) expanded text.drawn.is_arranged.headline)
-    (good o all records texts made.content made.is_content)
-  where
-    text : RendersAsTable o.look made.content made.text
-    text = is_table_text o records output made all.table
-
-    lines : List Text
-    lines = drawn o records output made text all.table
-
-    has : Bool
-    has = text.drawn.has_separators
-
-    fitting : ContentValue
-    fitting = fitting_content o.look made.content
-
-    expanded : text.is_expanded ≡ false
-    expanded = text.expansion ∙ all.flat made.content
-
-    whole : (whole : List Bool) × (kept_unbroken o.look.width (unbroken_in o.look made.content) (rows_table o.look fitting) ≡ with_constrained whole (rows_table o.look fitting))
-    whole = whole_of o.look.width (unbroken_in o.look made.content) (rows_table o.look fitting)
-
-    the_table : TableValue
-    the_table = separated_table has (output_table false o.look made.content)
-
-    joined : output ≡ made.text
-    joined = made.joined ∙ ap (λ (limit : Option ℕ). made.text ++ note_for o.look.is_markdown limit made.content.count) all.all_records ∙ append-nil made.text
-
--- of no records nothing
-none_shown : (look : Look) → ShowsRecords look [] []
+-- of no rows nothing
+none_shown : (look : Look) → ShowsRows look [] []
 none_shown look =
     record {
       lines = [];
@@ -302,45 +61,279 @@ none_shown look =
       show = tt;
     }
 
--- records aren't expanded, by the options, or since no width is kept
-abbrev pub IsFlat : Look → Type 0
-IsFlat own = (own.expansion ≡ Never) ⊎ ((own.expansion ≡ Auto) × (own.width ≡ None))
-
-flat_by : (look : Look) → IsFlat look → (content : ContentValue) → is_table_expanded look content ≡ false
-flat_by own (inl never) content = ap (λ (e : Expansion). is_expanded_in e ((length content.rows == 0) || has_room_for own content (fitting_content own content))) never
-flat_by own (inr (auto, none)) content =
-    ap (λ (e : Expansion). is_expanded_in e ((length content.rows == 0) || has_room_for own content (fitting_content own content))) auto
-    ∙ ap (λ (width : Option ℕ). not ((length content.rows == 0) || has_room width (unbroken_in own content) (rows_table own (fitting_content own content)))) none
-    ∙ always (length content.rows == 0)
+-- a content with spaces is the content with other rows
+fitting-is : (look : Look) (content : ContentValue) → fitting_content look content ≡ record content { rows = (fitting_content look content).rows }
+fitting-is look content = by_room (has_room_for look content (aligned_content look content))
   where
-    always : (b : Bool) → not (b || true) ≡ false
-    always true = refl
-    always false = refl
+    by_room : (b : Bool) → (if b then aligned_content look content else content) ≡ record content { rows = (if b then aligned_content look content else content).rows }
+    by_room true = refl
+    by_room false = refl
+
+-- ---- tables
+
+-- what a look asks for, so that all fields are drawn
+pub record DrawsAll (look : Look) : Type 0 where
+  pub unkept : look.has_sequences ≡ false
+  pub table : look.is_markdown ≡ false
+  pub uncut : look.max_height ≡ None
+  pub style : IsStyleWithout 0x0A look.style
+
+module _ (look : Look) (all : DrawsAll look) (names : Option (List Text)) (rows : List (List Text)) (columns : List DrawnColumn) (count : Option ℕ) where
+  -- what is drawn without numbers
+  abbrev pub content : ContentValue
+  content = record { names = names; rows = rows; columns = columns; count = count; is_numbered = false }
+
+  abbrev header : List Text
+  header = unwrap_or names []
+
+  module _ (is_expanded : Bool) (text : Text) (renders : RendersTable is_expanded look content text) where
+    abbrev table : TableValue
+    table = separated_table renders.has_separators (output_table is_expanded look content)
+
+    abbrev lines : List Text
+    lines = drawing_of_infos table renders.arranged.infos
+
+    abbrev drawn : IsTableDrawing table lines
+    drawn = renders.is_arranged.headline
+
+    abbrev arranged : ArrangedValue
+    arranged = record { table = table; infos = infos_of table drawn.widths }
+
+    is_text : text ≡ table_text is_expanded content arranged
+    is_text = renders.is ∙ ap₂ (λ t infos. table_text is_expanded content (record { table = t; infos = infos })) renders.is_arranged.of_table renders.is_arranged.infos
+
+    abbrev is : HasRowsOf (plain_table is_expanded look (drawn_content is_expanded look content)) table
+    is = has_rows_of look content is_expanded renders.has_separators
+
+    abbrev shows : (first n : ℕ) (fields : List (List Text)) → AllZip IsWholeRow fields (option_to_list table.header ++ take n (drop first table.rows)) → ShowsRows look fields (terminated_text_of (drawing (with_rows_alone first n table) drawn.widths))
+    shows = part_shows look content is_expanded renders.has_separators all.unkept all.style lines drawn
+
+  -- the table of rows
+  pub rows_shown : (text : Text) → RendersTable false look content text → All (All IsUtf8) (option_to_list names ++ rows) → ShowsRows look (map (fields_at (positions_of columns)) (option_to_list names ++ rows)) text
+  rows_shown text renders utf8 =
+      subst (ShowsRows look fields) (sym (is_text false text renders))
+      (shows false text renders 0 (length (table false text renders).rows) fields
+      (subst (λ (own : List RowValue). AllZip IsWholeRow fields (option_to_list (table false text renders).header ++ own)) (sym (take-length (table false text renders).rows)) each))
+    where
+      fields : List (List Text)
+      fields = map (fields_at (positions_of columns)) (option_to_list names ++ rows)
+
+      made : List RowValue
+      made = map (row_for look columns) (fitting_content look content).rows
+
+      base : rows_table look (fitting_content look content) ≡ with_rows made (headed_table look columns names)
+      base = ap (rows_table look) (fitting-is look content)
+
+      by_names : (own : Option (List Text)) → All (All IsUtf8) (option_to_list own ++ rows)
+          → AllZip IsWholeRow (map (fields_at (positions_of columns)) (option_to_list own ++ rows)) (option_to_list (headed_table look columns own).header ++ ((headed_table look columns own).rows ++ made))
+      by_names None each = are_rows look all.unkept all.table all.uncut columns rows (fitting_content look content).rows (spaces_alone look content) each
+      by_names (Some own) each = (
+        is_header look all.unkept all.table all.uncut columns own (All-head (All IsUtf8) own rows each),
+        are_rows look all.unkept all.table all.uncut columns rows (fitting_content look content).rows (spaces_alone look content) (All-tail (All IsUtf8) own rows each),
+      )
+
+      of_base : AllZip IsWholeRow fields (header_and_rows (rows_table look (fitting_content look content)))
+      of_base =
+          subst (λ (t : TableValue). AllZip IsWholeRow fields (header_and_rows t)) (sym base)
+          (subst (λ (own : List RowValue). AllZip IsWholeRow fields own)
+          (sym (ap₂ (λ (header : Option RowValue) (own : List RowValue). option_to_list header ++ own) (with_rows-header made (headed_table look columns names)) (with_rows-rows made (headed_table look columns names)))) (by_names names utf8))
+
+      each : AllZip IsWholeRow fields (header_and_rows (table false text renders))
+      each =
+          subst (AllZip IsWholeRow fields)
+          (sym (ap₂ (λ (header : Option RowValue) (own : List RowValue). option_to_list header ++ own) (is false text renders).header (is false text renders).rows)) of_base
+
+  -- that of expanded records
+  module _ (text : Text) (renders : RendersTable true look content text) where
+    abbrev own_arranged : ArrangedValue
+    own_arranged = arranged true text renders
+
+    abbrev own_rows : List RowValue
+    own_rows = flat_map (pairs_in look content) rows
+
+    no_header : (table true text renders).header ≡ None
+    no_header = (is true text renders).header ∙ with_rows-header own_rows (empty_table look)
+
+    rows_are : (table true text renders).rows ≡ own_rows
+    rows_are = (is true text renders).rows ∙ with_rows-rows own_rows (empty_table look)
+
+    by_count : (first n : ℕ) (fields : List (List Text)) → AllZip IsWholeRow fields (take n (drop first (table true text renders).rows)) → ShowsRows look fields (terminated_text_of (some_lines own_arranged first n))
+    by_count first zero [] each = none_shown look
+    by_count first zero (own ∷ fields) each = absurd each
+    by_count first (suc n) fields each =
+        shows true text renders first (suc n) fields
+        (subst (λ (header : Option RowValue). AllZip IsWholeRow fields (option_to_list header ++ take (suc n) (drop first (table true text renders).rows))) (sym no_header) each)
+
+    -- from a record on
+    from : (k : ℕ) (front rest : List (List Text)) → length front ≡ k → rows ≡ front ++ rest → ShowsExpanded look header (positions_of columns) count (k + 1) rest (flat_map (record_text content own_arranged) (range_with_len k (length rest)))
+    from k front [] at splits = refl
+    from k front (fields ∷ more) at splits = (
+      terminated_text_of (some_lines own_arranged first n),
+      flat_map (record_text content own_arranged) (range_with_len (k + 1) (length more)),
+      append_assoc (record_line (k + 1) count) _ _,
+      by_count first n (pairs_at header (positions_of columns) fields)
+          (subst (AllZip IsWholeRow (pairs_at header (positions_of columns) fields)) (sym (ap (λ (own : List RowValue). take n (drop first own)) rows_are ∙ rows_at look content k front fields more at splits))
+          (are_pairs look all.unkept all.table all.uncut columns header fields columns)),
+      from (k + 1) (front ++ fields ∷ []) more (omega (arith, length-append front (fields ∷ []), at)) (splits ∙ sym (append_assoc front (fields ∷ []) more)),
+    )
+      where
+        first : ℕ
+        first = sum_by (drawn_fields content) (take k rows)
+
+        n : ℕ
+        n = drawn_fields content (slice_index_or rows k [])
+
+    pub records_shown : ShowsExpanded look header (positions_of columns) count 1 rows text
+    records_shown = subst (ShowsExpanded look header (positions_of columns) count 1 rows) (sym (is_text true text renders)) (from 0 [] rows refl refl)
+
+-- ---- outputs
+
+may_expand : (expansion : Expansion) (room is_expanded : Bool) → is_expanded ≡ is_expanded_in expansion room → MayExpand expansion is_expanded
+may_expand Always room is_expanded own = own
+may_expand Never room is_expanded own = own
+may_expand Auto room is_expanded own = tt
+
+-- an output shows these names, where there are any, and these rows, with the line on further records
+record IsShown (o : Options) (names : Option (List Text)) (rows : List (List Text)) (count : Option ℕ) (output : Text) : Type 0 where
+  is_expanded : Bool
+  expansion : MayExpand o.look.expansion is_expanded
+  drawn : Text
+  shows : ShowsDrawn is_expanded o names rows count drawn
+  joined : output ≡ drawn ++ note_for false o.selection.limit count
+
+module _ (o : Options) (all : DrawsAll o.look) (unnumbered : o.selection.is_numbered ≡ false) (count : Option ℕ) (records : List (List Text)) (texts : All AllText records) where
+  abbrev look : Look
+  look = o.look
+
+  abbrev names : Option (List Text)
+  names = names_of o.selection.has_header records
+
+  abbrev rows : List (List Text)
+  rows = drawn_rows o.selection records
+
+  utf8 : All (All IsUtf8) (option_to_list names ++ rows)
+  utf8 = all_drawn (All IsUtf8) o.selection.has_header o.selection.limit records (All-weaker AllText (All IsUtf8) text_fields records texts)
+
+  module _ (own : ColumnsValue) (found : columns_for o records ≡ Ok own) where
+    abbrev columns : List DrawnColumn
+    columns = columns_of (layout_with o own) records
+
+    positions : positions_in o (unwrap_or names []) rows ≡ positions_of columns
+    positions =
+        sym (kept_positions (unwrap_or names []) (count_of (unwrap_or names []) rows) o.columns.chosen.items o.columns.dropped.items (positions_of columns)
+        (chosen (unwrap_or names []) _ _ _ own found ∙ ap Ok (sym (positions-shown own.right own.left (map (seen look.has_sequences) rows) own.drawn))))
+
+    by_kind : (is_expanded : Bool) (text : Text) → RendersTable is_expanded look (content look all names rows columns count) text → ShowsDrawn is_expanded o names rows count text
+    by_kind false text renders =
+        subst (λ (ps : List ℕ). ShowsRows look (map (fields_at ps) (option_to_list names ++ rows)) text) (sym positions) (rows_shown look all names rows columns count text renders utf8)
+    by_kind true text renders =
+        subst (λ (ps : List ℕ). ShowsExpanded look (unwrap_or names []) ps count 1 rows text) (sym positions) (records_shown look all names rows columns count text renders)
+
+  output_shown : (output : Text) → RendersChosen count o records output → IsShown o names rows count output
+  output_shown output made =
+      record {
+        is_expanded = text.is_expanded;
+        expansion = may_expand look.expansion ((length rows == 0) || has_room_for look own (fitting_content look own)) text.is_expanded text.expansion;
+        drawn = made.is_output.text;
+        shows = by_kind made.columns made.are_chosen text.is_expanded made.is_output.text text.drawn;
+        joined = made.is_output.joined ∙ ap₂ (λ (b : Bool) (n : Option ℕ). made.is_output.text ++ note_for b o.selection.limit n) all.table (ap (λ (c : ContentValue). c.count) same);
+      }
+    where
+      own : ContentValue
+      own = content look all names rows (columns made.columns made.are_chosen) count
+
+      same : made.is_output.content ≡ own
+      same =
+          sym made.is_output.is_content
+          ∙ ap (λ (b : Bool). record { names = names_beside b names; rows = rows_beside b rows; columns = columns_beside b (columns made.columns made.are_chosen); count = count; is_numbered = b }) unnumbered
+
+      text : RendersAsTable look own made.is_output.text
+      text = subst (λ (c : ContentValue). RendersAsTable look c made.is_output.text) same (is_table_text count (layout_with o made.columns) records output made.is_output all.table)
+
+-- ---- no records
+
+no_records : (has_header : Bool) → (names_of has_header [] ≡ None) × (records_below has_header [] ≡ [])
+no_records true = (refl, refl)
+no_records false = (refl, refl)
 
 -- so of what is written for arguments
 module _ (arguments : List Text) (context : OutputContext) (invocation : Invocation) (input : Text) (records : List (List Text)) (output : Text) (is : IsWritten arguments context invocation input records output) where
   abbrev options : Options
   options = invocation.options
 
-  pub fields_shown : IsFlat options.look → options.look.max_height ≡ None → options.selection.limit ≡ None → options.selection.is_numbered ≡ false → options.selection.columns.items ≡ [] → options.selection.dropped.items ≡ []
-      → ShowsRecords options.look (map (map (clean options.look is.unkept is.no_markdown)) records) output
-  fields_shown never uncut all unnumbered none_chosen none_dropped = by_made is.made
+  pub fields_shown : options.look.max_height ≡ None → options.selection.is_numbered ≡ false → ShowsRecords options records output
+  fields_shown uncut unnumbered = by_made is.made
     where
-      style : IsStyleWithout 0x0A options.look.style
-      style = unbroken_without options.look.style (parsed_style_without_controls arguments context invocation is.is_asked)
+      all : DrawsAll options.look
+      all = record { unkept = is.unkept; table = is.no_markdown; uncut = uncut; style = unbroken_without options.look.style (parsed_style_without_controls arguments context invocation is.is_asked) }
 
-      draws : DrawsAll (counting options)
-      draws = record { unkept = is.unkept; table = is.no_markdown; flat = flat_by options.look never; uncut = uncut; all_records = all; unnumbered = unnumbered; none_chosen = none_chosen; none_dropped = none_dropped }
+      header : Bool
+      header = options.selection.has_header
 
-      any : (rs : List (List Text)) → RendersAnyRecords (counting options) rs output → All AllText rs → ShowsRecords options.look (map (map (clean options.look is.unkept is.no_markdown)) rs) output
-      any [] nothing texts = subst (ShowsRecords options.look []) (sym nothing) (none_shown options.look)
-      any (r ∷ rs) made texts = output_shown (counting options) draws style (r ∷ rs) texts output made is.unkept is.no_markdown
+      nothing : (limit : Option ℕ) → [] ≡ note_for false limit (Some 0)
+      nothing None = refl
+      nothing (Some n) = by_test (nat_lt n 0) (grind arith)
+        where
+          by_test : (b : Bool) → b ≡ false → [] ≡ (if b then [] ++ (((decimal n ++ codes " of ") ++ count_text (Some 0)) ++ codes " records\n") else [])
+          by_test true is = absurd (cc is)
+          by_test false is = refl
 
-      by_made : IsDrawnOf options input output → ShowsRecords options.look (map (map (clean options.look is.unkept is.no_markdown)) records) output
-      by_made (inl (none, made)) = any records (subst (λ (rs : List (List Text)). RendersAnyRecords (counting options) rs output) (read_is_one options.input input made.records records made.are_records is.are) made.is_output) is.are.are_records.are_records.are_text
-      by_made (inr (n, asked, made)) = absurd (cc (sym all ∙ made.are_enough.has_limit.is))
+      no_rows : (limit : Option ℕ) → ◌≡◌ {A = List (List Text)} (limited limit []) []
+      no_rows None = refl
+      no_rows (Some zero) = refl
+      no_rows (Some (suc n)) = refl
 
--- a list without a length is empty
-pub none_in : {X : Type 0} (n : ℕ) (xs : List X) → n ≡ length xs → true ≡ (n == 0) → xs ≡ []
-none_in n [] same none = refl
-none_in n (x ∷ xs) same none = let zero_is : n ≡ 0 = grind (arith, nat_tests, none) in absurd (omega (arith, zero_is, same))
+      either : (expansion : Expansion) → (is_expanded : Bool) × MayExpand expansion is_expanded
+      either Always = (true, refl)
+      either Never = (false, refl)
+      either Auto = (false, tt)
+
+      by_kind : (is_expanded : Bool) (count : Option ℕ) → ShowsDrawn is_expanded options None [] count []
+      by_kind true count = refl
+      by_kind false count = none_shown options.look
+
+      none : ShowsRecords options [] []
+      none =
+          let count = Some (length (records_below header [])) in
+          let kind = either options.look.expansion in
+          record {
+            count = count;
+            is_count = refl;
+            is_expanded = kind.0;
+            expansion = kind.1;
+            drawn = [];
+            shows =
+                subst (λ (own : Option (List Text)). ShowsDrawn kind.0 options own (drawn_rows options.selection []) count []) (sym (no_records header).0)
+                (subst (λ (own : List (List Text)). ShowsDrawn kind.0 options None own count []) (sym (ap (limited options.selection.limit) (no_records header).1 ∙ no_rows options.selection.limit)) (by_kind kind.0 count));
+            joined = nothing options.selection.limit ∙ ap (λ (below : List (List Text)). note_for false options.selection.limit (Some (length below))) (sym (no_records header).1);
+          }
+
+      any : (rs : List (List Text)) → RendersCounted options rs output → All AllText rs → ShowsRecords options rs output
+      any [] empty texts = subst (ShowsRecords options []) (sym empty) none
+      any (r ∷ rs) made texts =
+          let shown = output_shown options all unnumbered (Some (count_below options.selection (r ∷ rs))) (r ∷ rs) texts output made in
+          record { count = Some (count_below options.selection (r ∷ rs)); is_count = refl; is_expanded = shown.is_expanded; expansion = shown.expansion; drawn = shown.drawn; shows = shown.shows; joined = shown.joined }
+
+      by_made : IsDrawnOf options input output → ShowsRecords options records output
+      by_made (inl (none_enough, made)) = any records (subst (λ (rs : List (List Text)). RendersCounted options rs output) (read_is_one options.input input made.records records made.are_records is.are) made.is_output) is.are.are_records.are_records.are_text
+      by_made (inr (n, asked, made)) =
+          let parts = beginning_parts n input in
+          let enough = made.are_enough in
+          let limit = enough.has_limit.limit in
+          let found = first_records_stay options.input (most_drawn header limit) (whole_lines (asked_front n input)) parts.0 made.records records enough.are (subst (λ (t : Text). AreRecordsFor options.input t records) parts.1 is.are) in
+          let first : AreDrawnFirst header limit made.records records = subst (AreDrawnFirst header limit made.records) (sym found.1) (first_are_drawn header limit made.records found.0 enough.are.more) in
+          let same : drawn_rows options.selection made.records ≡ drawn_rows options.selection records =
+          subst (λ (l : Option ℕ). limited l (records_below header made.records) ≡ limited l (records_below header records)) (sym enough.has_limit.is) first.rows in
+          let shown : IsShown options (names_of header records) (drawn_rows options.selection records) None output =
+          subst (λ (own : Option (List Text)). IsShown options own (drawn_rows options.selection records) None output) first.names
+          (subst (λ (own : List (List Text)). IsShown options (names_of header made.records) own None output) same
+          (output_shown options all unnumbered None made.records enough.are.are_records.are_records.are_text output made.is_output)) in
+          record {
+            count = None;
+            is_count = subst (λ (l : Option ℕ). length (limited l (records_below header records)) < length (records_below header records)) (sym enough.has_limit.is) first.fewer;
+            is_expanded = shown.is_expanded;
+            expansion = shown.expansion;
+            drawn = shown.drawn;
+            shows = shown.shows;
+            joined = shown.joined;
+          }

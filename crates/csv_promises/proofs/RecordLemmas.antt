@@ -1,32 +1,49 @@
--- The rows of records: the columns that they reach, and the header and the rows that there are.
-use Rattle.std.proofs.Common.{◌≡◌, ◌≤◌, ℕ, zero, suc, ◌+◌, ◌-◌, ◌||◌, nat_lt, take, Bool, true, false, List, [], ◌∷◌, ◌++◌, Option, Some, None, Ok, fold, length, map, max, refl, sym, ap, ap₂, ◌∙◌, arith, unwrap_or, ◌==◌, Err, cond}
-use Rattle.std.specs.List.{AllByRecursion, list_any, range_with_len}
+-- The records that are drawn, and the columns that the cells of their rows have.
+use Rattle.std.proofs.Common.{◌≡◌, ◌<◌, ◌≤◌, ℕ, take, Bool, true, false, List, [], ◌∷◌, ◌++◌, Option, Some, None, flat_map, length, map, max, refl, sym, ap, subst, arith, append_assoc, length-append}
+use Rattle.std.specs.List.{All}
 use Rattle.std.specs.Prelude.{option_to_list}
-use Rattle.std.proofs.lemmas.List.{length-take-le, take-map}
+use Rattle.std.proofs.lemmas.List.{length-take-le, take-append-le}
+use Rattle.std.proofs.lemmas.List.Elements.{All-append, All-cons, All-head, All-nil, All-tail, All-take, All-weaker}
 use Rattle.comfy_parts.proofs.CallerLemmas.{no_fewer_columns}
-use Rattle.comfy_parts.specs.CellValue.{RowValue}
+use Rattle.comfy_parts.specs.CellValue.{RowValue, columns_grown_to}
 use Rattle.comfy_parts.specs.Text.{Text}
-use Rattle.comfy_table.specs.TableValue.{TableValue, with_row, with_rows}
-use Rattle.csv_tables.specs.Cells.{has_field, reached}
-use Rattle.csv_tables.specs.Columns.{count_of, without, some_left}
-use Rattle.csv_tables.specs.Columns.ColumnFault.{none_left}
+use Rattle.comfy_table.specs.TableValue.{TableValue, header_and_rows, with_row, with_rows}
+use Rattle.csv_tables.proofs.BuiltLemmas.{plain_table}
+use Rattle.csv_tables.specs.Cells.{header_for, row_for}
+use Rattle.csv_tables.specs.Drawn.{ContentValue, empty_table, headed_table, limited, names_of, pairs_in, records_below}
+use Rattle.csv_command.specs.Drawn.{most_drawn}
 use Rattle.csv_tables.specs.declared.options.DrawnColumn.{DrawnColumn}
-use Rattle.csv_tables.specs.Drawn.{names_of, records_below}
+use Rattle.csv_tables.specs.declared.options.Look.{Look}
 
--- ---- the rows of a table
+-- ---- columns
 
--- each field has a column
-abbrev pub HasRoom : ℕ → List Text → Type 0
-HasRoom count fields = length fields ≤ count
+-- each cell of a row has a column
+abbrev pub HasColumns : TableValue → RowValue → Type 0
+HasColumns table row = length row.cells ≤ length table.columns
 
-rows_have_room : (rows : List (List Text)) (n : ℕ) → (n ≤ fold (λ (m : ℕ) (fields : List Text). max m (length fields)) n rows) × AllByRecursion (HasRoom (fold (λ (m : ℕ) (fields : List Text). max m (length fields)) n rows)) rows
-rows_have_room [] n = (omega arith, tt)
-rows_have_room (fields ∷ rows) n = let more = rows_have_room rows (max n (length fields)) in let most = more.0 in (omega (arith, most), (omega (arith, most), more.1))
+-- so it is in a table to which rows are appended
+rows_have_columns : (rows : List RowValue) (t : TableValue) → All (HasColumns t) (header_and_rows t) → All (HasColumns (with_rows rows t)) (header_and_rows (with_rows rows t))
+rows_have_columns [] t each = each
+rows_have_columns (row ∷ rows) t each =
+    rows_have_columns rows (with_row row t)
+    (subst (All Has) (append_assoc (option_to_list t.header) t.rows (row ∷ []))
+    (All-append Has (header_and_rows t) (row ∷ []) (All-weaker (HasColumns t) Has (λ r own. omega (arith, own, grown)) (header_and_rows t) each) (All-cons Has row [] (omega (arith, grown)) (All-nil Has))))
+  where
+    Has : RowValue → Type 0
+    Has = HasColumns (with_row row t)
 
--- so has each of a header and rows
-pub all_have_room : (names : Option (List Text)) (rows : List (List Text)) → AllByRecursion (HasRoom (count_of (unwrap_or names []) rows)) (option_to_list names ++ rows)
-all_have_room None rows = (rows_have_room rows 0).1
-all_have_room (Some names) rows = rows_have_room rows (length names)
+    grown : length (columns_grown_to (length row.cells) t.columns) ≡ max (length row.cells) (length t.columns)
+    grown = no_fewer_columns (length row.cells) t.columns
+
+header_has_columns : (look : Look) (columns : List DrawnColumn) (names : Option (List Text)) → All (HasColumns (headed_table look columns names)) (header_and_rows (headed_table look columns names))
+header_has_columns look columns None = All-nil (HasColumns (empty_table look))
+header_has_columns look columns (Some names) =
+    let grown = no_fewer_columns (length (header_for look columns names).cells) [] in
+    All-cons (HasColumns (headed_table look columns (Some names))) (header_for look columns names) [] (omega (arith, grown)) (All-nil (HasColumns (headed_table look columns (Some names))))
+
+pub table_has_columns : (is_expanded : Bool) (look : Look) (content : ContentValue) → All (HasColumns (plain_table is_expanded look content)) (header_and_rows (plain_table is_expanded look content))
+table_has_columns true look content = rows_have_columns (flat_map (pairs_in look content) content.rows) (empty_table look) (All-nil (HasColumns (empty_table look)))
+table_has_columns false look content = rows_have_columns (map (row_for look content.columns) content.rows) (headed_table look content.columns content.names) (header_has_columns look content.columns content.names)
 
 -- further rows leave the header as it is, and take no column away
 pub with_rows-header : (rows : List RowValue) (t : TableValue) → (with_rows rows t).header ≡ t.header
@@ -37,67 +54,31 @@ pub with_rows-columns : (n : ℕ) (rows : List RowValue) (t : TableValue) → n 
 with_rows-columns n [] t own = own
 with_rows-columns n (row ∷ rows) t own = with_rows-columns n rows (with_row row t) (omega (arith, own, no_fewer_columns (length row.cells) t.columns))
 
-take_range : (a n k : ℕ) → k ≤ n → take k (range_with_len a n) ≡ range_with_len a k
-take_range a n zero below = refl
-take_range a zero (suc k) below = absurd (omega (arith, below))
-take_range a (suc n) (suc k) below = ap (λ ks. a ∷ ks) (take_range (a + 1) n k (omega (arith, below)))
+-- ---- records
 
--- in columns from a position on a record reaches those up to its last field
-none_from : (fields : List Text) (n : ℕ) (drawn : List DrawnColumn) → map (λ (column : DrawnColumn). column.position) drawn ≡ range_with_len n (length drawn) → length fields ≤ n → list_any (has_field fields) drawn ≡ false
-none_from fields n [] are past = refl
-none_from fields n (column ∷ drawn) are past =
-    let here : column.position ≡ n = cc are in
-    let own : has_field fields column ≡ false = grind (arith, here, past) in
-    ap₂ (λ a b. a || b) own (none_from fields (n + 1) drawn (cc are) (omega (arith, past)))
+all_limited : {A : Type 0} (P : A → Type 0) (limit : Option ℕ) (xs : List A) → All P xs → All P (limited limit xs)
+all_limited P None xs each = each
+all_limited P (Some n) xs each = All-take P n xs each
 
-reached_from : (fields : List Text) (n : ℕ) (drawn : List DrawnColumn) → map (λ (column : DrawnColumn). column.position) drawn ≡ range_with_len n (length drawn) → reached fields drawn ≡ take (length fields - n) drawn
-reached_from fields n [] are = by_count (length fields - n)
-  where
-    by_count : (k : ℕ) → ◌≡◌ {A = List DrawnColumn} [] (take k [])
-    by_count zero = refl
-    by_count (suc k) = refl
-reached_from fields n (column ∷ drawn) are = by_order (nat_lt n (length fields)) refl (reached_from fields (n + 1) drawn (cc are))
-  where
-    by_order : (b : Bool) → nat_lt n (length fields) ≡ b → reached fields drawn ≡ take (length fields - (n + 1)) drawn → reached fields (column ∷ drawn) ≡ take (length fields - n) (column ∷ drawn)
-    by_order true within rest =
-        let here : column.position ≡ n = cc are in
-        let own : has_field fields column ≡ true = ap (λ (p : ℕ). nat_lt p (length fields)) here ∙ within in
-        let one : length fields - n ≡ suc (length fields - (n + 1)) = grind (arith, within) in
-        rw own (rw one (ap (λ cs. column ∷ cs) rest))
-    by_order false past rest =
-        let none : list_any (has_field fields) (column ∷ drawn) ≡ false = none_from fields n (column ∷ drawn) are (grind (arith, past)) in
-        let zero_left : length fields - n ≡ 0 = grind (arith, past) in
-        rw none (rw zero_left refl)
+-- what holds of each record holds of the header and the rows that are drawn
+pub all_drawn : (P : List Text → Type 0) (has_header : Bool) (limit : Option ℕ) (records : List (List Text)) → All P records → All P (option_to_list (names_of has_header records) ++ limited limit (records_below has_header records))
+all_drawn P true limit [] each = all_limited P limit [] (All-nil P)
+all_drawn P true limit (names ∷ rows) each = All-cons P names (limited limit rows) (All-head P names rows each) (all_limited P limit rows (All-tail P names rows each))
+all_drawn P false limit records each = all_limited P limit records each
 
-module _ (columns : List DrawnColumn) (positions : map (λ (column : DrawnColumn). column.position) columns ≡ range_with_len 0 (length columns)) where
-  -- the columns that a record with room reaches
-  pub first_columns : (fields : List Text) → HasRoom (length columns) fields → (map (λ (column : DrawnColumn). column.position) (reached fields columns) ≡ range_with_len 0 (length (reached fields columns))) × (length (reached fields columns) ≡ length fields)
-  first_columns fields room =
-      let all : length fields - 0 ≡ length fields = omega arith in
-      let first : reached fields columns ≡ take (length fields) columns = reached_from fields 0 columns positions ∙ ap (λ (n : ℕ). take n columns) all in
-      let long : length (reached fields columns) ≡ length fields = ap length first ∙ length-take-le (length fields) columns room in (
-        ap (map (λ (column : DrawnColumn). column.position)) first ∙ sym (take-map (λ (column : DrawnColumn). column.position) (length fields) columns) ∙ ap (take (length fields)) positions
-            ∙ take_range 0 (length columns) (length fields) room ∙ ap (range_with_len 0) (sym long),
-        long,
-      )
+-- where more records than are drawn stand in front of others, the same header and the same rows are drawn of all
+pub record AreDrawnFirst (has_header : Bool) (limit : ℕ) (first all : List (List Text)) : Type 0 where
+  pub names : names_of has_header first ≡ names_of has_header all
+  pub rows : limited (Some limit) (records_below has_header first) ≡ limited (Some limit) (records_below has_header all)
+  pub fewer : length (limited (Some limit) (records_below has_header all)) < length (records_below has_header all)
 
--- ---- the table of records
+first_rows : (limit : ℕ) (rows more : List (List Text)) → limit < length rows → (take limit rows ≡ take limit (rows ++ more)) × (length (take limit (rows ++ more)) < length (rows ++ more))
+first_rows limit rows more below =
+    let same = take-append-le limit rows more (omega (arith, below)) in
+    let long = length-take-le limit rows (omega (arith, below)) in
+    (sym same, omega (arith, ap length same, long, below, length-append rows more))
 
--- where no position is left out, all are left
-pub none_left_out : (positions : List ℕ) → without positions [] ≡ positions
-none_left_out [] = refl
-none_left_out (position ∷ positions) = ap (λ (more : List ℕ). position ∷ more) (none_left_out positions)
-
--- positions that are left are these
-pub left_as_they_are : (positions kept : List ℕ) → some_left positions ≡ Ok kept → kept ≡ positions
-left_as_they_are positions kept = by_test (length positions == 0)
-  where
-    by_test : (b : Bool) → cond b (Err none_left) (Ok positions) ≡ Ok kept → kept ≡ positions
-    by_test true is = absurd (cc is)
-    by_test false is = cc is
-
--- where all records are drawn, they are the header and the rows
-pub all_records : (has_header : Bool) (records : List (List Text)) → option_to_list (names_of has_header records) ++ records_below has_header records ≡ records
-all_records true [] = refl
-all_records true (names ∷ rows) = refl
-all_records false records = refl
+pub first_are_drawn : (has_header : Bool) (limit : ℕ) (first more : List (List Text)) → most_drawn has_header limit < length first → AreDrawnFirst has_header limit first (first ++ more)
+first_are_drawn true limit [] more below = absurd (omega (arith, below))
+first_are_drawn true limit (names ∷ rows) more below = let own = first_rows limit rows more (omega (arith, below)) in record { names = refl; rows = own.0; fewer = own.1 }
+first_are_drawn false limit first more below = let own = first_rows limit first more below in record { names = refl; rows = own.0; fewer = own.1 }

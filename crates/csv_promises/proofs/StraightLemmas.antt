@@ -25,11 +25,12 @@ use Rattle.csv_tables.specs.Controls.{IsStyleWithoutControls}
 use Rattle.csv_command.specs.declared.arguments.Invocation.{Invocation}
 use Rattle.csv_command.specs.declared.arguments.OutputContext.{OutputContext}
 use Rattle.csv_tables.specs.declared.options.Look.{Look}
-use Rattle.csv_tables.specs.declared.options.Options.{Options}
+use Rattle.csv_command.specs.declared.arguments.Options.{Options}
+use Rattle.csv_tables.specs.declared.options.Layout.{Layout}
 use Rattle.csv_tables.proofs.CleanCharacterLemmas.{lines_pass}
 use Rattle.csv_records.proofs.BeginningLemmas.{first_records_stay}
 use Rattle.csv_records.specs.Beginning.{whole_lines}
-use Rattle.csv_tables.proofs.RunLemmas.{beginning_parts}
+use Rattle.csv_command.proofs.RunLemmas.{beginning_parts}
 use Rattle.devices.specs.Outcome.{asked_front}
 use Rattle.csv_records.proofs.OneRecordLemmas.{read_is_one}
 use Rattle.csv_records.specs.Reading.{AreRecordsFor}
@@ -38,11 +39,13 @@ use Rattle.csv_tables.proofs.MarkdownWidthLemmas.{whole_is_straight}
 use Rattle.csv_tables.proofs.StraightLemmas.{IsShort, narrow_is_straight, empty_is_short}
 use Rattle.csv_command.proofs.StyleColumnLemmas.{parsed_style_is_one_column, parsed_style_without_controls}
 use Rattle.csv_tables.proofs.TextTableLemmas.{EachLine}
-use Rattle.csv_tables.specs.Drawn.{IsDrawnOf, RendersRecords, RendersAnyRecords, counting, drawn_rows, limited, most_drawn, records_below}
+use Rattle.csv_tables.specs.Drawn.{count_below, drawn_rows, limited, names_of, records_below}
+use Rattle.csv_command.specs.Drawn.{IsDrawnOf, RendersChosen, RendersCounted, layout_with, most_drawn}
 use Rattle.csv_tables.specs.Laws.{ArePlainLines, EachText}
 use Rattle.promises.proofs.FittingLemmas.{text_fits}
 use Rattle.promises.specs.Tables.{HasCharactersWithin}
 use Rattle.csv_promises.proofs.LineLemmas.{nothing_is_straight, straight_text}
+use Rattle.csv_promises.proofs.RecordLemmas.{AreDrawnFirst, first_are_drawn}
 use Rattle.csv_promises.specs.Written.{IsWritten}
 use Rattle.csv_promises.specs.Straight.{EachField, IsPlainField, IsStraight}
 
@@ -91,14 +94,8 @@ module _ (look : Look) (unkept : look.has_sequences ≡ false) (none : look.is_m
 
 -- ---- outputs
 
--- more records than are drawn leave those that are drawn
-enough_rows : (has_header : Bool) (limit : ℕ) (records more : List (List Text)) → most_drawn has_header limit ≤ length records → limited (Some limit) (records_below has_header records) ≡ limited (Some limit) (records_below has_header (records ++ more))
-enough_rows false limit records more enough = sym (take-append-le limit records more enough)
-enough_rows true limit [] more enough = absurd (omega (arith, enough))
-enough_rows true limit (r ∷ records) more enough = sym (take-append-le limit records more (omega (arith, enough)))
-
 -- what holds of all elements holds of the first ones
-pub All-front : {A : Type 0} (P : A → Type 0) (xs ys : List A) → All P (xs ++ ys) → All P xs
+All-front : {A : Type 0} (P : A → Type 0) (xs ys : List A) → All P (xs ++ ys) → All P xs
 All-front P [] ys all = All-nil P
 All-front P (x ∷ xs) ys all = All-cons P x xs (All-head P x (xs ++ ys) all) (All-front P xs ys (All-tail P x (xs ++ ys) all))
 
@@ -106,97 +103,88 @@ module _ (arguments : List Text) (context : OutputContext) (invocation : Invocat
   abbrev options : Options
   options = invocation.options
 
+  abbrev h : Bool
+  h = options.selection.has_header
+
   clear : IsStyleWithoutControls options.look.style
   clear = parsed_style_without_controls arguments context invocation is.is_asked
 
-  one_column : IsOneColumnStyle options.look.style
+  pub one_column : IsOneColumnStyle options.look.style
   one_column = parsed_style_is_one_column arguments context invocation is.is_asked
 
   texts : All AllText records
   texts = is.are.are_records.are_records.are_text
 
-  -- the output is drawn of these by options that differ in counting alone: of all records, or of the first ones, as many as are drawn
-  pub record IsDrawnBy (o : Options) (rs : List (List Text)) : Type 0 where
-    pub same : counting o ≡ counting options
+  -- the output is drawn of these, as many as are drawn: of all records, or of the first ones
+  pub record IsDrawnBy (known : Option ℕ) (rs : List (List Text)) : Type 0 where
     pub text : All AllText rs
-    pub made : RendersRecords o rs output
+    pub made : RendersChosen known options rs output
     pub more : List (List Text)
     pub front : records ≡ rs ++ more
-    pub rows : drawn_rows o rs ≡ drawn_rows options records
+    pub names : names_of h rs ≡ names_of h records
+    pub rows : drawn_rows options.selection rs ≡ drawn_rows options.selection records
 
   -- it is nothing, or so drawn
-  pub by_extent : (Good : Type 0) → (output ≡ [] → Good) → ((o : Options) (rs : List (List Text)) → IsDrawnBy o rs → Good) → Good
+  pub by_extent : (Good : Type 0) → (output ≡ [] → Good) → ((known : Option ℕ) (rs : List (List Text)) → IsDrawnBy known rs → Good) → Good
   by_extent Good empty law = by_made is.made
     where
-      any : (rs : List (List Text)) → records ≡ rs → RendersAnyRecords (counting options) rs output → Good
+      any : (rs : List (List Text)) → records ≡ rs → RendersCounted options rs output → Good
       any [] same nothing = empty nothing
       any (r ∷ rs) same drawn =
-          law (counting options) (r ∷ rs)
-          (record { same = refl; text = subst (All AllText) same texts; made = drawn; more = []; front = same ∙ sym (append-nil (r ∷ rs)); rows = ap (drawn_rows options) (sym same) })
+          law (Some (count_below options.selection (r ∷ rs))) (r ∷ rs)
+          (record { text = subst (All AllText) same texts; made = drawn; more = []; front = same ∙ sym (append-nil (r ∷ rs)); names = ap (names_of h) (sym same); rows = ap (drawn_rows options.selection) (sym same) })
 
       by_made : IsDrawnOf options input output → Good
-      by_made (inl (none, made)) = any records refl (subst (λ (rs : List (List Text)). RendersAnyRecords (counting options) rs output) (read_is_one options.input input made.records records made.are_records is.are) made.is_output)
+      by_made (inl (none, made)) = any records refl (subst (λ (rs : List (List Text)). RendersCounted options rs output) (read_is_one options.input input made.records records made.are_records is.are) made.is_output)
       by_made (inr (n, asked, made)) =
           let beginning = whole_lines (asked_front n input) in
           let parts = beginning_parts n input in
           let enough = made.are_enough in
           let limit = enough.has_limit.limit in
-          let h = options.selection.has_header in
           let found = first_records_stay options.input (most_drawn h limit) beginning parts.0 made.records records enough.are (subst (λ (t : Text). AreRecordsFor options.input t records) parts.1 is.are) in
-          law options made.records
+          let first : AreDrawnFirst h limit made.records records = subst (AreDrawnFirst h limit made.records) (sym found.1) (first_are_drawn h limit made.records found.0 enough.are.more) in
+          law None made.records
           (record {
-            same = refl;
             text = enough.are.are_records.are_records.are_text;
             made = made.is_output;
             more = found.0;
             front = found.1;
-            rows = subst (λ (l : Option ℕ). limited l (records_below h made.records) ≡ limited l (records_below h records)) (sym enough.has_limit.is)
-                (enough_rows h limit made.records found.0 (omega (arith, enough.are.more)) ∙ ap (λ (rs : List (List Text)). limited (Some limit) (records_below h rs)) (sym found.1));
+            names = first.names;
+            rows = subst (λ (l : Option ℕ). limited l (records_below h made.records) ≡ limited l (records_below h records)) (sym enough.has_limit.is) first.rows;
           })
 
-  module _ (o : Options) (rs : List (List Text)) (by : IsDrawnBy o rs) where
-    pub own_look : o.look ≡ options.look
-    own_look = ap (λ (all : Options). all.look) by.same
+  module _ (known : Option ℕ) (rs : List (List Text)) (by : IsDrawnBy known rs) where
+    abbrev layout : Layout
+    layout = layout_with options by.made.columns
 
-    pub own_unkept : o.look.has_sequences ≡ false
-    own_unkept = ap (λ (l : Look). l.has_sequences) own_look ∙ is.unkept
-
-    pub own_table : o.look.is_markdown ≡ false
-    own_table = ap (λ (l : Look). l.is_markdown) own_look ∙ is.no_markdown
-
-    own_clear : IsStyleWithoutControls o.look.style
-    own_clear = subst (λ (l : Look). IsStyleWithoutControls l.style) (sym own_look) clear
-
-    pub own_columns : IsOneColumnStyle o.look.style
-    own_columns = subst (λ (l : Look). IsOneColumnStyle l.style) (sym own_look) one_column
-
-    pub plain : ArePlainLines true o.look rs
-    plain = record { seen = (own_clear, by.text); unbroken = unbroken_without o.look.style own_clear; no_sequences = own_unkept }
+    pub plain : ArePlainLines true options.look rs
+    plain = record { seen = (clear, by.text); unbroken = unbroken_without options.look.style clear; no_sequences = is.unkept }
 
     -- what holds of all fields holds of those that are drawn
     own_fields : (P : Text → Type 0) → EachField P records → EachField P rs
     own_fields P each = All-front (All P) rs by.more (subst (All (All P)) by.front each)
 
-    pub own_fit : EachField (HasCharactersWithin 1) records → EachText (CharactersFit 1) o.look rs
-    own_fit each = fields_fit o.look own_unkept own_table rs by.text (own_fields (HasCharactersWithin 1) each)
+    pub own_fit : EachField (HasCharactersWithin 1) records → EachText (CharactersFit 1) options.look rs
+    own_fit each = fields_fit options.look is.unkept is.no_markdown rs by.text (own_fields (HasCharactersWithin 1) each)
+
+    narrow_law : EachField (HasCharactersWithin 1) records → IsStraight output
+    narrow_law each = straight_text known layout rs output is.no_markdown (narrow_is_straight true known layout rs output is.no_markdown one_column plain (own_fit each) by.made.is_output)
+
+    whole_law : options.look.width ≡ None → options.look.max_height ≡ None → EachField IsPlainField records → IsStraight output
+    whole_law no_width uncut each =
+        straight_text known layout rs output is.no_markdown
+        (whole_is_straight true known layout rs output one_column plain no_width (inl uncut) (plain_fields_are_short options.look is.unkept is.no_markdown rs by.text (own_fields IsPlainField each)) by.made.is_output)
 
   nothing : output ≡ [] → IsStraight output
   nothing empty = subst IsStraight (sym empty) nothing_is_straight
 
   -- where no character takes more than one terminal column
   pub narrow_for : EachField (HasCharactersWithin 1) records → IsStraight output
-  narrow_for each =
-      by_extent (IsStraight output) nothing
-      (λ o rs by. straight_text o rs output (own_table o rs by) (narrow_is_straight true o rs output (own_table o rs by) (own_columns o rs by) (plain o rs by) (own_fit o rs by each) by.made))
+  narrow_for each = by_extent (IsStraight output) nothing (λ known rs by. narrow_law known rs by each)
 
   -- and where no width is kept to and no row is cut
   pub whole_for : options.look.width ≡ None → options.look.max_height ≡ None → EachField IsPlainField records → IsStraight output
-  whole_for no_width uncut each =
-      by_extent (IsStraight output) nothing
-      (λ o rs by.
-      straight_text o rs output (own_table o rs by)
-      (whole_is_straight true o rs output (own_columns o rs by) (plain o rs by) (ap (λ (l : Look). l.width) (own_look o rs by) ∙ no_width) (inl (ap (λ (l : Look). l.max_height) (own_look o rs by) ∙ uncut))
-      (plain_fields_are_short o.look (own_unkept o rs by) (own_table o rs by) rs by.text (own_fields o rs by IsPlainField each)) by.made))
+  whole_for no_width uncut each = by_extent (IsStraight output) nothing (λ known rs by. whole_law known rs by no_width uncut each)
 
 -- what isn't some is none
 pub none_where : {A : Type 0} (o : Option A) → false ≡ is_some o → o ≡ None

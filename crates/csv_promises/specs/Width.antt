@@ -1,37 +1,27 @@
 -- Lines that keep to a width.
 -- Source: this library's own.
-use Rattle.std.specs.Prelude.{◌≡◌, ◌==◌, ◌⊎◌, ◌+◌, ◌*◌, ◌≤◌, ℕ, Bool, true, not, List, String, Some, All, length, map, max, string_bytes, sum_by, if◌then◌else◌}
-use Rattle.std.specs.List.{list_any}
-use Rattle.comfy_parts.specs.Text.{Text, greatest}
+use Rattle.std.specs.Prelude.{◌≡◌, ◌==◌, ◌⊎◌, ◌+◌, ◌*◌, ◌≤◌, ℕ, Bool, true, not, List, Some, All, length, max, if◌then◌else◌}
+use Rattle.comfy_parts.specs.Text.{Text}
 use Rattle.comfy_table.specs.Laws.{AreLinesOf}
-use Rattle.csv_tables.specs.Drawn.{drawn_rows}
+use Rattle.csv_command.specs.declared.arguments.Options.{Options}
+use Rattle.csv_tables.specs.Drawn.{drawn_rows, names_or_none}
 use Rattle.csv_tables.specs.declared.options.Expansion.{Expansion}
 use Rattle.csv_tables.specs.declared.options.Expansion.TheVariants.{Always, Auto, Never}
-use Rattle.csv_tables.specs.declared.options.Options.{Options}
 use Rattle.promises.specs.Shown.{ShowsColumns}
 use Rattle.promises.specs.Tables.{HasCharactersWithin}
+use Rattle.csv_promises.specs.Fields.{positions_in}
 use Rattle.csv_promises.specs.Straight.{CountsRecords, EachField}
 
 -- the borders around so many columns, their paddings, and one terminal column for each
 abbrev pub frame_room : ℕ → ℕ
 frame_room n = 1 + 4 * n
 
--- the most columns that a word of `-c` chooses of so many: all, where it may be a range
-abbrev pub columns_of_word : ℕ → Text → ℕ
-columns_of_word count word = if list_any (λ b. b == 0x2D) word then count else 1
-
--- the most columns that are chosen: all where there is no word
-abbrev pub most_chosen : {A : Type 0} → ℕ → List (String A) → ℕ
-most_chosen {A} count words =
-    if length words == 0
-    then count
-    else sum_by (λ (word : String A). columns_of_word count (string_bytes word)) words
-
--- the most columns that are drawn: those that are chosen of the longest record's, and that of
--- numbers
+-- the columns that are drawn of records: those at the positions that are chosen of the header and
+-- the drawn rows, and that of numbers
 abbrev pub all_columns : Options → List (List Text) → ℕ
 all_columns options records =
-    most_chosen (greatest (map length records)) options.selection.columns.items
+    length (positions_in options (names_or_none options.selection records)
+    (drawn_rows options.selection records))
     + (if options.selection.is_numbered then 1 else 0)
 
 -- how many columns a frame is drawn for: all; or, where records are expanded, as they are where a
@@ -43,8 +33,8 @@ columns_by Auto has_rows n = if has_rows then 2 else n
 
 abbrev pub framed_columns : Options → List (List Text) → ℕ
 framed_columns options records =
-    columns_by options.look.expansion (not (length (drawn_rows options records) == 0))
-    (all_columns options records)
+    columns_by options.look.expansion
+    (not (length (drawn_rows options.selection records) == 0)) (all_columns options records)
 
 -- a line shows no more terminal columns than a width or a frame has; and exactly those of the
 -- width, where that is filled and has room for the frame

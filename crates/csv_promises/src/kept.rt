@@ -1,23 +1,22 @@
 //! No field is lost.
 
-ghost use Rattle.std.specs.Prelude.{ℕ, Bool, List, IfSome, map};
+ghost use Rattle.std.specs.Prelude.{ℕ, Bool, List, IfSome};
 ghost use Rattle.csv_promises.specs.Fields.{ShowsRecords, StaysAsItIs};
-ghost use Rattle.csv_records.specs.Cleaning.{cleaned};
 
 use crate::straight::written;
 use csv_command::{Invocation, OutputContext};
 use csv_records::Records;
-use csv_tables::Expansion;
 use devices::MemorySink;
 use std::alloc::Global;
 
 /// What the arguments ask for, the records of a file's bytes, and what the program writes of them:
-/// nothing where the arguments ask for sequences in fields or for Markdown; where
-/// records may be expanded, or columns, rows or lines are left out, chosen or numbered; or for no
-/// drawing, or where it can't be drawn so. Whatever the width and the script, each record is shown
-/// below the one before, and its fields from left to right, as they are cleaned: between and around
-/// them stand only spaces, characters of the style and the SGR sequences of a bold header, and they
-/// lose only spaces and line breaks.
+/// nothing where the arguments ask for sequences in fields, for Markdown, for numbers of records or
+/// for a height; or for no drawing, or where it can't be drawn so. Whatever the width and the
+/// script, each record that is drawn is shown below the one before, and the fields of the columns
+/// that are drawn from left to right, as they are cleaned: they lose only spaces and line breaks.
+/// Where records are expanded, each stands below a line that numbers it, and its fields below each
+/// other, behind the names of their columns. All else are spaces, characters of the style, the SGR
+/// sequences of a bold header, and below all a line that counts records, where not all are drawn.
 pub fn output_with_all_fields(
     alloc: Global,
     arguments: &[&str],
@@ -25,25 +24,10 @@ pub fn output_with_all_fields(
     input: &[u8],
     room: usize,
 ) -> Option<(Invocation, Records, MemorySink)>
-    ensures { IfSome result (λ drawn.
-        ShowsRecords drawn.0.options.look
-        (map (map (cleaned drawn.0.options.look.has_sequences)) drawn.1) drawn.2.bytes) }
+    ensures { IfSome result (λ drawn. ShowsRecords drawn.0.options drawn.1 drawn.2.bytes) }
 {
     let (invocation, records, sink) = written(alloc, arguments, context, input, room)?;
-    let look = invocation.options.look;
-    let may_be_expanded = match look.expansion {
-        Expansion::Never => false,
-        Expansion::Auto => look.width.is_some(),
-        Expansion::Always => true,
-    };
-    if may_be_expanded || look.max_height.is_some() {
-        return None;
-    }
-    let selection = &invocation.options.selection;
-    if selection.limit.is_some() || selection.is_numbered {
-        return None;
-    }
-    if !selection.columns.is_empty() || !selection.dropped.is_empty() {
+    if invocation.options.look.max_height.is_some() || invocation.options.selection.is_numbered {
         return None;
     }
     Some((invocation, records, sink))

@@ -27,7 +27,7 @@ use Rattle.csv_tables.specs.Cells.{row_for}
 use Rattle.csv_tables.specs.Drawn.{ContentValue, RendersRecords, RendersAsTable, RendersContent, condensed_style, drawn_fields, empty_table, is_expanded_for, is_table_expanded, output_table, pairs_in, separated_table, some_lines, table_text}
 use Rattle.csv_tables.specs.Laws.{HasLines, IsOutputWith}
 use Rattle.csv_tables.specs.declared.options.Look.{Look}
-use Rattle.csv_tables.specs.declared.options.Options.{Options}
+use Rattle.csv_tables.specs.declared.options.Layout.{Layout}
 
 abbrev pub Any : RowValue → Type 0
 Any row = Unit {0}
@@ -90,29 +90,29 @@ drawn_lines true content arranged unbroken = (
     of_part first (suc count) = part_has_lines_of_table arranged.table arranged.infos first (suc count)
 
 -- an output that isn't for Markdown is the text of a table
-pub is_table_text : (options : Options) (records : List (List Text)) (output : Text) (made : RendersRecords options records output) → options.look.is_markdown ≡ false → RendersAsTable options.look made.content made.text
-is_table_text options records output made none = subst (λ b. RendersContent b options.look made.content made.text) none made.is_text
+pub is_table_text : (counted : Option ℕ) (layout : Layout) (records : List (List Text)) (output : Text) (made : RendersRecords counted layout records output) → layout.look.is_markdown ≡ false → RendersAsTable layout.look made.content made.text
+is_table_text counted layout records output made none = subst (λ b. RendersContent b layout.look made.content made.text) none made.is_text
 
 -- records for Markdown are never expanded
 pub never_expanded : (look : Look) (content : ContentValue) → look.is_markdown ≡ true → false ≡ is_expanded_for look content
 never_expanded look content is = ap (λ b. not b && is_table_expanded look content) (sym is)
 
-module _ (options : Options) (records : List (List Text)) (output : Text) (made : RendersRecords options records output) (text : RendersAsTable options.look made.content made.text) (none : options.look.is_markdown ≡ false) where
+module _ (counted : Option ℕ) (layout : Layout) (records : List (List Text)) (output : Text) (made : RendersRecords counted layout records output) (text : RendersAsTable layout.look made.content made.text) (none : layout.look.is_markdown ≡ false) where
   abbrev pub drawn_table : TableValue
-  drawn_table = separated_table text.drawn.has_separators (output_table text.is_expanded options.look made.content)
+  drawn_table = separated_table text.drawn.has_separators (output_table text.is_expanded layout.look made.content)
 
   abbrev pub drawn : List Text
   drawn = drawing_of_infos drawn_table text.drawn.arranged.infos
 
   -- it is expanded where its look asks for it
-  pub expansion : text.is_expanded ≡ is_expanded_for options.look made.content
-  expansion = text.expansion ∙ ap (λ b. not b && is_table_expanded options.look made.content) (sym none)
+  pub expansion : text.is_expanded ≡ is_expanded_for layout.look made.content
+  expansion = text.expansion ∙ ap (λ b. not b && is_table_expanded layout.look made.content) (sym none)
 
-  module _ (style : IsStyleWithout 0x0A options.look.style) where
+  module _ (style : IsStyleWithout 0x0A layout.look.style) where
     pub unbroken : All HasNoBreak drawn
-    unbroken = unbroken_lines options.look made.content text.is_expanded text.drawn.has_separators drawn style text.drawn.is_arranged.headline
+    unbroken = unbroken_lines layout.look made.content text.is_expanded text.drawn.has_separators drawn style text.drawn.is_arranged.headline
 
-    abbrev pub with_lines : IsOutputWith options records output drawn
+    abbrev pub with_lines : IsOutputWith counted layout records output drawn
     with_lines =
         record {
           content = made.content;
@@ -195,10 +195,10 @@ kept_setting of look same true a is = is
 kept_setting of look same false a is = sym same ∙ is
 
 -- so do the lines of an output
-pub output_keeps_to : (w : ℕ) (options : Options) (records : List (List Text)) (output : Text) (made : RendersRecords options records output) (text : RendersAsTable options.look made.content made.text) (none : options.look.is_markdown ≡ false) → options.look.width ≡ Some w
-    → LineWidthsSatisfy (IsKept w options.look.fills_width (drawn_table options records output made text none)) (drawn_table options records output made text none) text.drawn.is_arranged.headline.widths
-output_keeps_to w options records output made text none wide =
-    let look = options.look in
+pub output_keeps_to : (w : ℕ) (counted : Option ℕ) (layout : Layout) (records : List (List Text)) (output : Text) (made : RendersRecords counted layout records output) (text : RendersAsTable layout.look made.content made.text) (none : layout.look.is_markdown ≡ false) → layout.look.width ≡ Some w
+    → LineWidthsSatisfy (IsKept w layout.look.fills_width (drawn_table counted layout records output made text none)) (drawn_table counted layout records output made text none) text.drawn.is_arranged.headline.widths
+output_keeps_to w counted layout records output made text none wide =
+    let look = layout.look in
     let has = text.drawn.has_separators in
-    kept w (separated has look) made.content (drawn_table options records output made text none) (any_drawn look made.content text.is_expanded has) (drawn options records output made text none) text.drawn.is_arranged.headline (kept_setting (λ l. l.width) look refl has (Some w) wide) look.fills_width
+    kept w (separated has look) made.content (drawn_table counted layout records output made text none) (any_drawn look made.content text.is_expanded has) (drawn counted layout records output made text none) text.drawn.is_arranged.headline (kept_setting (λ l. l.width) look refl has (Some w) wide) look.fills_width
     (kept_setting (λ l. l.fills_width) look refl has look.fills_width refl)

@@ -41,7 +41,7 @@ use Rattle.comfy_table.specs.Pieces.{blank_piece, cell_alignment, free_before, f
 use Rattle.comfy_table.specs.Styling.{style_begin, style_end, styled}
 use Rattle.comfy_table.specs.TableValue.{TableValue, column_content_width, column_cells, header_and_rows, measured_rows, measured_table, should_style, shown_columns, table_width}
 use Rattle.comfy_table.specs.Widths.{ColumnNeeds, disabled_width, needs_of, shown_needs}
-use Rattle.promises.proofs.DrawnColumnLemmas.{columns-drawn, drawn_column, infos-are, whole_at}
+use Rattle.promises.proofs.DrawnColumnLemmas.{IsWholeAt, columns-drawn, drawn_column, infos-are, whole_at}
 use Rattle.promises.proofs.RowLemmas.{height, line_is, piece_in, width_by_content}
 use Rattle.promises.specs.Headline.{AreColumnsOf, AreLinesOfCell, AreLinesOfHeader, AreLinesOfRow, AreLinesOfText, EachShownCell, AreContentLines, IsAround, IsFramed, IsHeadline, IsPiece, IsPrintable, framed, lines_in, whole_width, widths_shown}
 use Rattle.promises.specs.Shown.{IsStyled}
@@ -412,21 +412,55 @@ needed table (p ∷ ps) =
 
 -- ---- what every drawing promises
 
+-- a table without styles at some widths, whatever these are: the header, if there is one, and all rows stand between frame lines
+pub record HasPlainLines (table : TableValue) (lines : List Text) : Type 0 where
+  pub width : ℕ → ℕ
+  pub cell_lines : ℕ × ColumnValue → CellValue → List Text
+  pub are_cell_lines : EachShownCell (λ row p cell. AreLinesOfCell (width p.0) (cell_delimiter table p.1.delimiter cell) cell (cell_lines p cell)) table
+  pub header : List Text
+  pub rows : List (List Text)
+  pub is_header : AreLinesOfHeader table width cell_lines table.header header
+  pub are_rows : AllZip (AreLinesOfRow table width cell_lines table.style.content_lines) table.rows rows
+  pub drawn : lines ≡ framed table width table.style.top_border ++ (header ++ (join_by (λ block. block) (framed table width table.style.row_separator) rows ++ framed table width table.style.bottom_border))
+
+module _ (table : TableValue) (widths : List ℕ) where
+  -- so is each table whose texts and delimiters are whole characters
+  pub plain_lines : length widths ≡ length table.columns → All (λ (row : RowValue). All (IsWholeAt table row) (shown_columns table)) (measured_rows table) → HasPlainLines (measured_table table) (drawing (unstyled table) widths)
+  plain_lines long whole =
+      record {
+        width = content_at measured widths long;
+        cell_lines = lines_at measured widths long;
+        are_cell_lines = λ k default under j other below cell found.
+            let is = whole k default under j other below cell found in
+            lines_of_cell (content_at measured widths long (slice_index_or (shown_columns table) j other).0) (cell_delimiter table (slice_index_or (shown_columns table) j other).1.delimiter cell) cell is.0 is.1;
+        header = drawn_header (bare measured) (infos_of table widths) measured.header;
+        rows = map (drawn_row (bare measured) (infos_of table widths) table.style.content_lines) measured.rows;
+        is_header = header_is measured widths long measured.header;
+        are_rows = rows_are measured widths long measured.rows;
+        drawn = drawing_is measured widths long;
+      }
+    where
+      measured : TableValue
+      measured = measured_table table
+
+  -- its lines are those, with sequences
+  pub styled_lines : All (λ (row : RowValue). All (λ (cell : CellValue). All IsUtf8 cell.text_lines) row.cells) (measured_rows table) → AllZip IsStyled (drawing (unstyled table) widths) (drawing table widths)
+  styled_lines whole = keeps_drawing Any IsStyled styled_kept table (infos_of table widths) tt (λ k default below. tt) whole (λ k default below j other under cell found i text inside. tt)
+
 pub headline : (table : TableValue) (lines : List Text) → IsTableDrawing table lines → IsHeadline table lines
+unfolding plain_lines
 headline table lines drawn =
     record {
       plain = drawing (unstyled table) drawn.widths;
       is_plain = record {
-        width = content_at measured drawn.widths long;
-        cell_lines = lines_at measured drawn.widths long;
-        are_cell_lines = λ k default under j other below cell found.
-            let is = whole_at table lines drawn k default under j other below cell found in
-            lines_of_cell (content_at measured drawn.widths long (slice_index_or (shown_columns table) j other).0) (cell_delimiter table (slice_index_or (shown_columns table) j other).1.delimiter cell) cell is.0 is.1;
-        header = drawn_header (bare measured) (infos_of table drawn.widths) measured.header;
-        rows = map (drawn_row (bare measured) (infos_of table drawn.widths) table.style.content_lines) measured.rows;
-        is_header = header_is measured drawn.widths long measured.header;
-        are_rows = rows_are measured drawn.widths long measured.rows;
-        drawn = drawing_is measured drawn.widths long;
+        width = own.width;
+        cell_lines = own.cell_lines;
+        are_cell_lines = own.are_cell_lines;
+        header = own.header;
+        rows = own.rows;
+        is_header = own.is_header;
+        are_rows = own.are_rows;
+        drawn = own.drawn;
         by_content = λ none j other below free.
             let p = slice_index_or (shown_columns table) j other in
             let kept : width_kept table.arrangement (table_width table) ≡ None = no_width table.arrangement (table_width table) none in
@@ -449,9 +483,7 @@ headline table lines drawn =
         keeps_to_width = λ w known free dynamic. keeps_to_width table w drawn.widths free dynamic known drawn.arranged;
         fills_width = λ w known free full some. fills_width table w drawn.widths free full known some drawn.arranged;
       };
-      styled =
-          subst (AllZip IsStyled (drawing (unstyled table) drawn.widths)) (sym drawn.drawn)
-          (keeps_drawing Any IsStyled styled_kept table (infos_of table drawn.widths) tt (λ k default below. tt) drawn.texts.whole_texts (λ k default below j other under cell found i text inside. tt));
+      styled = subst (AllZip IsStyled (drawing (unstyled table) drawn.widths)) (sym drawn.drawn) (styled_lines table drawn.widths drawn.texts.whole_texts);
       unstyled = drawn.edges.unstyled_lines;
       frame = subst (IsFramed table (content_at table drawn.widths long) (lines_at table drawn.widths long)) (sym drawn.drawn) (frame_is table drawn.widths long);
     }
@@ -462,6 +494,9 @@ headline table lines drawn =
     long : length drawn.widths ≡ length table.columns
     long = drawn.arranged.one_for_each
 
+    own : HasPlainLines measured (drawing (unstyled table) drawn.widths)
+    own = plain_lines table drawn.widths long (whole_at table lines drawn)
+
     no_width : (arrangement : ContentArrangement) (width : Option ℕ) → (arrangement ≡ Disabled) ⊎ (width ≡ None) → width_kept arrangement width ≡ None
     no_width arrangement width (inl disabled) = ap (λ (a : ContentArrangement). width_kept a width) disabled
     no_width arrangements.Disabled width (inr none) = refl
@@ -470,7 +505,7 @@ headline table lines drawn =
 
 -- the columns that are returned beside the lines are those of the headline
 pub columns_are : (table : TableValue) (arranged : ArrangedValue) → IsArrangedTable table arranged → (lines : List Text) → IsTableDrawing table lines → AreColumnsOf table lines arranged.infos
-unfolding headline
+unfolding headline plain_lines
 columns_are table arranged is lines drawn = (
   headline table lines drawn,
   is.infos ∙ ap (infos_of table) (arranged_is_one table is.headline.widths drawn.widths is.headline.arranged drawn.arranged) ∙ infos-are table drawn.widths drawn.arranged.one_for_each,

@@ -1,9 +1,10 @@
 -- Where the texts of a table stand in its drawing.
 use Rattle.std.proofs.Common.{◌≡◌, inl, inr, ◌<◌, ◌≤◌, ℕ, zero, suc, Bool, true, false, List, [], ◌∷◌, ◌++◌, Option, Some, None, length, map, not, flat_map, refl, sym, ap, ap₂, ◌∙◌, subst, arith, append_assoc, append-nil, slice_index_or, unwrap_or, nat_le}
 use Rattle.std.specs.List.{All, AllZip, join_by, slice_get, filter_map}
-use Rattle.std.specs.Prelude.{if◌then◌else◌, option_map, option_to_list, MatchOption}
-use Rattle.std.proofs.lemmas.List.Elements.{All-from_recursion, All-head, All-tail, All-weaker}
-use Rattle.comfy_parts.proofs.CallerLemmas.{All-at, All-given}
+use Rattle.std.specs.Prelude.{Contains, if◌then◌else◌, option_map, option_to_list, MatchOption}
+use Rattle.std.specs.Str.{IsUtf8}
+use Rattle.std.proofs.lemmas.List.Elements.{All-append, All-contains, All-contains_itself, All-from_recursion, All-head, All-tail, All-weaker, recursion_from_All}
+use Rattle.comfy_parts.proofs.CallerLemmas.{All-at, All-given, every-parts}
 use Rattle.comfy_parts.specs.CellValue.{CellValue, ColumnValue, RowValue, is_hidden_column}
 use Rattle.comfy_parts.specs.Text.{Text, greatest, measure, spaces}
 use Rattle.comfy_parts.specs.Wrapping.{IsSlicesWhere}
@@ -12,14 +13,18 @@ use Rattle.comfy_parts.specs.declared.style.table_style.ContentLineStyle.{Conten
 use Rattle.std.proofs.lemmas.Bool.Decides.{nat_tests}
 use Rattle.comfy_table.proofs.KeptDrawingLemmas.{IsClearContent, IsClearStyle}
 use Rattle.comfy_table.proofs.ThreePlacesLemmas.{every-le-greatest}
+use Rattle.comfy_table.proofs.UnstyledLemmas.{unstyled_drawing}
+use Rattle.comfy_table.specs.Drawing.{drawing, infos_of}
 use Rattle.comfy_table.specs.Frame.{content_line}
 use Rattle.comfy_table.specs.Headline.{IsTableDrawing}
+use Rattle.comfy_table.specs.Laws.{unstyled}
 use Rattle.comfy_table.specs.Lines.{cell_delimiter, cut_text, cut_to_limit}
-use Rattle.comfy_table.specs.TableValue.{TableValue, cell_content_width, header_and_rows, measured_table, shown_columns, visible_row}
+use Rattle.comfy_table.specs.TableValue.{TableValue, cell_content_width, header_and_rows, measured_rows, measured_table, shown_columns, visible_row, with_other_rows}
 use Rattle.promises.proofs.AmongLemmas.{Around, among_before, among_borders, among_inside, among_joined, among_later, frame_joins, lines_join, optional_frame, spaces_frame, style_frame}
-use Rattle.promises.proofs.HeadlineLemmas.{headline}
-use Rattle.promises.proofs.PlacedLemmas.{placed}
-use Rattle.promises.specs.Headline.{AreLinesOfCell, AreLinesOfHeader, AreLinesOfRow, AreLinesOfText, IsPiece, IsPlainDrawing, framed, lines_in, widths_shown}
+use Rattle.promises.proofs.DrawnColumnLemmas.{IsWholeAt, whole_at}
+use Rattle.promises.proofs.HeadlineLemmas.{HasPlainLines, headline, plain_lines, styled_lines}
+use Rattle.promises.proofs.PlacedLemmas.{measured_plain, placed}
+use Rattle.promises.specs.Headline.{AreLinesOfCell, AreLinesOfHeader, AreLinesOfRow, AreLinesOfText, IsPiece, IsPlainDrawing, framed, lines_in, widest, widths_shown}
 use Rattle.promises.specs.Kept.{AreShown, AreSlicesOf, IsFrame, ShowsRow, ShowsWholeRow, StandAmong, StandInLines, text_lines_at}
 use Rattle.promises.specs.Tables.{IsShownWhole}
 
@@ -46,7 +51,7 @@ measured-plain table plain =
 abbrev AreBlocks : TableValue → List Text → (RowValue → List Text → Type 0) → Type 0
 AreBlocks table lines Shows = (blocks : List (List Text)) × StandAmong (All (IsFrame table.style)) blocks lines × AllZip Shows (header_and_rows table) blocks
 
-module _ (table : TableValue) (lines : List Text) (is : IsPlainDrawing table lines) where
+module _ (table : TableValue) (lines : List Text) (is : HasPlainLines table lines) where
   abbrev Frame : Text → Type 0
   Frame = IsFrame table.style
 
@@ -194,7 +199,7 @@ module _ (table : TableValue) (lines : List Text) (is : IsPlainDrawing table lin
   own_lines w d (text ∷ texts) (own ∷ of_texts) fit zip =
       ap₂ (λ (a b : List Text). a ++ b) (zip.0.whole (All-head (λ (t : Text). measure t ≤ w) text texts fit)) (own_lines w d texts of_texts (All-tail (λ (t : Text). measure t ≤ w) text texts fit) zip.1)
 
-  module _ (disabled : table.arrangement ≡ Disabled) (whole : IsShownWhole table) where
+  module _ (by_content : All (λ (p : ℕ × ColumnValue). p.1.constraint ≡ None → is.width p.0 ≡ widest table p.0) (shown_columns table)) (whole : IsShownWhole table) where
     -- a row that fits: nothing cuts it, and its texts fit their columns
     pub record Fits (row : RowValue) : Type 0 where
       pub has : HasLinesOf row
@@ -218,7 +223,7 @@ module _ (table : TableValue) (lines : List Text) (is : IsPlainDrawing table lin
           texts = λ j other below cell found at text inside.
               let p = slice_index_or (shown_columns table) j other in
               let free = placed (λ (column : ColumnValue). not (is_hidden_column column)) (λ column. column.constraint ≡ None) 0 table.columns whole.no_constraint j other below in
-              let width = is.by_content (inl disabled) j other below free in
+              let width = by_content j other below free in
               let room : cell_content_width cell ≤ greatest (map cell_content_width (cells_below p.0)) = contents_at p.0 k default under cell found in
               let most : measure (slice_index_or cell.text_lines at text) ≤ greatest (map measure cell.text_lines) = All-from_recursion _ cell.text_lines (every-le-greatest measure cell.text_lines) at text inside in
               let short : measure (slice_index_or cell.text_lines at text) ≤ 65535 = All-at (λ (c : CellValue). All (λ line. measure line ≤ 65535) c.text_lines) row.cells p.0 cell (whole.short k default under) found at text inside in
@@ -257,10 +262,40 @@ module _ (table : TableValue) (lines : List Text) (is : IsPlainDrawing table lin
 
 -- so of every drawing
 module _ (table : TableValue) (lines : List Text) (drawn : IsTableDrawing table lines) (plain : table.custom_styling ≡ false) where
-  shown_by : (Shows : RowValue → List Text → Type 0) → ((plain_lines : List Text) → IsPlainDrawing table plain_lines → AreBlocks table plain_lines Shows) → AreShown Shows table lines
-  shown_by Shows gives =
+  -- and of one of other rows at its widths, each of which is a row of the table
+  module _ (rows : List RowValue) (within : All (Contains table.rows) rows) where
+    abbrev pub part : TableValue
+    part = with_other_rows rows table
+
+    -- what holds of each row of the table holds of each of these
+    measured_part : (P : RowValue → Type 0) → All P (measured_rows table) → All P (measured_rows part)
+    measured_part P each =
+        let both = every-parts P (option_to_list table.header) table.rows (recursion_from_All P _ (subst (All P) (measured_plain table plain) each)) in
+        subst (All P) (sym (measured_plain part plain))
+        (All-append P (option_to_list table.header) rows (All-from_recursion P _ both.0) (All-weaker (Contains table.rows) P (λ row own. All-contains P table.rows row (All-from_recursion P _ both.1) own) rows within))
+
+    pub part_stands : AreShown (ShowsRow part) part (drawing part drawn.widths)
+    part_stands =
+        let own = plain_lines part drawn.widths drawn.arranged.one_for_each (measured_part (λ row. All (IsWholeAt table row) (shown_columns table)) (whole_at table lines drawn)) in
+        let made = all_shown part (drawing (unstyled part) drawn.widths) (subst (λ (t : TableValue). HasPlainLines t (drawing (unstyled part) drawn.widths)) (measured-plain part plain) own) in
+        record {
+          plain = drawing (unstyled part) drawn.widths;
+          styled = styled_lines part drawn.widths (measured_part (λ row. All (λ (cell : CellValue). All IsUtf8 cell.text_lines) row.cells) drawn.texts.whole_texts);
+          unstyled = λ none. sym (unstyled_drawing part (infos_of part drawn.widths) none plain);
+          blocks = made.0;
+          stand = made.1;
+          show = made.2;
+        }
+
+  pub all_texts_stand : AreShown (ShowsRow table) table lines
+  all_texts_stand = subst (AreShown (ShowsRow table) table) (sym drawn.drawn) (part_stands table.rows (All-contains_itself table.rows))
+
+  pub whole_texts_stand : table.arrangement ≡ Disabled → IsShownWhole table → AreShown (ShowsWholeRow table) table lines
+  whole_texts_stand disabled whole =
       let is = headline table lines drawn in
-      let made = gives is.plain (subst (λ (t : TableValue). IsPlainDrawing t is.plain) (measured-plain table plain) is.is_plain) in
+      let own = subst (λ (t : TableValue). IsPlainDrawing t is.plain) (measured-plain table plain) is.is_plain in
+      let made = whole_shown table is.plain
+      (record { width = own.width; cell_lines = own.cell_lines; are_cell_lines = own.are_cell_lines; header = own.header; rows = own.rows; is_header = own.is_header; are_rows = own.are_rows; drawn = own.drawn }) (own.by_content (inl disabled)) whole in
       record {
         plain = is.plain;
         styled = is.styled;
@@ -269,9 +304,3 @@ module _ (table : TableValue) (lines : List Text) (drawn : IsTableDrawing table 
         stand = made.1;
         show = made.2;
       }
-
-  pub all_texts_stand : AreShown (ShowsRow table) table lines
-  all_texts_stand = shown_by (ShowsRow table) (all_shown table)
-
-  pub whole_texts_stand : table.arrangement ≡ Disabled → IsShownWhole table → AreShown (ShowsWholeRow table) table lines
-  whole_texts_stand disabled whole = shown_by (ShowsWholeRow table) (λ plain_lines is. whole_shown table plain_lines is disabled whole)

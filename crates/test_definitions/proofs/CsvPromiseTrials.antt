@@ -1,7 +1,9 @@
 -- Lines that the promises on files refuse, and records for which one is made.
-use Rattle.std.proofs.Common.{◌≡◌, ◌==◌, ◌&&◌, ◌||◌, not, ◌⊎◌, inl, inr, ◌+◌, ◌≤◌, ℕ, List, [], None, Option, ◌∷◌, ◌++◌, arith, codes, append-nil, decimal, length, length-append, map, refl, slice_index_or, sym, ap, ◌∙◌, subst, true, false}
+use Rattle.std.proofs.Common.{◌≡◌, ◌==◌, ◌&&◌, ◌||◌, not, ◌⊎◌, inl, inr, ◌+◌, ◌≤◌, ℕ, Bool, List, [], None, Some, Option, ◌∷◌, ◌++◌, arith, codes, append-nil, decimal, length, length-append, drop, map, refl, slice_index_or, sym, ap, ◌∙◌, subst, true, false}
 use Rattle.std.specs.Char.{is_control}
+use Rattle.std.specs.Fmt.{digits}
 use Rattle.std.specs.List.{All, AllZip, concat}
+use Rattle.std.specs.Prelude.{MatchOption, ◌<◌}
 use Rattle.std.specs.Str.{chars}
 use Rattle.std.proofs.lemmas.Bool.{and_parts}
 use Rattle.std.proofs.lemmas.Bool.Decides.{nat_tests}
@@ -11,14 +13,16 @@ use lib.Utf8.{encode}
 use Rattle.comfy_parts.proofs.Computing.{wrapping}
 use Rattle.comfy_parts.specs.Presets.{nothing, utf8_full}
 use Rattle.comfy_parts.specs.Text.{Text, measure}
-use Rattle.csv_tables.specs.declared.options.Expansion.TheVariants.{Auto}
+use Rattle.csv.specs.Records.{field_at}
+use Rattle.csv_tables.specs.declared.options.Expansion.TheVariants.{Always, Auto}
 use Rattle.csv_tables.specs.declared.options.Look.{Look}
+use Rattle.csv_command.specs.declared.arguments.Options.{Options}
 use Rattle.csv_tables.specs.declared.options.RowSeparators.TheVariants.{Styled}
 use Rattle.promises.specs.Shown.{ShowsColumns}
-use Rattle.csv_tables.specs.Drawn.{count_text}
+use Rattle.csv_tables.specs.Drawn.{count_text, record_line}
 use Rattle.comfy_table.specs.Drawing.{terminated_text_of}
 use Rattle.comfy_table.specs.Laws.{AreLinesOf}
-use Rattle.csv_promises.specs.Fields.{AreFields, ShowsRecord, ShowsRecords, filled}
+use Rattle.csv_promises.specs.Fields.{AreFields, ShowsDrawn, ShowsExpanded, ShowsFields, ShowsRecords, ShowsRows, filled}
 use Rattle.csv_promises.specs.Messages.{IsTame}
 use Rattle.csv_records.specs.Cleaning.{cleaned, turns_direction}
 use Rattle.promises.specs.Kept.{IsFrame, StandAmong}
@@ -79,9 +83,9 @@ two_widths_are_not_straight is =
 abbrev pub bold : Look
 bold = record { style = utf8_full; separators = Styled; expansion = Auto; width = None; fills_width = false; max_height = None; has_bold_header = true; aligns_decimals = true; has_sequences = false; is_markdown = false }
 
--- a look without a bold header
+-- a look without a bold header and a frame
 abbrev unbold : Look
-unbold = record bold { has_bold_header = false }
+unbold = record bold { has_bold_header = false; style = nothing }
 
 -- a text without lines
 no_text_lines : (lines : List Text) → AreLinesOf [] lines → lines ≡ []
@@ -93,23 +97,22 @@ no_text_lines (line ∷ lines) are = by_line line are.joined
     by_line (b ∷ line) same = absurd (cc same)
 
 -- a field has pieces
-some_piece : (pieces : List (List Text)) → AreFields (codes "a" ∷ []) pieces → All (λ (column : List Text). length column ≤ 0) pieces → ⊥
-some_piece [] fields short = fields
-some_piece (column ∷ others) fields short = by_column column fields.0 (All-head (λ (column : List Text). length column ≤ 0) column others short)
+some_piece : (rest : List Text) (pieces : List (List Text)) → AreFields (codes "a" ∷ rest) pieces → All (λ (column : List Text). length column ≤ 0) pieces → ⊥
+some_piece rest [] fields short = cc fields.0
+some_piece rest (column ∷ others) fields short = by_column column fields.0 (All-head (λ (column : List Text). length column ≤ 0) column others short)
   where
     by_column : (column : List Text) → filled (concat column) ≡ filled (codes "a") → length column ≤ 0 → ⊥
     by_column [] same few = absurd (cc same)
     by_column (piece ∷ more) same few = absurd (omega (arith, few))
 
 -- nothing shows no field
--- false: csv_promises::output_with_all_fields
-nothing_shows_no_field : ¬ (ShowsRecords unbold ((codes "a" ∷ []) ∷ []) [])
-nothing_shows_no_field is =
+nothing_shows_no_field : (rest : List Text) → ¬ (ShowsRows unbold ((codes "a" ∷ rest) ∷ []) [])
+nothing_shows_no_field rest is =
     by_blocks is.blocks (subst (StandAmong (All (IsFrame unbold.style)) is.blocks) (sym (is.unstyled refl) ∙ no_text_lines is.lines is.are) is.stand) is.show
   where
-    by_blocks : (blocks : List (List Text)) → StandAmong (All (IsFrame unbold.style)) blocks [] → ¬ (AllZip (ShowsRecord unbold.style) ((codes "a" ∷ []) ∷ []) blocks)
+    by_blocks : (blocks : List (List Text)) → StandAmong (All (IsFrame unbold.style)) blocks [] → ¬ (AllZip (ShowsFields unbold.style) ((codes "a" ∷ rest) ∷ []) blocks)
     by_blocks [] stand show = show
-    by_blocks ([] ∷ blocks) stand show = some_piece show.0.pieces show.0.are_fields show.0.enough_lines
+    by_blocks ([] ∷ blocks) stand show = some_piece rest show.0.pieces show.0.are_fields show.0.enough_lines
     by_blocks ((line ∷ block) ∷ blocks) (before, behind, inside, around, rest) show = none_in_nothing before block behind line inside
 
 -- pieces that lack a letter aren't those of a field, those that lack a space are
@@ -124,8 +127,7 @@ other_column : ¬ (AreFields (codes "a" ∷ codes "b" ∷ []) ((codes "b" ∷ []
 other_column are = let same : ◌≡◌ {A = Text} (codes "b") (codes "a") = are.0 in let letter : ◌≡◌ {A = ℕ} 0x62 0x61 = cc same in absurd (omega (arith, letter))
 
 -- a record isn't shown by another amount and another word
--- false: csv_promises::output_with_all_fields
-another_amount : ¬ (ShowsRecord nothing (codes "12.80" ∷ codes "Rent" ∷ []) (codes " -912.8099  No Rental " ∷ []))
+another_amount : ¬ (ShowsFields nothing (codes "12.80" ∷ codes "Rent" ∷ []) (codes " -912.8099  No Rental " ∷ []))
 another_amount is = by_pieces is.pieces is.are_fields is.enough_lines (is.stand 0 (omega arith))
   where
     minus : (x : ℕ) (rest : Text) → 0x2D ≡ x → ¬ (filled (x ∷ rest) ≡ codes "12.80")
@@ -155,9 +157,62 @@ another_amount is = by_pieces is.pieces is.are_fields is.enough_lines (is.stand 
 
     by_pieces : (pieces : List (List Text)) → AreFields (codes "12.80" ∷ codes "Rent" ∷ []) pieces → All (λ (column : List Text). length column ≤ 1) pieces
         → ¬ (StandAmong (IsFrame nothing) (map (λ (column : List Text). slice_index_or column 0 []) pieces) (codes " -912.8099  No Rental "))
-    by_pieces [] fields few stand = fields
+    by_pieces [] fields few stand = cc fields.0
     by_pieces (column ∷ others) fields few (before, behind, made, frame, rest) =
         by_before before (slice_index_or column 0 []) behind frame (by_column column fields.0 (All-head (λ (column : List Text). length column ≤ 1) column others few)) made
+
+-- a field with a column of its own isn't lost, a blank one may be
+lost_field : ¬ (AreFields (codes "a" ∷ codes "b" ∷ []) ((codes "a" ∷ []) ∷ []))
+lost_field are = cc are.1.0
+
+pub lost_blank : AreFields (codes "a" ∷ codes " " ∷ []) ((codes "a" ∷ []) ∷ [])
+lost_blank = (refl, (refl, tt))
+
+-- ---- expanded records
+
+-- one record of a field `a` below a name `a`
+abbrev OneExpanded : Text → Type 0
+OneExpanded = ShowsExpanded unbold (codes "a" ∷ []) (0 ∷ []) (Some 1) 1 ((codes "a" ∷ []) ∷ [])
+
+-- it isn't the second one, and not without its line
+another_number : ¬ (OneExpanded (codes "record 2 of 1\n a  a \n"))
+unfolding digits
+another_number (own, rest, is, shows, more) = let letter : ◌≡◌ {A = ℕ} 0x32 0x31 = ap (λ (t : Text). slice_index_or t 7 0) is in absurd (omega (arith, letter))
+
+no_number : ¬ (OneExpanded (codes " a  a \n"))
+no_number (own, rest, is, shows, more) = let letter : ◌≡◌ {A = ℕ} 0x20 0x72 = cc is in absurd (omega (arith, letter))
+
+-- its name isn't lost
+a_stays : cleaned false (codes "a") ≡ codes "a"
+unfolding chars encode
+a_stays = refl
+
+no_name : ¬ (OneExpanded (codes "record 1 of 1\n"))
+unfolding digits field_at
+no_name (own, rest, is, shows, more) = by_own own (ap (drop 14) is) shows
+  where
+    by_own : (own : Text) → ◌≡◌ {A = Text} [] (own ++ rest) → ¬ (ShowsRows unbold ((cleaned false (codes "a") ∷ cleaned false (codes "a") ∷ []) ∷ []) own)
+    by_own (b ∷ own) same shows = absurd (cc same)
+    by_own [] same shows = nothing_shows_no_field (cleaned false (codes "a") ∷ []) (subst (λ (name : Text). ShowsRows unbold ((name ∷ cleaned false (codes "a") ∷ []) ∷ []) []) a_stays shows)
+
+-- ---- records
+
+-- without a header and a limit, with records expanded
+abbrev expanded : Options → Options
+expanded options = record options { selection = record options.selection { has_header = false; limit = None }; look = record unbold { expansion = Always } }
+
+-- a record isn't one of two
+-- false: csv_promises::output_with_all_fields
+another_count : (options : Options) → ¬ (ShowsRecords (expanded options) ((codes "a" ∷ []) ∷ []) (codes "record 1 of 2\n 1  a \n"))
+unfolding digits
+another_count options is =
+    by_count is.count is.is_count (subst (λ (b : Bool). ShowsDrawn b (expanded options) None ((codes "a" ∷ []) ∷ []) is.count is.drawn) is.expansion is.shows) (is.joined ∙ append-nil is.drawn)
+  where
+    by_count : (count : Option ℕ) → MatchOption count (1 < 1) (λ n. n ≡ 1) → ShowsDrawn true (expanded options) None ((codes "a" ∷ []) ∷ []) count is.drawn → ¬ (codes "record 1 of 2\n 1  a \n" ≡ is.drawn)
+    by_count None more shows made = absurd (omega (arith, more))
+    by_count (Some n) one (own, rest, is, shows, more) made =
+        let same : codes "record 1 of 2\n 1  a \n" ≡ record_line 1 (Some 1) ++ (own ++ rest) = made ∙ is ∙ ap (λ (m : ℕ). record_line 1 (Some m) ++ (own ++ rest)) one in
+        let letter : ◌≡◌ {A = ℕ} 0x32 0x31 = ap (λ (t : Text). slice_index_or t 12 0) same in absurd (omega (arith, letter))
 
 -- ---- messages
 

@@ -6,10 +6,12 @@ use Rattle.std.proofs.lemmas.List.Elements.{All-head}
 use Rattle.comfy_parts.specs.Text.{Text, measure}
 use Rattle.csv_tables.specs.declared.options.Expansion.{Expansion}
 use Rattle.csv_tables.specs.declared.options.Expansion.TheVariants.{Always, Auto, Never}
-use Rattle.csv_tables.specs.declared.options.Options.{Options}
+use Rattle.csv_command.specs.declared.arguments.Options.{Options}
+use Rattle.csv_tables.specs.Columns.{count_of}
 use Rattle.promises.specs.Shown.Shows.{byte, nothing}
+use Rattle.csv_promises.specs.Fields.{positions_in}
 use Rattle.csv_promises.specs.Straight.{CountsRecords}
-use Rattle.csv_promises.specs.Width.{KeepToWidth, KeepsTo, columns_of_word, frame_room, framed_columns, most_chosen}
+use Rattle.csv_promises.specs.Width.{KeepToWidth, KeepsTo, frame_room, framed_columns}
 use Rattle.test_definitions.proofs.CsvPromiseTrials.{bold, no_count, one_column, two_columns}
 use Rattle.test_definitions.proofs.OutputLineTrials.{found, one_line, unended}
 use Rattle.test_definitions.proofs.PromiseTrials.{shows_itself}
@@ -58,13 +60,6 @@ uncounted = no_count (codes "2 records") (omega arith)
 
 -- ---- frames
 
--- a name chooses one of three columns, a range all of them at most
-one_name : columns_of_word 3 (codes "note") ≡ 1
-one_name = refl
-
-range : columns_of_word 3 (codes "b-c") ≡ 3
-range = refl
-
 abbrev three_names : List (List Text)
 three_names = (codes "a" ∷ codes "b" ∷ codes "c" ∷ []) ∷ []
 
@@ -77,12 +72,20 @@ abbrev room_by : Options → Expansion → Bool → List (List Text) → ℕ
 room_by options expansion is_numbered records =
     frame_room (framed_columns (record options { selection = record options.selection { has_header = true; limit = None; is_numbered = is_numbered }; look = record bold { expansion = expansion } }) records)
 
--- `|_a_|_b_|_c_|` are thirteen columns, and the numbers take four more
-unfolded : (options : Options) → options.selection.columns.items ≡ [] → room_by options Never false three_columns ≡ 13
-unfolded options none = ap (λ words. frame_room (most_chosen 3 words + 0)) none
+-- no word chooses a column, and none is left out
+IsAll : Options → Type 0
+IsAll options = (options.columns.chosen.items ≡ []) × (options.columns.dropped.items ≡ [])
 
-with_numbers : (options : Options) → options.selection.columns.items ≡ [] → room_by options Never true three_columns ≡ 17
-with_numbers options none = ap (λ words. frame_room (most_chosen 3 words + 1)) none
+-- so all three are drawn
+all_are_drawn : (options : Options) → IsAll options → (rows : List (List Text)) → count_of (codes "a" ∷ codes "b" ∷ codes "c" ∷ []) rows ≡ 3 → (more : ℕ) → frame_room (length (positions_in options (codes "a" ∷ codes "b" ∷ codes "c" ∷ []) rows) + more) ≡ frame_room (3 + more)
+all_are_drawn options (chosen, dropped) rows three more = rw chosen (rw dropped (rw three refl))
+
+-- `|_a_|_b_|_c_|` are thirteen columns, and the numbers take four more
+unfolded : (options : Options) → IsAll options → room_by options Never false three_columns ≡ 13
+unfolded options all = all_are_drawn options all ((codes "d" ∷ codes "e" ∷ []) ∷ []) refl 0
+
+with_numbers : (options : Options) → IsAll options → room_by options Never true three_columns ≡ 17
+with_numbers options all = all_are_drawn options all ((codes "d" ∷ codes "e" ∷ []) ∷ []) refl 1
 
 -- a name and a field take nine, and they are drawn where there is no room; but for a header alone
 expanded : (options : Options) → room_by options Always true three_columns ≡ 9
@@ -91,5 +94,5 @@ expanded options = refl
 expanded_at_need : (options : Options) → room_by options Auto true three_columns ≡ 9
 expanded_at_need options = refl
 
-only_names : (options : Options) → options.selection.columns.items ≡ [] → room_by options Auto false three_names ≡ 13
-only_names options none = ap (λ words. frame_room (most_chosen 3 words + 0)) none
+only_names : (options : Options) → IsAll options → room_by options Auto false three_names ≡ 13
+only_names options all = all_are_drawn options all [] refl 0
