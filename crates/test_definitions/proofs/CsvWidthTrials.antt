@@ -73,7 +73,7 @@ room_by options expansion is_numbered records =
     frame_room (framed_columns (record options { selection = record options.selection { has_header = true; limit = None; is_numbered = is_numbered }; look = record bold { expansion = expansion } }) records)
 
 -- no word chooses a column, and none is left out
-IsAll : Options → Type 0
+abbrev IsAll : Options → Type 0
 IsAll options = (options.columns.chosen.items ≡ []) × (options.columns.dropped.items ≡ [])
 
 -- so all three are drawn
