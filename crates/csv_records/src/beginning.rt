@@ -19,9 +19,10 @@ use std::alloc::{AllocError, Global};
 const LINE_FEED: u8 = b'\n';
 
 /// The first `most` records of an input of which these bytes were read, and how many these have,
-/// where their whole lines are enough: their text ends with a line feed and outside quotes, it has more records, and it shows
-/// what stands between fields. None where more has to be read, be it since no text ends there. An
-/// input in UTF-16 is read whole, and so is one that doesn't have more line feeds.
+/// where their whole lines are enough: their text ends with a line feed and outside quotes, it has
+/// more records, and it shows what stands between fields. None where more has to be read, be it
+/// since no text ends there. An input in UTF-16 is read whole, and so is one that doesn't have more
+/// line feeds.
 pub fn read_beginning(
     alloc: Global,
     read: &[u8],
