@@ -1,5 +1,5 @@
 -- What is written for arguments keeps to their width.
-use Rattle.std.proofs.Common.{◌≡◌, ◌≤◌, ◌<◌, ◌==◌, ◌||◌, ◌⊎◌, inl, inr, ℕ, zero, suc, ◌+◌, Bool, true, false, not, List, [], ◌∷◌, ◌++◌, Option, Some, flat_map, length, map, max, nat_lt, unwrap_or, refl, sym, ap, ap₂, ◌∙◌, subst, arith}
+use Rattle.std.proofs.Common.{◌≡◌, ◌≤◌, ◌<◌, ◌==◌, ◌||◌, ◌⊎◌, inl, inr, ℕ, zero, suc, ◌+◌, Bool, true, false, not, List, [], ◌∷◌, ◌++◌, Option, Some, flat_map, length, max, nat_lt, unwrap_or, refl, sym, ap, ap₂, ◌∙◌, subst, arith}
 use Rattle.std.specs.List.{All, slice_index_or}
 use Rattle.std.specs.Prelude.{Contains, if◌then◌else◌, sum_by, take}
 use Rattle.std.proofs.lemmas.List.{length-map}
@@ -18,7 +18,7 @@ use Rattle.csv_command.specs.declared.arguments.Invocation.{Invocation}
 use Rattle.csv_command.specs.declared.arguments.OutputContext.{OutputContext}
 use Rattle.csv_tables.proofs.LineLemmas.{IsKept, drawn, drawn_table, expansion, is_table_text, output_keeps_to, with_lines}
 use Rattle.csv_tables.proofs.StraightLemmas.{clear, narrow_lines}
-use Rattle.csv_tables.specs.Drawn.{ContentValue, RendersAsTable, RendersRecords, drawn_fields, drawn_rows, first_number, fitting_content, has_room_for, is_expanded_in, output_table, pair_columns, pairs_in, separated_table, some_lines, table_text}
+use Rattle.csv_tables.specs.Drawn.{ContentValue, RendersAsTable, RendersRecords, drawn_fields, first_number, fitting_content, has_room_for, is_expanded_in, output_table, pair_columns, pairs_in, separated_table, some_lines, table_text}
 use Rattle.csv_tables.specs.Cells.{field_or_blank, held, pair_for}
 use Rattle.csv_tables.specs.Columns.{name_from}
 use Rattle.csv_tables.specs.declared.options.DrawnColumn.{DrawnColumn}

@@ -1,7 +1,7 @@
 -- Lines that the promise on a width refuses, lines that it allows, and the columns of frames.
 use Rattle.std.proofs.Common.{◌≡◌, ◌⊎◌, inl, inr, ◌≤◌, ◌+◌, ℕ, Bool, true, false, List, [], ◌∷◌, None, arith, codes, length, refl, sym, ap, ◌∙◌, subst}
 use Rattle.std.specs.List.{All, slice_split}
-use Rattle.std.specs.Prelude.{◌==◌}
+use Rattle.std.specs.Prelude.{◌==◌, String, string_bytes}
 use Rattle.std.proofs.lemmas.List.Elements.{All-head}
 use Rattle.comfy_parts.specs.Text.{Text, measure}
 use Rattle.csv_tables.specs.declared.options.Expansion.{Expansion}
@@ -9,7 +9,7 @@ use Rattle.csv_tables.specs.declared.options.Expansion.TheVariants.{Always, Auto
 use Rattle.csv_command.specs.declared.arguments.Options.{Options}
 use Rattle.csv_tables.specs.Columns.{count_of}
 use Rattle.promises.specs.Shown.Shows.{byte, nothing}
-use Rattle.csv_promises.specs.Fields.{positions_in}
+use Rattle.csv_promises.specs.Fields.{positions_by, positions_in}
 use Rattle.csv_promises.specs.Straight.{CountsRecords}
 use Rattle.csv_promises.specs.Width.{KeepToWidth, KeepsTo, frame_room, framed_columns}
 use Rattle.test_definitions.proofs.CsvPromiseTrials.{bold, no_count, one_column, two_columns}
@@ -66,6 +66,13 @@ three_names = (codes "a" ∷ codes "b" ∷ codes "c" ∷ []) ∷ []
 -- two fields below three names
 abbrev three_columns : List (List Text)
 three_columns = (codes "a" ∷ codes "b" ∷ codes "c" ∷ []) ∷ (codes "d" ∷ codes "e" ∷ []) ∷ []
+
+-- a name chooses one of three columns, an open range those from one on
+one_name : {A : Type 0} (word : String A) → string_bytes word ≡ codes "b" → positions_by (codes "a" ∷ codes "b" ∷ codes "c" ∷ []) 3 (word ∷ []) ≡ 1 ∷ []
+one_name word is = rw is refl
+
+range : {A : Type 0} (word : String A) → string_bytes word ≡ codes "b-" → positions_by (codes "a" ∷ codes "b" ∷ codes "c" ∷ []) 3 (word ∷ []) ≡ 1 ∷ 2 ∷ []
+range word is = rw is refl
 
 -- what a frame takes under a header
 abbrev room_by : Options → Expansion → Bool → List (List Text) → ℕ
