@@ -1,6 +1,8 @@
+mod ColumnLemmas
 pub mod ExpandedLemmas
 pub mod FieldLemmas
 pub mod FilledLemmas
+mod FrameLemmas
 pub mod LineLemmas
 mod MessageLemmas
 pub mod OutputFieldLemmas
@@ -10,3 +12,4 @@ pub mod RecordLemmas
 pub mod ResultLemmas
 pub mod ShownTableLemmas
 pub mod StraightLemmas
+mod WidthLemmas

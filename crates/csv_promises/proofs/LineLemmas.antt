@@ -13,7 +13,7 @@ use Rattle.comfy_table.specs.Laws.{AreLinesOf, HasNoBreak, HasNoControl}
 use Rattle.csv_tables.proofs.FieldLemmas.{printable_unbroken}
 use Rattle.csv_tables.proofs.OutputControlLemmas.{counts_are_printable}
 use Rattle.csv_tables.specs.Drawn.{ContentValue, are_more, count_text, note_for, record_line}
-use Rattle.csv_tables.specs.Laws.{HasLines, IsStraightOutput, numbered_lines}
+use Rattle.csv_tables.specs.Laws.{HasLines, IsOutputWith, IsStraightOutput, numbered_lines}
 use Rattle.csv_tables.specs.declared.options.Layout.{Layout}
 use Rattle.promises.proofs.ShownLemmas.{shows_visible}
 use Rattle.promises.specs.Shown.{ShowsColumns}
@@ -31,7 +31,7 @@ lines_append text other lines others own more =
 one_line : (line : Text) → HasNoBreak line → AreLinesOf (line ++ 0x0A ∷ []) (line ∷ [])
 one_line line none = record { joined = sym (append-nil (line ++ 0x0A ∷ [])); unbroken = All-cons HasNoBreak line [] none (All-nil HasNoBreak) }
 
-no_lines : AreLinesOf [] []
+pub no_lines : AreLinesOf [] []
 no_lines = record { joined = refl; unbroken = All-nil HasNoBreak }
 
 counted_unbroken : (before : Text) (n : ℕ) (m : Option ℕ) (behind : Text) → is_printable_ascii before ≡ true → is_printable_ascii behind ≡ true → HasNoBreak (counted before n m behind)
@@ -39,15 +39,13 @@ counted_unbroken before n m behind first last = printable_unbroken (counted befo
 
 -- ---- lines of outputs
 
-module _ (columns : ℕ) where
-  abbrev IsGood : Text → Type 0
-  IsGood line = CountsRecords line ⊎ ShowsColumns columns line
-
+-- lines that are good, as all that count records are
+module _ (IsGood : Text → Type 0) (counts : (line : Text) → CountsRecords line → IsGood line) where
   -- a text with such lines
-  record HasGoodLines (text : Text) : Type 0 where
-    lines : List Text
-    are : AreLinesOf text lines
-    good : All IsGood lines
+  pub record HasGoodLines (text : Text) : Type 0 where
+    pub lines : List Text
+    pub are : AreLinesOf text lines
+    pub good : All IsGood lines
 
   both : (text other : Text) → HasGoodLines text → HasGoodLines other → HasGoodLines (text ++ other)
   both text other own more =
@@ -60,7 +58,7 @@ module _ (columns : ℕ) where
       record {
         lines = line ∷ [];
         are = subst (λ (t : Text). AreLinesOf (t ++ 0x0A ∷ []) (line ∷ [])) (append-nil (((codes "record " ++ decimal n) ++ codes " of ") ++ count_text m)) (one_line line (counted_unbroken (codes "record ") n m [] refl refl));
-        good = All-cons IsGood line [] (inl (n, m, inl refl)) (All-nil IsGood);
+        good = All-cons IsGood line [] (counts line (n, m, inl refl)) (All-nil IsGood);
       }
 
   -- and that on further records
@@ -76,7 +74,7 @@ module _ (columns : ℕ) where
           record {
             lines = line ∷ [];
             are = subst (λ (t : Text). AreLinesOf t (line ∷ [])) (append_assoc ((decimal limit ++ codes " of ") ++ count_text count) (codes " records") (0x0A ∷ [])) (one_line line (counted_unbroken [] limit count (codes " records") refl refl));
-            good = All-cons IsGood line [] (inl (limit, count, inr refl)) (All-nil IsGood);
+            good = All-cons IsGood line [] (counts line (limit, count, inr refl)) (All-nil IsGood);
           }
 
       by_test : (b : Bool) → HasGoodLines (if b then [] ++ (((decimal limit ++ codes " of ") ++ count_text count) ++ codes " records\n") else [])
@@ -102,23 +100,27 @@ module _ (columns : ℕ) where
           both (numbered_lines content.count parts at) (flat_map (numbered_lines content.count parts) places)
           (both (record_line (at + 1) content.count) (terminated_text_of (parts at)) (record_counts (at + 1) content.count) (part at)) (records places)
 
+  -- the output of a table, with the line on further records
+  pub output_lines : (known : Option ℕ) (layout : Layout) (records : List (List Text)) (output : Text) (lines : List Text) → layout.look.is_markdown ≡ false → IsOutputWith known layout records output lines → All IsGood lines → HasGoodLines output
+  output_lines known layout records output lines none made good =
+      let limit = layout.selection.limit in
+      subst HasGoodLines (sym made.joined)
+      (both made.text (note_for layout.look.is_markdown limit made.content.count) (table_lines made.is_expanded made.content lines made.text made.has_lines good)
+      (subst (λ (b : Bool). HasGoodLines (note_for b limit made.content.count)) (sym none) (note_counts limit made.content.count)))
+
 -- what is visible of a line without control characters is shown
-shown_line : (columns : ℕ) (line : Text) → HasNoControl (visible_text line) → measure (visible_text line) ≡ columns → ShowsColumns columns line
+pub shown_line : (columns : ℕ) (line : Text) → HasNoControl (visible_text line) → measure (visible_text line) ≡ columns → ShowsColumns columns line
 shown_line columns line none is =
     (visible_text line, shows_visible (suc (length line)) line (omega arith) (none_by_characters is_control 0x1B (omega arith) refl (visible_text line) none), is)
 
 -- an output that isn't for Markdown is straight where its lines without their sequences are
 pub straight_text : (known : Option ℕ) (layout : Layout) (records : List (List Text)) (output : Text) → layout.look.is_markdown ≡ false → IsStraightOutput true known layout records output → IsStraight output
 straight_text known layout records output none is =
-    let made = is.is_output in
     let columns = is.equally_wide.0 in
+    let IsGood = λ (line : Text). CountsRecords line ⊎ ShowsColumns columns line in
     let seen = All-of_map (λ (line : Text). measure line ≡ columns) visible_text is.lines is.equally_wide.1 in
     let clear = All-of_map HasNoControl visible_text is.lines (is.clear refl) in
-    let good : All (λ (line : Text). CountsRecords line ⊎ ShowsColumns columns line) is.lines = λ k default below. inr (shown_line columns _ (clear k default below) (seen k default below)) in
-    let whole =
-    both columns made.text (note_for layout.look.is_markdown layout.selection.limit made.content.count) (table_lines columns made.is_expanded made.content is.lines made.text made.has_lines good)
-    (subst (λ (b : Bool). HasGoodLines columns (note_for b layout.selection.limit made.content.count)) (sym none) (note_counts columns layout.selection.limit made.content.count)) in
-    let own : HasGoodLines columns output = subst (HasGoodLines columns) (sym made.joined) whole in
+    let own = output_lines IsGood (λ line. inl) known layout records output is.lines none is.is_output (λ k default below. inr (shown_line columns _ (clear k default below) (seen k default below))) in
     record { lines = own.lines; are = own.are; columns = columns; show = own.good }
 
 -- nothing is straight

@@ -1,7 +1,8 @@
 -- The positions of the columns that are drawn are those that the words of options choose.
-use Rattle.std.proofs.Common.{◌≡◌, ◌==◌, ℕ, Bool, true, false, List, [], ◌∷◌, ◌++◌, Option, Some, None, Result, Ok, Err, fold, length, sym, ap, ap₂, ◌∙◌, append-nil, append_assoc, refl}
+use Rattle.std.proofs.Common.{◌≡◌, ◌==◌, ◌≤◌, ℕ, Bool, true, false, List, [], ◌∷◌, ◌++◌, Option, Some, None, Result, Ok, Err, fold, length, sym, ap, ap₂, ◌∙◌, append-nil, append_assoc, arith, refl, subst}
 use Rattle.std.specs.List.{range_with_len}
 use Rattle.std.specs.Prelude.{String, if◌then◌else◌, ok_or, option_map, string_bytes, unwrap_or}
+use Rattle.std.proofs.lemmas.Bool.Decides.{nat_tests}
 use Rattle.comfy_parts.specs.Text.{Text}
 use Rattle.csv_command.specs.Columns.{ColumnFault, at_two_sides, chosen_columns, columns_chosen, columns_with, joined, kept_columns, less, positions_between, positions_of, placed_columns, positions_of_word, some_left, without}
 use Rattle.csv_command.specs.Columns.ColumnFault.{missing, none_left}
@@ -52,6 +53,19 @@ kept_positions {A} names count words dropped kept is = by_lists (chosen_columns 
     by_lists (Ok ps) (Ok qs) all some is = left_as_they_are (without ps qs) kept is ∙ ap₂ (λ (a b : List ℕ). without a b) (all ps refl) (some qs refl)
     by_lists (Ok ps) (Err fault) all some is = absurd (cc is)
     by_lists (Err fault) left all some is = absurd (cc is)
+
+-- there is one
+some_are_left : (chosen dropped : Result (List ℕ) ColumnFault) (kept : List ℕ) → less chosen dropped ≡ Ok kept → 1 ≤ length kept
+some_are_left (Err fault) dropped kept is = absurd (cc is)
+some_are_left (Ok ps) (Err fault) kept is = absurd (cc is)
+some_are_left (Ok ps) (Ok qs) kept is = by_test (length (without ps qs) == 0) refl is
+  where
+    by_test : (b : Bool) → (length (without ps qs) == 0) ≡ b → (if b then Err none_left else Ok (without ps qs)) ≡ Ok kept → 1 ≤ length kept
+    by_test true test is = absurd (cc is)
+    by_test false test is = let same : without ps qs ≡ kept = cc is in subst (λ (own : List ℕ). 1 ≤ length own) same (grind (arith, nat_tests, test))
+
+pub some_kept : {A : Type 0} (names : List Text) (count : ℕ) (words dropped : List (String A)) (kept : List ℕ) → kept_columns names count words dropped ≡ Ok kept → 1 ≤ length kept
+some_kept names count words dropped kept is = some_are_left (chosen_columns names count words) (positions_of names count dropped) kept is
 
 placed : (names : List Text) (made columns : ColumnsValue) (fault : Option ℕ) → placed_columns names made fault ≡ Ok columns → made ≡ columns
 placed names made columns (Some p) is = absurd (cc is)

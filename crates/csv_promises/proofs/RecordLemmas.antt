@@ -45,10 +45,14 @@ pub table_has_columns : (is_expanded : Bool) (look : Look) (content : ContentVal
 table_has_columns true look content = rows_have_columns (flat_map (pairs_in look content) content.rows) (empty_table look) (All-nil (HasColumns (empty_table look)))
 table_has_columns false look content = rows_have_columns (map (row_for look content.columns) content.rows) (headed_table look content.columns content.names) (header_has_columns look content.columns content.names)
 
--- further rows leave the header as it is
+-- further rows leave the header as it is, and take no column away
 pub with_rows-header : (rows : List RowValue) (t : TableValue) → (with_rows rows t).header ≡ t.header
 with_rows-header [] t = refl
 with_rows-header (row ∷ rows) t = with_rows-header rows (with_row row t)
+
+pub with_rows-columns : (n : ℕ) (rows : List RowValue) (t : TableValue) → n ≤ length t.columns → n ≤ length (with_rows rows t).columns
+with_rows-columns n [] t own = own
+with_rows-columns n (row ∷ rows) t own = with_rows-columns n rows (with_row row t) (omega (arith, own, no_fewer_columns (length row.cells) t.columns))
 
 -- ---- records
 

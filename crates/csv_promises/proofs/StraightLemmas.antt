@@ -1,5 +1,5 @@
 -- What is written for arguments is straight: where no character takes more than one terminal column, or where no width is kept to.
-use Rattle.std.proofs.Common.{ap, ◌≡◌, ◌==◌, ◌&&◌, ◌||◌, inl, ℕ, Bool, true, false, not, List, [], ◌∷◌, Option, Some, None, is_some, arith, chars, nat_le, refl, sym, ◌∙◌, subst, inr, ◌++◌}
+use Rattle.std.proofs.Common.{ap, ◌≡◌, ◌==◌, ◌&&◌, ◌||◌, inl, ℕ, Bool, true, false, not, List, [], ◌∷◌, Option, Some, None, is_some, append-nil, arith, chars, nat_le, refl, sym, ◌∙◌, subst, inr, ◌++◌}
 use Rattle.std.specs.Char.{is_control}
 use Rattle.std.specs.List.{All, list_any}
 use Rattle.std.specs.Prelude.{encode_utf8, if◌then◌else◌}
@@ -38,12 +38,13 @@ use Rattle.csv_tables.proofs.MarkdownWidthLemmas.{whole_is_straight}
 use Rattle.csv_tables.proofs.StraightLemmas.{IsShort, narrow_is_straight, empty_is_short}
 use Rattle.csv_command.proofs.StyleColumnLemmas.{parsed_style_is_one_column, parsed_style_without_controls}
 use Rattle.csv_tables.proofs.TextTableLemmas.{EachLine}
-use Rattle.csv_tables.specs.Drawn.{RendersRecords, count_below}
-use Rattle.csv_command.specs.Drawn.{IsDrawnOf, RendersCounted, layout_with, most_drawn}
+use Rattle.csv_tables.specs.Drawn.{count_below, drawn_rows, limited, names_of, records_below}
+use Rattle.csv_command.specs.Drawn.{IsDrawnOf, RendersChosen, RendersCounted, layout_with, most_drawn}
 use Rattle.csv_tables.specs.Laws.{ArePlainLines, EachText}
 use Rattle.promises.proofs.FittingLemmas.{text_fits}
 use Rattle.promises.specs.Tables.{HasCharactersWithin}
 use Rattle.csv_promises.proofs.LineLemmas.{nothing_is_straight, straight_text}
+use Rattle.csv_promises.proofs.RecordLemmas.{AreDrawnFirst, first_are_drawn}
 use Rattle.csv_promises.specs.Written.{IsWritten}
 use Rattle.csv_promises.specs.Straight.{EachField, IsPlainField, IsStraight}
 
@@ -101,67 +102,88 @@ module _ (arguments : List Text) (context : OutputContext) (invocation : Invocat
   abbrev options : Options
   options = invocation.options
 
+  abbrev h : Bool
+  h = options.selection.has_header
+
   clear : IsStyleWithoutControls options.look.style
   clear = parsed_style_without_controls arguments context invocation is.is_asked
 
-  one_column : IsOneColumnStyle options.look.style
+  pub one_column : IsOneColumnStyle options.look.style
   one_column = parsed_style_is_one_column arguments context invocation is.is_asked
 
   texts : All AllText records
   texts = is.are.are_records.are_records.are_text
 
-  -- P holds of fields of records, and an output for these by such a look is straight
-  abbrev Law : (Text → Type 0) → Type 0
-  Law P = (count : Option ℕ) (o : Layout) → o.look ≡ options.look → (rs : List (List Text)) → All AllText rs → EachField P rs → RendersRecords count o rs output → IsStraight output
+  -- the output is drawn of these, as many as are drawn: of all records, or of the first ones
+  pub record IsDrawnBy (known : Option ℕ) (rs : List (List Text)) : Type 0 where
+    pub text : All AllText rs
+    pub made : RendersChosen known options rs output
+    pub more : List (List Text)
+    pub front : records ≡ rs ++ more
+    pub names : names_of h rs ≡ names_of h records
+    pub rows : drawn_rows options.selection rs ≡ drawn_rows options.selection records
 
-  -- so an output is straight that is written of the whole input, or of a beginning that is enough
-  by_extent : (P : Text → Type 0) → Law P → EachField P records → IsStraight output
-  by_extent P law each = by_made is.made
+  -- it is nothing, or so drawn
+  pub by_extent : (Good : Type 0) → (output ≡ [] → Good) → ((known : Option ℕ) (rs : List (List Text)) → IsDrawnBy known rs → Good) → Good
+  by_extent Good empty law = by_made is.made
     where
-      any : (rs : List (List Text)) → RendersCounted options rs output → All AllText rs → EachField P rs → IsStraight output
-      any [] nothing text fields = subst IsStraight (sym nothing) nothing_is_straight
-      any (r ∷ rs) drawn text fields = law (Some (count_below options.selection (r ∷ rs))) (layout_with options drawn.columns) refl (r ∷ rs) text fields drawn.is_output
+      any : (rs : List (List Text)) → records ≡ rs → RendersCounted options rs output → Good
+      any [] same nothing = empty nothing
+      any (r ∷ rs) same drawn =
+          law (Some (count_below options.selection (r ∷ rs))) (r ∷ rs)
+          (record { text = subst (All AllText) same texts; made = drawn; more = []; front = same ∙ sym (append-nil (r ∷ rs)); names = ap (names_of h) (sym same); rows = ap (drawn_rows options.selection) (sym same) })
 
-      by_made : IsDrawnOf options input output → IsStraight output
-      by_made (inl (none, made)) = any records (subst (λ (rs : List (List Text)). RendersCounted options rs output) (read_is_one options.input input made.records records made.are_records is.are) made.is_output) texts each
+      by_made : IsDrawnOf options input output → Good
+      by_made (inl (none, made)) = any records refl (subst (λ (rs : List (List Text)). RendersCounted options rs output) (read_is_one options.input input made.records records made.are_records is.are) made.is_output)
       by_made (inr (n, asked, made)) =
           let beginning = whole_lines (asked_front n input) in
           let parts = beginning_parts n input in
-          let are = made.are_enough.are in
-          let found = first_records_stay options.input (most_drawn options.selection.has_header made.are_enough.has_limit.limit) beginning parts.0 made.records records are (subst (λ (t : Text). AreRecordsFor options.input t records) parts.1 is.are) in
-          law None (layout_with options made.is_output.columns) refl made.records are.are_records.are_records.are_text (All-front (All P) made.records found.0 (subst (All (All P)) found.1 each)) made.is_output.is_output
+          let enough = made.are_enough in
+          let limit = enough.has_limit.limit in
+          let found = first_records_stay options.input (most_drawn h limit) beginning parts.0 made.records records enough.are (subst (λ (t : Text). AreRecordsFor options.input t records) parts.1 is.are) in
+          let first : AreDrawnFirst h limit made.records records = subst (AreDrawnFirst h limit made.records) (sym found.1) (first_are_drawn h limit made.records found.0 enough.are.more) in
+          law None made.records
+          (record {
+            text = enough.are.are_records.are_records.are_text;
+            made = made.is_output;
+            more = found.0;
+            front = found.1;
+            names = first.names;
+            rows = subst (λ (l : Option ℕ). limited l (records_below h made.records) ≡ limited l (records_below h records)) (sym enough.has_limit.is) first.rows;
+          })
 
-  -- by a look that arguments ask for
-  module _ (count : Option ℕ) (o : Layout) (same : o.look ≡ options.look) (rs : List (List Text)) (text : All AllText rs) where
-    own_unkept : o.look.has_sequences ≡ false
-    own_unkept = ap (λ (l : Look). l.has_sequences) same ∙ is.unkept
+  module _ (known : Option ℕ) (rs : List (List Text)) (by : IsDrawnBy known rs) where
+    abbrev layout : Layout
+    layout = layout_with options by.made.columns
 
-    own_table : o.look.is_markdown ≡ false
-    own_table = ap (λ (l : Look). l.is_markdown) same ∙ is.no_markdown
+    pub plain : ArePlainLines true options.look rs
+    plain = record { seen = (clear, by.text); unbroken = unbroken_without options.look.style clear; no_sequences = is.unkept }
 
-    own_clear : IsStyleWithoutControls o.look.style
-    own_clear = subst (λ (l : Look). IsStyleWithoutControls l.style) (sym same) clear
+    -- what holds of all fields holds of those that are drawn
+    own_fields : (P : Text → Type 0) → EachField P records → EachField P rs
+    own_fields P each = All-front (All P) rs by.more (subst (All (All P)) by.front each)
 
-    own_columns : IsOneColumnStyle o.look.style
-    own_columns = subst (λ (l : Look). IsOneColumnStyle l.style) (sym same) one_column
+    pub own_fit : EachField (HasCharactersWithin 1) records → EachText (CharactersFit 1) options.look rs
+    own_fit each = fields_fit options.look is.unkept is.no_markdown rs by.text (own_fields (HasCharactersWithin 1) each)
 
-    plain : ArePlainLines true o.look rs
-    plain = record { seen = (own_clear, text); unbroken = unbroken_without o.look.style own_clear; no_sequences = own_unkept }
+    narrow_law : EachField (HasCharactersWithin 1) records → IsStraight output
+    narrow_law each = straight_text known layout rs output is.no_markdown (narrow_is_straight true known layout rs output is.no_markdown one_column plain (own_fit each) by.made.is_output)
 
-    narrow_law : EachField (HasCharactersWithin 1) rs → RendersRecords count o rs output → IsStraight output
-    narrow_law each made = straight_text count o rs output own_table (narrow_is_straight true count o rs output own_table own_columns plain (fields_fit o.look own_unkept own_table rs text each) made)
+    whole_law : options.look.width ≡ None → options.look.max_height ≡ None → EachField IsPlainField records → IsStraight output
+    whole_law no_width uncut each =
+        straight_text known layout rs output is.no_markdown
+        (whole_is_straight true known layout rs output one_column plain no_width (inl uncut) (plain_fields_are_short options.look is.unkept is.no_markdown rs by.text (own_fields IsPlainField each)) by.made.is_output)
 
-    whole_law : options.look.width ≡ None → options.look.max_height ≡ None → EachField IsPlainField rs → RendersRecords count o rs output → IsStraight output
-    whole_law no_width uncut each made =
-        straight_text count o rs output own_table (whole_is_straight true count o rs output own_columns plain (ap (λ (l : Look). l.width) same ∙ no_width) (inl (ap (λ (l : Look). l.max_height) same ∙ uncut)) (plain_fields_are_short o.look own_unkept own_table rs text each) made)
+  nothing : output ≡ [] → IsStraight output
+  nothing empty = subst IsStraight (sym empty) nothing_is_straight
 
   -- where no character takes more than one terminal column
   pub narrow_for : EachField (HasCharactersWithin 1) records → IsStraight output
-  narrow_for each = by_extent (HasCharactersWithin 1) narrow_law each
+  narrow_for each = by_extent (IsStraight output) nothing (λ known rs by. narrow_law known rs by each)
 
   -- and where no width is kept to and no row is cut
   pub whole_for : options.look.width ≡ None → options.look.max_height ≡ None → EachField IsPlainField records → IsStraight output
-  whole_for no_width uncut each = by_extent IsPlainField (λ count o same rs text fields made. whole_law count o same rs text no_width uncut fields made) each
+  whole_for no_width uncut each = by_extent (IsStraight output) nothing (λ known rs by. whole_law known rs by no_width uncut each)
 
 -- what isn't some is none
 pub none_where : {A : Type 0} (o : Option A) → false ≡ is_some o → o ≡ None

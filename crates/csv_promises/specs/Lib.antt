@@ -1,4 +1,5 @@
 pub mod Fields
 pub mod Messages
 pub mod Straight
+pub mod Width
 pub mod Written

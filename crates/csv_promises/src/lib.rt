@@ -6,3 +6,4 @@
 pub mod harmless;
 pub mod kept;
 pub mod straight;
+pub mod width;

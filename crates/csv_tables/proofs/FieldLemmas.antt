@@ -19,7 +19,6 @@ use Rattle.comfy_table.specs.Laws.{HasNoBreak}
 use Rattle.csv_records.proofs.CleaningLemmas.{drawn_so, none_replaced}
 use Rattle.csv_tables.specs.Cells.{field_text, marked, unless_blank}
 use Rattle.csv_records.specs.Cleaning.{cleaned}
-use Rattle.csv_tables.specs.Laws.{PrintableFieldsStay}
 use Rattle.csv_tables.specs.Markdown.{escaped, escaped_after, escaped_character, is_marked_at, is_special}
 use Rattle.csv_tables.specs.declared.options.Look.{Look}
 use Rattle.csv_tables.proofs.BlankLemmas.{unless_blank-keeps}
@@ -66,9 +65,6 @@ marked_stays text printable =
 whole_line : (text : Text) → is_printable_ascii text ≡ true → (plain_cell text).text_lines ≡ text ∷ []
 whole_line text printable = slice_split_none (λ b. b == 0x0A) text (All-none (λ b. b == 0x0A) text (printable_unbroken text printable))
 
-one_line : (text : Text) → is_printable_ascii text ≡ true → All (λ (line : Text). is_printable_ascii line ≡ true) (plain_cell text).text_lines
-one_line text printable = subst (All (λ (line : Text). is_printable_ascii line ≡ true)) (sym (whole_line text printable)) (All-cons (λ (line : Text). is_printable_ascii line ≡ true) text [] printable (All-nil (λ (line : Text). is_printable_ascii line ≡ true)))
-
 -- ---- numbers
 
 -- a number is printable
@@ -97,18 +93,6 @@ digits_are_few (suc k) n acc = by_test (n / 10 == 0) (digits_are_few k (n / 10) 
 pub number_is_short : (n : ℕ) → length (decimal n) ≤ 64
 unfolding digits
 number_is_short n = let few = digits_are_few 64 n [] in omega (arith, few)
-
--- ---- fields
-
-pub fields_stay : (look : Look) (field : Text) → PrintableFieldsStay look field
-fields_stay look field printable = one_line (field_text look field) (by_markdown look.is_markdown)
-  where
-    clean : (keeps : Bool) → is_printable_ascii (cleaned keeps field) ≡ true
-    clean keeps = ap is_printable_ascii (sym (drawn_so keeps field (IsUtf8-printable field printable) (none_replaced field printable))) ∙ printable
-
-    by_markdown : (is_markdown : Bool) → is_printable_ascii (if is_markdown then marked (cleaned false field) else unless_blank (cleaned look.has_sequences field)) ≡ true
-    by_markdown true = marked_stays (cleaned false field) (clean false)
-    by_markdown false = unless_blank-keeps (λ text. is_printable_ascii text ≡ true) (cleaned look.has_sequences field) refl (clean look.has_sequences)
 
 -- ---- short fields
 

@@ -103,7 +103,7 @@ whole_need table (b ∷ bs) (c ∷ cs) n (suc i) is below =
     let place : (n + 1) + i ≡ n + suc i = omega arith in
     subst (λ (j : ℕ). IsFixedAt (map (needs_of table) (enumerate_from (n + 1) (constrained_columns bs cs))) i (max 1 (column_content_width table j))) place (whole_need table bs cs (n + 1) i is (omega (arith, below)))
 
-same_length : (whole : List Bool) (columns : List ColumnValue) → length (constrained_columns whole columns) ≡ length columns
+pub same_length : (whole : List Bool) (columns : List ColumnValue) → length (constrained_columns whole columns) ≡ length columns
 same_length [] columns = refl
 same_length (b ∷ bs) [] = refl
 same_length (b ∷ bs) (c ∷ cs) = ap suc (same_length bs cs)

@@ -25,7 +25,6 @@ pub mod NumberedLemmas
 pub mod OneOutputLemmas
 pub mod OutputControlLemmas
 pub mod OutputLemmas
-pub mod PrintableTableLemmas
 pub mod ReachedLemmas
 pub mod RowLemmas
 pub mod SeenLemmas

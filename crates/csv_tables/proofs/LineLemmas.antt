@@ -25,7 +25,7 @@ use Rattle.csv_tables.proofs.SeparatorLemmas.{condensed-all, separated}
 use Rattle.csv_tables.proofs.WholeTableLemmas.{HasRoom, IsDrawn, drawn-is, drawn_table-is, least-fits, unconstrained-drawn, wider-fits}
 use Rattle.csv_tables.specs.Cells.{row_for}
 use Rattle.csv_tables.specs.Drawn.{ContentValue, RendersRecords, RendersAsTable, RendersContent, condensed_style, drawn_fields, empty_table, is_expanded_for, is_table_expanded, output_table, pairs_in, separated_table, some_lines, table_text}
-use Rattle.csv_tables.specs.Laws.{EachLineHas, HasLines, IsFilling, IsOutputWith, IsWithin, OutputFillsWidth, OutputKeepsToWidth}
+use Rattle.csv_tables.specs.Laws.{HasLines, IsOutputWith}
 use Rattle.csv_tables.specs.declared.options.Look.{Look}
 use Rattle.csv_tables.specs.declared.options.Layout.{Layout}
 
@@ -131,10 +131,6 @@ module _ (counted : Option ℕ) (layout : Layout) (records : List (List Text)) (
             (subst (HasLines text.is_expanded made.content (drawing_of_infos text.drawn.arranged.table text.drawn.arranged.infos)) (sym is)
             (drawn_lines text.is_expanded made.content text.drawn.arranged (subst (λ (u : TableValue). All HasNoBreak (drawing_of_infos u text.drawn.arranged.infos)) same unbroken)))
 
-    has_lines : (P : TableValue → ℕ → Type 0) → LineWidthsSatisfy (P drawn_table) drawn_table text.drawn.is_arranged.headline.widths → EachLineHas P counted layout records output
-    has_lines P counts =
-        record { lines = drawn; is_output = with_lines; table = drawn_table; is_table = (text.drawn.has_separators, ap (λ e. separated_table text.drawn.has_separators (output_table e layout.look made.content)) expansion); drawing = text.drawn.is_arranged.headline; counts = counts }
-
 -- ---- widths
 
 -- what follows for each count
@@ -146,60 +142,63 @@ weaker_counts P R table widths gives counts =
       straight_lines = λ is. All-weaker (λ line. P (measure line)) (λ line. R (measure line)) (λ line. gives (measure line)) (drawing (unstyled table) widths) (counts.straight_lines is);
     }
 
+-- a count keeps to a width, or to borders, paddings and one for each column; where the width is filled, it is exactly that; if a column is shown
+abbrev pub IsKept : ℕ → Bool → TableValue → ℕ → Type 0
+IsKept w is_filled table n = 0 < shown_count table → (n ≤ max w (least_total table)) × (is_filled ≡ true → n ≡ max w (least_total table))
+
 module _ (w : ℕ) (look : Look) (content : ContentValue) (table : TableValue) (known : IsDrawn look Any content table) (lines : List Text) (drawn : IsTableDrawing table lines) (wide : look.width ≡ Some w) where
   looks : table ≡ record (empty_table look) { columns = table.columns; header = table.header; rows = table.rows }
   looks = drawn-is look Any content table known
 
-  keeps : look.fills_width ≡ false → LineWidthsSatisfy (IsWithin w table) table drawn.widths
+  width : table_width table ≡ Some w
+  width = ap table_width looks ∙ rw wide refl
+
+  abbrev least : ℕ
+  least = max w (least_total table)
+
+  keeps : look.fills_width ≡ false → LineWidthsSatisfy (λ n. n ≤ least) table drawn.widths
   keeps kept = by_room (known.room w wide)
     where
       dynamic : table.arrangement ≡ Dynamic
       dynamic = ap (λ (t : TableValue). t.arrangement) looks ∙ rw (wide, kept) refl
 
-      width : table_width table ≡ Some w
-      width = ap table_width looks ∙ rw wide refl
-
-      by_room : (known.columns ≡ known.plain.columns) ⊎ HasRoom w table → LineWidthsSatisfy (IsWithin w table) table drawn.widths
+      by_room : (known.columns ≡ known.plain.columns) ⊎ HasRoom w table → LineWidthsSatisfy (λ n. n ≤ least) table drawn.widths
       by_room (inl none) = drawn.known_width.keeps_to_width w (unconstrained-drawn look Any content table known none) dynamic width
       by_room (inr room) =
           let found = drawn.known_width.keeps_to_wider_total w dynamic width in
           let fits = wider-fits w table room false found.0 (shown_contents table drawn.widths) found.1 in
-          weaker_counts (λ n. n ≤ max w (wider_total table found.0)) (IsWithin w table) table drawn.widths (λ n is. omega (arith, is, fits)) found.2
+          weaker_counts (λ n. n ≤ max w (wider_total table found.0)) (λ n. n ≤ least) table drawn.widths (λ n is. omega (arith, is, fits)) found.2
 
-  fills : look.fills_width ≡ true → LineWidthsSatisfy (IsFilling w table) table drawn.widths
-  fills filled = record { frame_lines = λ line some. (exact some).frame_lines line; printable_lines = λ is k default below some. (exact some).printable_lines is k default below; straight_lines = λ is k default below some. (exact some).straight_lines is k default below }
+  fills : look.fills_width ≡ true → 0 < shown_count table → LineWidthsSatisfy (λ n. n ≡ least) table drawn.widths
+  fills filled some = by_room (known.room w wide)
     where
       full : table.arrangement ≡ DynamicFullWidth
       full = ap (λ (t : TableValue). t.arrangement) looks ∙ rw (wide, filled) refl
 
-      width : table_width table ≡ Some w
-      width = ap table_width looks ∙ rw wide refl
-
-      by_room : (known.columns ≡ known.plain.columns) ⊎ HasRoom w table → 0 < shown_count table → LineWidthsSatisfy (λ n. n ≡ max w (least_total table)) table drawn.widths
-      by_room (inl none) some = drawn.known_width.fills_width w (unconstrained-drawn look Any content table known none) full width some
-      by_room (inr room) some =
+      by_room : (known.columns ≡ known.plain.columns) ⊎ HasRoom w table → LineWidthsSatisfy (λ n. n ≡ least) table drawn.widths
+      by_room (inl none) = drawn.known_width.fills_width w (unconstrained-drawn look Any content table known none) full width some
+      by_room (inr room) =
           let found = drawn.known_width.fills_wider_total w full width some in
           let fits = wider-fits w table room true found.0 (shown_contents table drawn.widths) found.1 in
-          weaker_counts (λ n. n ≡ max w (wider_total table found.0)) (λ n. n ≡ max w (least_total table)) table drawn.widths (λ n is. omega (arith, is, fits, least-fits w table room)) found.2
+          weaker_counts (λ n. n ≡ max w (wider_total table found.0)) (λ n. n ≡ least) table drawn.widths (λ n is. omega (arith, is, fits, least-fits w table room)) found.2
 
-      exact : 0 < shown_count table → LineWidthsSatisfy (λ n. n ≡ max w (least_total table)) table drawn.widths
-      exact = by_room (known.room w wide)
+  kept : (is_filled : Bool) → look.fills_width ≡ is_filled → LineWidthsSatisfy (IsKept w is_filled table) table drawn.widths
+  kept false is = weaker_counts (λ n. n ≤ least) (IsKept w false table) table drawn.widths (λ n within some. (within, λ filled. absurd (cc filled))) (keeps is)
+  kept true is = record { frame_lines = λ line some. exact _ ((fills is some).frame_lines line); printable_lines = λ all k default below some. exact _ ((fills is some).printable_lines all k default below); straight_lines = λ all k default below some. exact _ ((fills is some).straight_lines all k default below) }
+    where
+      exact : (n : ℕ) → n ≡ least → (n ≤ least) × (true ≡ true → n ≡ least)
+      exact n own = (omega (arith, own), λ same. own)
 
 -- a look with lines between rows or without them keeps its other settings
 pub kept_setting : {A : Type 0} (of : Look → A) (look : Look) → of (separated true look) ≡ of (separated false look) → (has : Bool) (a : A) → of look ≡ a → of (separated has look) ≡ a
 kept_setting of look same true a is = is
 kept_setting of look same false a is = sym same ∙ is
 
-pub keeps_to_width : (w : ℕ) (counted : Option ℕ) (layout : Layout) (records : List (List Text)) (output : Text) → OutputKeepsToWidth w counted layout records output
-keeps_to_width w counted layout records output none wide kept plain style made =
-    let text = is_table_text counted layout records output made none in
+-- so do the lines of an output
+pub output_keeps_to : (w : ℕ) (counted : Option ℕ) (layout : Layout) (records : List (List Text)) (output : Text) (made : RendersRecords counted layout records output) (text : RendersAsTable layout.look made.content made.text) (none : layout.look.is_markdown ≡ false) → layout.look.width ≡ Some w
+    → LineWidthsSatisfy (IsKept w layout.look.fills_width (drawn_table counted layout records output made text none)) (drawn_table counted layout records output made text none) text.drawn.is_arranged.headline.widths
+output_keeps_to w counted layout records output made text none wide =
     let look = layout.look in
-    has_lines counted layout records output made text none style (IsWithin w)
-    (keeps w (separated text.drawn.has_separators look) made.content _ (any_drawn look made.content text.is_expanded text.drawn.has_separators) _ text.drawn.is_arranged.headline (kept_setting (λ l. l.width) look refl text.drawn.has_separators (Some w) wide) (kept_setting (λ l. l.fills_width) look refl text.drawn.has_separators false kept))
-
-pub fills_width : (w : ℕ) (counted : Option ℕ) (layout : Layout) (records : List (List Text)) (output : Text) → OutputFillsWidth w counted layout records output
-fills_width w counted layout records output none wide filled plain style made =
-    let text = is_table_text counted layout records output made none in
-    let look = layout.look in
-    has_lines counted layout records output made text none style (IsFilling w)
-    (fills w (separated text.drawn.has_separators look) made.content _ (any_drawn look made.content text.is_expanded text.drawn.has_separators) _ text.drawn.is_arranged.headline (kept_setting (λ l. l.width) look refl text.drawn.has_separators (Some w) wide) (kept_setting (λ l. l.fills_width) look refl text.drawn.has_separators true filled))
+    let has = text.drawn.has_separators in
+    kept w (separated has look) made.content (drawn_table counted layout records output made text none) (any_drawn look made.content text.is_expanded has) (drawn counted layout records output made text none) text.drawn.is_arranged.headline (kept_setting (λ l. l.width) look refl has (Some w) wide) look.fills_width
+    (kept_setting (λ l. l.fills_width) look refl has look.fills_width refl)

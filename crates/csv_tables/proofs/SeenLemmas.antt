@@ -1,17 +1,16 @@
 -- Texts that add as many terminal columns as they have: the indicator of cut rows, and characters of one column.
-use Rattle.std.proofs.Common.{◌≡◌, ◌≤◌, ◌<◌, ◌==◌, ◌&&◌, ℕ, Bool, true, false, List, [], ◌∷◌, append-nil, arith, chars, length, nat_le, refl, sym, ap, ap₂, ◌∙◌, subst, tests}
+use Rattle.std.proofs.Common.{◌≡◌, ◌≤◌, ◌<◌, ◌==◌, ◌&&◌, ℕ, true, false, List, [], ◌∷◌, arith, chars, nat_le, refl, sym, ap, ap₂, ◌∙◌, subst, tests}
 use Rattle.std.specs.Int.{is_in_range}
 use Rattle.std.specs.List.{list_all}
-use Rattle.std.specs.Prelude.{encode_utf8, if◌then◌else◌, nat_lt}
+use Rattle.std.specs.Prelude.{encode_utf8}
 use Rattle.std.proofs.lemmas.Bool.{and_parts}
 use Rattle.std.proofs.lemmas.Bool.Decides.{nat_tests}
-use Rattle.std.proofs.lemmas.Str.{IsUtf8-nil, chars-IsAscii, chars-nil, chars_from_encodes, encode_ascii}
+use Rattle.std.proofs.lemmas.Str.{chars-IsAscii, encode_ascii}
 use lib.Utf8.{encode}
 use Rattle.cluster_width.specs.ClusterSums.{clashes, is_presentation, selectors_agree}
-use Rattle.comfy_parts.proofs.CallerLemmas.{IsUtf8-printable, ascii-printable, frame_adds, frame_apart, measure-nil, measure-printable}
+use Rattle.comfy_parts.proofs.CallerLemmas.{ascii-printable, frame_apart, measure-printable}
 use Rattle.comfy_parts.specs.Columns.{CharactersFit, IsApart, SelectorsAgree, character_fits}
-use Rattle.comfy_parts.specs.Text.{AddsOneColumnEach, Text, is_printable_ascii, measure}
-use Rattle.comfy_table.specs.Lines.{fitting_indicator}
+use Rattle.comfy_parts.specs.Text.{Text, is_printable_ascii, measure}
 use Rattle.comfy_table.specs.TableValue.{ellipsis}
 
 -- ---- the indicator
@@ -20,34 +19,6 @@ use Rattle.comfy_table.specs.TableValue.{ellipsis}
 pub ellipsis_is_apart : IsApart ellipsis
 unfolding encode
 ellipsis_is_apart = frame_apart 0x2026 [] refl
-
-ellipsis_is_one : measure ellipsis ≡ 1
-unfolding encode
-ellipsis_is_one = let none = measure-nil in let alone = frame_adds 0x2026 refl [] [] IsUtf8-nil in omega (arith, none, alone)
-
-ellipsis_characters : chars ellipsis ≡ 0x2026 ∷ []
-unfolding encode
-ellipsis_characters = sym (chars_from_encodes (0x2026 ∷ []) ellipsis (0x2026 ∷ [], (refl, refl)) refl)
-
--- it adds one column for its one character, and none where it has no room
-ellipsis_adds : AddsOneColumnEach ellipsis
-ellipsis_adds p printable =
-    let apart = ellipsis_is_apart p (IsUtf8-printable p printable) in
-    let own = measure-printable p printable in
-    let one : length (chars ellipsis) ≡ 1 = ap length ellipsis_characters in
-    omega (arith, apart, own, one, ellipsis_is_one)
-
-nothing_adds : AddsOneColumnEach []
-nothing_adds p printable =
-    let none : length (chars []) ≡ 0 = ap length chars-nil in
-    ap measure (append-nil p) ∙ measure-printable p printable ∙ omega (arith, none)
-
-pub fitting_ellipsis_adds : (w : ℕ) → AddsOneColumnEach (fitting_indicator w ellipsis)
-fitting_ellipsis_adds w = by_test (nat_lt w (measure ellipsis))
-  where
-    by_test : (b : Bool) → AddsOneColumnEach (if b then [] else ellipsis)
-    by_test true = nothing_adds
-    by_test false = ellipsis_adds
 
 -- ---- characters
 

@@ -15,7 +15,7 @@ use Rattle.comfy_table.proofs.WholeTableLemmas.{whole_lines_fit}
 use Rattle.comfy_table.specs.Arrangement.{width_kept}
 use Rattle.comfy_table.specs.Drawing.{drawing as drawn_over, infos_of}
 use Rattle.comfy_table.specs.FittingTables.{CharactersFitColumn, FitsByCharacters}
-use Rattle.comfy_table.specs.Headline.{IsTableDrawing}
+use Rattle.comfy_table.specs.Headline.{IsTableDrawing, LineWidthsSatisfy}
 use Rattle.comfy_table.specs.Laws.{HasNoControl, IsFreeOfControls, line_total, unstyled}
 use Rattle.comfy_table.specs.Lines.{cell_delimiter}
 use Rattle.comfy_table.specs.NewTables.{AreEquallyWide, IsShortRow}
@@ -34,8 +34,8 @@ use Rattle.csv_tables.proofs.WholeColumnLemmas.{IsPaddedColumn}
 use Rattle.csv_tables.proofs.WholeTableLemmas.{IsDrawn, columns-drawn, drawn-is, drawn_table-is, padded-drawn, rows-drawn, unconstrained-drawn}
 use Rattle.csv_tables.specs.Cells.{cell_for, field_or_blank, field_text, reached, with_weight}
 use Rattle.csv_records.specs.Cleaning.{visible_of}
-use Rattle.csv_tables.specs.Drawn.{ContentValue, RendersRecords, RendersAsTable, content_of, is_expanded_for, output_table, separated_table}
-use Rattle.csv_tables.specs.Laws.{ArePlainLines, AreSeen, CanBeCut, EachText, FittingOutputIsStraight, IsStraightOutput, IsDrawnTable, NarrowLinesHave, NarrowOutputIsStraight, WholeOutputIsStraight, seen_lines}
+use Rattle.csv_tables.specs.Drawn.{ContentValue, RendersRecords, RendersAsTable, content_of, output_table, separated_table}
+use Rattle.csv_tables.specs.Laws.{ArePlainLines, AreSeen, CanBeCut, EachText, FittingOutputIsStraight, IsStraightOutput, NarrowOutputIsStraight, WholeOutputIsStraight, seen_lines}
 use Rattle.csv_tables.specs.declared.options.Look.{Look}
 use Rattle.csv_tables.specs.declared.options.Layout.{Layout}
 use Rattle.csv_tables.specs.declared.options.DrawnColumn.{DrawnColumn}
@@ -310,6 +310,10 @@ module _ (visible : Bool) (counted : Option ℕ) (layout : Layout) (records : Li
       drawn_table-is look Q made.content text.is_expanded has
       (table_of_texts P empty own Q makes drawn (each_separated P look has drawn fitting) (number_drawn P gives own) text.is_expanded)
 
+  -- no control character is visible of its lines
+  pub clear : visible ≡ true → All HasNoControl (seen_lines visible lines)
+  clear = clear_lines visible own table lines headline seen
+
   -- the output is straight where its table is
   straight : (Q : RowValue → Type 0) → IsDrawn own Q made.content table → IsStraightTable table headline.widths → IsStraightOutput visible counted layout records output
   straight Q known is =
@@ -317,8 +321,22 @@ module _ (visible : Bool) (counted : Option ℕ) (layout : Layout) (records : Li
         lines = lines;
         is_output = with_lines counted layout records output made text none plain.unbroken;
         equally_wide = equally_wide own unkept (separated_is_one_column has look characters) made.content table lines headline Q known visible seen is;
-        clear = clear_lines visible own table lines headline seen;
+        clear = clear;
       }
+
+  -- where no character takes more than one terminal column
+  module _ (each : EachText (CharactersFit 1) layout.look records) where
+    narrow_known : IsDrawn own (IsDefaultRowOf (CharactersFit 1)) made.content table
+    narrow_known =
+        let empty : CharactersFit 1 [] = printable_fits [] refl in
+        of_texts (CharactersFit 1) empty (IsDefaultRowOf (CharactersFit 1)) (default_rows_of (CharactersFit 1) empty own) each (λ text printable few. printable_fits text printable)
+
+    narrow_table : IsStraightTable table headline.widths
+    narrow_table = narrow own unkept (separated_is_one_column has look characters) made.content table lines headline narrow_known
+
+    -- its lines are counted in terminal columns
+    pub narrow_lines : (P : ℕ → Type 0) → LineWidthsSatisfy P table headline.widths → All (λ line. P (measure line)) (seen_lines visible lines)
+    narrow_lines P counts = seen_all own unkept made.content table lines headline (IsDefaultRowOf (CharactersFit 1)) narrow_known visible seen (λ line. P (measure line)) (counts.straight_lines narrow_table)
 
 pub rows_are_straight : (visible : Bool) (counted : Option ℕ) (layout : Layout) (records : List (List Text)) (output : Text) → layout.look.is_markdown ≡ false → WholeOutputIsStraight visible counted layout records output
 rows_are_straight visible counted layout records output none characters plain no_width cut short made =
@@ -334,14 +352,7 @@ rows_are_straight visible counted layout records output none characters plain no
 
 pub narrow_is_straight : (visible : Bool) (counted : Option ℕ) (layout : Layout) (records : List (List Text)) (output : Text) → NarrowOutputIsStraight visible counted layout records output
 narrow_is_straight visible counted layout records output none characters plain each made =
-    let separators = has visible counted layout records output none characters plain made in
-    let own = separated separators layout.look in
-    let empty : CharactersFit 1 [] = printable_fits [] refl in
-    let known =
-    of_texts visible counted layout records output none characters plain made (CharactersFit 1) empty (IsDefaultRowOf (CharactersFit 1)) (default_rows_of (CharactersFit 1) empty own) each
-    (λ text printable few. printable_fits text printable) in
-    straight visible counted layout records output none characters plain made (IsDefaultRowOf (CharactersFit 1)) known
-    (narrow own (unkept visible counted layout records output none characters plain made) (separated_is_one_column separators layout.look characters) made.content _ _ (headline visible counted layout records output none characters plain made) known)
+    straight visible counted layout records output none characters plain made (IsDefaultRowOf (CharactersFit 1)) (narrow_known visible counted layout records output none characters plain made each) (narrow_table visible counted layout records output none characters plain made each)
 
 pub fitting_is_straight : (visible : Bool) (counted : Option ℕ) (layout : Layout) (records : List (List Text)) (output : Text) → FittingOutputIsStraight visible counted layout records output
 fitting_is_straight visible counted layout records output none characters plain fits made =
@@ -355,32 +366,3 @@ fitting_is_straight visible counted layout records output none characters plain 
     straight visible counted layout records output none characters plain made IsDefaultRow known
     (fitting own (unkept visible counted layout records output none characters plain made) (separated_is_one_column separators layout.look characters) made.content _ _ drawing IsDefaultRow known (λ row is. is)
     (fits made.content (drawn_table counted layout records output made text none) drawing.widths made.is_content (separators, ap (λ e. separated_table separators (output_table e layout.look made.content)) (expansion counted layout records output made text none)) drawing.arranged))
-
--- its lines are counted in terminal columns
-pub narrow_lines_have : (P : TableValue → ℕ → Type 0) (visible : Bool) (counted : Option ℕ) (layout : Layout) (records : List (List Text)) (output : Text) → NarrowLinesHave P visible counted layout records output
-narrow_lines_have P visible counted layout records output has none characters plain each = by_table has.is_table
-  where
-    look : Look
-    look = layout.look
-
-    content : ContentValue
-    content = has.is_output.content
-
-    by_table : IsDrawnTable look content has.table → All (λ line. P has.table (measure line)) (seen_lines visible has.lines)
-    by_table (separators, is) =
-        let Q = IsDefaultRowOf (CharactersFit 1) in
-        let own = separated separators look in
-        let is_expanded = is_expanded_for look content in
-        let unkept = kept_setting (λ l. l.has_sequences) look refl separators false plain.no_sequences in
-        let wide = separated_is_one_column separators look characters in
-        let empty : CharactersFit 1 [] = printable_fits [] refl in
-        let seen = subst (IsSeenTable visible own) (sym is) (seen_table counted layout records content has.is_output.is_content is_expanded separators visible plain.seen) in
-        let gives : HoldsOfShort (CharactersFit 1) = λ text printable few. printable_fits text printable in
-        let fields = each_content (All (EachLine (CharactersFit 1) look)) (lines_beside (CharactersFit 1) gives look) counted layout records content has.is_output.is_content each in
-        let drawn = drawn_content is_expanded look content in
-        let fitting = each_drawn (EachLine (CharactersFit 1) look) (short_drawn (CharactersFit 1) gives look) look plain.no_sequences content fields is_expanded in
-        let texts = each_separated (CharactersFit 1) look separators drawn fitting in
-        let built = table_of_texts (CharactersFit 1) empty own Q (default_rows_of (CharactersFit 1) empty own) drawn texts (number_drawn (CharactersFit 1) gives own) is_expanded in
-        let known = subst (IsDrawn own Q content) (sym is) (drawn_table-is look Q content is_expanded separators built) in
-        seen_all own unkept content has.table has.lines has.drawing Q known visible seen (λ line. P has.table (measure line))
-        (has.counts.straight_lines (narrow own unkept wide content has.table has.lines has.drawing known))

@@ -1,21 +1,19 @@
 -- What is so of every output.
 -- Source: this library's own.
-use Rattle.std.specs.Prelude.{◌≡◌, ◌⊎◌, ℕ, ◌+◌, ◌<◌, ◌≤◌, Bool, true, false, List, [], ◌∷◌, ◌++◌, Option, Some, None, All, Contains, flat_map, length, map, max, slice_get, slice_index}
+use Rattle.std.specs.Prelude.{◌≡◌, ◌⊎◌, ℕ, ◌+◌, ◌<◌, ◌≤◌, Bool, true, false, List, [], ◌∷◌, ◌++◌, Option, Some, None, All, Contains, flat_map, length, map, slice_get, slice_index}
 use Rattle.std.specs.List.{AllZip, range_with_len}
 use Rattle.comfy_parts.specs.CellValue.{CellValue, plain_cell}
 use Rattle.comfy_parts.specs.Columns.{CharactersFit, IsOneColumnStyle, SelectorsAgree}
-use Rattle.comfy_parts.specs.Text.{Text, is_printable_ascii, measure, spaces}
+use Rattle.comfy_parts.specs.Text.{Text, measure, spaces}
 use Rattle.comfy_parts.specs.VisibleText.{visible_text}
 use Rattle.comfy_parts.specs.Wrapping.{lines_of_text}
 use Rattle.comfy_table.specs.Arrangement.{IsArranged}
 use Rattle.comfy_table.specs.Drawing.{terminated_text_of}
 use Rattle.comfy_table.specs.FittingTables.{CharactersFitColumn}
-use Rattle.comfy_table.specs.Headline.{LineWidthsSatisfy, IsTableDrawing}
-use Rattle.comfy_table.specs.Laws.{AreLinesOf, HasNoBreak, HasNoControl, IsStyleWithout, count, least_total}
+use Rattle.comfy_table.specs.Laws.{AreLinesOf, HasNoBreak, HasNoControl, IsStyleWithout, count}
 use Rattle.comfy_table.specs.NewTables.{AreEquallyWide}
 use Rattle.comfy_table.specs.Straight.{EachCell}
 use Rattle.comfy_table.specs.TableValue.{TableValue, column_cells, column_content_width}
-use Rattle.comfy_table.specs.Widths.{shown_count}
 use Rattle.csv_tables.specs.Cells.{field_text}
 use Rattle.csv_records.specs.Cleaning.{visible_of}
 use Rattle.csv_records.specs.Decimals.{byte_of, digits_in, fraction_len, points_of, spaces_behind}
@@ -82,42 +80,6 @@ IsDrawnTable look content table =
     (has_separators : Bool) × (table
     ≡ separated_table has_separators (output_table (is_expanded_for look content) look content))
 
--- ---- widths of lines
-
--- an output has the lines of a drawing, and P holds of their counts
-pub record EachLineHas (P : TableValue → ℕ → Type 0) (counted : Option ℕ) (layout : Layout)
-    (records : List (List Text)) (output : Text) : Type 0 where
-  pub lines : List Text
-  pub is_output : IsOutputWith counted layout records output lines
-  pub table : TableValue
-  pub is_table : IsDrawnTable layout.look is_output.content table
-  pub drawing : IsTableDrawing table lines
-  pub counts : LineWidthsSatisfy (P table) table drawing.widths
-
--- a count keeps to a width, or to borders, paddings and one for each column
-abbrev pub IsWithin : ℕ → TableValue → ℕ → Type 0
-IsWithin w table n = n ≤ max w (least_total table)
-
--- a count is exactly that, where there is a column
-abbrev pub IsFilling : ℕ → TableValue → ℕ → Type 0
-IsFilling w table n = 0 < shown_count table → n ≡ max w (least_total table)
-
--- with a width, a frame line keeps to it
-abbrev pub OutputKeepsToWidth : ℕ → Option ℕ → Layout → List (List Text) → Text → Type 0
-OutputKeepsToWidth w counted layout records output =
-    layout.look.is_markdown ≡ false → layout.look.width ≡ Some w
-    → layout.look.fills_width ≡ false → layout.look.has_sequences ≡ false
-    → IsStyleWithout 0x0A layout.look.style → RendersRecords counted layout records output
-    → EachLineHas (IsWithin w) counted layout records output
-
--- where the width is filled, it fills it
-abbrev pub OutputFillsWidth : ℕ → Option ℕ → Layout → List (List Text) → Text → Type 0
-OutputFillsWidth w counted layout records output =
-    layout.look.is_markdown ≡ false → layout.look.width ≡ Some w
-    → layout.look.fills_width ≡ true → layout.look.has_sequences ≡ false
-    → IsStyleWithout 0x0A layout.look.style → RendersRecords counted layout records output
-    → EachLineHas (IsFilling w) counted layout records output
-
 -- ---- what is visible of lines
 
 -- lines are seen as they are written, where nothing is in bold; or without their sequences, where
@@ -135,14 +97,6 @@ pub record ArePlainLines (visible : Bool) (look : Look) (records : List (List Te
 -- lines as they are seen
 abbrev pub seen_lines : Bool → List Text → List Text
 seen_lines visible lines = map (visible_of visible) lines
-
--- then each line is counted too, where each field is printable ASCII
-abbrev pub PrintableLinesHave :
-    (TableValue → ℕ → Type 0) → Bool → Option ℕ → Layout → List (List Text) → Text → Type 0
-PrintableLinesHave P visible counted layout records output =
-    (has : EachLineHas P counted layout records output) → ArePlainLines visible layout.look records
-    → All (All (λ field. is_printable_ascii field ≡ true)) records
-    → All (λ line. P has.table (count line)) (seen_lines visible has.lines)
 
 -- ---- numbers and dates
 
@@ -243,15 +197,6 @@ NarrowOutputIsStraight visible counted layout records output =
     → RendersRecords counted layout records output
     → IsStraightOutput visible counted layout records output
 
--- and under every width each line is counted in terminal columns then
-abbrev pub NarrowLinesHave :
-    (TableValue → ℕ → Type 0) → Bool → Option ℕ → Layout → List (List Text) → Text → Type 0
-NarrowLinesHave P visible counted layout records output =
-    (has : EachLineHas P counted layout records output) → layout.look.is_markdown ≡ false
-    → IsOneColumnStyle layout.look.style → ArePlainLines visible layout.look records
-    → EachText (CharactersFit 1) layout.look records
-    → All (λ line. P has.table (measure line)) (seen_lines visible has.lines)
-
 -- each character of each text fits its column, for all widths that are arranged for the table
 abbrev pub CharactersFitEachWidth : Option ℕ → Layout → List (List Text) → Type 0
 CharactersFitEachWidth counted layout records =
@@ -266,12 +211,6 @@ FittingOutputIsStraight visible counted layout records output =
     → ArePlainLines visible layout.look records → CharactersFitEachWidth counted layout records
     → RendersRecords counted layout records output
     → IsStraightOutput visible counted layout records output
-
--- a field of printable ASCII is drawn as such text
-abbrev pub PrintableFieldsStay : Look → Text → Type 0
-PrintableFieldsStay look field =
-    is_printable_ascii field ≡ true
-    → All (λ text. is_printable_ascii text ≡ true) (plain_cell (field_text look field)).text_lines
 
 -- ---- control characters
 

@@ -4,7 +4,7 @@
 ghost use Rattle.std.specs.Prelude.{Bool, List, Option, ℕ};
 ghost use Rattle.comfy_parts.specs.Text.{Text};
 ghost use Rattle.csv_tables.specs.Drawn.{ContentValue};
-ghost use Rattle.csv_tables.specs.Laws.{AutoKeepsWhole, ExpandedKeepsWhole, FittingOutputIsStraight, IsFilling, IsWithin, MarkdownOutputIsStraight, MarksStandBelow, NarrowLinesHave, NarrowOutputIsStraight, NeverKeepsWhole, OutputFillsWidth, OutputHoldsNoControls, OutputIsOne, OutputKeepsToWidth, PrintableLinesHave, SpacesAloneAreAdded, WholeOutputIsStraight};
+ghost use Rattle.csv_tables.specs.Laws.{AutoKeepsWhole, ExpandedKeepsWhole, FittingOutputIsStraight, MarkdownOutputIsStraight, MarksStandBelow, NarrowOutputIsStraight, NeverKeepsWhole, OutputHoldsNoControls, OutputIsOne, SpacesAloneAreAdded, WholeOutputIsStraight};
 ghost use Rattle.csv_tables.specs.Markdown.{IsReadBack};
 ghost use Rattle.csv_tables.specs.MarkdownLines.{MarkdownGivesRecordsBack};
 ghost use Rattle.csv_tables.specs.declared.options.Look.{Look};
@@ -16,35 +16,6 @@ ghost use Rattle.csv_tables.specs.declared.options.Layout.{Layout};
 pub fn decimal_marks_stand_below_each_other()
     ensures spaces { (look : Look) (content : ContentValue) → SpacesAloneAreAdded look content }
     ensures marks { (fields : List Text) → MarksStandBelow fields }
-{}
-
-/// With a width, a frame line of an output that isn't for Markdown has at most as many characters,
-/// or as many as borders, paddings and one character for each column. Where the width is filled, it
-/// has exactly so many, where there is a column. So has each line where all fields are printable
-/// ASCII: as it is written, where nothing is in bold; or without its sequences, where no control
-/// character stands beside them. Sequences in fields are not kept, and no line feed is in the
-/// style. In terminal columns each line has so many where no character takes more than one, in a
-/// style of such characters. Where records are expanded, the lines that number them and the one on
-/// further records aren't among these lines.
-pub fn outputs_keep_to_a_width()
-    ensures dynamic { (w : ℕ)
-        (counted : Option ℕ) (layout : Layout) (records : List (List Text)) (output : Text)
-        → OutputKeepsToWidth w counted layout records output }
-    ensures full { (w : ℕ)
-        (counted : Option ℕ) (layout : Layout) (records : List (List Text)) (output : Text)
-        → OutputFillsWidth w counted layout records output }
-    ensures each_line { (w : ℕ) (visible : Bool)
-        (counted : Option ℕ) (layout : Layout) (records : List (List Text)) (output : Text)
-        → PrintableLinesHave (IsWithin w) visible counted layout records output }
-    ensures each_full_line { (w : ℕ) (visible : Bool)
-        (counted : Option ℕ) (layout : Layout) (records : List (List Text)) (output : Text)
-        → PrintableLinesHave (IsFilling w) visible counted layout records output }
-    ensures each_narrow_line { (w : ℕ) (visible : Bool)
-        (counted : Option ℕ) (layout : Layout) (records : List (List Text)) (output : Text)
-        → NarrowLinesHave (IsWithin w) visible counted layout records output }
-    ensures each_full_narrow_line { (w : ℕ) (visible : Bool)
-        (counted : Option ℕ) (layout : Layout) (records : List (List Text)) (output : Text)
-        → NarrowLinesHave (IsFilling w) visible counted layout records output }
 {}
 
 /// Under `auto` with a width no number and no date of a column of them is broken over lines, where

@@ -22,10 +22,10 @@ use Rattle.promises.specs.Tables.{EachText, HasPlainFrame, IsPlain}
 use Rattle.promises.specs.Widths.{IsFree, frame_room}
 
 -- borders at both sides, and one between each two columns
-borders : (style : TableStyle) (n : ℕ) → 0 < n → border_count style n ≤ n + 1
-borders style n some = by_tests (draws_left_border style) (draws_right_border style) (draws_vertical_lines style)
+pub borders : (style : TableStyle) (n : ℕ) → border_count style n ≤ 2 + (n - 1)
+borders style n = by_tests (draws_left_border style) (draws_right_border style) (draws_vertical_lines style)
   where
-    by_tests : (a b c : Bool) → (if a then 1 else 0) + (if b then 1 else 0) + (if c then n - 1 else 0) ≤ n + 1
+    by_tests : (a b c : Bool) → (if a then 1 else 0) + (if b then 1 else 0) + (if c then n - 1 else 0) ≤ 2 + (n - 1)
     by_tests true true true = omega arith
     by_tests true true false = omega arith
     by_tests true false true = omega arith
@@ -64,7 +64,7 @@ least : (table : TableValue) → IsFree table → least_total table ≤ frame_ro
 least table free =
     let own = counted 0 table.columns in
     let some : 0 < shown_count table = omega (arith, own.1, free.0) in
-    omega (arith, own.0, borders table.style (shown_count table) some)
+    omega (arith, own.0, borders table.style (shown_count table))
 
 -- a table with other settings has as plain a frame
 same_frame : (table : TableValue) (width : Option ℕ) (arrangement : ContentArrangement) → HasPlainFrame table → HasPlainFrame (record table { set_width = width; arrangement = arrangement })

@@ -41,15 +41,15 @@ long_count before n m behind =
     let first = length-append before (decimal n) in
     omega (arith, whole, third, second, first)
 
-no_count : (line : Text) → length line ≤ 10 → ¬ (CountsRecords line)
+pub no_count : (line : Text) → length line ≤ 10 → ¬ (CountsRecords line)
 no_count line short (n, m, inl is) = let same = ap length is in let long = long_count (codes "record ") n m [] in absurd (omega (arith, same, long, short))
 no_count line short (n, m, inr is) = let same = ap length is in let long = long_count [] n m (codes " records") in absurd (omega (arith, same, long, short))
 
-one_column : measure (codes "a") ≡ 1
+pub one_column : measure (codes "a") ≡ 1
 unfolding wrapping encode
 one_column = refl
 
-two_columns : measure (codes "ba") ≡ 2
+pub two_columns : measure (codes "ba") ≡ 2
 unfolding wrapping encode
 two_columns = refl
 
@@ -80,7 +80,7 @@ two_widths_are_not_straight is =
 -- ---- fields
 
 -- the look of a table with a header in bold
-abbrev bold : Look
+abbrev pub bold : Look
 bold = record { style = utf8_full; separators = Styled; expansion = Auto; width = None; fills_width = false; max_height = None; has_bold_header = true; aligns_decimals = true; has_sequences = false; is_markdown = false }
 
 -- a look without a bold header and a frame

@@ -5,6 +5,7 @@ mod ColumnTrials
 mod ConditionTrials
 mod ControlTrials
 mod CsvPromiseTrials
+mod CsvWidthTrials
 mod DecimalTrials
 mod DrawingTrials
 mod EncodingTrials

@@ -12,7 +12,7 @@ pub found : (text : Text) (lines : List Text) → AreLinesOf text lines
 found text lines are = ap (slice_split (λ b. b == 0x0A)) are.joined ∙ terminated_lines lines are.unbroken
 
 -- one line
-one_line : (line : Text) (lines : List Text) → line ∷ [] ∷ [] ≡ lines ++ [] ∷ [] → lines ≡ line ∷ []
+pub one_line : (line : Text) (lines : List Text) → line ∷ [] ∷ [] ≡ lines ++ [] ∷ [] → lines ≡ line ∷ []
 one_line line [] is = absurd (cc is)
 one_line line (x ∷ []) is = cc is
 one_line line (x ∷ y ∷ []) is = absurd (cc is)
@@ -28,7 +28,7 @@ two_lines first second (x ∷ y ∷ z ∷ []) is = absurd (cc is)
 two_lines first second (x ∷ y ∷ z ∷ t ∷ more) is = absurd (cc is)
 
 -- a text that doesn't end with a line feed is none of lines
-unended : (lines : List Text) → ¬ (AreLinesOf (codes "a") lines)
+pub unended : (lines : List Text) → ¬ (AreLinesOf (codes "a") lines)
 unended lines are = by_lines lines (found (codes "a") lines are)
   where
     by_lines : (xs : List Text) → ¬ (codes "a" ∷ [] ≡ xs ++ [] ∷ [])

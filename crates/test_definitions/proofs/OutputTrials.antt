@@ -16,10 +16,9 @@ use Rattle.csv_tables.specs.declared.options.Layout.{Layout}
 use Rattle.csv_tables.specs.declared.options.Look.{Look}
 use Rattle.csv_command.specs.declared.arguments.Options.{Options}
 use Rattle.csv_tables.specs.declared.options.RowSeparators.TheVariants.{Styled}
-use Rattle.csv_tables.specs.Laws.{EachLineHas, HasLines, IsOutputWith, IsStraightOutput, seen_lines}
+use Rattle.csv_tables.specs.Laws.{HasLines, IsOutputWith, IsStraightOutput, seen_lines}
 use Rattle.csv_command.specs.Laws.{AreSameInvocations}
 use Rattle.csv_command.specs.OneOutput.{AreSameOptions}
-use Rattle.comfy_table.specs.TableValue.{TableValue}
 
 -- rows are never expanded, and all are drawn
 abbrev look : Look
@@ -67,16 +66,6 @@ two_widths_are_not_straight visible count layout records is =
     let wide : n ≡ 2 = sym (All-head Is first (second ∷ []) all) ∙ two_columns visible in
     let narrow : n ≡ 1 = sym (All-head Is second [] (All-tail Is first (second ∷ []) all)) ∙ one_column visible in
     absurd (omega (arith, wide, narrow))
-
--- a text that ends with no line feed has no lines
-unended : (lines : List Text) → ¬ (codes "ab" ∷ [] ≡ lines ++ [] ∷ [])
-unended [] is = cc is
-unended (a ∷ []) is = cc is
-unended (a ∷ b ∷ more) is = cc is
-
--- false: csv_tables::laws::outputs_keep_to_a_width
-unended_output_has_no_lines : (P : TableValue → ℕ → Type 0) (count : Option ℕ) (layout : Layout) (records : List (List Text)) → ¬ (EachLineHas P count (drawn_by layout) records (codes "ab"))
-unended_output_has_no_lines P count layout records is = unended is.lines (lines_of_output count layout records (codes "ab") is.lines is.is_output)
 
 -- false: csv_command::laws::outputs_are_one
 others_are_not_the_same : (options : Options) → ¬ (AreSameOptions (record options { look = look }) (record options { look = record look { fills_width = true } }))

@@ -1,5 +1,5 @@
 -- What `draw` may return, and what it may not.
-use Rattle.std.proofs.Common.{◌≡◌, ◌⊎◌, inl, inr, ◌<◌, ◌≤◌, ◌^◌, ℕ, zero, suc, Bool, true, false, Err, List, Option, Some, None, [], ◌∷◌, ap, arith, codes, length, map, refl, replicate}
+use Rattle.std.proofs.Common.{◌≡◌, inl, inr, ◌<◌, ◌≤◌, ◌^◌, ℕ, zero, suc, true, false, Err, List, Some, None, [], ◌∷◌, ap, arith, codes, length, map, refl, replicate}
 use Rattle.std.proofs.Math.Pow.{pow_mono}
 use Rattle.std.specs.Fmt.{digits}
 use Rattle.std.specs.Str.{chars, is_utf8}

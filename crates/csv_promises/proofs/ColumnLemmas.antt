@@ -1,0 +1,236 @@
+-- How many columns are drawn of records.
+use Rattle.std.proofs.Common.{◌≡◌, ◌≤◌, ◌<◌, ◌==◌, ◌&&◌, ◌||◌, ℕ, zero, suc, ◌+◌, ◌-◌, Bool, true, false, List, [], ◌∷◌, Option, Some, None, Ok, drop, fold, get_or, length, map, max, nat_le, nat_lt, option_map, string_bytes, take, unwrap_or, refl, sym, ap, ap₂, ◌∙◌, subst, arith}
+use Rattle.std.specs.List.{All, list_any, range_with_len}
+use Rattle.std.specs.Option.{option_or}
+use Rattle.std.specs.Prelude.{String, if◌then◌else◌, not}
+use Rattle.std.proofs.lemmas.List.{length-map}
+use Rattle.std.proofs.lemmas.List.Elements.{All-cons, All-filter, All-head, All-nil}
+use Rattle.comfy_parts.proofs.CallerLemmas.{All-every, All-flat_map, All-of_map}
+use Rattle.comfy_parts.specs.Text.{Text}
+use Rattle.csv_command.specs.Columns.{column_by, column_of, columns_chosen, columns_for, end_of, first_answer, positions_between, range_at, range_of, rising, single_or}
+use Rattle.csv_command.specs.Drawn.{layout_with}
+use Rattle.csv_command.specs.declared.arguments.Options.{Options}
+use Rattle.csv_records.specs.Numbered.{numbered_from}
+use Rattle.csv_records.specs.Numerals.{number_for}
+use Rattle.csv_tables.proofs.RowLemmas.{positions-shown}
+use Rattle.csv_tables.specs.Cells.{has_field}
+use Rattle.csv_tables.specs.Columns.{ColumnsValue, count_of, seen}
+use Rattle.csv_tables.specs.Drawn.{ContentValue, columns_beside, columns_of, content_of, drawn_rows, names_beside, names_of, names_or_none, rows_beside}
+use Rattle.csv_tables.specs.declared.options.DrawnColumn.{DrawnColumn}
+use Rattle.csv_promises.proofs.FrameLemmas.{reaches}
+use Rattle.csv_promises.proofs.PositionLemmas.{chosen, kept_positions, some_kept}
+use Rattle.csv_promises.specs.Fields.{positions_by, positions_in}
+use Rattle.csv_promises.specs.Width.{all_columns}
+
+-- ---- positions
+
+-- without names, words choose positions of so many columns
+module _ (count : ℕ) where
+  abbrev Below : ℕ → Type 0
+  Below k = k < count
+
+  range_below : (a n : ℕ) → a + n ≤ count → All Below (range_with_len a n)
+  range_below a zero within = All-nil Below
+  range_below a (suc n) within = All-cons Below a (range_with_len (a + 1) n) (omega (arith, within)) (range_below (a + 1) n (omega (arith, within)))
+
+  column-below : (word : Text) (k : ℕ) → column_of [] count word ≡ Some k → k < count
+  column-below word k is = by_number (number_for 64 word) is
+    where
+      by_numbered : (number : ℕ) (b : Bool) → (nat_lt 0 number && nat_le number count) ≡ b → option_or (if b then Some (number - 1) else None) None ≡ Some k → k < count
+      by_numbered number true test own = let same : number - 1 ≡ k = cc own in grind (arith, test, same)
+      by_numbered number false test own = absurd (cc own)
+
+      by_number : (o : Option ℕ) → column_by [] count word o ≡ Some k → k < count
+      by_number None own = absurd (cc own)
+      by_number (Some number) own = by_numbered number (nat_lt 0 number && nat_le number count) refl own
+
+  end-below : (word : Text) (end : ℕ) → end_of [] count word ≡ Some end → end ≤ count
+  end-below word end is = by_length (length word == 0) is
+    where
+      by_column : (o : Option ℕ) → column_of [] count word ≡ o → option_map (λ (position : ℕ). position + 1) o ≡ Some end → end ≤ count
+      by_column None own found = absurd (cc found)
+      by_column (Some k) own found = let same : k + 1 ≡ end = cc found in let below = column-below word k own in omega (arith, same, below)
+
+      by_length : (b : Bool) → (if b then Some count else option_map (λ (position : ℕ). position + 1) (column_of [] count word)) ≡ Some end → end ≤ count
+      by_length true own = let same : count ≡ end = cc own in omega (arith, same)
+      by_length false own = by_column (column_of [] count word) refl own
+
+  -- a range ends at the last column at most
+  rising-below : (word : Text) (a : Option ℕ) (ends : ℕ × ℕ) → rising a (end_of [] count word) ≡ Some ends → ends.1 ≤ count
+  rising-below word a ends is = by_end a (end_of [] count word) (end-below word) is
+    where
+      by_end : (a b : Option ℕ) → ((end : ℕ) → b ≡ Some end → end ≤ count) → rising a b ≡ Some ends → ends.1 ≤ count
+      by_end None b below own = absurd (cc own)
+      by_end (Some start) None below own = absurd (cc own)
+      by_end (Some start) (Some end) below own = by_order (nat_lt start end) own
+        where
+          by_order : (b : Bool) → (if b then Some (start, end) else None) ≡ Some ends → ends.1 ≤ count
+          by_order true found = let same : (start, end) ≡ ends = cc found in subst (λ (p : ℕ × ℕ). p.1 ≤ count) same (below end refl)
+          by_order false found = absurd (cc found)
+
+  range_at-below : (word : Text) (at : ℕ) (ends : ℕ × ℕ) → range_at [] count word at ≡ Some ends → ends.1 ≤ count
+  range_at-below word at ends is = by_hyphen (get_or word at 0 == 0x2D) is
+    where
+      by_hyphen : (b : Bool) → (if b then rising (column_of [] count (take at word)) (end_of [] count (drop (at + 1) word)) else None) ≡ Some ends → ends.1 ≤ count
+      by_hyphen true own = rising-below (drop (at + 1) word) (column_of [] count (take at word)) ends own
+      by_hyphen false own = absurd (cc own)
+
+  range-below : (word : Text) (places : List ℕ) (ends : ℕ × ℕ) → first_answer (range_at [] count word) places ≡ Some ends → ends.1 ≤ count
+  range-below word [] ends is = absurd (cc is)
+  range-below word (at ∷ places) ends is = by_first (range_at [] count word at) (range_at-below word at ends) is (range-below word places ends)
+    where
+      by_first : (o : Option (ℕ × ℕ)) → (o ≡ Some ends → ends.1 ≤ count) → option_or o (first_answer (range_at [] count word) places) ≡ Some ends → (first_answer (range_at [] count word) places ≡ Some ends → ends.1 ≤ count) → ends.1 ≤ count
+      by_first None own found later = later found
+      by_first (Some first) own found later = own found
+
+  abbrev by_word : Text → List ℕ
+  by_word word = unwrap_or (option_map positions_between (columns_chosen [] count word)) []
+
+  word-below : (word : Text) → All Below (by_word word)
+  word-below word = by_column (column_of [] count word) refl
+    where
+      between : (ends : ℕ × ℕ) → ends.1 ≤ count → All Below (positions_between ends)
+      between ends within = by_order (nat_le ends.0 ends.1) refl
+        where
+          by_order : (b : Bool) → nat_le ends.0 ends.1 ≡ b → All Below (positions_between ends)
+          by_order true order = range_below ends.0 (ends.1 - ends.0) (grind (arith, order, within))
+          by_order false order = let none : ends.1 - ends.0 ≡ 0 = grind (arith, order) in subst (λ (n : ℕ). All Below (range_with_len ends.0 n)) (sym none) (All-nil Below)
+
+      by_range : (o : Option (ℕ × ℕ)) → range_of [] count word ≡ o → All Below (unwrap_or (option_map positions_between o) [])
+      by_range None own = All-nil Below
+      by_range (Some ends) own = between ends (range-below word (range_with_len 0 (length word)) ends own)
+
+      by_column : (o : Option ℕ) → column_of [] count word ≡ o → All Below (unwrap_or (option_map positions_between (single_or o (range_of [] count word))) [])
+      by_column None own = by_range (range_of [] count word) refl
+      by_column (Some k) own = let below = column-below word k own in between (k, k + 1) (omega (arith, below))
+
+  words-below : {A : Type 0} (words : List (String A)) → All Below (positions_by [] count words)
+  words-below {A} words = All-flat_map Below (λ (word : String A). by_word (string_bytes word)) words (All-every (λ (word : String A). All Below (by_word (string_bytes word))) words (λ word. word-below (string_bytes word)))
+
+-- so do options
+positions-below : (options : Options) (rows : List (List Text)) → All (Below (count_of [] rows)) (positions_in options [] rows)
+positions-below options rows =
+    All-filter (λ (position : ℕ). not (list_any (λ (other : ℕ). other == position) (positions_by [] count options.columns.dropped.items))) (Below count) _ (by_words (length options.columns.chosen.items == 0))
+  where
+    count : ℕ
+    count = count_of [] rows
+
+    by_words : (b : Bool) → All (Below count) (if b then range_with_len 0 count else positions_by [] count options.columns.chosen.items)
+    by_words true = range_below count 0 count (omega arith)
+    by_words false = words-below count options.columns.chosen.items
+
+-- ---- fields at positions
+
+-- a position that only a row explains is in one
+in_row : (p : ℕ) (rows : List (List Text)) (n : ℕ) → n ≤ p → p < fold (λ (m : ℕ) (fields : List Text). max m (length fields)) n rows → list_any (λ (fields : List Text). nat_lt p (length fields)) rows ≡ true
+in_row p [] n past below = absurd (omega (arith, past, below))
+in_row p (fields ∷ rows) n past below = by_test (nat_lt p (length fields)) refl (λ short. in_row p rows (max n (length fields)) (omega (arith, past, short)) below)
+  where
+    by_test : (b : Bool) → nat_lt p (length fields) ≡ b → (length fields ≤ p → list_any (λ (f : List Text). nat_lt p (length f)) rows ≡ true) → (b || list_any (λ (f : List Text). nat_lt p (length f)) rows) ≡ true
+    by_test true own later = refl
+    by_test false own later = later (grind (arith, own))
+
+any_more : {A : Type 0} (p q : A → Bool) → ((x : A) → p x ≡ true → q x ≡ true) → (xs : List A) → list_any p xs ≡ true → list_any q xs ≡ true
+any_more p q more [] some = some
+any_more p q more (x ∷ xs) some = by_test (p x) refl some (any_more p q more xs)
+  where
+    or_true : (b : Bool) → (b || true) ≡ true
+    or_true true = refl
+    or_true false = refl
+
+    by_test : (b : Bool) → p x ≡ b → (b || list_any p xs) ≡ true → (list_any p xs ≡ true → list_any q xs ≡ true) → (q x || list_any q xs) ≡ true
+    by_test true own some later = ap (λ (c : Bool). c || list_any q xs) (more x own)
+    by_test false own some later = ap (λ (c : Bool). q x || c) (later some) ∙ or_true (q x)
+
+-- numbers leave as many rows
+numbered-length : (n : ℕ) (rows : List (List Text)) → length (numbered_from n rows) ≡ length rows
+numbered-length n [] = refl
+numbered-length n (fields ∷ rows) = ap suc (numbered-length (n + 1) rows)
+
+-- ---- contents
+
+module _ (options : Options) (records : List (List Text)) (known : Option ℕ) (own : ColumnsValue) (found : columns_for options records ≡ Ok own) (content : ContentValue) (is : content_of known (layout_with options own) records ≡ content) where
+  abbrev is_numbered : Bool
+  is_numbered = options.selection.is_numbered
+
+  abbrev names : List Text
+  names = names_or_none options.selection records
+
+  abbrev rows : List (List Text)
+  rows = drawn_rows options.selection records
+
+  abbrev columns : List DrawnColumn
+  columns = columns_of (layout_with options own) records
+
+  positions : own.drawn ≡ positions_in options names rows
+  positions = kept_positions names (count_of names rows) options.columns.chosen.items options.columns.dropped.items own.drawn (chosen names _ _ _ own found)
+
+  placed : map (λ (column : DrawnColumn). column.position) columns ≡ own.drawn
+  placed = positions-shown own.right own.left (map (seen options.look.has_sequences) rows) own.drawn
+
+  long : length columns ≡ length own.drawn
+  long = omega (arith, length-map columns (λ (column : DrawnColumn). column.position), ap length placed)
+
+  some : 1 ≤ length columns
+  some = omega (arith, long, some_kept names (count_of names rows) options.columns.chosen.items options.columns.dropped.items own.drawn (chosen names _ _ _ own found))
+
+  beside-length : (b : Bool) (cs : List DrawnColumn) → length (columns_beside b cs) ≡ length cs + (if b then 1 else 0)
+  beside-length true cs = omega (arith, length-map cs (λ (column : DrawnColumn). record column { position = column.position + 1 }))
+  beside-length false cs = omega arith
+
+  beside : length content.columns ≡ length columns + (if is_numbered then 1 else 0)
+  beside = sym (ap (λ (c : ContentValue). length c.columns) is) ∙ beside-length is_numbered columns
+
+  pub some_column : 1 ≤ length content.columns
+  some_column = omega (arith, some, beside)
+
+  -- the columns are those of the positions, and that of numbers
+  pub drawn_count : length content.columns ≡ all_columns options records
+  drawn_count = beside ∙ ap (λ (n : ℕ). n + (if is_numbered then 1 else 0)) (long ∙ ap length positions)
+
+  same_rows : content.rows ≡ rows_beside is_numbered rows
+  same_rows = sym (ap (λ (c : ContentValue). c.rows) is)
+
+  -- there are rows where records are drawn below the header
+  pub no_rows-is : (length content.rows == 0) ≡ (length rows == 0)
+  no_rows-is = ap (λ (rs : List (List Text)). length rs == 0) same_rows ∙ by_numbers is_numbered rows
+    where
+      by_numbers : (b : Bool) (rs : List (List Text)) → (length (rows_beside b rs) == 0) ≡ (length rs == 0)
+      by_numbers false rs = refl
+      by_numbers true rs = ap (λ (n : ℕ). n == 0) (numbered-length 1 rs)
+
+  -- without names a row has the field of a column
+  pub reaches_one : content.names ≡ None → reaches content.columns content.rows ≡ true
+  reaches_one none =
+      ap₂ (λ (cs : List DrawnColumn) (rs : List (List Text)). reaches cs rs) (sym (ap (λ (c : ContentValue). c.columns) is)) same_rows
+      ∙ by_columns is_numbered columns some below
+    where
+      no_names : (b : Bool) (o : Option (List Text)) → names_beside b o ≡ None → o ≡ None
+      no_names false o is = is
+      no_names true None is = refl
+      no_names true (Some n) is = absurd (cc is)
+
+      unnamed : names ≡ []
+      unnamed = ap (λ (o : Option (List Text)). unwrap_or o []) (no_names is_numbered (names_of options.selection.has_header records) (ap (λ (c : ContentValue). c.names) is ∙ none))
+
+      IsIn : DrawnColumn → Type 0
+      IsIn column = column.position < count_of [] rows
+
+      below : All IsIn columns
+      below =
+          All-of_map (Below (count_of [] rows)) (λ (column : DrawnColumn). column.position) columns
+          (subst (All (Below (count_of [] rows))) (sym (placed ∙ positions ∙ ap (λ (ns : List Text). positions_in options ns rows) unnamed)) (positions-below options rows))
+
+      by_columns : (b : Bool) (cs : List DrawnColumn) → 1 ≤ length cs → All IsIn cs → reaches (columns_beside b cs) (rows_beside b rows) ≡ true
+      by_columns b [] one inside = absurd (omega (arith, one))
+      by_columns b (column ∷ cs) one inside = by_numbers b (in_row column.position rows 0 (omega arith) (All-head IsIn column cs inside))
+        where
+          by_rows : (rs : List (List Text)) → list_any (λ (fields : List Text). nat_lt column.position (length fields)) rs ≡ true → reaches (columns_beside true (column ∷ cs)) (rows_beside true rs) ≡ true
+          by_rows [] none = absurd (cc none)
+          by_rows (fields ∷ rs) some = let own : nat_lt 0 (suc (length fields)) ≡ true = grind arith in rw own refl
+
+          by_numbers : (b : Bool) → list_any (λ (fields : List Text). nat_lt column.position (length fields)) rows ≡ true → reaches (columns_beside b (column ∷ cs)) (rows_beside b rows) ≡ true
+          by_numbers true some = by_rows rows some
+          by_numbers false some =
+              any_more (λ (fields : List Text). nat_lt column.position (length fields)) (λ (fields : List Text). list_any (has_field fields) (column ∷ cs))
+              (λ fields own. ap (λ (b : Bool). b || list_any (has_field fields) cs) own) rows some

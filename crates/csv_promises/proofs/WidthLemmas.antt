@@ -1,0 +1,207 @@
+-- What is written for arguments keeps to their width.
+use Rattle.std.proofs.Common.{◌≡◌, ◌≤◌, ◌<◌, ◌==◌, ◌||◌, ◌⊎◌, inl, inr, ℕ, zero, suc, ◌+◌, Bool, true, false, not, List, [], ◌∷◌, ◌++◌, Option, Some, flat_map, length, max, nat_lt, unwrap_or, refl, sym, ap, ap₂, ◌∙◌, subst, arith}
+use Rattle.std.specs.List.{All, slice_index_or}
+use Rattle.std.specs.Prelude.{Contains, if◌then◌else◌, sum_by, take}
+use Rattle.std.proofs.lemmas.List.{length-map}
+use Rattle.std.proofs.lemmas.List.Elements.{All-nil}
+use Rattle.comfy_parts.proofs.CallerLemmas.{All-of_map}
+use Rattle.comfy_parts.specs.CellValue.{RowValue}
+use Rattle.comfy_parts.specs.Text.{Text, measure}
+use Rattle.comfy_parts.specs.VisibleText.{visible_text}
+use Rattle.comfy_table.specs.Laws.{AreLinesOf, HasNoBreak, HasNoControl, least_total}
+use Rattle.comfy_table.specs.Parts.{ArrangedValue}
+use Rattle.comfy_table.specs.TableValue.{TableValue}
+use Rattle.comfy_table.specs.Widths.{shown_count}
+use Rattle.csv_command.specs.Drawn.{RendersChosen, layout_with}
+use Rattle.csv_command.specs.declared.arguments.Options.{Options}
+use Rattle.csv_command.specs.declared.arguments.Invocation.{Invocation}
+use Rattle.csv_command.specs.declared.arguments.OutputContext.{OutputContext}
+use Rattle.csv_tables.proofs.LineLemmas.{IsKept, drawn, drawn_table, expansion, is_table_text, output_keeps_to, with_lines}
+use Rattle.csv_tables.proofs.StraightLemmas.{clear, narrow_lines}
+use Rattle.csv_tables.specs.Drawn.{ContentValue, RendersAsTable, RendersRecords, drawn_fields, first_number, fitting_content, has_room_for, is_expanded_in, output_table, pair_columns, pairs_in, separated_table, some_lines, table_text}
+use Rattle.csv_tables.specs.Cells.{field_or_blank, held, pair_for}
+use Rattle.csv_tables.specs.Columns.{name_from}
+use Rattle.csv_tables.specs.declared.options.DrawnColumn.{DrawnColumn}
+use Rattle.csv_tables.specs.Laws.{ArePlainLines, EachText, HasLines}
+use Rattle.csv_tables.specs.declared.options.Expansion.{Expansion}
+use Rattle.csv_tables.specs.declared.options.Expansion.TheVariants.{Always, Auto, Never}
+use Rattle.csv_tables.specs.declared.options.Look.{Look}
+use Rattle.csv_tables.specs.declared.options.Layout.{Layout}
+use Rattle.comfy_parts.specs.Columns.{CharactersFit, IsOneColumnStyle}
+use Rattle.promises.specs.Tables.{HasCharactersWithin}
+use Rattle.csv_promises.proofs.ColumnLemmas.{drawn_count, no_rows-is, reaches_one, some_column}
+use Rattle.csv_promises.proofs.FrameLemmas.{column_is_shown, frame_has_room, width_has_room}
+use Rattle.csv_promises.proofs.LineLemmas.{HasGoodLines, no_lines, output_lines, shown_line}
+use Rattle.csv_promises.proofs.StraightLemmas.{IsDrawnBy, by_extent, one_column, own_fit, plain}
+use Rattle.csv_promises.specs.Fields.{positions_in}
+use Rattle.csv_promises.specs.Straight.{CountsRecords, EachField}
+use Rattle.csv_promises.specs.Width.{KeepToWidth, KeepsTo, all_columns, columns_by, frame_room, framed_columns}
+use Rattle.csv_promises.specs.Written.{IsWritten}
+
+-- ---- expanded records without a field
+
+-- where nothing is joined, both lists are empty
+both_empty : {A : Type 0} (xs ys : List A) → xs ++ ys ≡ [] → (xs ≡ []) × (ys ≡ [])
+both_empty [] ys none = (refl, none)
+both_empty (x ∷ xs) ys none = absurd (cc none)
+
+-- where no record has a field of the columns, none has lines
+module _ (look : Look) (content : ContentValue) (arranged : ArrangedValue) (none : flat_map (pairs_in look content) content.rows ≡ []) where
+  no_fields : (rows : List (List Text)) → flat_map (pairs_in look content) rows ≡ [] → (at : ℕ) → drawn_fields content (slice_index_or rows at []) ≡ 0
+  no_fields [] none at = ap length (no_field (pair_columns content))
+    where
+      no_field : (columns : List DrawnColumn) → held [] columns ≡ []
+      no_field [] = refl
+      no_field (column ∷ columns) = let past : nat_lt column.position 0 ≡ false = grind arith in rw past (no_field columns)
+  no_fields (fields ∷ rows) none zero =
+      let own = ap length (both_empty (pairs_in look content fields) (flat_map (pairs_in look content) rows) none).0 in
+      omega (arith, own, length-map (held fields (pair_columns content)) (λ (column : DrawnColumn). pair_for look (name_from (first_number content) (unwrap_or content.names []) column.position) (field_or_blank fields column.position)))
+  no_fields (fields ∷ rows) none (suc at) = no_fields rows (both_empty (pairs_in look content fields) (flat_map (pairs_in look content) rows) none).1 at
+
+  no_part : (at : ℕ) → some_lines arranged (sum_by (drawn_fields content) (take at content.rows)) (drawn_fields content (slice_index_or content.rows at [])) ≡ []
+  no_part at = ap (some_lines arranged (sum_by (drawn_fields content) (take at content.rows))) (no_fields content.rows none at)
+
+  pub without_lines : HasLines true content [] (table_text true content arranged)
+  without_lines = (
+    (λ at. some_lines arranged (sum_by (drawn_fields content) (take at content.rows)) (drawn_fields content (slice_index_or content.rows at []))),
+    (λ at. subst (All (Contains [])) (sym (no_part at)) (All-nil (Contains []))),
+    All-nil HasNoBreak,
+    refl,
+  )
+
+-- ---- what is drawn by options
+
+module _ (w : ℕ) (o : Options) (known : Option ℕ) (records : List (List Text)) (output : Text) (wide : o.look.width ≡ Some w) (table : o.look.is_markdown ≡ false) (one_column : IsOneColumnStyle o.look.style) (plain : ArePlainLines true o.look records)
+    (fit : EachText (CharactersFit 1) o.look records) (made : RendersChosen known o records output) where
+  abbrev layout : Layout
+  layout = layout_with o made.columns
+
+  abbrev own : RendersRecords known layout records output
+  own = made.is_output
+
+  abbrev content : ContentValue
+  content = own.content
+
+  abbrev text : RendersAsTable o.look content own.text
+  text = is_table_text known layout records output own table
+
+  abbrev has : Bool
+  has = text.drawn.has_separators
+
+  abbrev t : TableValue
+  t = drawn_table known layout records output own text table
+
+  abbrev lines : List Text
+  lines = drawn known layout records output own text table
+
+  expanded : text.is_expanded ≡ is_expanded_in o.look.expansion ((length content.rows == 0) || has_room_for o.look content (fitting_content o.look content))
+  expanded = text.expansion
+
+  -- what the table needs fits the width, or a frame of its columns
+  abbrev all : ℕ
+  all = all_columns o records
+
+  abbrev frame : ℕ
+  frame = frame_room (framed_columns o records)
+
+  counted_columns : length content.columns ≡ all
+  counted_columns = drawn_count o records known made.columns made.are_chosen content own.is_content
+
+  some_columns : 1 ≤ length content.columns
+  some_columns = some_column o records known made.columns made.are_chosen content own.is_content
+
+  framed : (e : Bool) (n : ℕ) → 1 ≤ n → (if e then 2 else length content.columns) ≤ n → least_total (separated_table has (output_table e o.look content)) ≤ max w (frame_room n)
+  framed e n some few = let room = frame_has_room e has o.look content n some few in omega (arith, room)
+
+  by_look : (x : Expansion) (rows has_room e : Bool) → e ≡ is_expanded_in x (rows || has_room) → has_room_for o.look content (fitting_content o.look content) ≡ has_room → least_total (separated_table has (output_table e o.look content)) ≤ max w (frame_room (columns_by x (not rows) all))
+  by_look Always rows has_room true is fits = framed true 2 (omega arith) (omega arith)
+  by_look Always rows has_room false is fits = absurd (cc is)
+  by_look Never rows has_room true is fits = absurd (cc is)
+  by_look Never rows has_room false is fits = framed false all (omega (arith, counted_columns, some_columns)) (omega (arith, counted_columns))
+  by_look Auto true has_room true is fits = absurd (cc is)
+  by_look Auto true has_room false is fits = framed false all (omega (arith, counted_columns, some_columns)) (omega (arith, counted_columns))
+  by_look Auto false has_room true is fits = framed true 2 (omega arith) (omega arith)
+  by_look Auto false true false is fits = let room = width_has_room o.look content has w wide fits in omega (arith, room)
+  by_look Auto false false false is fits = absurd (cc is)
+
+  least_fits : least_total t ≤ max w frame
+  least_fits =
+      subst (λ (b : Bool). least_total t ≤ max w (frame_room (columns_by o.look.expansion (not b) all))) (no_rows-is o records known made.columns made.are_chosen content own.is_content)
+      (by_look o.look.expansion (length content.rows == 0) (has_room_for o.look content (fitting_content o.look content)) text.is_expanded expanded refl)
+
+  abbrev IsGood : Text → Type 0
+  IsGood line = CountsRecords line ⊎ KeepsTo w frame o.look.fills_width line
+
+  abbrev Good : Type 0
+  Good = HasGoodLines IsGood (λ line. inl) output
+
+  -- all lines keep to it where a column is shown
+  kept : 0 < shown_count t → Good
+  kept some = output_lines IsGood (λ line. inl) known layout records output lines table (with_lines known layout records output own text table plain.unbroken) each
+    where
+      counted : All (λ (line : Text). IsKept w o.look.fills_width t (measure (visible_text line))) lines
+      counted =
+          All-of_map (λ (line : Text). IsKept w o.look.fills_width t (measure line)) visible_text lines
+          (narrow_lines true known layout records output table one_column plain own fit (IsKept w o.look.fills_width t) (output_keeps_to w known layout records output own text table wide))
+
+      clear_lines : All (λ (line : Text). HasNoControl (visible_text line)) lines
+      clear_lines = All-of_map HasNoControl visible_text lines (clear true known layout records output table one_column plain own refl)
+
+      each : All IsGood lines
+      each k default under =
+          let line = slice_index_or lines k default in
+          let line_is = counted k default under some in
+          let exact = line_is.1 in
+          inr (record { columns = measure (visible_text line); shows = shown_line (measure (visible_text line)) line (clear_lines k default under) refl; within = omega (arith, line_is.0, least_fits); exact = λ filled room. let is = exact filled in omega (arith, is, room, least_fits) })
+
+  -- else there are none
+  empty : text.is_expanded ≡ true → flat_map (pairs_in o.look content) content.rows ≡ [] → Good
+  empty is none =
+      output_lines IsGood (λ line. inl) known layout records output [] table
+      (record {
+        content = content;
+        is_content = own.is_content;
+        is_expanded = true;
+        expansion = sym is ∙ expansion known layout records output own text table;
+        text = own.text;
+        has_lines = subst (HasLines true content []) (sym (text.drawn.is ∙ ap (λ (e : Bool). table_text e content text.drawn.arranged) is)) (without_lines o.look content text.drawn.arranged none);
+        joined = own.joined;
+      }) (All-nil IsGood)
+
+  pub keep : Good
+  keep = by_pairs text.is_expanded refl (flat_map (pairs_in o.look content) content.rows) refl
+    where
+      shown : (text.is_expanded ≡ true → ¬ (flat_map (pairs_in o.look content) content.rows ≡ [])) → Good
+      shown pairs = kept (column_is_shown text.is_expanded has o.look content some_columns (reaches_one o records known made.columns made.are_chosen content own.is_content) pairs)
+
+      by_pairs : (e : Bool) → text.is_expanded ≡ e → (pairs : List RowValue) → flat_map (pairs_in o.look content) content.rows ≡ pairs → Good
+      by_pairs true is [] none = empty is none
+      by_pairs true is (row ∷ pairs) some = shown (λ same none. absurd (cc (some, none)))
+      by_pairs false is pairs any = shown (λ same. absurd (cc (is, same)))
+
+-- ---- what is written for arguments
+
+module _ (arguments : List Text) (context : OutputContext) (invocation : Invocation) (input : Text) (records : List (List Text)) (output : Text) (is : IsWritten arguments context invocation input records output) where
+  abbrev options : Options
+  options = invocation.options
+
+  pub keeps_width : (w : ℕ) → options.look.width ≡ Some w → EachField (HasCharactersWithin 1) records → KeepToWidth w (frame_room (framed_columns options records)) options.look.fills_width output
+  keeps_width w wide each = by_extent arguments context invocation input records output is (KeepToWidth w frame options.look.fills_width output) nothing drawn_by
+    where
+      frame : ℕ
+      frame = frame_room (framed_columns options records)
+
+      nothing : output ≡ [] → KeepToWidth w frame options.look.fills_width output
+      nothing empty = record { lines = []; are = subst (λ (t : Text). AreLinesOf t []) (sym empty) no_lines; keep = All-nil (λ (line : Text). CountsRecords line ⊎ KeepsTo w frame options.look.fills_width line) }
+
+      framed : Option (List Text) → List (List Text) → ℕ
+      framed names rows =
+          frame_room (columns_by options.look.expansion (not (length rows == 0)) (length (positions_in options (unwrap_or names []) rows) + (if options.selection.is_numbered then 1 else 0)))
+
+      drawn_by : (known : Option ℕ) (rs : List (List Text)) → IsDrawnBy arguments context invocation input records output is known rs → KeepToWidth w frame options.look.fills_width output
+      drawn_by known rs by =
+          let fits = own_fit arguments context invocation input records output is known rs by each in
+          let own =
+          keep w options known rs output wide is.no_markdown (one_column arguments context invocation input records output is) (plain arguments context invocation input records output is known rs by) fits by.made in
+          let same_frame : frame_room (framed_columns options rs) ≡ frame = ap₂ framed by.names by.rows in
+          subst (λ (f : ℕ). KeepToWidth w f options.look.fills_width output) same_frame (record { lines = own.lines; are = own.are; keep = own.good })

@@ -1,0 +1,58 @@
+-- Lines that keep to a width.
+-- Source: this library's own.
+use Rattle.std.specs.Prelude.{◌≡◌, ◌==◌, ◌⊎◌, ◌+◌, ◌*◌, ◌≤◌, ℕ, Bool, true, not, List, Some, All, length, max, if◌then◌else◌}
+use Rattle.comfy_parts.specs.Text.{Text}
+use Rattle.comfy_table.specs.Laws.{AreLinesOf}
+use Rattle.csv_command.specs.declared.arguments.Options.{Options}
+use Rattle.csv_tables.specs.Drawn.{drawn_rows, names_or_none}
+use Rattle.csv_tables.specs.declared.options.Expansion.{Expansion}
+use Rattle.csv_tables.specs.declared.options.Expansion.TheVariants.{Always, Auto, Never}
+use Rattle.promises.specs.Shown.{ShowsColumns}
+use Rattle.promises.specs.Tables.{HasCharactersWithin}
+use Rattle.csv_promises.specs.Fields.{positions_in}
+use Rattle.csv_promises.specs.Straight.{CountsRecords, EachField}
+
+-- the borders around so many columns, their paddings, and one terminal column for each
+abbrev pub frame_room : ℕ → ℕ
+frame_room n = 1 + 4 * n
+
+-- the columns that are drawn of records: those at the positions that are chosen of the header and
+-- the drawn rows, and that of numbers
+abbrev pub all_columns : Options → List (List Text) → ℕ
+all_columns options records =
+    length (positions_in options (names_or_none options.selection records)
+    (drawn_rows options.selection records))
+    + (if options.selection.is_numbered then 1 else 0)
+
+-- how many columns a frame is drawn for: all; or, where records are expanded, as they are where a
+-- width has no room, those of names and fields, unless no record is drawn below the header
+abbrev pub columns_by : Expansion → Bool → ℕ → ℕ
+columns_by Never has_rows n = n
+columns_by Always has_rows n = 2
+columns_by Auto has_rows n = if has_rows then 2 else n
+
+abbrev pub framed_columns : Options → List (List Text) → ℕ
+framed_columns options records =
+    columns_by options.look.expansion
+    (not (length (drawn_rows options.selection records) == 0)) (all_columns options records)
+
+-- a line shows no more terminal columns than a width or a frame has; and exactly those of the
+-- width, where that is filled and has room for the frame
+pub record KeepsTo (width frame : ℕ) (is_filled : Bool) (line : Text) : Type 0 where
+  pub columns : ℕ
+  pub shows : ShowsColumns columns line
+  pub within : columns ≤ max width frame
+  pub exact : is_filled ≡ true → frame ≤ width → columns ≡ width
+
+-- so does each line of a text, but those that count records
+pub record KeepToWidth (width frame : ℕ) (is_filled : Bool) (text : Text) : Type 0 where
+  pub lines : List Text
+  pub are : AreLinesOf text lines
+  pub keep : All (λ line. CountsRecords line ⊎ KeepsTo width frame is_filled line) lines
+
+-- what is written of records keeps to the width that options have, where no character of a field
+-- takes more than one terminal column
+abbrev pub KeepsItsWidth : Options → List (List Text) → Text → Type 0
+KeepsItsWidth options records text =
+    (width : ℕ) → options.look.width ≡ Some width → EachField (HasCharactersWithin 1) records
+    → KeepToWidth width (frame_room (framed_columns options records)) options.look.fills_width text
