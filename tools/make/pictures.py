@@ -34,7 +34,7 @@ def colored_report():
 
 def drawing_of_case(name):
     """The drawing of a stored case of csvtable."""
-    case = re.search(rf"^case {name}\n(.*?)^end$", text_of("crates/test_csv_cases/stdin"), re.M | re.S)[1]
+    case = re.search(rf"^case\t{name}\n(.*?)^end$", text_of("crates/test_csv_cases/stdin"), re.M | re.S)[1]
     return "".join(re.findall(r"^=(.*\n)", case, re.M))
 
 

@@ -17,8 +17,9 @@ use Rattle.csv.specs.declared.parser.Config.{Config}
 use Rattle.csv.specs.declared.parser.State.{State}
 use Rattle.csv.specs.declared.parser.State.TheVariants as st
 use Rattle.csv_records.specs.Beginning.{EndsWithLine, FirstRecordsStay}
-use Rattle.csv_records.proofs.DelimiterLemmas.{EndsIn-trans, line-EndsIn}
-use Rattle.csv_records.specs.Delimiter.{EndsIn, agreement, agreement_by, below_line, below_lines, delimited, delimiter_in, only_ascii, end_len, ends_line, first_line, found_delimiter, has_first_records, line_len, named_delimiter, shows_delimiter, tried_delimiters}
+use Rattle.csv_records.proofs.LineLemmas.{EndsIn-trans, line-EndsIn}
+use Rattle.csv_records.specs.Delimiter.{agreement, agreement_by, delimited, delimiter_in, only_ascii, found_delimiter, has_first_records, named_delimiter, shows_delimiter, tried_delimiters}
+use Rattle.csv_records.specs.Lines.{EndsIn, below_line, below_lines, end_len, ends_line, first_line, line_len}
 use Rattle.csv_records.specs.Encoding.{IsDecoded, cp1252_character, cp1252_text, encoding_of}
 use Rattle.csv_records.specs.Input.{config_for}
 use Rattle.csv_records.specs.Quotes.{state_after}

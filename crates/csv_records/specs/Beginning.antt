@@ -3,7 +3,8 @@
 use Rattle.std.specs.Prelude.{ℕ, ◌≡◌, ◌≢◌, ◌<◌, ◌==◌, Bool, true, List, [], ◌∷◌, ◌++◌, length, take, if◌then◌else◌}
 use Rattle.std.specs.List.{count_by, list_any}
 use Rattle.comfy_parts.specs.Text.{Text}
-use Rattle.csv_records.specs.Delimiter.{below_lines, doubtful_delimiter, shows_delimiter}
+use Rattle.csv_records.specs.Delimiter.{doubtful_delimiter, shows_delimiter}
+use Rattle.csv_records.specs.Lines.{below_lines}
 use Rattle.csv_records.specs.Encoding.{encoding_of}
 use Rattle.csv_records.specs.Reading.{AreRecordsFor, AreRecordsIn, IsDecodedBy}
 use Rattle.csv_records.specs.declared.beginning.BeginningRecords.{BeginningRecords}

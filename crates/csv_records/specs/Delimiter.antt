@@ -1,48 +1,15 @@
 -- What stands between the fields of a text, and where its records begin.
 -- Source: this library's own; a line `sep=X` is Excel's.
-use Rattle.std.specs.Prelude.{ℕ, zero, suc, ◌≡◌, ◌<◌, ◌*◌, ◌==◌, ◌&&◌, ◌||◌, nat_lt, not, Bool, true, false, List, [], ◌∷◌, ◌++◌, Option, Some, None, bytes_eq, codes, drop, is_some, length, map, option_and_then, option_map, take, unwrap_or, if◌then◌else◌}
+use Rattle.std.specs.Prelude.{ℕ, ◌<◌, ◌*◌, ◌==◌, ◌&&◌, ◌||◌, nat_lt, not, Bool, true, false, List, [], ◌∷◌, Option, Some, None, bytes_eq, codes, drop, is_some, length, map, option_and_then, option_map, take, unwrap_or, if◌then◌else◌}
 use Rattle.std.specs.Char.{to_ascii_lowercase}
-use Rattle.std.specs.List.{count_by, filter, find, list_all, position_or_len}
+use Rattle.std.specs.List.{count_by, filter, find, list_all}
 use Rattle.comfy_parts.specs.Text.{Text, greatest}
 use Rattle.csv.specs.Reading.{records_from, strip_bom}
 use Rattle.csv.specs.declared.parser.State.TheVariants as st
 use Rattle.csv_records.specs.Input.{config_for}
+use Rattle.csv_records.specs.Lines.{below_line, first_line}
 use Rattle.csv_records.specs.declared.delimiter.Delimiter.{Delimiter}
 use Rattle.csv_records.specs.declared.delimiter.Delimiter.TheVariants.{Auto, Byte, NamedOrTab, Spaces}
-
--- ---- lines
-
-abbrev pub ends_line : ℕ → Bool
-ends_line b = (b == 0x0A) || (b == 0x0D)
-
--- how many bytes stand before the first line end
-abbrev pub line_len : Text → ℕ
-line_len text = position_or_len ends_line text
-
--- how many bytes the line end in front of a text has: a carriage return and a line feed are one
-abbrev pub end_len : Text → ℕ
-end_len [] = 0
-end_len (a ∷ []) = if ends_line a then 1 else 0
-end_len (a ∷ b ∷ rest) = if (a == 0x0D) && (b == 0x0A) then 2 else if ends_line a then 1 else 0
-
--- the first line, without its end
-abbrev pub first_line : Text → Text
-first_line text = take (line_len text) text
-
--- what follows the first line and its end
-abbrev pub below_line : Text → Text
-below_line text =
-    let rest = drop (line_len text) text in
-    drop (end_len rest) rest
-
--- what follows that many lines
-abbrev pub below_lines : ℕ → Text → Text
-below_lines zero text = text
-below_lines (suc count) text = below_lines count (below_line text)
-
--- a text ends in this way
-abbrev pub EndsIn : Text → Text → Type 0
-EndsIn text end = (front : Text) × (text ≡ front ++ end)
 
 -- ---- a line that names the delimiter
 

@@ -5,7 +5,7 @@ use Rattle.std.specs.Char.Utf16.{utf16_chars}
 use Rattle.std.specs.Int.{from_be_bytes, from_le_bytes, w16}
 use Rattle.std.specs.Option.{unwrap_or}
 use Rattle.comfy_parts.specs.Text.{Text}
-use Rattle.csv_records.specs.Delimiter.{below_lines}
+use Rattle.csv_records.specs.Lines.{below_lines}
 use Rattle.csv_records.specs.Input.{IsTextRefusal, line_number}
 use Rattle.csv_records.specs.declared.encoding.ByteOrder.{ByteOrder}
 use Rattle.csv_records.specs.declared.encoding.ByteOrder.TheVariants.{BigEndian, LittleEndian}

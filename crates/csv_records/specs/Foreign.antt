@@ -3,7 +3,7 @@
 use Rattle.std.specs.Prelude.{ℕ, Bool, ◌==◌, ◌||◌, [], ◌∷◌, Option, Some, None, bytes_eq, is_some, map, option_map, take, if◌then◌else◌}
 use Rattle.std.specs.List.{position}
 use Rattle.comfy_parts.specs.Text.{Text}
-use Rattle.csv_records.specs.Delimiter.{below_lines}
+use Rattle.csv_records.specs.Lines.{below_lines}
 use Rattle.csv_records.specs.Encoding.{marked_order}
 use Rattle.csv_records.specs.Input.{line_number}
 use Rattle.csv_records.specs.declared.encoding.Encoding.{Encoding}

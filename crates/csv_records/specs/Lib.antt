@@ -7,6 +7,7 @@ pub mod Encoding
 pub mod First
 pub mod Foreign
 pub mod Input
+pub mod Lines
 pub mod Number
 pub mod Numbered
 pub mod Numerals

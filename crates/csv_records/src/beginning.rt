@@ -5,9 +5,10 @@ ghost use Rattle.csv_records.specs.Beginning.{EndsWithLine, IsFoundInBeginning, 
 ghost use Rattle.csv_records.specs.First.{AreFirst};
 ghost use Rattle.csv_records.specs.Reading.{AreRecordsIn, IsDecodedBy};
 
-use crate::delimiter::{below_lines, doubtful_delimiter, shows_delimiter};
+use crate::delimiter::{doubtful_delimiter, shows_delimiter};
 use crate::encoding::{Encoding, decoded, encoding_of};
 use crate::error::{DecodeError, RecordsError};
+use crate::lines::below_lines;
 use crate::options::InputOptions;
 use crate::reading::read_first_records;
 use crate::records::{FirstRecords, Records};

@@ -1,10 +1,12 @@
-//! What stands between the fields of a text, and what stands below first lines.
+//! What stands between the fields of a text.
 
 ghost use Rattle.std.specs.Prelude.{◌≡◌, ◌==◌, IfOk, option_map};
-ghost use Rattle.std.specs.List.{count_by, list_all, position};
+ghost use Rattle.std.specs.List.{count_by, list_all};
 ghost use Rattle.csv.specs.Reading.{strip_bom};
-ghost use Rattle.csv_records.specs.Delimiter.{EndsIn, IsAsciiUnlessAsked, agreement, below_line, below_lines, delimited, delimiter_in, doubtful_delimiter, end_len, ends_line, field_counts, first_line, found_delimiter, has_first_records, is_poor, line_len, named_delimiter, only_ascii, poor_delimiter, shows_delimiter, tried_delimiters};
+ghost use Rattle.csv_records.specs.Delimiter.{IsAsciiUnlessAsked, agreement, delimited, delimiter_in, doubtful_delimiter, field_counts, found_delimiter, has_first_records, is_poor, named_delimiter, only_ascii, poor_delimiter, shows_delimiter, tried_delimiters};
+ghost use Rattle.csv_records.specs.Lines.{EndsIn};
 
+use crate::lines::split_line;
 use crate::options::InputOptions;
 use crate::records::reader_of;
 use crate::text::without_mark;
@@ -95,66 +97,6 @@ pub(crate) fn shows_delimiter(
         Delimiter::Byte(byte) => Ok(byte != b'\n'),
         Delimiter::Auto | Delimiter::NamedOrTab => Ok(true),
         Delimiter::Spaces => Ok(false),
-    }
-}
-
-/// The bytes below the first `count` lines, none where there aren't more. A line ends at a line
-/// feed, a carriage return, or a carriage return with a line feed, also between quotes.
-pub(crate) fn below_lines(bytes: &[u8], count: usize) -> &[u8]
-    ensures below { result.now ≡ below_lines count bytes.now }
-    ensures end { EndsIn bytes.now result.now }
-{
-    let mut rest = bytes;
-    for _ in 0..count {
-        if rest.is_empty() {
-            break;
-        }
-        rest = below_line(rest);
-    }
-    rest
-}
-
-// What follows the first line and its end.
-fn below_line(bytes: &[u8]) -> &[u8]
-    ensures { result.now ≡ below_line bytes.now }
-{
-    let rest = bytes.split_at(line_len(bytes)).1;
-    rest.split_at(end_len(rest)).1
-}
-
-// The first line without its end, and what follows that end.
-fn split_line(text: &str) -> (&str, &str)
-    ensures line { result.0.now ≡ first_line text.now }
-    ensures below { result.1.now ≡ below_line text.now }
-{
-    let (line, rest) = text.split_at(line_len(text.as_bytes()));
-    (line, rest.split_at(end_len(rest.as_bytes())).1)
-}
-
-// How many bytes stand before the first line end.
-fn line_len(bytes: &[u8]) -> usize
-    ensures { result ≡ line_len bytes.now }
-{
-    line_end(bytes).unwrap_or(bytes.len())
-}
-
-// The place of the first line end.
-fn line_end(bytes: &[u8]) -> Option<usize>
-    ensures { result ≡ position ends_line bytes.now }
-{
-    bytes
-        .iter()
-        .position(|byte| *byte == b'\n' || *byte == b'\r')
-}
-
-// How many bytes the line end in front has.
-fn end_len(bytes: &[u8]) -> usize
-    ensures { result ≡ end_len bytes.now }
-{
-    match bytes {
-        [b'\r', b'\n', ..] => 2,
-        [b'\r' | b'\n', ..] => 1,
-        _ => 0,
     }
 }
 

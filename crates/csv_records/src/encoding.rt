@@ -3,14 +3,14 @@
 ghost use Rattle.std.specs.Prelude.{◌≡◌, ◌-◌, ◌≤◌, ◌==◌, ◌∷◌, IfErr, IfOk, IsUtf8, drop, is_some, length, string_bytes};
 ghost use Rattle.std.specs.Iterator.{YieldsFirst, item_count};
 ghost use Rattle.std.specs.String.{string_vec};
-ghost use Rattle.csv_records.specs.Delimiter.{below_line, below_lines, end_len};
+ghost use Rattle.csv_records.specs.Lines.{below_line, below_lines, end_len};
 ghost use Rattle.csv_records.specs.Encoding.{AreCharactersOf, IsRefusedIn, IsDecoded, IsUtf16Refusal, cp1252_character, cp1252_text, encoding_of, marked_order, order_of, unit, units, utf16_characters, without_mark};
 ghost use Rattle.csv_records.specs.Input.{IsTextRefusal, line_number};
 ghost use Rattle.csv_records.specs.Reading.{IsDecodedBy, IsWithoutText};
 
-use crate::delimiter::below_lines;
 use crate::error::DecodeError;
 use crate::foreign::foreign_for;
+use crate::lines::below_lines;
 use crate::options::InputOptions;
 use crate::text::{line_number, text_of};
 use std::alloc::Global;

@@ -4,8 +4,8 @@ ghost use Rattle.std.specs.Prelude.{◌≡◌, ◌==◌};
 ghost use Rattle.std.specs.List.{position};
 ghost use Rattle.csv_records.specs.Foreign.{foreign_by_nuls, foreign_for, foreign_in, is_gzip, is_like_utf16, is_zip, nul_line};
 
-use crate::delimiter::below_lines;
 use crate::encoding::{Encoding, is_marked};
+use crate::lines::below_lines;
 use crate::text::line_number;
 use memchr::memchr;
 use thiserror::Error;

@@ -11,6 +11,7 @@ mod encoding;
 mod error;
 mod foreign;
 pub mod laws;
+mod lines;
 mod number;
 mod numerals;
 mod options;

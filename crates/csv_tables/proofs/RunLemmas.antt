@@ -7,7 +7,7 @@ use Rattle.std.proofs.lemmas.Str.{IsUtf8-nil}
 use Rattle.std.specs.Str.{IsUtf8}
 use Rattle.comfy_parts.specs.Text.{Text}
 use Rattle.csv_records.specs.Encoding.{IsRefusedIn, encoding_of}
-use Rattle.csv_records.specs.Delimiter.{below_lines}
+use Rattle.csv_records.specs.Lines.{below_lines}
 use Rattle.csv_records.specs.Foreign.{foreign_for}
 use Rattle.csv_records.specs.Reading.{IsWithoutText}
 use Rattle.csv_records.specs.declared.encoding.Encoding.{Encoding}

@@ -6,7 +6,7 @@ use Rattle.devices.specs.Outcome.{Beginning, Extent, IsByExtent, OfWhole, Whole,
 use Rattle.csv_tables.specs.Columns.{IsColumnsRefusal}
 use Rattle.csv_tables.specs.Drawn.{AreEnough, HasLimit, IsNotEnough, RendersExtent, content_of}
 use Rattle.csv_records.specs.Beginning.{whole_lines}
-use Rattle.csv_records.specs.Delimiter.{below_lines}
+use Rattle.csv_records.specs.Lines.{below_lines}
 use Rattle.csv_records.specs.Encoding.{encoding_of}
 use Rattle.csv_records.specs.Reading.{AreRecordsFor, IsDecodedBy, IsTextWithoutRecords, IsWithoutText}
 use Rattle.csv_records.specs.declared.encoding.Encoding.TheVariants.{Utf8}

@@ -85,4 +85,3 @@ IsDrawnWithCells P table lines =
 -- the rows that the iterator still gives: each number that is left, in a list of its own
 abbrev pub rows_left : NumberRows → List (List ℕ)
 rows_left numbers = map (λ number. number ∷ []) numbers.left.now
-

@@ -1,11 +1,11 @@
 //! A case's table, built line by line through the public surface. A call that is new gets its words
 //! here.
 
-use crate::fault::{Fault, Result};
 use crate::request::{Request, request_of};
 use crate::settings::{arrangement, cell_of, set_column};
 use crate::styles::{read_style, set_part};
-use crate::text::{character, first_or_empty, number, push_lines, push_number, text, width};
+use crate::words::{character, number, push_number, width};
+use case_files::{Build, Fault, Result, first_or_empty, push_lines, text};
 use comfy_table::utils::arrangement::arrange_content;
 use comfy_table::{Row, Table, Terminal};
 use std::alloc::Global;
@@ -28,9 +28,8 @@ enum Begun {
     Row,
 }
 
-impl Builder {
-    /// A new table.
-    pub fn new(alloc: Global) -> Builder {
+impl Build for Builder {
+    fn new(alloc: Global) -> Builder {
         Builder {
             alloc,
             table: Table::new(alloc),
@@ -39,8 +38,7 @@ impl Builder {
         }
     }
 
-    /// Does what a line asks for by its first word and the words after it.
-    pub fn apply(&mut self, first: &str, words: &[&str]) -> Result<()> {
+    fn apply(&mut self, first: &str, words: &[&str]) -> Result<()> {
         match request_of(first)? {
             Request::Cell | Request::Height if matches!(self.begun, Begun::Nothing) => {
                 Err(Fault::NotRead("no row was begun"))
@@ -54,8 +52,7 @@ impl Builder {
         }
     }
 
-    /// Adds what the table gives of one kind, as the lines of an expectation.
-    pub fn draw(&mut self, kind: &str, lines: &mut Vec<String>) -> Result<()> {
+    fn draw(&mut self, kind: &str, lines: &mut Vec<String>) -> Result<()> {
         self.finish_row()?;
         match kind {
             "lines" => self.draw_lines(lines),
@@ -63,7 +60,9 @@ impl Builder {
             _ => self.draw_numbers(kind, lines),
         }
     }
+}
 
+impl Builder {
     // begins a row, or changes the table, its style or its columns
     fn set(&mut self, request: Request, words: &[&str]) -> Result<()> {
         let first = first_or_empty(words);

@@ -1,7 +1,7 @@
 //! Colours and attributes by their names.
 
-use crate::fault::{Fault, Result};
-use crate::text::named;
+use crate::words::named;
+use case_files::{Fault, Result};
 use comfy_table::style::{Attribute, Color};
 
 const COLORS: [(&str, Color); 17] = [

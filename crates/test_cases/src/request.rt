@@ -1,7 +1,7 @@
 //! What the lines of a case ask for.
 
-use crate::fault::Result;
-use crate::text::named;
+use crate::words::named;
+use case_files::Result;
 
 /// What a line asks for, by its first word.
 #[derive(Clone, Copy)]

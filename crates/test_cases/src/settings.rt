@@ -1,8 +1,8 @@
 //! Cells and columns of words; their settings are `NAME=VALUE`.
 
-use crate::fault::{Fault, Result};
 use crate::looks::{attribute, color};
-use crate::text::{character, first_or_empty, named, text, width};
+use crate::words::{character, named, width};
+use case_files::{Fault, Result, first_or_empty, text};
 use comfy_table::style::{
     Attribute, CellAlignment, Color, ColumnConstraint, ContentArrangement, Width,
 };

@@ -1,7 +1,7 @@
 //! Presets and the parts of a style, as words.
 
-use crate::fault::{Fault, Result};
-use crate::text::optional_character;
+use crate::words::optional_character;
+use case_files::{Fault, Result};
 use comfy_table::style::presets::by_name;
 use comfy_table::style::{ContentLineStyle, LineStyle, TableStyle};
 use std::alloc::Global;

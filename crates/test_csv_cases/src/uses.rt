@@ -4,9 +4,9 @@ ghost use Rattle.std.specs.Prelude.{◌≡◌, IfOk, true};
 ghost use Rattle.csv_tables.specs.Drawn.{IsDrawnOf};
 ghost use Rattle.test_csv_cases.specs.Uses.{GivesInputBack};
 
-use devices::{MemorySink, MemorySource};
 use csv_tables::laws::markdown_lines_give_back_their_fields;
 use csv_tables::{CsvError, Options, draw};
+use devices::{MemorySink, MemorySource};
 use std::alloc::Global;
 
 /// A sink that holds the output for an input, both in memory.

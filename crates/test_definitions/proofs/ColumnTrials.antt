@@ -85,4 +85,3 @@ numbered_without_a_header = refl
 -- columns beside that of numbers, and without it
 beside_numbers : map (λ is_numbered. columns_beside is_numbered (record { position = 2; alignment = None } ∷ [])) (true ∷ false ∷ []) ≡ (record { position = 0; alignment = Some Right } ∷ record { position = 3; alignment = None } ∷ []) ∷ (record { position = 2; alignment = None } ∷ []) ∷ []
 beside_numbers = refl
-

@@ -101,4 +101,3 @@ unfolding encode
 below_a_line_of_cp1252 = refl
 
 -- ---- what laws refuse
-

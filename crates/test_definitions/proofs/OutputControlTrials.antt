@@ -130,4 +130,3 @@ a_style_with_tabs : ¬ (IsStyleWithoutControls with_tabs)
 a_style_with_tabs is = true≢false is
 
 -- ---- lines of rows
-

@@ -39,4 +39,3 @@ marked = refl
 -- two quotes within a field close nothing
 doubled : list_all (λ n. is_in_quoted_field (state_after 0x2C (codes "x\n" ++ 0x22 ∷ take n (codes "a\"\"b")))) (range_with_len 0 5) ≡ true
 doubled = refl
-

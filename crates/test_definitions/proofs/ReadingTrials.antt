@@ -11,7 +11,8 @@ use Rattle.ucd_category.proofs.Computing.{ucd_category}
 use Rattle.comfy_parts.specs.Text.{Text}
 use Rattle.csv_command.specs.Ending.{input_name, reading_reason, reason_for}
 use Rattle.csv_records.specs.Number.{is_neutral, is_number}
-use Rattle.csv_records.specs.Delimiter.{agreement, below_lines, delimited, delimiter_in, doubtful_delimiter, is_poor}
+use Rattle.csv_records.specs.Lines.{below_lines}
+use Rattle.csv_records.specs.Delimiter.{agreement, delimited, delimiter_in, doubtful_delimiter, is_poor}
 use Rattle.csv_tables.specs.Unbroken.{is_unbroken}
 use Rattle.csv_command.specs.Arguments.{delimiter_for, encoding_for}
 use Rattle.csv_records.specs.Foreign.{foreign_for}

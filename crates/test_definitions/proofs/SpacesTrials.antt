@@ -20,4 +20,3 @@ header = refl
 
 blank : tabbed_text (codes " \n\t\n") ≡ []
 blank = refl
-

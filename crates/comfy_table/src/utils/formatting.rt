@@ -19,7 +19,7 @@ pub(crate) use output::{Output, OutputForm};
 /// How texts are measured, cut and wrapped.
 pub mod content_split {
     pub use comfy_parts::content_split::{
-        ColumnDisplayInfo, adds_one_column, characters_fit, measure_text_width,
-        split_line, split_line_by_delimiter, split_line_ref, split_long_word, visible_text,
+        ColumnDisplayInfo, adds_one_column, characters_fit, measure_text_width, split_line,
+        split_line_by_delimiter, split_line_ref, split_long_word, visible_text,
     };
 }

@@ -3,7 +3,8 @@ use Rattle.memchr.proofs.lemmas.CallerLemmas.{length-places}
 use Rattle.memchr.specs.Find.{is_byte}
 use Rattle.csv_records.proofs.NoneEnoughLemmas.{none_more, none_recorded}
 use Rattle.csv_records.specs.Beginning.{EndsWithLine, is_line_feed, whole_lines}
-use Rattle.csv_records.specs.Delimiter.{below_lines, shows_delimiter}
+use Rattle.csv_records.specs.Delimiter.{shows_delimiter}
+use Rattle.csv_records.specs.Lines.{below_lines}
 use Rattle.csv_records.specs.Encoding.{encoding_of}
 use Rattle.csv_records.specs.First.{AreFirst}
 use Rattle.csv_records.specs.declared.encoding.Encoding.TheVariants.{Utf16}

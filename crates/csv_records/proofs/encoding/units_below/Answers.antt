@@ -1,5 +1,5 @@
 use Rattle.std.proofs.Common.{◌-◌, sym, ◌∙◌}
-use Rattle.csv_records.proofs.DelimiterLemmas.{no_lines_left, one_line_less}
+use Rattle.csv_records.proofs.LineLemmas.{no_lines_left, one_line_less}
 use Rattle.csv_records.proofs.encoding.units_below.Goals as goal
 
 pub loop-preserved : goal.loop-preserved

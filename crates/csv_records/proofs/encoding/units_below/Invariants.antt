@@ -1,5 +1,5 @@
 use Rattle.std.proofs.Common.{◌≡◌, ◌-◌}
-use Rattle.csv_records.specs.Delimiter.{below_lines}
+use Rattle.csv_records.specs.Lines.{below_lines}
 use Rattle.csv_records.proofs.encoding.units_below.Given as goal
 
 abbrev pub invariant-loop : goal.invariant-loop

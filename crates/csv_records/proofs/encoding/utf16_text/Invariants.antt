@@ -1,5 +1,5 @@
 use Rattle.std.proofs.Common.{string_bytes}
-use Rattle.csv_records.specs.Delimiter.{below_lines}
+use Rattle.csv_records.specs.Lines.{below_lines}
 use Rattle.csv_records.specs.Encoding.{order_of, units, without_mark}
 use Rattle.csv_records.proofs.EncodingLemmas.{HasDecoded, units_left}
 use Rattle.csv_records.proofs.encoding.utf16_text.Given as goal

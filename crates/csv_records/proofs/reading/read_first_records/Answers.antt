@@ -3,7 +3,8 @@ use Rattle.std.proofs.Math.Seq.{take-append-add}
 use Rattle.std.proofs.lemmas.List.{length-drop, take-append-drop}
 use Rattle.csv.specs.Reading.{strip_bom}
 use Rattle.comfy_parts.specs.Text.{Text}
-use Rattle.csv_records.specs.Delimiter.{EndsIn, delimited}
+use Rattle.csv_records.specs.Delimiter.{delimited}
+use Rattle.csv_records.specs.Lines.{EndsIn}
 use Rattle.csv_records.specs.Quotes.{IsUnclosed}
 use Rattle.csv_records.specs.Reading.{parted, read_text}
 use Rattle.csv_records.specs.declared.delimiter.Delimiter.TheVariants.{Spaces}

@@ -1,6 +1,6 @@
 use Rattle.std.proofs.Common.{◌≡◌, ◌∷◌, ◌∙◌, ap, sym}
 use Rattle.csv_records.proofs.LineLemmas.{line_goes_on}
-use Rattle.csv_records.specs.Delimiter.{below_line}
+use Rattle.csv_records.specs.Lines.{below_line}
 use Rattle.csv_records.proofs.encoding.Units.below_line.Goals as goal
 
 pub loop-unit-preserved : goal.loop-unit-preserved

@@ -1,5 +1,5 @@
 use Rattle.std.proofs.Common.{◌≡◌}
-use Rattle.csv_records.specs.Delimiter.{below_line}
+use Rattle.csv_records.specs.Lines.{below_line}
 use Rattle.csv_records.proofs.encoding.Units.below_line.Given as goal
 
 abbrev pub invariant-loop-unit : goal.invariant-loop-unit

@@ -1,6 +1,6 @@
 //! Why a case can't be tried.
 
-use comfy_table::TableError;
+use comfy_parts::TableError;
 use std::alloc::{AllocError, AllocFailed};
 use thiserror::Error;
 

@@ -1,33 +1,44 @@
-//! A case, and the table that its lines build.
+//! A case, and what its lines build.
 
-use crate::builder::Builder;
 use crate::case::Case;
 use crate::fault::{Fault, Result};
-use crate::text::{first_or_empty, parts};
+use crate::words::{first_or_empty, parts};
 use std::alloc::Global;
 
-/// A case beside its table.
-#[derive(Drop)]
-pub struct Trial {
-    alloc: Global,
-    /// What is wanted of the table, and what it gives.
-    pub case: Case,
-    builder: Builder,
+/// What the lines of a case build.
+pub trait Build: Drop {
+    /// What no line has built yet.
+    fn new(alloc: Global) -> Self;
+
+    /// Does what a line asks for by its first word and the words after it.
+    fn apply(&mut self, first: &str, words: &[&str]) -> Result<()>;
+
+    /// Adds what it gives of one kind, as the lines of an expectation.
+    fn draw(&mut self, kind: &str, lines: &mut Vec<String>) -> Result<()>;
 }
 
-impl Trial {
-    /// A case with nothing in it, and a new table.
-    pub fn new(alloc: Global) -> Trial {
+/// A case beside what its lines build.
+#[derive(Drop)]
+pub(crate) struct Trial<B: Build> {
+    alloc: Global,
+    // what is wanted, and what is given
+    pub(crate) case: Case,
+    built: B,
+}
+
+impl<B: Build> Trial<B> {
+    /// A case with nothing in it.
+    pub(crate) fn new(alloc: Global) -> Trial<B> {
         Trial {
             alloc,
             case: Case::new(alloc),
-            builder: Builder::new(alloc),
+            built: B::new(alloc),
         }
     }
 
     /// Does what a line asks for, unless an earlier line couldn't be read. Only running out of
     /// memory is returned as an error.
-    pub fn take(&mut self, number: u64, line: &str) -> Result<()> {
+    pub(crate) fn take(&mut self, number: u64, line: &str) -> Result<()> {
         if self.case.passes_over(line) {
             return Ok(());
         }
@@ -45,13 +56,13 @@ impl Trial {
         let words = parts(self.alloc, line, '\t')?;
         match words.as_slice() {
             ["expect", others @ ..] => self.expect(first_or_empty(others)),
-            [first, others @ ..] => self.builder.apply(first, others),
+            [first, others @ ..] => self.built.apply(first, others),
             [] => Ok(()),
         }
     }
 
     fn expect(&mut self, kind: &str) -> Result<()> {
         self.case.expect(kind)?;
-        self.builder.draw(kind, &mut self.case.drawn)
+        self.built.draw(kind, &mut self.case.drawn)
     }
 }

@@ -1,7 +1,7 @@
 //! One case: what is wanted of its table, and what the table gives.
 
 use crate::fault::{Fault, Result};
-use crate::text::text;
+use crate::words::text;
 use std::alloc::Global;
 
 /// A case that is being read, or has ended.

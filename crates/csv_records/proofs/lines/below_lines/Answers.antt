@@ -1,7 +1,7 @@
 use Rattle.std.proofs.Common.{◌-◌, sym, ◌∙◌}
-use Rattle.csv_records.proofs.DelimiterLemmas.{EndsIn-trans, line-EndsIn, no_lines_left, one_line_less}
-use Rattle.csv_records.specs.Delimiter.{below_line}
-use Rattle.csv_records.proofs.delimiter.below_lines.Goals as goal
+use Rattle.csv_records.proofs.LineLemmas.{EndsIn-trans, line-EndsIn, no_lines_left, one_line_less}
+use Rattle.csv_records.specs.Lines.{below_line}
+use Rattle.csv_records.proofs.lines.below_lines.Goals as goal
 
 pub loop-preserved : goal.loop-preserved
 loop-preserved c =

@@ -1,5 +1,5 @@
-use Rattle.csv_records.proofs.DelimiterLemmas.{boundary_before, boundary_behind}
-use Rattle.csv_records.proofs.delimiter.split_line.Goals as goal
+use Rattle.csv_records.proofs.LineLemmas.{boundary_before, boundary_behind}
+use Rattle.csv_records.proofs.lines.split_line.Goals as goal
 
 pub split_at-requires : goal.split_at-requires
 split_at-requires c = rw (c.line_len.ensures, c.as_bytes.ensures.value) (boundary_before c.args.text.now)

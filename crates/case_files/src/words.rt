@@ -1,26 +1,7 @@
-//! What a word stands for: a text, a character or a number; and how many words there are.
+//! The text that a word stands for, and the words of a line.
 
 use crate::fault::{Fault, Result};
 use std::alloc::Global;
-
-/// What a name stands for among these, or the reason why it can't be read.
-pub fn named<T: Copy>(names: &[(&str, T)], name: &str, reason: &'static str) -> Result<T> {
-    for (known, value) in names {
-        if *known == name {
-            return Ok(*value);
-        }
-    }
-    Err(Fault::NotRead(reason))
-}
-
-/// The parts of a text between which there is this character.
-pub fn parts<'a>(alloc: Global, text: &'a str, separator: char) -> Result<Vec<&'a str>> {
-    let mut parts = Vec::new(alloc);
-    for part in text.split(separator) {
-        parts.push(part)?;
-    }
-    Ok(parts)
-}
 
 /// The text that a word stands for, its escapes resolved.
 pub fn text(alloc: Global, word: &str) -> Result<String> {
@@ -39,38 +20,13 @@ pub fn text(alloc: Global, word: &str) -> Result<String> {
     Ok(text)
 }
 
-/// The one character that a word stands for.
-pub fn character(alloc: Global, word: &str) -> Result<char> {
-    let text = text(alloc, word)?;
-    let mut characters = text.as_str().chars();
-    match (characters.next(), characters.next()) {
-        (Some(character), None) => Ok(character),
-        _ => Err(Fault::NotRead("one character is wanted")),
+/// The parts of a text between which there is this character.
+pub fn parts<'a>(alloc: Global, text: &'a str, separator: char) -> Result<Vec<&'a str>> {
+    let mut parts = Vec::new(alloc);
+    for part in text.split(separator) {
+        parts.push(part)?;
     }
-}
-
-/// The character that a word stands for, or none for an underscore.
-pub fn optional_character(alloc: Global, word: &str) -> Result<Option<char>> {
-    if word == "_" {
-        return Ok(None);
-    }
-    Ok(Some(character(alloc, word)?))
-}
-
-/// The number that some digits stand for.
-pub fn number(word: &str) -> Result<usize> {
-    match word.parse::<usize>() {
-        Ok(number) => Ok(number),
-        Err(_) => Err(Fault::NotRead("a number is wanted")),
-    }
-}
-
-/// The number of terminal columns that some digits stand for.
-pub fn width(word: &str) -> Result<u16> {
-    match word.parse::<u16>() {
-        Ok(width) => Ok(width),
-        Err(_) => Err(Fault::NotRead("a number up to 65535 is wanted")),
-    }
+    Ok(parts)
 }
 
 /// The first word. A text at a line's end may be missing, and is empty then.
@@ -87,14 +43,6 @@ pub fn push_lines(alloc: Global, lines: &mut Vec<String>, text: &str) -> Result<
         lines.push(String::from_str(alloc, line)?)?;
     }
     Ok(())
-}
-
-/// Adds a number to a line of numbers with a space between.
-pub fn push_number(line: &mut String, number: u16) -> Result<()> {
-    if !line.is_empty() {
-        line.push(' ')?;
-    }
-    Ok(write!(line, "{number}")?)
 }
 
 // adds what stands behind a backslash

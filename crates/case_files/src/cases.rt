@@ -1,0 +1,69 @@
+//! The cases of a file, line by line.
+
+use crate::tally::Tally;
+use crate::trial::{Build, Trial};
+use std::alloc::Global;
+use std::process::ExitCode;
+
+/// The cases of a file: how many came to what, and the one that is being read.
+#[derive(Drop)]
+pub struct Cases<B: Build> {
+    alloc: Global,
+    tally: Tally,
+    trial: Trial<B>,
+}
+
+impl<B: Build> Cases<B> {
+    /// No case yet.
+    pub fn new(alloc: Global) -> Cases<B> {
+        Cases {
+            alloc,
+            tally: Tally::default(),
+            trial: Trial::new(alloc),
+        }
+    }
+
+    /// Reads a line: it begins a case, ends it, or belongs to it. A case that ends is tried, and
+    /// what differs is printed.
+    pub fn take(&mut self, rt: &impl Print, line: &str) -> anyhow::Result<()> {
+        self.tally.lines = self.tally.lines.saturating_add(1);
+        match line.strip_prefix("case\t") {
+            Some(name) => {
+                self.close(rt)?;
+                Ok(self.trial.case.begin(name)?)
+            }
+            None if line == "end" => self.end(rt),
+            None => Ok(self.trial.take(self.tally.lines, line)?),
+        }
+    }
+
+    /// Prints how many cases came to what. Failure where a case failed or couldn't be read, or
+    /// where there was none.
+    pub fn finish(&mut self, rt: &impl Print) -> anyhow::Result<ExitCode> {
+        self.close(rt)?;
+        self.tally.print(rt)?;
+        if self.tally.all_passed() {
+            Ok(ExitCode::SUCCESS)
+        } else {
+            Ok(ExitCode::FAILURE)
+        }
+    }
+
+    fn end(&mut self, rt: &impl Print) -> anyhow::Result<()> {
+        self.trial.case.end(self.tally.lines);
+        self.tally.count(rt, &self.trial.case)?;
+        self.trial = Trial::new(self.alloc);
+        Ok(())
+    }
+
+    // Lines before a case, or a case without an end, can't be tried.
+    fn close(&mut self, rt: &impl Print) -> anyhow::Result<()> {
+        if self.trial.case.is_new() {
+            return Ok(());
+        }
+        self.trial
+            .case
+            .refuse(self.tally.lines, "the case has no end");
+        self.end(rt)
+    }
+}

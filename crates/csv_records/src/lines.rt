@@ -1,0 +1,65 @@
+//! The lines of bytes. A line ends at a line feed, a carriage return, or both in this order.
+
+ghost use Rattle.std.specs.Prelude.{◌≡◌};
+ghost use Rattle.std.specs.List.{position};
+ghost use Rattle.csv_records.specs.Lines.{EndsIn, below_line, below_lines, end_len, ends_line, first_line, line_len};
+
+/// The bytes below the first `count` lines, none where there aren't more. A line ends at a line
+/// feed, a carriage return, or a carriage return with a line feed, also between quotes.
+pub(crate) fn below_lines(bytes: &[u8], count: usize) -> &[u8]
+    ensures below { result.now ≡ below_lines count bytes.now }
+    ensures end { EndsIn bytes.now result.now }
+{
+    let mut rest = bytes;
+    for _ in 0..count {
+        if rest.is_empty() {
+            break;
+        }
+        rest = below_line(rest);
+    }
+    rest
+}
+
+// What follows the first line and its end.
+fn below_line(bytes: &[u8]) -> &[u8]
+    ensures { result.now ≡ below_line bytes.now }
+{
+    let rest = bytes.split_at(line_len(bytes)).1;
+    rest.split_at(end_len(rest)).1
+}
+
+/// The first line without its end, and what follows that end.
+pub(crate) fn split_line(text: &str) -> (&str, &str)
+    ensures line { result.0.now ≡ first_line text.now }
+    ensures below { result.1.now ≡ below_line text.now }
+{
+    let (line, rest) = text.split_at(line_len(text.as_bytes()));
+    (line, rest.split_at(end_len(rest.as_bytes())).1)
+}
+
+// How many bytes stand before the first line end.
+fn line_len(bytes: &[u8]) -> usize
+    ensures { result ≡ line_len bytes.now }
+{
+    line_end(bytes).unwrap_or(bytes.len())
+}
+
+// The place of the first line end.
+fn line_end(bytes: &[u8]) -> Option<usize>
+    ensures { result ≡ position ends_line bytes.now }
+{
+    bytes
+        .iter()
+        .position(|byte| *byte == b'\n' || *byte == b'\r')
+}
+
+// How many bytes the line end in front has.
+fn end_len(bytes: &[u8]) -> usize
+    ensures { result ≡ end_len bytes.now }
+{
+    match bytes {
+        [b'\r', b'\n', ..] => 2,
+        [b'\r' | b'\n', ..] => 1,
+        _ => 0,
+    }
+}
