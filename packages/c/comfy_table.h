@@ -118,8 +118,8 @@ struct comfy_rows_settings {
  * has; rows may have different numbers. columns has a byte for each column, or for the first ones.
  *
  * COMFY_INPUT_REFUSED says that a text isn't UTF-8. COMFY_SETTINGS_REFUSED says that a setting or a column's byte is none of those
- * above, that a byte is for a column that isn't there, or that no column is left. COMFY_LENGTHS_REFUSED says that the lengths
- * aren't those of the texts, or the counts those of the lengths.
+ * above, that a byte but COMFY_COLUMN_BY_CONTENTS is for a column that isn't there, or that no column is left.
+ * COMFY_LENGTHS_REFUSED says that the lengths aren't those of the texts, or the counts those of the lengths.
  */
 uint32_t comfy_rows_draw(const uint8_t *texts, size_t texts_length, const size_t *lengths, size_t lengths_length,
                          const size_t *counts, size_t counts_length, const uint8_t *columns, size_t columns_length,

@@ -1,18 +1,9 @@
 -- Texts that are cut from a block by their lengths.
-use Rattle.std.proofs.Common.{◌≡◌, ◌<◌, ◌+◌, ◌++◌, ◌∷◌, ◌∙◌, [], ℕ, List, Result, zero, suc, ap, arith, drop, inr, length, refl, slice_index_or, string_bytes, subst, sym, take}
+use Rattle.std.proofs.Common.{◌≡◌, ◌<◌, ◌+◌, ◌++◌, ◌∷◌, ◌∙◌, [], ℕ, List, zero, suc, ap, arith, drop, length, refl, slice_index_or, subst, sym, take}
 use Rattle.std.specs.List.{All}
 use Rattle.std.proofs.lemmas.List.{drop-drop, take_more}
 use Rattle.std.proofs.lemmas.List.Elements.{All-head, All-tail}
 use Rattle.std.proofs.lemmas.List.Sums.{sum_by-cons}
-use Rattle.comfy_parts.specs.Text.{Text}
-use Rattle.comfy_c.specs.RowCalls.{AreOptionsFor, IsRowsRefusal, refusal_of_columns, rows_of}
-use Rattle.comfy_c.specs.declared.rows_settings.RowsSettings.{RowsSettings}
-use Rattle.csv_tables.specs.Columns.{ColumnFault, IsColumnsRefusal}
-use Rattle.csv_tables.specs.Columns.ColumnFault.{missing, none_left, two_sided}
-use Rattle.csv_tables.specs.Drawn.{ContentValue, content_of}
-use Rattle.csv_tables.specs.declared.error.ColumnsError.{ColumnsError}
-use Rattle.csv_tables.specs.declared.error.ColumnsError.TheVariants.{NoColumn, NoneLeft, OutOfMemory, TwoSides}
-use Rattle.csv_tables.specs.declared.options.Options.{Options}
 use Rattle.csv_records.proofs.CutLemmas.{place_taken}
 use Rattle.csv_records.specs.CutLists.{cut_by, total}
 
@@ -41,15 +32,3 @@ in_cut P (n ∷ ns) (suc i) d below xs all =
 pub length-cut_by : {A : Type 0} (ns : List ℕ) (xs : List A) → length (cut_by ns xs) ≡ length ns
 length-cut_by [] xs = refl
 length-cut_by (n ∷ ns) xs = ap suc (length-cut_by ns (drop n xs))
-
--- ---- columns that can't be drawn
-
-module _ (texts : Text) (lengths counts columns : List ℕ) (settings : RowsSettings) (options : Options) (are : AreOptionsFor settings columns options) where
-  abbrev found : Result ContentValue ColumnFault
-  found = content_of options (rows_of texts lengths counts)
-
-  pub columns_refused : (e : ColumnsError) → IsColumnsRefusal e found → IsRowsRefusal texts lengths counts columns settings (refusal_of_columns e)
-  columns_refused (NoColumn word hint) is = inr (options, are, missing (string_bytes word) (string_bytes hint), is)
-  columns_refused NoneLeft is = inr (options, are, none_left, is)
-  columns_refused (TwoSides name) is = inr (options, are, two_sided (string_bytes name), is)
-  columns_refused OutOfMemory is = tt

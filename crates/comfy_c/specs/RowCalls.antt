@@ -1,7 +1,7 @@
 -- What settings and columns of a table of rows mean, and what is drawn of its texts.
 -- Source: this library's own.
-use Rattle.std.specs.Prelude.{◌≡◌, ◌⊎◌, ◌+◌, ◌-◌, ◌^◌, ◌==◌, ◌&&◌, not, nat_le, ℕ, Bool, true, false, List, [], ◌∷◌, All, Option, Some, None, Err, IsUtf8, decimal, is_some, length, map, slice_get, string_bytes, if◌then◌else◌}
-use Rattle.std.specs.List.{enumerate_from, filter, list_all}
+use Rattle.std.specs.Prelude.{◌≡◌, ◌-◌, ◌^◌, ◌==◌, ◌&&◌, ◌||◌, not, nat_le, ℕ, Bool, List, [], ◌∷◌, All, Option, Some, None, IsUtf8, drop, length, slice_get, if◌then◌else◌}
+use Rattle.std.specs.List.{filter, list_all, range_with_len, slice_index_or}
 use Rattle.comfy_parts.specs.Presets.{preset_at}
 use Rattle.comfy_parts.specs.Text.{Text}
 use Rattle.comfy_parts.specs.declared.style.table_style.TableStyle.{TableStyle}
@@ -13,17 +13,15 @@ use Rattle.comfy_c.specs.declared.texts.TextsRefusal.{TextsRefusal}
 use Rattle.comfy_c.specs.declared.texts.TextsRefusal.TheVariants.{Lengths, NotUtf8, OutOfMemory}
 use Rattle.csv_command.specs.Styles.{compact_style}
 use Rattle.csv_records.specs.CutLists.{cut_by, total}
-use Rattle.csv_tables.specs.Columns.{ColumnFault}
-use Rattle.csv_tables.specs.Drawn.{RendersAnyRecords, content_of, counting}
-use Rattle.csv_tables.specs.declared.error.ColumnsError.{ColumnsError}
-use Rattle.csv_tables.specs.declared.error.ColumnsError.TheVariants as columns
+use Rattle.csv_tables.specs.Columns.{ColumnsValue}
+use Rattle.csv_tables.specs.Drawn.{RendersAnyRecords, column_count}
 use Rattle.csv_tables.specs.declared.options.Expansion.{Expansion}
 use Rattle.csv_tables.specs.declared.options.Expansion.TheVariants.{Always, Auto, Never as NeverExpanded}
+use Rattle.csv_tables.specs.declared.options.Layout.{Layout}
 use Rattle.csv_tables.specs.declared.options.Look.{Look}
-use Rattle.csv_tables.specs.declared.options.Options.{Options}
 use Rattle.csv_tables.specs.declared.options.RowSeparators.{RowSeparators}
 use Rattle.csv_tables.specs.declared.options.RowSeparators.TheVariants.{Needed, Never, Styled}
-use Rattle.csv_tables.specs.declared.options.Selection.{Selection}
+use Rattle.csv_tables.specs.declared.selection.Selection.{Selection}
 
 -- ---- texts
 
@@ -86,56 +84,90 @@ look_for settings =
     look_by settings (style_at settings.style) (slice_get separators settings.row_lines)
     (slice_get expansions settings.expansion)
 
--- the numbers of the columns that have this byte, counted from 1
-abbrev pub numbers_of : ℕ → List ℕ → List Text
-numbers_of wanted columns =
-    map (λ (p : ℕ × ℕ). decimal (p.0 + 1))
-    (filter (λ (p : ℕ × ℕ). p.1 == wanted) (enumerate_from 0 columns))
+-- which rows are drawn
+abbrev pub selection_for : RowsSettings → Selection
+selection_for settings =
+    record {
+      has_header = is_set settings.has_header;
+      limit = limit_of settings.limit;
+      is_numbered = is_set settings.is_numbered;
+    }
 
--- all rows are counted, and columns stand at the left or at the right, or are left out, by their
--- bytes
-pub record IsSelectionFor (settings : RowsSettings) (columns : List ℕ)
-    (selection : Selection) : Type 0 where
-  pub header : selection.has_header ≡ is_set settings.has_header
-  pub limit : selection.limit ≡ limit_of settings.limit
-  pub numbers : selection.is_numbered ≡ is_set settings.is_numbered
-  pub columns_in_order : selection.columns.items ≡ []
-  pub left : map string_bytes selection.left.items ≡ numbers_of 1 columns
-  pub right : map string_bytes selection.right.items ≡ numbers_of 2 columns
-  pub dropped : map string_bytes selection.dropped.items ≡ numbers_of 3 columns
+-- ---- columns
 
 -- each byte stands for something
 abbrev pub are_bytes : List ℕ → Bool
-are_bytes columns = list_all (λ column. nat_le column 3) columns
+are_bytes bytes = list_all (λ byte. nat_le byte 3) bytes
 
--- the options that settings and columns stand for
-pub record AreOptionsFor (settings : RowsSettings) (columns : List ℕ)
-    (options : Options) : Type 0 where
-  pub look : look_for settings ≡ Some options.look
-  pub bytes : are_bytes columns ≡ true
-  pub selection : IsSelectionFor settings columns options.selection
+-- the byte of a column, which is 0 past the last one
+abbrev pub byte_at : List ℕ → ℕ → ℕ
+byte_at bytes position = slice_index_or bytes position 0
 
--- each number stands for something
-abbrev pub are_known : RowsSettings → List ℕ → Bool
-are_known settings columns = is_some (look_for settings) && are_bytes columns
+-- the positions of so many columns of which the byte passes
+abbrev pub positions_where : (ℕ → Bool) → List ℕ → ℕ → List ℕ
+positions_where passes bytes count =
+    filter (λ position. passes (byte_at bytes position)) (range_with_len 0 count)
+
+-- so many columns: they stand at the left or at the right, or aren't drawn, by their bytes
+abbrev pub columns_by : List ℕ → ℕ → ColumnsValue
+columns_by bytes count =
+    record {
+      drawn = positions_where (λ byte. not (byte == 3)) bytes count;
+      right = positions_where (λ byte. byte == 2) bytes count;
+      left = positions_where (λ byte. byte == 1) bytes count;
+    }
+
+-- no byte asks for a column beyond so many
+abbrev pub are_there : List ℕ → ℕ → Bool
+are_there bytes count = list_all (λ byte. byte == 0) (drop count bytes)
+
+-- the columns that any row has, drawn or not
+abbrev pub count_in_all : Selection → List (List Text) → ℕ
+count_in_all selection rows = column_count (record selection { limit = None }) rows
+
+-- columns of rows can be drawn so: no byte asks for one that no row has, and one is left. Without a
+-- row nothing is drawn
+abbrev pub can_be_drawn : Selection → List ℕ → List (List Text) → Bool
+can_be_drawn selection bytes rows =
+    (length rows == 0) || (are_there bytes (count_in_all selection rows)
+    && not (length (columns_by bytes (column_count selection rows)).drawn == 0))
+
+-- the columns of the header and the drawn rows, where they can be drawn so
+abbrev pub columns_for : Selection → List ℕ → List (List Text) → Option ColumnsValue
+columns_for selection bytes rows =
+    if can_be_drawn selection bytes rows
+    then Some (columns_by bytes (column_count selection rows))
+    else None
 
 -- ---- drawings
 
--- the drawing of the rows of texts, as `csvtable` draws such records
+abbrev pub layout_by : Selection → Option Look → Option ColumnsValue → Option Layout
+layout_by selection (Some look) (Some columns) =
+    Some (record { selection = selection; columns = columns; look = look })
+layout_by selection (Some look) None = None
+layout_by selection None columns = None
+
+-- what settings and bytes ask for of rows, where each number stands for something and the columns
+-- can be drawn so
+abbrev pub layout_for : RowsSettings → List ℕ → List (List Text) → Option Layout
+layout_for settings bytes rows =
+    if are_bytes bytes
+    then layout_by (selection_for settings) (look_for settings)
+    (columns_for (selection_for settings) bytes rows)
+    else None
+
+-- the drawing of the rows of texts, as `csvtable` draws such records; all of them are counted
 pub record IsRowsDrawing (texts : Text) (lengths counts columns : List ℕ)
     (settings : RowsSettings) (drawing : Text) : Type 0 where
   pub add_up : AddUp texts lengths counts
   pub is_text : IsUtf8 drawing
-  pub options : Options
-  pub are_options : AreOptionsFor settings columns options
-  pub is_output : RendersAnyRecords (counting options) (rows_of texts lengths counts) drawing
+  pub layout : Layout
+  pub is_layout : layout_for settings columns (rows_of texts lengths counts) ≡ Some layout
+  pub is_output : RendersAnyRecords layout (rows_of texts lengths counts) drawing
 
--- a number stands for nothing, or columns can't be drawn so
+-- settings or columns ask for nothing that can be drawn
 abbrev pub IsSettingRefused : List (List Text) → List ℕ → RowsSettings → Type 0
-IsSettingRefused rows columns settings =
-    (are_known settings columns ≡ false)
-    ⊎ (options : Options) × AreOptionsFor settings columns options
-    × (fault : ColumnFault) × (content_of options rows ≡ Err fault)
+IsSettingRefused rows columns settings = layout_for settings columns rows ≡ None
 
 -- why rows have no drawing
 abbrev pub IsRowsRefusal : Text → List ℕ → List ℕ → List ℕ → RowsSettings → RowsRefusal → Type 0
@@ -144,8 +176,3 @@ IsRowsRefusal texts lengths counts columns settings (Texts refusal) =
 IsRowsRefusal texts lengths counts columns settings Settings =
     IsSettingRefused (rows_of texts lengths counts) columns settings
 IsRowsRefusal texts lengths counts columns settings NoMemory = Unit {0}
-
--- the refusal of columns that can't be drawn, by the error that it comes of
-abbrev pub refusal_of_columns : ColumnsError → RowsRefusal
-refusal_of_columns columns.OutOfMemory = NoMemory
-refusal_of_columns _ = Settings

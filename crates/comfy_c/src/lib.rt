@@ -5,6 +5,7 @@
 mod arguments;
 mod csv_draw;
 mod room;
+mod rows_columns;
 mod rows_draw;
 mod rows_settings;
 mod table_draw;

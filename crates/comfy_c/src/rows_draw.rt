@@ -3,14 +3,16 @@
 ghost use Rattle.std.specs.Prelude.{◌≡◌, ◌≢◌, ◌≤◌, ◌<◌, IfErr, IfOk, List, ℕ, drop, length, string_bytes, take};
 ghost use Rattle.comfy_c.specs.declared.rows_draw.RowsRefusal.TheVariants as rows;
 ghost use Rattle.comfy_c.specs.declared.texts.TextsRefusal.TheVariants.{Lengths, NotUtf8};
-ghost use Rattle.comfy_c.specs.RowCalls.{IsRowsDrawing, IsRowsRefusal, IsSettingRefused, IsTextsRefusal, refusal_of_columns, rows_of};
+ghost use Rattle.comfy_c.specs.RowCalls.{IsRowsDrawing, IsRowsRefusal, IsSettingRefused, IsTextsRefusal, rows_of};
 
 use crate::room::{
     DRAWN, INPUT_REFUSED, LENGTHS_REFUSED, OUT_OF_MEMORY, ROOM_TOO_SMALL, SETTINGS_REFUSED, put,
 };
+use crate::rows_columns::{are_bytes, columns_of};
 use crate::rows_settings::RowsSettings;
 use crate::texts::{TextsRefusal, records_of};
-use csv_tables::{ColumnsError, output_of_records};
+use comfy_parts::TableError;
+use csv_tables::{Layout, output_of_records};
 use std::alloc::{AllocError, Global};
 
 /// Draws the table of rows into the caller's buffer, as `csvtable` draws records of these texts.
@@ -29,8 +31,8 @@ use std::alloc::{AllocError, Global};
 /// | 4 | settings or columns ask for nothing that can be drawn | unchanged |
 /// | 5 | lengths or counts don't add up | unchanged |
 ///
-/// 4 says that a setting or a column's byte stands for nothing, that a byte is for a column that
-/// isn't there, or that no column is left.
+/// 4 says that a setting or a column's byte stands for nothing, that a byte but 0 is for a column
+/// that isn't there, or that no column is left.
 ///
 /// With 1 to 5 the buffer is unchanged; with 0 it is unchanged behind the drawing.
 #[unsafe(no_mangle)]
@@ -95,6 +97,14 @@ impl From<AllocError> for RowsRefusal {
     }
 }
 
+impl From<TableError> for RowsRefusal {
+    ghost from_gives = { λ _ refusal. refusal ≡ rows.OutOfMemory };
+
+    fn from(_error: TableError) -> RowsRefusal {
+        RowsRefusal::OutOfMemory
+    }
+}
+
 impl From<TextsRefusal> for RowsRefusal {
     ghost from_gives = { λ texts refusal. refusal ≡ rows.Texts texts };
 
@@ -118,22 +128,21 @@ fn rows_drawing(
     ensures refused { IfErr result (λ refusal.
         IsRowsRefusal texts.now lengths.now counts.now columns.now settings.now refusal) }
 {
-    let Some(options) = settings.options(alloc, columns)? else {
+    let Some(look) = settings.look() else {
         return Err(RowsRefusal::Settings);
     };
+    if !are_bytes(columns) {
+        return Err(RowsRefusal::Settings);
+    }
     let records = records_of(alloc, texts, lengths, counts)?;
-    match output_of_records(alloc, records, &options) {
-        Ok(drawing) => Ok(drawing),
-        Err(error) => Err(refusal_of_columns(&error)),
-    }
-}
-
-// The refusal of columns that can't be drawn, by the error that it comes of.
-fn refusal_of_columns(error: &ColumnsError) -> RowsRefusal
-    ensures { result ≡ refusal_of_columns error.now }
-{
-    match error {
-        ColumnsError::OutOfMemory => RowsRefusal::OutOfMemory,
-        _ => RowsRefusal::Settings,
-    }
+    let selection = settings.selection();
+    let Some(columns) = columns_of(alloc, columns, selection, &records.rows())? else {
+        return Err(RowsRefusal::Settings);
+    };
+    let layout = Layout {
+        selection,
+        columns,
+        look,
+    };
+    Ok(output_of_records(alloc, records, &layout)?)
 }

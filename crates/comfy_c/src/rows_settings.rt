@@ -1,13 +1,11 @@
 //! The settings of a table of rows, as numbers.
 
-ghost use Rattle.std.specs.Prelude.{◌≡◌, IfOk, IfNone, IfSome, false, map, slice_get, string_bytes};
-ghost use Rattle.comfy_c.specs.RowCalls.{AreOptionsFor, IsSelectionFor, are_bytes, are_known, expansions, limit_of, look_for, numbers_of, separators, style_at};
+ghost use Rattle.std.specs.Prelude.{◌≡◌, slice_get};
+ghost use Rattle.comfy_c.specs.RowCalls.{expansions, limit_of, look_for, selection_for, separators, style_at};
 
 use comfy_parts::style::TableStyle;
 use comfy_parts::style::presets::{UTF8_FULL, by_position};
-use csv_records::{Delimiter, InputOptions};
-use csv_tables::{Expansion, Look, Options, RowSeparators, Selection};
-use std::alloc::{AllocError, Global};
+use csv_tables::{Expansion, Look, RowSeparators, Selection};
 
 /// How a table of rows is drawn. A flag is set where it isn't 0.
 #[derive(Clone, Copy, Debug)]
@@ -46,63 +44,20 @@ pub struct RowsSettings {
 
 const ROUNDED: u32 = 13;
 
-// What a column's byte says.
-
-const AT_LEFT: u8 = 1;
-
-const AT_RIGHT: u8 = 2;
-
-const HIDDEN: u8 = 3;
-
-// Texts are at hand, so nothing is read by this.
-const AS_CSV: InputOptions = InputOptions {
-    encoding: None,
-    skip: 0,
-    delimiter: Delimiter::Byte(b','),
-    has_quotes: true,
-};
-
 impl RowsSettings {
-    /// The options that these settings and columns stand for; none where a number stands for
-    /// nothing.
-    pub(crate) fn options(
-        &self,
-        alloc: Global,
-        columns: &[u8],
-    ) -> Result<Option<Options>, AllocError>
-        ensures some { IfOk result (λ found. IfSome found (AreOptionsFor self.now columns.now)) }
-        ensures none { IfOk result (λ found.
-            IfNone found (are_known self.now columns.now ≡ false)) }
+    /// Which of the rows are drawn.
+    pub(crate) fn selection(&self) -> Selection
+        ensures { result ≡ selection_for self.now }
     {
-        let Some(look) = self.look() else {
-            return Ok(None);
-        };
-        if !are_bytes(columns) {
-            return Ok(None);
-        }
-        Ok(Some(Options {
-            input: AS_CSV,
-            selection: self.selection(alloc, columns)?,
-            look,
-        }))
-    }
-
-    fn selection(&self, alloc: Global, columns: &[u8]) -> Result<Selection, AllocError>
-        ensures { IfOk result (IsSelectionFor self.now columns.now) }
-    {
-        Ok(Selection {
+        Selection {
             has_header: self.has_header != 0,
             limit: limit_of(self.limit),
-            counts_all: true,
             is_numbered: self.is_numbered != 0,
-            columns: Vec::new(alloc),
-            dropped: numbers_of(alloc, columns, HIDDEN)?,
-            right: numbers_of(alloc, columns, AT_RIGHT)?,
-            left: numbers_of(alloc, columns, AT_LEFT)?,
-        })
+        }
     }
 
-    fn look(&self) -> Option<Look>
+    /// How the table looks; none where a number stands for nothing.
+    pub(crate) fn look(&self) -> Option<Look>
         ensures { result ≡ look_for self.now }
     {
         Some(Look {
@@ -118,13 +73,6 @@ impl RowsSettings {
             is_markdown: self.is_markdown != 0,
         })
     }
-}
-
-// Whether each byte of a column stands for something.
-fn are_bytes(columns: &[u8]) -> bool
-    ensures { result ≡ are_bytes columns.now }
-{
-    columns.iter().all(|column| *column <= HIDDEN)
 }
 
 fn style_at(position: u32) -> Option<TableStyle>
@@ -167,18 +115,4 @@ fn limit_of(number: usize) -> Option<usize>
     } else {
         Some(number)
     }
-}
-
-// The numbers of the columns that have this byte, counted from 1.
-fn numbers_of(alloc: Global, columns: &[u8], wanted: u8) -> Result<Vec<String>, AllocError>
-    ensures { IfOk result (λ numbers. map string_bytes numbers.items
-        ≡ numbers_of wanted columns.now) }
-{
-    let mut numbers = Vec::new(alloc);
-    for (at, column) in columns.iter().enumerate() {
-        if *column == wanted {
-            numbers.push(format!(in alloc; "{}", at as u128 + 1)?)?;
-        }
-    }
-    Ok(numbers)
 }

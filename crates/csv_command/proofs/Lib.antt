@@ -1,8 +1,13 @@
+pub mod ColumnLemmas
+pub mod FirstRowLemmas
 pub mod NamedStyleLemmas
 pub mod OneInvocationLemmas
+pub mod OneOutputLemmas
 pub mod OneParseLemmas
+pub mod OutputControlLemmas
 pub mod ProgramLemmas
 pub mod RefusalLemmas
+pub mod RunLemmas
 pub mod StyleColumnLemmas
 pub mod StyleLemmas
 pub mod ValueLemmas

@@ -11,22 +11,23 @@ use Rattle.comfy_parts.specs.Text.{Text}
 use Rattle.comfy_parts.specs.declared.style.table_style.TableStyle.{TableStyle}
 use Rattle.csv_records.specs.Numerals.{number_for}
 use Rattle.csv_command.specs.Styles.{is_named, style_for}
-use Rattle.csv_command.specs.Arguments.{AreFound, IsParsed, IsInputParsed, IsLookParsed, AreOptionsParsed, delimiter_for, encoding_for, expansion_for, file_for, ids_in, is_behind, is_bold_for, is_given, is_given_last, is_markdown_in, number_found, separators_for, wanted_delimiter, width_for, words_in}
+use Rattle.csv_command.specs.Arguments.{AreFound, IsParsed, IsInputParsed, IsLookParsed, IsSelectionParsed, AreOptionsParsed, delimiter_for, encoding_for, expansion_for, file_for, ids_in, is_behind, is_bold_for, is_given, is_given_last, is_markdown_in, number_found, separators_for, wanted_delimiter, width_for, words_in}
 use Rattle.csv_command.specs.declared.arguments.Invocation.{Invocation}
 use Rattle.csv_command.specs.declared.arguments.OutputContext.{OutputContext}
 use Rattle.csv_records.specs.declared.delimiter.Delimiter.{Delimiter}
 use Rattle.csv_records.specs.declared.delimiter.Delimiter.TheVariants.{Byte}
 use Rattle.csv_tables.specs.declared.options.Expansion.{Expansion}
 use Rattle.csv_tables.specs.declared.options.Look.{Look}
-use Rattle.csv_tables.specs.declared.options.Options.{Options}
+use Rattle.csv_command.specs.declared.arguments.Options.{Options}
 use Rattle.csv_tables.specs.declared.options.RowSeparators.{RowSeparators}
-use Rattle.csv_tables.proofs.OneOutputLemmas.{output_is_one}
+use Rattle.csv_tables.specs.declared.selection.Selection.{Selection}
+use Rattle.csv_command.proofs.OneOutputLemmas.{output_is_one}
 use Rattle.csv_command.proofs.OneParseLemmas.{finds_are_one}
-use Rattle.csv_tables.proofs.OutputControlLemmas.{beginning_without_controls, input_without_controls}
-use Rattle.csv_tables.specs.OneOutput.{AreSameOptions}
+use Rattle.csv_command.proofs.OutputControlLemmas.{beginning_without_controls, input_without_controls}
+use Rattle.csv_command.specs.OneOutput.{AreSameOptions}
 use Rattle.comfy_parts.specs.VisibleText.{visible_text}
 use Rattle.csv_tables.specs.Controls.{HasNoStrayControl}
-use Rattle.csv_tables.specs.Drawn.{IsDrawnOf}
+use Rattle.csv_command.specs.Drawn.{IsDrawnOf}
 use Rattle.csv_records.specs.Beginning.{whole_lines}
 use Rattle.devices.specs.Outcome.{asked_front}
 use Rattle.csv_command.specs.Laws.{InvocationIsOne, ParsedOutputHoldsNoControls, DrawnHoldsNoControls, DrawnIsOne}
@@ -115,19 +116,26 @@ options_are_one : (context : OutputContext) (found other : Found) → rows_of fo
 options_are_one context found other same a b is also =
     let first = first found other same in
     let given = given found other same in
-    let number = number found other same in
     record {
       input = input_is_one found other same a.input b.input is.input also.input;
-      header = is.selection.header ∙ ap not (given (codes "no-header")) ∙ sym also.selection.header;
-      limit = is.selection.limit ∙ number 64 (codes "limit") ∙ sym also.selection.limit;
-      counts = is.selection.counts ∙ given (codes "count") ∙ sym also.selection.counts;
-      numbers = is.selection.numbers ∙ given (codes "number") ∙ sym also.selection.numbers;
-      columns = is.selection.columns ∙ ap words_in (first (codes "columns")) ∙ sym also.selection.columns;
-      dropped = is.selection.dropped ∙ ap words_in (first (codes "drop")) ∙ sym also.selection.dropped;
-      right = is.selection.right ∙ ap words_in (first (codes "right")) ∙ sym also.selection.right;
-      left = is.selection.left ∙ ap words_in (first (codes "left")) ∙ sym also.selection.left;
+      selection = selection_is_one a.selection b.selection is.selection also.selection;
+      counts = is.counts ∙ given (codes "count") ∙ sym also.counts;
+      columns = is.columns.chosen ∙ ap words_in (first (codes "columns")) ∙ sym also.columns.chosen;
+      dropped = is.columns.dropped ∙ ap words_in (first (codes "drop")) ∙ sym also.columns.dropped;
+      right = is.columns.right ∙ ap words_in (first (codes "right")) ∙ sym also.columns.right;
+      left = is.columns.left ∙ ap words_in (first (codes "left")) ∙ sym also.columns.left;
       look = look_is_one context found other same a.look b.look is.look also.look;
     }
+  where
+    selection_of : Bool → Option ℕ → Bool → Selection
+    selection_of has_header limit is_numbered = record { has_header = has_header; limit = limit; is_numbered = is_numbered }
+
+    selection_is_one : (s t : Selection) → IsSelectionParsed found s → IsSelectionParsed other t → s ≡ t
+    selection_is_one s t is also =
+        let header = is.header ∙ ap not (given found other same (codes "no-header")) ∙ sym also.header in
+        let limit = is.limit ∙ number found other same 64 (codes "limit") ∙ sym also.limit in
+        let numbers = is.numbers ∙ given found other same (codes "number") ∙ sym also.numbers in
+        ap₂ (λ (h : Bool) (l : Option ℕ). selection_of h l s.is_numbered) header limit ∙ ap (selection_of t.has_header t.limit) numbers
 
 -- ---- what is asked
 

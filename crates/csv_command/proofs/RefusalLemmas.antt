@@ -6,14 +6,14 @@ use Rattle.clap.specs.declared.error.kind.ErrorKind.{ErrorKind}
 use Rattle.clap.specs.declared.error.kind.ErrorKind.TheVariants as kind
 use Rattle.comfy_parts.specs.Text.{Text}
 use Rattle.csv_command.specs.Refusals.{IsRefusalByKind, IsRefusalOfInput, IsRefusedFor, not_a_terminal}
-use Rattle.csv_tables.specs.Run.{IsInputFault, IsInputRefusal}
+use Rattle.csv_command.specs.Run.{IsInputFault, IsInputRefusal}
 use Rattle.csv_command.specs.declared.drawing.Refusal.{Refusal}
 use Rattle.csv_command.specs.declared.drawing.Refusal.TheVariants.{Arguments, Input, OutOfMemory}
 use Rattle.csv_command.specs.Arguments.{AreFoundInVain, AreNotTaken, IsParsed, IsRefusedBy}
 use Rattle.csv_command.specs.declared.arguments.Invocation.{Invocation}
-use Rattle.csv_tables.specs.declared.error.CsvError.{CsvError}
-use Rattle.csv_tables.specs.declared.error.CsvError.TheVariants as err
-use Rattle.csv_tables.specs.declared.options.Options.{Options}
+use Rattle.csv_command.specs.declared.error.CsvError.{CsvError}
+use Rattle.csv_command.specs.declared.error.CsvError.TheVariants as err
+use Rattle.csv_command.specs.declared.arguments.Options.{Options}
 
 -- where there was memory, the input is at fault
 fault_of : (options : Options) (input : Text) (e : CsvError) → e ≢ err.OutOfMemory → IsInputRefusal options input e → IsInputFault options input e

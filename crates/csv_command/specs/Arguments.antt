@@ -26,8 +26,9 @@ use Rattle.csv_tables.specs.declared.options.Expansion.{Expansion}
 use Rattle.csv_tables.specs.declared.options.Expansion.TheVariants.{Always, Auto, Never as NeverExpanded}
 use Rattle.csv_tables.specs.declared.options.Look.{Look}
 use Rattle.csv_records.specs.declared.options.InputOptions.{InputOptions}
-use Rattle.csv_tables.specs.declared.options.Options.{Options}
-use Rattle.csv_tables.specs.declared.options.Selection.{Selection}
+use Rattle.csv_command.specs.declared.arguments.Options.{Options}
+use Rattle.csv_command.specs.declared.columns.ColumnWords.{ColumnWords}
+use Rattle.csv_tables.specs.declared.selection.Selection.{Selection}
 use Rattle.csv_tables.specs.declared.options.RowSeparators.{RowSeparators}
 use Rattle.csv_tables.specs.declared.options.RowSeparators.TheVariants.{Styled, Needed, Never}
 
@@ -199,25 +200,27 @@ pub record IsInputParsed (found : Found) (input : InputOptions) : Type 0 where
   pub delimiter : wanted_delimiter found ≡ Some input.delimiter
   pub quotes : input.has_quotes ≡ not (is_given found (codes "no-quotes"))
 
--- which records and columns are drawn
+-- which records are drawn
 pub record IsSelectionParsed (found : Found) (selection : Selection) : Type 0 where
   pub header : selection.has_header ≡ not (is_given found (codes "no-header"))
   pub limit : selection.limit ≡ number_found 64 found (codes "limit")
-  pub counts : selection.counts_all ≡ is_given found (codes "count")
   pub numbers : selection.is_numbered ≡ is_given found (codes "number")
-  pub columns : map string_bytes selection.columns.items
+
+-- which columns are drawn
+pub record AreColumnsParsed (found : Found) (columns : ColumnWords) : Type 0 where
+  pub chosen : map string_bytes columns.chosen.items
       ≡ words_in (first_value found (codes "columns"))
-  pub dropped : map string_bytes selection.dropped.items
-      ≡ words_in (first_value found (codes "drop"))
-  pub right : map string_bytes selection.right.items
-      ≡ words_in (first_value found (codes "right"))
-  pub left : map string_bytes selection.left.items ≡ words_in (first_value found (codes "left"))
+  pub dropped : map string_bytes columns.dropped.items ≡ words_in (first_value found (codes "drop"))
+  pub right : map string_bytes columns.right.items ≡ words_in (first_value found (codes "right"))
+  pub left : map string_bytes columns.left.items ≡ words_in (first_value found (codes "left"))
 
 -- options that follow from such values
 pub record AreOptionsParsed (context : OutputContext) (found : Found)
     (options : Options) : Type 0 where
   pub input : IsInputParsed found options.input
+  pub counts : options.counts_all ≡ is_given found (codes "count")
   pub selection : IsSelectionParsed found options.selection
+  pub columns : AreColumnsParsed found options.columns
   pub look : IsLookParsed context found options.look
 
 -- the values that clap finds in the arguments by the program's command

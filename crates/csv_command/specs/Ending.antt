@@ -18,10 +18,10 @@ use Rattle.csv_records.specs.declared.foreign.Foreign.{Foreign}
 use Rattle.csv_records.specs.declared.foreign.Foreign.TheVariants as foreign
 use Rattle.csv_records.specs.declared.error.RecordsError.{RecordsError}
 use Rattle.csv_records.specs.declared.error.RecordsError.TheVariants as records
-use Rattle.csv_tables.specs.declared.error.ColumnsError.{ColumnsError}
-use Rattle.csv_tables.specs.declared.error.ColumnsError.TheVariants as columns
-use Rattle.csv_tables.specs.declared.error.CsvError.{CsvError}
-use Rattle.csv_tables.specs.declared.error.CsvError.TheVariants as err
+use Rattle.csv_command.specs.declared.error.ColumnsError.{ColumnsError}
+use Rattle.csv_command.specs.declared.error.ColumnsError.TheVariants as columns
+use Rattle.csv_command.specs.declared.error.CsvError.{CsvError}
+use Rattle.csv_command.specs.declared.error.CsvError.TheVariants as err
 use Rattle.csv_command.specs.declared.ending.Outcome.{Outcome}
 use Rattle.csv_command.specs.declared.ending.Ending.{Ending}
 use Rattle.csv_command.specs.declared.ending.Message.{Message}

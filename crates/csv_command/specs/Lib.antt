@@ -1,8 +1,15 @@
 pub mod Arguments
+pub mod Columns
+pub mod Doubt
+pub mod Drawn
 pub mod Ending
+pub mod Errors
+pub mod Hints
 pub mod Laws
 pub mod Mistakes
+pub mod OneOutput
 pub mod Program
 pub mod Refusals
 pub mod Rules
+pub mod Run
 pub mod Styles

@@ -8,11 +8,11 @@ use Rattle.comfy_parts.specs.Text.{Text}
 use Rattle.csv_command.specs.Arguments.{AreFoundInVain, AreNotTaken, IsParsed}
 use Rattle.csv_command.specs.declared.arguments.Invocation.{Invocation}
 use Rattle.csv_command.specs.declared.arguments.OutputContext.{OutputContext}
-use Rattle.csv_tables.specs.declared.error.CsvError.{CsvError}
-use Rattle.csv_tables.specs.declared.error.CsvError.TheVariants as err
-use Rattle.csv_tables.specs.Drawn.{RendersInput}
+use Rattle.csv_command.specs.declared.error.CsvError.{CsvError}
+use Rattle.csv_command.specs.declared.error.CsvError.TheVariants as err
+use Rattle.csv_command.specs.Drawn.{RendersInput}
 use Rattle.csv_command.specs.Ending.{IsHarmless, message_for}
-use Rattle.csv_tables.specs.Run.{IsInputFault}
+use Rattle.csv_command.specs.Run.{IsInputFault}
 use Rattle.csv_command.specs.declared.drawing.Refusal.{Refusal}
 use Rattle.csv_command.specs.declared.drawing.Refusal.TheVariants.{Arguments, Input, OutOfMemory}
 

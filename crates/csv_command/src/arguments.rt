@@ -5,8 +5,9 @@ ghost use Rattle.std.specs.List.{slice_split};
 ghost use Rattle.clap.specs.Words.{app_of, first_value, found_of, kind_of};
 ghost use Rattle.clap.specs.declared.error.kind.ErrorKind.TheVariants.{OutOfMemory};
 ghost use Rattle.csv_command.specs.Program.{IsCsvtable};
-ghost use Rattle.csv_command.specs.Arguments.{IsInputParsed, IsParsed, IsRefusedBy, IsLookParsed, AreOptionsParsed, IsSelectionParsed, delimiter_by, delimiter_for, encoding_for, expansion_for, file_for, has_end, ids_in, is_behind, is_bold_for, is_bold_there, is_given, is_given_last, is_markdown_in, separators_for, some_columns, some_width, terminal_width, wanted_delimiter, wants_color, width_for, words_in};
+ghost use Rattle.csv_command.specs.Arguments.{AreColumnsParsed, IsInputParsed, IsParsed, IsRefusedBy, IsLookParsed, AreOptionsParsed, IsSelectionParsed, delimiter_by, delimiter_for, encoding_for, expansion_for, file_for, has_end, ids_in, is_behind, is_bold_for, is_bold_there, is_given, is_given_last, is_markdown_in, separators_for, some_columns, some_width, terminal_width, wanted_delimiter, wants_color, width_for, words_in};
 
+use crate::columns::ColumnWords;
 use crate::mistakes::reason_of_number;
 use crate::options::command;
 use crate::styles::{is_compact, is_named, style_names, style_of};
@@ -14,7 +15,7 @@ use clap::error::ErrorKind;
 use clap::parser::ArgMatches;
 use clap::{Command, Error};
 use csv_records::{Delimiter, Encoding, InputOptions, number_of, only_ascii};
-use csv_tables::{Expansion, Look, Options, RowSeparators, Selection};
+use csv_tables::{Expansion, Look, RowSeparators, Selection};
 use std::alloc::{AllocError, Global};
 
 // Why a delimiter is none.
@@ -23,6 +24,33 @@ const NO_DELIMITER: &str = "the delimiter is one ASCII character, `tab`, `spaces
 
 // The width of a terminal that doesn't say its own.
 const TERMINAL_WIDTH: u16 = 80;
+
+/// How an input is read, which of its records and columns are drawn, and how.
+#[derive(Debug)]
+pub struct Options {
+    /// How the input is read.
+    pub input: InputOptions,
+    /// Whether an input is read to its end where there is a limit, to tell how many records it has.
+    pub counts_all: bool,
+    /// Which records are drawn.
+    pub selection: Selection,
+    /// Which columns are drawn.
+    pub columns: ColumnWords,
+    /// How the table looks.
+    pub look: Look,
+}
+
+impl Drop for Options {
+    fn drop(self) {
+        let Options {
+            input: _,
+            counts_all: _,
+            selection: _,
+            columns: _,
+            look: _,
+        } = self;
+    }
+}
 
 /// What the arguments ask for.
 #[derive(Debug)]
@@ -267,7 +295,9 @@ fn options_of<'a>(
 {
     Ok(Options {
         input: input_of(matches, delimiter),
-        selection: selection_of(alloc, matches)?,
+        counts_all: is_given(matches, "count"),
+        selection: selection_of(matches),
+        columns: columns_of(alloc, matches)?,
         look: look_of(matches, context),
     })
 }
@@ -284,15 +314,21 @@ fn input_of<'a>(matches: &ArgMatches<'a>, delimiter: Delimiter) -> InputOptions
     }
 }
 
-fn selection_of<'a>(alloc: Global, matches: &ArgMatches<'a>) -> Result<Selection, AllocError>
-    ensures { IfOk result (λ selection. IsSelectionParsed (found_of matches.now) selection) }
+fn selection_of<'a>(matches: &ArgMatches<'a>) -> Selection
+    ensures { IsSelectionParsed (found_of matches.now) result }
 {
-    Ok(Selection {
+    Selection {
         has_header: !is_given(matches, "no-header"),
         limit: matches.get_one::<usize>("limit"),
-        counts_all: is_given(matches, "count"),
         is_numbered: is_given(matches, "number"),
-        columns: words_of(alloc, matches.get_str("columns"))?,
+    }
+}
+
+fn columns_of<'a>(alloc: Global, matches: &ArgMatches<'a>) -> Result<ColumnWords, AllocError>
+    ensures { IfOk result (λ columns. AreColumnsParsed (found_of matches.now) columns) }
+{
+    Ok(ColumnWords {
+        chosen: words_of(alloc, matches.get_str("columns"))?,
         dropped: words_of(alloc, matches.get_str("drop"))?,
         right: words_of(alloc, matches.get_str("right"))?,
         left: words_of(alloc, matches.get_str("left"))?,

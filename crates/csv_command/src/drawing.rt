@@ -3,13 +3,14 @@
 ghost use Rattle.std.specs.Prelude.{◌≡◌, IfErr, IfOk, map, string_bytes};
 ghost use Rattle.clap.specs.Words.{kind_of};
 ghost use Rattle.csv_command.specs.Refusals.{IsRendered, IsRefusalByKind, IsRefusalOfInput, IsRefusedFor};
-ghost use Rattle.csv_tables.specs.Run.{IsInputRefusal};
+ghost use Rattle.csv_command.specs.Run.{IsInputRefusal};
 ghost use Rattle.csv_command.specs.declared.drawing.Refusal.TheVariants.{OutOfMemory};
 
 use crate::arguments::{Invocation, OutputContext, parse};
 use crate::ending::{message_of, text_of_clap};
+use crate::error::CsvError;
+use crate::transfer::output_of_input;
 use clap::error::{Error, ErrorKind};
-use csv_tables::{CsvError, output_of_input};
 use std::alloc::{AllocError, Global};
 
 // Where the output goes that a caller gets as a value: to no terminal, whatever the environment

@@ -6,9 +6,9 @@ ghost use Rattle.csv_command.specs.declared.ending.Message.TheVariants.{OutOfMem
 ghost use Rattle.csv_command.specs.Ending.{IsEndOfOutcome, IsEndOfRefusal, IsEndOfUnwritten, IsEndWithoutArguments, IsHarmless, IsSilent, about, columns_reason, decoding_reason, delimiter_name, doubt_line, encoding_hint, is_of_input, message_for, reading_reason, reason_for, records_reason, text_of, foreign_reason, waiting_notice};
 
 use crate::arguments::Invocation;
+use crate::error::{ColumnsError, CsvError};
 use clap::error::{Error, ErrorKind};
 use csv_records::{DecodeError, Encoding, Foreign, RecordsError, shown_text};
-use csv_tables::{ColumnsError, CsvError};
 use std::alloc::{AllocError, Global};
 use std::io;
 

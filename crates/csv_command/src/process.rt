@@ -5,7 +5,8 @@ use crate::arguments::{Invocation, OutputContext, parse};
 use crate::ending::{
     Ending, Outcome, ending_of_outcome, ending_of_refusal, ending_without_arguments, waiting_notice,
 };
-use csv_tables::{CsvError, draw};
+use crate::error::CsvError;
+use crate::transfer::draw;
 use devices::{FromReader, ToWriter, Uninterrupted, arguments_of_process, write_all};
 use std::alloc::AllocError;
 use std::env::VarError;

@@ -4,8 +4,8 @@ use crate::arguments::{Invocation, OutputContext, parse};
 use crate::ending::{
     Ending, Outcome, ending_of_outcome, ending_of_refusal, ending_without_arguments, waiting_notice,
 };
+use crate::error::{ColumnsError, CsvError};
 use csv_records::{DecodeError, Foreign, RecordsError};
-use csv_tables::{ColumnsError, CsvError};
 use std::alloc::{Alloc, Global};
 use std::io::ErrorKind;
 use std::process::Abort;

@@ -21,7 +21,7 @@ use Rattle.csv_tables.proofs.ReachedLemmas.{mapped_at, reached-at, reached-lengt
 use Rattle.csv_tables.proofs.SeparatorLemmas.{condensed-all, separated}
 use Rattle.csv_tables.proofs.WholeColumnLemmas.{IsPaddedColumn}
 use Rattle.csv_tables.specs.Cells.{cell_for, cells_for, field_or_blank, header_for, held, pair_for, reached, row_for, with_weight}
-use Rattle.csv_tables.specs.Columns.{name_at}
+use Rattle.csv_command.specs.Columns.{name_at}
 use Rattle.csv_tables.specs.Drawn.{condensed_style, pairs_of}
 use Rattle.csv_tables.specs.Laws.{HasSpacesBehind}
 use Rattle.csv_tables.specs.declared.options.DrawnColumn.{DrawnColumn}

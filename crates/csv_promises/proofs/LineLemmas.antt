@@ -14,7 +14,7 @@ use Rattle.csv_tables.proofs.FieldLemmas.{printable_unbroken}
 use Rattle.csv_tables.proofs.OutputControlLemmas.{counts_are_printable}
 use Rattle.csv_tables.specs.Drawn.{ContentValue, are_more, count_text, note_for, record_line}
 use Rattle.csv_tables.specs.Laws.{HasLines, IsStraightOutput, numbered_lines}
-use Rattle.csv_tables.specs.declared.options.Options.{Options}
+use Rattle.csv_tables.specs.declared.options.Layout.{Layout}
 use Rattle.promises.proofs.ShownLemmas.{shows_visible}
 use Rattle.promises.specs.Shown.{ShowsColumns}
 use Rattle.csv_promises.specs.Straight.{CountsRecords, IsStraight, counted}
@@ -108,16 +108,16 @@ shown_line columns line none is =
     (visible_text line, shows_visible (suc (length line)) line (omega arith) (none_by_characters is_control 0x1B (omega arith) refl (visible_text line) none), is)
 
 -- an output that isn't for Markdown is straight where its lines without their sequences are
-pub straight_text : (options : Options) (records : List (List Text)) (output : Text) → options.look.is_markdown ≡ false → IsStraightOutput true options records output → IsStraight output
-straight_text options records output none is =
+pub straight_text : (known : Option ℕ) (layout : Layout) (records : List (List Text)) (output : Text) → layout.look.is_markdown ≡ false → IsStraightOutput true known layout records output → IsStraight output
+straight_text known layout records output none is =
     let made = is.is_output in
     let columns = is.equally_wide.0 in
     let seen = All-of_map (λ (line : Text). measure line ≡ columns) visible_text is.lines is.equally_wide.1 in
     let clear = All-of_map HasNoControl visible_text is.lines (is.clear refl) in
     let good : All (λ (line : Text). CountsRecords line ⊎ ShowsColumns columns line) is.lines = λ k default below. inr (shown_line columns _ (clear k default below) (seen k default below)) in
     let whole =
-    both columns made.text (note_for options.look.is_markdown options.selection.limit made.content.count) (table_lines columns made.is_expanded made.content is.lines made.text made.has_lines good)
-    (subst (λ (b : Bool). HasGoodLines columns (note_for b options.selection.limit made.content.count)) (sym none) (note_counts columns options.selection.limit made.content.count)) in
+    both columns made.text (note_for layout.look.is_markdown layout.selection.limit made.content.count) (table_lines columns made.is_expanded made.content is.lines made.text made.has_lines good)
+    (subst (λ (b : Bool). HasGoodLines columns (note_for b layout.selection.limit made.content.count)) (sym none) (note_counts columns layout.selection.limit made.content.count)) in
     let own : HasGoodLines columns output = subst (HasGoodLines columns) (sym made.joined) whole in
     record { lines = own.lines; are = own.are; columns = columns; show = own.good }
 

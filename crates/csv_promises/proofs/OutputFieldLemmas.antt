@@ -20,26 +20,28 @@ use Rattle.csv_records.proofs.BeginningLemmas.{first_records_stay}
 use Rattle.csv_records.proofs.OneRecordLemmas.{read_is_one}
 use Rattle.csv_records.specs.Beginning.{whole_lines}
 use Rattle.csv_records.specs.Reading.{AreRecordsFor}
-use Rattle.csv_tables.proofs.BuiltLemmas.{made_of, plain_table}
+use Rattle.csv_tables.proofs.BuiltLemmas.{plain_table}
 use Rattle.csv_tables.proofs.DecimalLawLemmas.{spaces_alone}
 use Rattle.csv_tables.proofs.FittingLemmas.{drawn_content}
 use Rattle.csv_tables.proofs.LineLemmas.{is_table_text}
 use Rattle.csv_tables.proofs.OutputControlLemmas.{text_fields, unbroken_without}
-use Rattle.csv_tables.proofs.RowLemmas.{chosen, with_rows-rows}
-use Rattle.csv_tables.proofs.RunLemmas.{beginning_parts}
+use Rattle.csv_tables.proofs.RowLemmas.{positions-shown, with_rows-rows}
+use Rattle.csv_command.proofs.RunLemmas.{beginning_parts}
 use Rattle.csv_tables.specs.Cells.{row_for}
-use Rattle.csv_tables.specs.Columns.{columns_for, count_of, seen}
-use Rattle.csv_tables.specs.Drawn.{ContentValue, IsDrawnOf, RendersAnyRecords, RendersAsTable, RendersRecords, RendersTable, aligned_content, columns_beside, content_with, count_below, count_text, counting, drawn_fields, drawn_rows, empty_table, fitting_content, has_room_for, headed_table, is_expanded_in, limited, most_drawn, names_beside, names_of, note_for, output_table, pairs_in, record_line, record_text, records_below, rows_beside, rows_table, separated_table, some_lines, table_text}
+use Rattle.csv_tables.specs.Columns.{ColumnsValue, count_of, seen}
+use Rattle.csv_command.specs.Columns.{columns_for}
+use Rattle.csv_tables.specs.Drawn.{ContentValue, RendersAsTable, RendersTable, aligned_content, columns_beside, columns_of, count_below, count_text, drawn_fields, drawn_rows, empty_table, fitting_content, has_room_for, headed_table, is_expanded_in, limited, names_beside, names_of, note_for, output_table, pairs_in, record_line, record_text, records_below, rows_beside, rows_table, separated_table, some_lines, table_text}
+use Rattle.csv_command.specs.Drawn.{IsDrawnOf, RendersChosen, RendersCounted, layout_with, most_drawn}
 use Rattle.csv_tables.specs.declared.options.DrawnColumn.{DrawnColumn}
 use Rattle.csv_tables.specs.declared.options.Expansion.{Expansion}
 use Rattle.csv_tables.specs.declared.options.Expansion.TheVariants.{Always, Auto, Never}
 use Rattle.csv_tables.specs.declared.options.Look.{Look}
-use Rattle.csv_tables.specs.declared.options.Options.{Options}
+use Rattle.csv_command.specs.declared.arguments.Options.{Options}
 use Rattle.devices.specs.Outcome.{asked_front}
 use Rattle.promises.specs.Kept.{IsFrame}
 use Rattle.csv_promises.proofs.ExpandedLemmas.{rows_at}
 use Rattle.csv_promises.proofs.FieldLemmas.{IsWholeRow, are_pairs, are_rows, is_header, positions_of}
-use Rattle.csv_promises.proofs.PositionLemmas.{kept_positions}
+use Rattle.csv_promises.proofs.PositionLemmas.{chosen, kept_positions}
 use Rattle.csv_promises.proofs.RecordLemmas.{AreDrawnFirst, all_drawn, first_are_drawn, with_rows-header}
 use Rattle.csv_promises.proofs.ShownTableLemmas.{HasRowsOf, has_rows_of, part_shows}
 use Rattle.csv_promises.specs.Fields.{MayExpand, ShowsDrawn, ShowsExpanded, ShowsRecords, ShowsRows, fields_at, pairs_at, positions_in}
@@ -199,7 +201,7 @@ record IsShown (o : Options) (names : Option (List Text)) (rows : List (List Tex
   shows : ShowsDrawn is_expanded o names rows count drawn
   joined : output ≡ drawn ++ note_for false o.selection.limit count
 
-module _ (o : Options) (all : DrawsAll o.look) (unnumbered : o.selection.is_numbered ≡ false) (records : List (List Text)) (texts : All AllText records) where
+module _ (o : Options) (all : DrawsAll o.look) (unnumbered : o.selection.is_numbered ≡ false) (count : Option ℕ) (records : List (List Text)) (texts : All AllText records) where
   abbrev look : Look
   look = o.look
 
@@ -207,51 +209,46 @@ module _ (o : Options) (all : DrawsAll o.look) (unnumbered : o.selection.is_numb
   names = names_of o.selection.has_header records
 
   abbrev rows : List (List Text)
-  rows = drawn_rows o records
+  rows = drawn_rows o.selection records
 
   utf8 : All (All IsUtf8) (option_to_list names ++ rows)
   utf8 = all_drawn (All IsUtf8) o.selection.has_header o.selection.limit records (All-weaker AllText (All IsUtf8) text_fields records texts)
 
-  module _ (columns : List DrawnColumn) (found : columns_for o (unwrap_or names []) rows ≡ Ok columns) where
+  module _ (own : ColumnsValue) (found : columns_for o records ≡ Ok own) where
+    abbrev columns : List DrawnColumn
+    columns = columns_of (layout_with o own) records
+
     positions : positions_in o (unwrap_or names []) rows ≡ positions_of columns
     positions =
-        sym (kept_positions (unwrap_or names []) (count_of (unwrap_or names []) rows) o.selection.columns.items o.selection.dropped.items (positions_of columns)
-        (chosen (unwrap_or names []) (map (seen look.has_sequences) rows) _ _ _ columns found))
+        sym (kept_positions (unwrap_or names []) (count_of (unwrap_or names []) rows) o.columns.chosen.items o.columns.dropped.items (positions_of columns)
+        (chosen (unwrap_or names []) _ _ _ own found ∙ ap Ok (sym (positions-shown own.right own.left (map (seen look.has_sequences) rows) own.drawn))))
 
-    by_kind : (is_expanded : Bool) (text : Text) → RendersTable is_expanded look (content look all names rows columns (count_below o records)) text → ShowsDrawn is_expanded o names rows (count_below o records) text
+    by_kind : (is_expanded : Bool) (text : Text) → RendersTable is_expanded look (content look all names rows columns count) text → ShowsDrawn is_expanded o names rows count text
     by_kind false text renders =
-        subst (λ (ps : List ℕ). ShowsRows look (map (fields_at ps) (option_to_list names ++ rows)) text) (sym positions) (rows_shown look all names rows columns (count_below o records) text renders utf8)
+        subst (λ (ps : List ℕ). ShowsRows look (map (fields_at ps) (option_to_list names ++ rows)) text) (sym positions) (rows_shown look all names rows columns count text renders utf8)
     by_kind true text renders =
-        subst (λ (ps : List ℕ). ShowsExpanded look (unwrap_or names []) ps (count_below o records) 1 rows text) (sym positions) (records_shown look all names rows columns (count_below o records) text renders)
+        subst (λ (ps : List ℕ). ShowsExpanded look (unwrap_or names []) ps count 1 rows text) (sym positions) (records_shown look all names rows columns count text renders)
 
-  output_shown : (output : Text) → RendersRecords o records output → IsShown o names rows (count_below o records) output
+  output_shown : (output : Text) → RendersChosen count o records output → IsShown o names rows count output
   output_shown output made =
       record {
         is_expanded = text.is_expanded;
         expansion = may_expand look.expansion ((length rows == 0) || has_room_for look own (fitting_content look own)) text.is_expanded text.expansion;
-        drawn = made.text;
-        shows = by_kind found.0 found.1 text.is_expanded made.text text.drawn;
-        joined = made.joined ∙ ap₂ (λ (b : Bool) (count : Option ℕ). made.text ++ note_for b o.selection.limit count) all.table (ap (λ (c : ContentValue). c.count) same);
+        drawn = made.is_output.text;
+        shows = by_kind made.columns made.are_chosen text.is_expanded made.is_output.text text.drawn;
+        joined = made.is_output.joined ∙ ap₂ (λ (b : Bool) (n : Option ℕ). made.is_output.text ++ note_for b o.selection.limit n) all.table (ap (λ (c : ContentValue). c.count) same);
       }
     where
-      found : (columns : List DrawnColumn) × (columns_for o (unwrap_or names []) rows ≡ Ok columns) × (content_with o records columns ≡ made.content)
-      found = made_of (content_with o records) (columns_for o (unwrap_or names []) rows) made.content made.is_content
-
       own : ContentValue
-      own = content look all names rows found.0 (count_below o records)
+      own = content look all names rows (columns made.columns made.are_chosen) count
 
-      same : made.content ≡ own
+      same : made.is_output.content ≡ own
       same =
-          sym found.2
-          ∙ ap (λ (b : Bool). record { names = names_beside b names; rows = rows_beside b rows; columns = columns_beside b found.0; count = count_below o records; is_numbered = b }) unnumbered
+          sym made.is_output.is_content
+          ∙ ap (λ (b : Bool). record { names = names_beside b names; rows = rows_beside b rows; columns = columns_beside b (columns made.columns made.are_chosen); count = count; is_numbered = b }) unnumbered
 
-      text : RendersAsTable look own made.text
-      text = subst (λ (c : ContentValue). RendersAsTable look c made.text) same (is_table_text o records output made all.table)
-
--- whether records are counted makes no difference to what is shown
-uncounted : (o : Options) (is_expanded : Bool) (own : Option (List Text)) (below : List (List Text)) (count : Option ℕ) (text : Text) → ShowsDrawn is_expanded (counting o) own below count text → ShowsDrawn is_expanded o own below count text
-uncounted o true own below count text shows = shows
-uncounted o false own below count text shows = shows
+      text : RendersAsTable look own made.is_output.text
+      text = subst (λ (c : ContentValue). RendersAsTable look c made.is_output.text) same (is_table_text count (layout_with o made.columns) records output made.is_output all.table)
 
 -- ---- no records
 
@@ -306,33 +303,31 @@ module _ (arguments : List Text) (context : OutputContext) (invocation : Invocat
             expansion = kind.1;
             drawn = [];
             shows =
-                subst (λ (own : Option (List Text)). ShowsDrawn kind.0 options own (drawn_rows options []) count []) (sym (no_records header).0)
+                subst (λ (own : Option (List Text)). ShowsDrawn kind.0 options own (drawn_rows options.selection []) count []) (sym (no_records header).0)
                 (subst (λ (own : List (List Text)). ShowsDrawn kind.0 options None own count []) (sym (ap (limited options.selection.limit) (no_records header).1 ∙ no_rows options.selection.limit)) (by_kind kind.0 count));
             joined = nothing options.selection.limit ∙ ap (λ (below : List (List Text)). note_for false options.selection.limit (Some (length below))) (sym (no_records header).1);
           }
 
-      any : (rs : List (List Text)) → RendersAnyRecords (counting options) rs output → All AllText rs → ShowsRecords options rs output
+      any : (rs : List (List Text)) → RendersCounted options rs output → All AllText rs → ShowsRecords options rs output
       any [] empty texts = subst (ShowsRecords options []) (sym empty) none
       any (r ∷ rs) made texts =
-          let shown = output_shown (counting options) all unnumbered (r ∷ rs) texts output made in
-          record { count = Some (length (records_below header (r ∷ rs))); is_count = refl; is_expanded = shown.is_expanded; expansion = shown.expansion; drawn = shown.drawn; shows = uncounted options _ _ _ _ _ shown.shows; joined = shown.joined }
+          let shown = output_shown options all unnumbered (Some (count_below options.selection (r ∷ rs))) (r ∷ rs) texts output made in
+          record { count = Some (count_below options.selection (r ∷ rs)); is_count = refl; is_expanded = shown.is_expanded; expansion = shown.expansion; drawn = shown.drawn; shows = shown.shows; joined = shown.joined }
 
       by_made : IsDrawnOf options input output → ShowsRecords options records output
-      by_made (inl (none_enough, made)) = any records (subst (λ (rs : List (List Text)). RendersAnyRecords (counting options) rs output) (read_is_one options.input input made.records records made.are_records is.are) made.is_output) is.are.are_records.are_records.are_text
+      by_made (inl (none_enough, made)) = any records (subst (λ (rs : List (List Text)). RendersCounted options rs output) (read_is_one options.input input made.records records made.are_records is.are) made.is_output) is.are.are_records.are_records.are_text
       by_made (inr (n, asked, made)) =
           let parts = beginning_parts n input in
           let enough = made.are_enough in
           let limit = enough.has_limit.limit in
           let found = first_records_stay options.input (most_drawn header limit) (whole_lines (asked_front n input)) parts.0 made.records records enough.are (subst (λ (t : Text). AreRecordsFor options.input t records) parts.1 is.are) in
           let first : AreDrawnFirst header limit made.records records = subst (AreDrawnFirst header limit made.records) (sym found.1) (first_are_drawn header limit made.records found.0 enough.are.more) in
-          let unknown : count_below options made.records ≡ None = ap (λ (b : Bool). if b then Some (length (records_below header made.records)) else None) enough.has_limit.uncounted in
-          let same : drawn_rows options made.records ≡ drawn_rows options records =
+          let same : drawn_rows options.selection made.records ≡ drawn_rows options.selection records =
           subst (λ (l : Option ℕ). limited l (records_below header made.records) ≡ limited l (records_below header records)) (sym enough.has_limit.is) first.rows in
-          let shown : IsShown options (names_of header records) (drawn_rows options records) None output =
-          subst (λ (own : Option (List Text)). IsShown options own (drawn_rows options records) None output) first.names
+          let shown : IsShown options (names_of header records) (drawn_rows options.selection records) None output =
+          subst (λ (own : Option (List Text)). IsShown options own (drawn_rows options.selection records) None output) first.names
           (subst (λ (own : List (List Text)). IsShown options (names_of header made.records) own None output) same
-          (subst (λ (count : Option ℕ). IsShown options (names_of header made.records) (drawn_rows options made.records) count output) unknown
-          (output_shown options all unnumbered made.records enough.are.are_records.are_records.are_text output made.is_output))) in
+          (output_shown options all unnumbered None made.records enough.are.are_records.are_records.are_text output made.is_output)) in
           record {
             count = None;
             is_count = subst (λ (l : Option ℕ). length (limited l (records_below header records)) < length (records_below header records)) (sym enough.has_limit.is) first.fewer;

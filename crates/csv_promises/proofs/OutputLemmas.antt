@@ -4,9 +4,9 @@ use Rattle.comfy_parts.proofs.CallerLemmas.{none_by_characters}
 use Rattle.comfy_parts.specs.Text.{Text}
 use Rattle.comfy_parts.specs.VisibleText.{visible_text}
 use Rattle.csv_tables.specs.Controls.{HasNoStrayControl, is_stray_control}
-use Rattle.csv_tables.specs.Drawn.{IsDrawnOf}
-use Rattle.csv_tables.specs.Run.{IsAfter}
-use Rattle.csv_tables.specs.declared.options.Options.{Options}
+use Rattle.csv_command.specs.Drawn.{IsDrawnOf}
+use Rattle.csv_command.specs.Run.{IsAfter}
+use Rattle.csv_command.specs.declared.arguments.Options.{Options}
 use Rattle.devices.specs.Outcome.{RunFacts}
 use Rattle.promises.proofs.ShownLemmas.{shows_visible}
 use Rattle.promises.specs.Shown.{IsHarmless}

@@ -1,12 +1,13 @@
 -- The positions of the columns that are drawn are those that the words of options choose.
-use Rattle.std.proofs.Common.{◌≡◌, ◌==◌, ℕ, Bool, true, false, List, [], ◌∷◌, ◌++◌, Option, Some, None, Result, Ok, Err, fold, length, sym, ap₂, ◌∙◌, append-nil, append_assoc, refl}
+use Rattle.std.proofs.Common.{◌≡◌, ◌==◌, ℕ, Bool, true, false, List, [], ◌∷◌, ◌++◌, Option, Some, None, Result, Ok, Err, fold, length, sym, ap, ap₂, ◌∙◌, append-nil, append_assoc, refl}
 use Rattle.std.specs.List.{range_with_len}
 use Rattle.std.specs.Prelude.{String, if◌then◌else◌, ok_or, option_map, string_bytes, unwrap_or}
 use Rattle.comfy_parts.specs.Text.{Text}
-use Rattle.csv_tables.specs.Columns.{ColumnFault, chosen_columns, columns_chosen, joined, kept_columns, less, positions_between, positions_of, positions_of_word, some_left, without}
-use Rattle.csv_tables.specs.Columns.ColumnFault.{missing, none_left}
-use Rattle.csv_tables.specs.Hints.{hint_for}
+use Rattle.csv_command.specs.Columns.{ColumnFault, at_two_sides, chosen_columns, columns_chosen, columns_with, joined, kept_columns, less, positions_between, positions_of, placed_columns, positions_of_word, some_left, without}
+use Rattle.csv_command.specs.Columns.ColumnFault.{missing, none_left}
+use Rattle.csv_command.specs.Hints.{hint_for}
 use Rattle.csv_promises.specs.Fields.{positions_by}
+use Rattle.csv_tables.specs.Columns.{ColumnsValue}
 
 module _ {A : Type 0} (names : List Text) (count : ℕ) where
   abbrev step : Result (List ℕ) ColumnFault → String A → Result (List ℕ) ColumnFault
@@ -51,3 +52,14 @@ kept_positions {A} names count words dropped kept is = by_lists (chosen_columns 
     by_lists (Ok ps) (Ok qs) all some is = left_as_they_are (without ps qs) kept is ∙ ap₂ (λ (a b : List ℕ). without a b) (all ps refl) (some qs refl)
     by_lists (Ok ps) (Err fault) all some is = absurd (cc is)
     by_lists (Err fault) left all some is = absurd (cc is)
+
+placed : (names : List Text) (made columns : ColumnsValue) (fault : Option ℕ) → placed_columns names made fault ≡ Ok columns → made ≡ columns
+placed names made columns (Some p) is = absurd (cc is)
+placed names made columns None is = cc is
+
+-- the columns that are drawn are those that were kept
+pub chosen : (names : List Text) (kept right left : Result (List ℕ) ColumnFault) (columns : ColumnsValue) → columns_with names kept right left ≡ Ok columns → kept ≡ Ok columns.drawn
+chosen names (Ok ps) (Ok right) (Ok left) columns is = ap (λ (own : ColumnsValue). Ok own.drawn) (placed names (record { drawn = ps; right = right; left = left }) columns (at_two_sides right left) is)
+chosen names (Ok ps) (Ok right) (Err fault) columns is = absurd (cc is)
+chosen names (Ok ps) (Err fault) left columns is = absurd (cc is)
+chosen names (Err fault) right left columns is = absurd (cc is)

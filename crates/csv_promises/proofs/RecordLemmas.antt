@@ -10,7 +10,8 @@ use Rattle.comfy_parts.specs.Text.{Text}
 use Rattle.comfy_table.specs.TableValue.{TableValue, header_and_rows, with_row, with_rows}
 use Rattle.csv_tables.proofs.BuiltLemmas.{plain_table}
 use Rattle.csv_tables.specs.Cells.{header_for, row_for}
-use Rattle.csv_tables.specs.Drawn.{ContentValue, empty_table, headed_table, limited, most_drawn, names_of, pairs_in, records_below}
+use Rattle.csv_tables.specs.Drawn.{ContentValue, empty_table, headed_table, limited, names_of, pairs_in, records_below}
+use Rattle.csv_command.specs.Drawn.{most_drawn}
 use Rattle.csv_tables.specs.declared.options.DrawnColumn.{DrawnColumn}
 use Rattle.csv_tables.specs.declared.options.Look.{Look}
 

@@ -24,11 +24,12 @@ use Rattle.csv_tables.specs.Controls.{IsStyleWithoutControls}
 use Rattle.csv_command.specs.declared.arguments.Invocation.{Invocation}
 use Rattle.csv_command.specs.declared.arguments.OutputContext.{OutputContext}
 use Rattle.csv_tables.specs.declared.options.Look.{Look}
-use Rattle.csv_tables.specs.declared.options.Options.{Options}
+use Rattle.csv_command.specs.declared.arguments.Options.{Options}
+use Rattle.csv_tables.specs.declared.options.Layout.{Layout}
 use Rattle.csv_tables.proofs.CleanCharacterLemmas.{lines_pass}
 use Rattle.csv_records.proofs.BeginningLemmas.{first_records_stay}
 use Rattle.csv_records.specs.Beginning.{whole_lines}
-use Rattle.csv_tables.proofs.RunLemmas.{beginning_parts}
+use Rattle.csv_command.proofs.RunLemmas.{beginning_parts}
 use Rattle.devices.specs.Outcome.{asked_front}
 use Rattle.csv_records.proofs.OneRecordLemmas.{read_is_one}
 use Rattle.csv_records.specs.Reading.{AreRecordsFor}
@@ -37,7 +38,8 @@ use Rattle.csv_tables.proofs.MarkdownWidthLemmas.{whole_is_straight}
 use Rattle.csv_tables.proofs.StraightLemmas.{IsShort, narrow_is_straight, empty_is_short}
 use Rattle.csv_command.proofs.StyleColumnLemmas.{parsed_style_is_one_column, parsed_style_without_controls}
 use Rattle.csv_tables.proofs.TextTableLemmas.{EachLine}
-use Rattle.csv_tables.specs.Drawn.{IsDrawnOf, RendersRecords, RendersAnyRecords, counting, most_drawn}
+use Rattle.csv_tables.specs.Drawn.{RendersRecords, count_below}
+use Rattle.csv_command.specs.Drawn.{IsDrawnOf, RendersCounted, layout_with, most_drawn}
 use Rattle.csv_tables.specs.Laws.{ArePlainLines, EachText}
 use Rattle.promises.proofs.FittingLemmas.{text_fits}
 use Rattle.promises.specs.Tables.{HasCharactersWithin}
@@ -110,27 +112,27 @@ module _ (arguments : List Text) (context : OutputContext) (invocation : Invocat
 
   -- P holds of fields of records, and an output for these by such a look is straight
   abbrev Law : (Text → Type 0) → Type 0
-  Law P = (o : Options) → o.look ≡ options.look → (rs : List (List Text)) → All AllText rs → EachField P rs → RendersRecords o rs output → IsStraight output
+  Law P = (count : Option ℕ) (o : Layout) → o.look ≡ options.look → (rs : List (List Text)) → All AllText rs → EachField P rs → RendersRecords count o rs output → IsStraight output
 
   -- so an output is straight that is written of the whole input, or of a beginning that is enough
   by_extent : (P : Text → Type 0) → Law P → EachField P records → IsStraight output
   by_extent P law each = by_made is.made
     where
-      any : (rs : List (List Text)) → RendersAnyRecords (counting options) rs output → All AllText rs → EachField P rs → IsStraight output
+      any : (rs : List (List Text)) → RendersCounted options rs output → All AllText rs → EachField P rs → IsStraight output
       any [] nothing text fields = subst IsStraight (sym nothing) nothing_is_straight
-      any (r ∷ rs) drawn text fields = law (counting options) refl (r ∷ rs) text fields drawn
+      any (r ∷ rs) drawn text fields = law (Some (count_below options.selection (r ∷ rs))) (layout_with options drawn.columns) refl (r ∷ rs) text fields drawn.is_output
 
       by_made : IsDrawnOf options input output → IsStraight output
-      by_made (inl (none, made)) = any records (subst (λ (rs : List (List Text)). RendersAnyRecords (counting options) rs output) (read_is_one options.input input made.records records made.are_records is.are) made.is_output) texts each
+      by_made (inl (none, made)) = any records (subst (λ (rs : List (List Text)). RendersCounted options rs output) (read_is_one options.input input made.records records made.are_records is.are) made.is_output) texts each
       by_made (inr (n, asked, made)) =
           let beginning = whole_lines (asked_front n input) in
           let parts = beginning_parts n input in
           let are = made.are_enough.are in
           let found = first_records_stay options.input (most_drawn options.selection.has_header made.are_enough.has_limit.limit) beginning parts.0 made.records records are (subst (λ (t : Text). AreRecordsFor options.input t records) parts.1 is.are) in
-          law options refl made.records are.are_records.are_records.are_text (All-front (All P) made.records found.0 (subst (All (All P)) found.1 each)) made.is_output
+          law None (layout_with options made.is_output.columns) refl made.records are.are_records.are_records.are_text (All-front (All P) made.records found.0 (subst (All (All P)) found.1 each)) made.is_output.is_output
 
   -- by a look that arguments ask for
-  module _ (o : Options) (same : o.look ≡ options.look) (rs : List (List Text)) (text : All AllText rs) where
+  module _ (count : Option ℕ) (o : Layout) (same : o.look ≡ options.look) (rs : List (List Text)) (text : All AllText rs) where
     own_unkept : o.look.has_sequences ≡ false
     own_unkept = ap (λ (l : Look). l.has_sequences) same ∙ is.unkept
 
@@ -146,12 +148,12 @@ module _ (arguments : List Text) (context : OutputContext) (invocation : Invocat
     plain : ArePlainLines true o.look rs
     plain = record { seen = (own_clear, text); unbroken = unbroken_without o.look.style own_clear; no_sequences = own_unkept }
 
-    narrow_law : EachField (HasCharactersWithin 1) rs → RendersRecords o rs output → IsStraight output
-    narrow_law each made = straight_text o rs output own_table (narrow_is_straight true o rs output own_table own_columns plain (fields_fit o.look own_unkept own_table rs text each) made)
+    narrow_law : EachField (HasCharactersWithin 1) rs → RendersRecords count o rs output → IsStraight output
+    narrow_law each made = straight_text count o rs output own_table (narrow_is_straight true count o rs output own_table own_columns plain (fields_fit o.look own_unkept own_table rs text each) made)
 
-    whole_law : options.look.width ≡ None → options.look.max_height ≡ None → EachField IsPlainField rs → RendersRecords o rs output → IsStraight output
+    whole_law : options.look.width ≡ None → options.look.max_height ≡ None → EachField IsPlainField rs → RendersRecords count o rs output → IsStraight output
     whole_law no_width uncut each made =
-        straight_text o rs output own_table (whole_is_straight true o rs output own_columns plain (ap (λ (l : Look). l.width) same ∙ no_width) (inl (ap (λ (l : Look). l.max_height) same ∙ uncut)) (plain_fields_are_short o.look own_unkept own_table rs text each) made)
+        straight_text count o rs output own_table (whole_is_straight true count o rs output own_columns plain (ap (λ (l : Look). l.width) same ∙ no_width) (inl (ap (λ (l : Look). l.max_height) same ∙ uncut)) (plain_fields_are_short o.look own_unkept own_table rs text each) made)
 
   -- where no character takes more than one terminal column
   pub narrow_for : EachField (HasCharactersWithin 1) records → IsStraight output
@@ -159,7 +161,7 @@ module _ (arguments : List Text) (context : OutputContext) (invocation : Invocat
 
   -- and where no width is kept to and no row is cut
   pub whole_for : options.look.width ≡ None → options.look.max_height ≡ None → EachField IsPlainField records → IsStraight output
-  whole_for no_width uncut each = by_extent IsPlainField (λ o same rs text fields made. whole_law o same rs text no_width uncut fields made) each
+  whole_for no_width uncut each = by_extent IsPlainField (λ count o same rs text fields made. whole_law count o same rs text no_width uncut fields made) each
 
 -- what isn't some is none
 pub none_where : {A : Type 0} (o : Option A) → false ≡ is_some o → o ≡ None

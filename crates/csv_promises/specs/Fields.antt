@@ -7,12 +7,13 @@ use Rattle.comfy_parts.specs.declared.style.table_style.TableStyle.{TableStyle}
 use Rattle.comfy_table.specs.Laws.{AreLinesOf}
 use Rattle.csv_records.specs.Cleaning.{cleaned, is_replaced}
 use Rattle.csv_tables.specs.Cells.{field_or_blank}
-use Rattle.csv_tables.specs.Columns.{columns_chosen, count_of, name_at, positions_between, without}
+use Rattle.csv_tables.specs.Columns.{count_of}
+use Rattle.csv_command.specs.Columns.{columns_chosen, name_at, positions_between, without}
 use Rattle.csv_tables.specs.Drawn.{drawn_rows, names_of, note_for, record_line, records_below}
 use Rattle.csv_tables.specs.declared.options.Expansion.{Expansion}
 use Rattle.csv_tables.specs.declared.options.Expansion.TheVariants.{Always, Auto, Never}
 use Rattle.csv_tables.specs.declared.options.Look.{Look}
-use Rattle.csv_tables.specs.declared.options.Options.{Options}
+use Rattle.csv_command.specs.declared.arguments.Options.{Options}
 use Rattle.promises.specs.Kept.{IsFrame, StandAmong}
 use Rattle.promises.specs.Shown.{IsStyled}
 
@@ -88,10 +89,10 @@ positions_by {A} names count words =
 abbrev pub positions_in : Options → List Text → List (List Text) → List ℕ
 positions_in options names rows =
     without
-    (if length options.selection.columns.items == 0
+    (if length options.columns.chosen.items == 0
     then range_with_len 0 (count_of names rows)
-    else positions_by names (count_of names rows) options.selection.columns.items)
-    (positions_by names (count_of names rows) options.selection.dropped.items)
+    else positions_by names (count_of names rows) options.columns.chosen.items)
+    (positions_by names (count_of names rows) options.columns.dropped.items)
 
 -- a text shows these columns of a header, where there is one, and rows; or expands the rows
 abbrev pub ShowsDrawn :
@@ -117,14 +118,14 @@ pub record ShowsRecords (options : Options) (records : List (List Text)) (text :
     : Type 0 where
   pub count : Option ℕ
   pub is_count : MatchOption count
-      (length (drawn_rows options records)
+      (length (drawn_rows options.selection records)
       < length (records_below options.selection.has_header records))
       (λ n. n ≡ length (records_below options.selection.has_header records))
   pub is_expanded : Bool
   pub expansion : MayExpand options.look.expansion is_expanded
   pub drawn : Text
   pub shows : ShowsDrawn is_expanded options (names_of options.selection.has_header records)
-      (drawn_rows options records) count drawn
+      (drawn_rows options.selection records) count drawn
   pub joined : text ≡ drawn ++ note_for false options.selection.limit count
 
 -- a field of which no character is replaced stays as it is

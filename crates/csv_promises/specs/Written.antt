@@ -6,7 +6,7 @@ use Rattle.csv_command.specs.Arguments.{IsParsed}
 use Rattle.csv_command.specs.declared.arguments.Invocation.{Invocation}
 use Rattle.csv_command.specs.declared.arguments.OutputContext.{OutputContext}
 use Rattle.csv_records.specs.Reading.{AreRecordsFor}
-use Rattle.csv_tables.specs.Drawn.{IsDrawnOf}
+use Rattle.csv_command.specs.Drawn.{IsDrawnOf}
 
 -- arguments ask for a table of cleaned fields in which no sequences are kept; and these are the
 -- records of an input, and what is written of it

@@ -2,12 +2,11 @@
 
 ghost use Rattle.std.specs.Prelude.{IfOk, IfSome, string_bytes};
 ghost use Rattle.csv_promises.specs.Messages.{IsTame};
-ghost use Rattle.csv_tables.specs.Drawn.{IsDrawnOf};
+ghost use Rattle.csv_command.specs.Drawn.{IsDrawnOf};
 ghost use Rattle.promises.specs.Shown.{IsHarmless};
 
 use csv_command::laws::drawings_hold_no_controls;
-use csv_command::{OutputContext, Refusal, parse, render_csv};
-use csv_tables::{CsvError, Options, draw};
+use csv_command::{CsvError, Options, OutputContext, Refusal, draw, parse, render_csv};
 use devices::{MemorySink, MemorySource};
 use std::alloc::Global;
 

@@ -7,11 +7,10 @@ ghost use Rattle.csv_promises.specs.Written.{IsWritten};
 ghost use Rattle.promises.specs.Tables.{HasCharactersWithin};
 
 use crate::harmless::output_for;
-use csv_command::{Invocation, OutputContext, parse};
+use csv_command::{CsvError, Invocation, Options, OutputContext, parse};
 use csv_records::laws::records_are_one;
 use csv_records::{Records, decoded, read_records};
 use csv_tables::laws::outputs_are_straight;
-use csv_tables::{CsvError, Options};
 use devices::MemorySink;
 use std::alloc::Global;
 

@@ -7,9 +7,9 @@ use Rattle.csv_records.specs.Delimiter.{doubtful_delimiter, shows_delimiter}
 use Rattle.csv_records.specs.Lines.{below_lines}
 use Rattle.csv_records.specs.Encoding.{encoding_of}
 use Rattle.csv_records.specs.Reading.{AreRecordsFor, AreRecordsIn, IsDecodedBy}
-use Rattle.csv_records.specs.declared.beginning.BeginningRecords.{BeginningRecords}
 use Rattle.csv_records.specs.declared.encoding.Encoding.TheVariants.{Utf16}
 use Rattle.csv_records.specs.declared.options.InputOptions.{InputOptions}
+use Rattle.csv_records.specs.declared.records.FirstRecords.{FirstRecords}
 
 abbrev pub is_line_feed : ℕ → Bool
 is_line_feed b = b == 0x0A
@@ -45,10 +45,12 @@ pub record AreFirstByBeginning (options : InputOptions) (most : ℕ) (read : Tex
   pub is_enough : IsEnough options most (whole_lines read) records
   pub are_first : first ≡ take most records
 
--- these are found in them: the first records, and the delimiter that is doubtful
+-- these are found in them: the first records, how many they have, and the delimiter that is
+-- doubtful
 pub record IsFoundInBeginning (options : InputOptions) (most : ℕ) (read : Text)
-    (found : BeginningRecords) : Type 0 where
+    (found : FirstRecords) : Type 0 where
   pub are_first : AreFirstByBeginning options most read found.records
+  pub count : found.count ≡ length are_first.records
   pub doubt :
       found.doubt
       ≡ doubtful_delimiter options.delimiter options.has_quotes are_first.is_enough.text

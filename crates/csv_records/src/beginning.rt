@@ -2,40 +2,33 @@
 
 ghost use Rattle.std.specs.Prelude.{◌≡◌, ◌↔◌, List, ℕ, IfNone, IfOk, IfSome, IsTrue, string_bytes};
 ghost use Rattle.csv_records.specs.Beginning.{EndsWithLine, IsFoundInBeginning, NoneAreEnough, whole_lines};
+ghost use Rattle.csv_records.specs.Delimiter.{doubtful_delimiter};
 ghost use Rattle.csv_records.specs.First.{AreFirst};
 ghost use Rattle.csv_records.specs.Reading.{AreRecordsIn, IsDecodedBy};
 
-use crate::delimiter::{doubtful_delimiter, shows_delimiter};
+use crate::delimiter::shows_delimiter;
 use crate::encoding::{Encoding, decoded, encoding_of};
 use crate::error::{DecodeError, RecordsError};
 use crate::lines::below_lines;
 use crate::options::InputOptions;
 use crate::reading::read_first_records;
-use crate::records::{FirstRecords, Records};
+use crate::records::FirstRecords;
 use memchr::{memchr_iter, memrchr};
 use std::alloc::{AllocError, Global};
 
 const LINE_FEED: u8 = b'\n';
 
-/// The first records of an input of which a beginning was read.
-#[derive(Drop)]
-pub struct BeginningRecords {
-    /// Its first records.
-    pub records: Records,
-    /// The delimiter that was taken of it, where it's doubtful: see `doubtful_delimiter`.
-    pub doubt: Option<u8>,
-}
-
-/// The first `most` records of an input of which these bytes were read, where their whole lines are
-/// enough: their text ends with a line feed and outside quotes, it has more records, and it shows
-/// what stands between fields. None where more has to be read, be it since no text ends there. An
-/// input in UTF-16 is read whole, and so is one that doesn't have more line feeds.
+/// The first `most` records of an input of which these bytes were read, and how many these have,
+/// where their whole lines are enough: their text ends with a line feed and outside quotes, it has
+/// more records, and it shows what stands between fields. None where more has to be read, be it
+/// since no text ends there. An input in UTF-16 is read whole, and so is one that doesn't have more
+/// line feeds.
 pub fn read_beginning(
     alloc: Global,
     read: &[u8],
     options: &InputOptions,
     most: usize,
-) -> Result<Option<BeginningRecords>, AllocError>
+) -> Result<Option<FirstRecords>, AllocError>
     ensures some { IfOk result (λ found.
         IfSome found (IsFoundInBeginning options.now most read.now)) }
     ensures none { IfOk result (λ found.
@@ -61,9 +54,7 @@ pub fn read_beginning(
     if first.count <= most {
         return Ok(None);
     }
-    let doubt = doubtful_delimiter(alloc, text.as_str(), options)?;
-    let records = first.records;
-    Ok(Some(BeginningRecords { records, doubt }))
+    Ok(Some(first))
 }
 
 // The text of these bytes, where they have one.
@@ -95,6 +86,8 @@ fn found_records(
 ) -> Result<Option<FirstRecords>, AllocError>
     ensures some { IfOk result (λ found.
         IfSome found (AreFirst (AreRecordsIn options.now text.now) most)) }
+    ensures doubt { IfOk result (λ found. IfSome found (λ first. first.doubt
+        ≡ doubtful_delimiter options.now.delimiter options.now.has_quotes text.now)) }
     ensures none { IfOk result (λ found. IfNone found
         ((records : List (List (List ℕ))) → ¬ (AreRecordsIn options.now text.now records))) }
 {

@@ -3,7 +3,7 @@
 ghost use Rattle.std.specs.Prelude.{◌≡◌, ◌==◌, IfOk, option_map};
 ghost use Rattle.std.specs.List.{count_by, list_all};
 ghost use Rattle.csv.specs.Reading.{strip_bom};
-ghost use Rattle.csv_records.specs.Delimiter.{IsAsciiUnlessAsked, agreement, delimited, delimiter_in, doubtful_delimiter, field_counts, found_delimiter, has_first_records, is_poor, named_delimiter, only_ascii, poor_delimiter, shows_delimiter, tried_delimiters};
+ghost use Rattle.csv_records.specs.Delimiter.{IsAsciiUnlessAsked, agreement, delimited, delimiter_in, doubtful_delimiter, field_counts, found_delimiter, has_first_records, is_poor, named_delimiter, only_ascii, shows_delimiter, tried_delimiters};
 ghost use Rattle.csv_records.specs.Lines.{EndsIn};
 
 use crate::lines::split_line;
@@ -63,20 +63,29 @@ pub(crate) fn delimited<'a>(
     }
 }
 
-/// The delimiter of a text that is taken although fewer than half of its first ten records have one
-/// same number of fields; none where it is asked for or named, or where no record is parted.
-pub fn doubtful_delimiter(
+/// This delimiter of a text, where it was taken although fewer than half of the first ten records
+/// have one same number of fields; none where it was asked for or named, or where no record is
+/// parted.
+pub(crate) fn doubtful_delimiter(
     alloc: Global,
     text: &str,
     options: &InputOptions,
+    delimiter: u8,
 ) -> Result<Option<u8>, AllocError>
+    requires { delimiter
+        ≡ (delimited options.now.delimiter options.now.has_quotes text.now).0 }
     ensures { IfOk result (λ doubt. doubt
         ≡ doubtful_delimiter options.now.delimiter options.now.has_quotes text.now) }
 {
     if !matches!(options.delimiter, Delimiter::Auto) || named_delimiter(text).is_some() {
         return Ok(None);
     }
-    poor_delimiter(alloc, text, options.has_quotes)
+    let counts = field_counts(alloc, text, options.has_quotes, delimiter, FIRST_RECORDS)?;
+    if is_poor(counts.as_slice()) {
+        Ok(Some(delimiter))
+    } else {
+        Ok(None)
+    }
 }
 
 /// Whether a text whose lines are whole shows what stands between fields, however it goes on: a
@@ -152,19 +161,6 @@ fn found_delimiter(alloc: Global, text: &str, has_quotes: bool) -> Result<u8, Al
         }
     }
     Ok(found)
-}
-
-// The delimiter that is found, where fewer than half of the first records agree.
-fn poor_delimiter(alloc: Global, text: &str, has_quotes: bool) -> Result<Option<u8>, AllocError>
-    ensures { IfOk result (λ poor. poor ≡ poor_delimiter has_quotes text.now) }
-{
-    let found = found_delimiter(alloc, text, has_quotes)?;
-    let counts = field_counts(alloc, text, has_quotes, found, FIRST_RECORDS)?;
-    if is_poor(counts.as_slice()) {
-        Ok(Some(found))
-    } else {
-        Ok(None)
-    }
 }
 
 // Some records agree, but fewer than half.

@@ -22,11 +22,11 @@ mod shown;
 mod spaces;
 mod text;
 
-pub use beginning::{BeginningRecords, read_beginning};
+pub use beginning::read_beginning;
 pub use characters::split_first;
 pub use cleaning::cleaned;
 pub use decimals::{ColumnMarks, DecimalMark, MarkUse, Points};
-pub use delimiter::{Delimiter, doubtful_delimiter, only_ascii};
+pub use delimiter::{Delimiter, only_ascii};
 pub use encoding::{Encoding, decoded};
 pub use error::{DecodeError, RecordsError};
 pub use foreign::Foreign;

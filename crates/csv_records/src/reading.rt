@@ -1,11 +1,12 @@
 //! The records of a text, by what is asked for.
 
 ghost use Rattle.std.specs.Prelude.{◌≡◌, ◌<◌, ◌-◌, ◌^◌, IfErr, IfOk, length, take};
+ghost use Rattle.csv_records.specs.Delimiter.{doubtful_delimiter};
 ghost use Rattle.csv_records.specs.First.{AreFirst};
 ghost use Rattle.csv_records.specs.Input.{line_number};
 ghost use Rattle.csv_records.specs.Reading.{AreRecordsIn, IsTextWithoutRecords};
 
-use crate::delimiter::{Delimiter, delimited};
+use crate::delimiter::{Delimiter, delimited, doubtful_delimiter};
 use crate::error::RecordsError;
 use crate::options::InputOptions;
 use crate::quotes::unclosed_quote;
@@ -31,7 +32,8 @@ pub fn read_records(
     Ok(read_first_records(alloc, text, options, usize::MAX)?.records)
 }
 
-/// The first of these records, at most so many, and how many there are. All of the text is read.
+/// The first of these records, at most so many, how many there are, and whether the delimiter is
+/// doubtful. All of the text is read.
 pub fn read_first_records(
     alloc: Global,
     text: &str,
@@ -40,6 +42,8 @@ pub fn read_first_records(
 ) -> Result<FirstRecords, RecordsError>
     ensures all { IfOk result (AreFirst (AreRecordsIn options.now text.now) most) }
     ensures count { IfOk result (λ first. first.count < 2 ^ 64) }
+    ensures doubt { IfOk result (λ first. first.doubt
+        ≡ doubtful_delimiter options.now.delimiter options.now.has_quotes text.now) }
     ensures refused { IfErr result (λ e. IsTextWithoutRecords options.now text.now e) }
 {
     if let Delimiter::Spaces = options.delimiter {
@@ -53,7 +57,10 @@ pub fn read_first_records(
             return Err(RecordsError::Unclosed(line));
         }
     }
-    first_records_of(alloc, rest, delimiter, options.has_quotes, most)
+    let doubt = doubtful_delimiter(alloc, text, options, delimiter)?;
+    let mut first = first_records_of(alloc, rest, delimiter, options.has_quotes, most)?;
+    first.doubt = doubt;
+    Ok(first)
 }
 
 // The number of the line where the last bytes of a text begin, this being how many they are. So

@@ -1,6 +1,6 @@
 //! The records of a text.
 
-ghost use Rattle.std.specs.Prelude.{◌≡◌, ◌≢◌, ◌<◌, ◌==◌, ◌-◌, ◌^◌, ◌∷◌, ◌++◌, [], All, IfErr, IfNone, IfOk, IfSome, OnOk, drop, length, map, option_map, slice_get, take};
+ghost use Rattle.std.specs.Prelude.{◌≡◌, ◌≢◌, ◌<◌, ◌==◌, ◌-◌, ◌^◌, ◌∷◌, ◌++◌, [], All, IfErr, IfNone, IfOk, IfSome, None, OnOk, drop, length, map, option_map, slice_get, take};
 ghost use Rattle.std.specs.Iterator.{YieldsFirstBy, item_count};
 ghost use Rattle.csv.specs.Reading.{error_kind};
 ghost use Rattle.csv.specs.Records.{field_at, fields_of};
@@ -278,6 +278,9 @@ pub struct FirstRecords {
     pub records: Records,
     /// How many records it has.
     pub count: usize,
+    /// The delimiter that was taken although fewer than half of the first ten records have one same
+    /// number of fields; none where it was asked for or named, or where no record is parted.
+    pub doubt: Option<u8>,
 }
 
 /// The first records of a text, at most so many. All of it is read.
@@ -292,6 +295,7 @@ pub(crate) fn first_records_of(
 ) -> Result<FirstRecords, RecordsError>
     ensures all { IfOk result (AreFirst (AreRecordsOf delimiter has_quotes text.now) most) }
     ensures count { IfOk result (λ first. first.count < 2 ^ 64) }
+    ensures doubt { IfOk result (λ first. first.doubt ≡ None) }
     ensures refused { IfErr result (λ e. IsReadingRefusal delimiter has_quotes text.now e) }
 {
     let mut reader = reader_of(alloc, text, delimiter, has_quotes);
@@ -308,7 +312,11 @@ pub(crate) fn first_records_of(
             }
             Ok(false) => {
                 let records = Records { fields, places };
-                return Ok(FirstRecords { records, count });
+                return Ok(FirstRecords {
+                    records,
+                    count,
+                    doubt: None,
+                });
             }
             Err(error) => return Err(refusal_of(&error)),
         }

@@ -1,12 +1,11 @@
 -- Records and columns beside their numbers.
-use Rattle.std.specs.Prelude.{if◌then◌else◌, unwrap_or}
-use Rattle.std.proofs.Common.{◌≡◌, ℕ, zero, suc, ◌+◌, Bool, true, false, List, [], ◌∷◌, Option, Some, None, Result, Ok, arith, decimal, drop, length, min, take, refl, sym, ap, ap₂, ◌∙◌}
+use Rattle.std.specs.Prelude.{if◌then◌else◌}
+use Rattle.std.proofs.Common.{◌≡◌, ℕ, zero, suc, ◌+◌, Bool, true, false, List, [], ◌∷◌, Option, Some, None, arith, decimal, drop, length, min, take, refl, ap, ap₂, ◌∙◌}
 use Rattle.comfy_parts.specs.Text.{Text}
 use Rattle.csv_records.specs.Numbered.{numbered, numbered_from}
-use Rattle.csv_tables.specs.Columns.{ColumnFault, columns_for}
-use Rattle.csv_tables.specs.Drawn.{ContentValue, columns_beside, content_counted, content_with, drawn_rows, limited, names_beside, names_of, ok_map, records_below, rows_beside, with_count}
+use Rattle.csv_tables.specs.Drawn.{ContentValue, columns_beside, columns_of, content_of, limited, names_beside, names_of, records_below, rows_beside}
 use Rattle.csv_tables.specs.declared.options.DrawnColumn.{DrawnColumn}
-use Rattle.csv_tables.specs.declared.options.Options.{Options}
+use Rattle.csv_tables.specs.declared.options.Layout.{Layout}
 
 -- the first of them are the first ones beside their numbers
 first_numbered : (count n : ℕ) (rows : List (List Text)) → take count (numbered_from n rows) ≡ numbered_from n (take count rows)
@@ -43,20 +42,18 @@ behind_first (x ∷ xs) n is = let one : n ≡ 1 = omega (arith, is) in ap (λ (
 -- ---- contents
 
 -- what is drawn of some records is what is drawn of those beside their numbers
-pub shown-is : (count : Option ℕ) (options : Options) (records shown : List (List Text)) (found columns : List DrawnColumn)
-    → columns_for options (unwrap_or (names_of options.selection.has_header records) []) (drawn_rows options records) ≡ Ok found
-    → shown ≡ (if options.selection.is_numbered then numbered options.selection.has_header records else records)
-    → columns ≡ columns_beside options.selection.is_numbered found
-    → content_counted count options records
-    ≡ Ok (record { names = names_of options.selection.has_header shown; rows = limited options.selection.limit (records_below options.selection.has_header shown); columns = columns; count = count; is_numbered = options.selection.is_numbered })
-shown-is count options records shown found columns chosen are beside =
-    let has_header = options.selection.has_header in
-    let limit = options.selection.limit in
-    let is_numbered = options.selection.is_numbered in
-    ap (λ (r : Result (List DrawnColumn) ColumnFault). ok_map (with_count count) (ok_map (content_with options records) r)) chosen
-    ∙ ap₂ (λ (n : Option (List Text)) (rs : List (List Text)). made n rs (columns_beside is_numbered found)) (sym (ap (names_of has_header) are ∙ names-beside is_numbered has_header records))
-    (sym (ap (λ (rs : List (List Text)). limited limit (records_below has_header rs)) are ∙ rows-beside is_numbered has_header limit records))
-    ∙ ap (made (names_of has_header shown) (limited limit (records_below has_header shown))) (sym beside)
+pub shown-is : (counted : Option ℕ) (layout : Layout) (records shown : List (List Text)) (columns : List DrawnColumn)
+    → shown ≡ (if layout.selection.is_numbered then numbered layout.selection.has_header records else records)
+    → columns ≡ columns_beside layout.selection.is_numbered (columns_of layout records)
+    → record { names = names_of layout.selection.has_header shown; rows = limited layout.selection.limit (records_below layout.selection.has_header shown); columns = columns; count = counted; is_numbered = layout.selection.is_numbered }
+    ≡ content_of counted layout records
+shown-is counted layout records shown columns are beside =
+    let has_header = layout.selection.has_header in
+    let limit = layout.selection.limit in
+    let is_numbered = layout.selection.is_numbered in
+    ap (made (names_of has_header shown) (limited limit (records_below has_header shown))) beside
+    ∙ ap₂ (λ (n : Option (List Text)) (rs : List (List Text)). made n rs (columns_beside is_numbered (columns_of layout records))) (ap (names_of has_header) are ∙ names-beside is_numbered has_header records)
+    (ap (λ (rs : List (List Text)). limited limit (records_below has_header rs)) are ∙ rows-beside is_numbered has_header limit records)
   where
-    made : Option (List Text) → List (List Text) → List DrawnColumn → Result ContentValue ColumnFault
-    made names rows own = Ok (record { names = names; rows = rows; columns = own; count = count; is_numbered = options.selection.is_numbered })
+    made : Option (List Text) → List (List Text) → List DrawnColumn → ContentValue
+    made names rows own = record { names = names; rows = rows; columns = own; count = counted; is_numbered = layout.selection.is_numbered }

@@ -1,5 +1,5 @@
 -- The tables of some records are built from an empty one.
-use Rattle.std.proofs.Common.{◌≡◌, ℕ, zero, suc, Bool, true, false, List, [], ◌∷◌, Option, Some, None, Result, Ok, Err, decimal, encode_utf8_all, flat_map, map, ◌+◌, ap, refl, subst, ◌∙◌}
+use Rattle.std.proofs.Common.{◌≡◌, ℕ, zero, suc, Bool, true, false, List, [], ◌∷◌, Option, Some, None, decimal, encode_utf8_all, flat_map, map, ◌+◌, ap, refl, subst, ◌∙◌}
 use Rattle.std.specs.List.{All}
 use Rattle.std.specs.Prelude.{if◌then◌else◌, unwrap_or}
 use Rattle.std.proofs.lemmas.List.Elements.{All-cons, All-head, All-map, All-nil, All-tail, All-take}
@@ -14,17 +14,11 @@ use Rattle.csv_records.proofs.CleaningLemmas.{Stays-nil, stays_cleaned}
 use Rattle.csv_tables.specs.Cells.{field_text, field_or_blank, header_for, marked, row_for, unless_blank}
 use Rattle.csv_records.specs.Cleaning.{cleaned}
 use Rattle.csv_records.specs.Numbered.{behind_mark, numbered_from}
-use Rattle.csv_tables.specs.Columns.{columns_for, name_from}
-use Rattle.csv_tables.specs.Drawn.{ContentValue, content_of, content_with, drawn_rows, empty_table, headed_table, limited, names_beside, names_of, ok_map, pairs_in, pairs_table, records_below, rows_beside, rows_table}
+use Rattle.csv_tables.specs.Columns.{name_from}
+use Rattle.csv_tables.specs.Drawn.{ContentValue, content_of, empty_table, headed_table, limited, names_beside, names_of, pairs_in, pairs_table, records_below, rows_beside, rows_table}
 use Rattle.csv_tables.specs.Markdown.{escaped}
 use Rattle.csv_tables.specs.declared.options.Look.{Look}
-use Rattle.csv_tables.specs.declared.options.Options.{Options}
-use Rattle.csv_tables.specs.declared.options.DrawnColumn.{DrawnColumn}
-
--- what was made was made of something
-pub made_of : {A B E : Type 0} (f : A → B) (found : Result A E) (x : B) → ok_map f found ≡ Ok x → (a : A) × (found ≡ Ok a) × (f a ≡ x)
-made_of f (Ok a) x is = (a, refl, cc is)
-made_of f (Err e) x is = absurd (cc is)
+use Rattle.csv_tables.specs.declared.options.Layout.{Layout}
 
 all_limited : {A : Type 0} (P : A → Type 0) (limit : Option ℕ) (xs : List A) → All P xs → All P (limited limit xs)
 all_limited P None xs each = each
@@ -87,12 +81,13 @@ each_row : (P : List Text → Type 0) → HoldsBeside P → (is_numbered : Bool)
 each_row P beside true rows each = each_numbered P beside 1 rows each
 each_row P beside false rows each = each
 
-pub each_of : (P : List Text → Type 0) → HoldsBeside P → (options : Options) (records : List (List Text)) (columns : List DrawnColumn) → All P records → EachOf P (content_with options records columns)
-each_of P beside options records columns each =
-    record {
-      names = λ names is. shown options.selection.is_numbered (names_of options.selection.has_header records) (λ names is. first options.selection.has_header records names is each) names is;
-      rows = each_row P beside options.selection.is_numbered _ (all_limited P options.selection.limit _ (all_below P options.selection.has_header records each));
-    }
+pub each_content : (P : List Text → Type 0) → HoldsBeside P → (counted : Option ℕ) (layout : Layout) (records : List (List Text)) (content : ContentValue) → content_of counted layout records ≡ content → All P records → EachOf P content
+each_content P beside counted layout records content is each =
+    subst (EachOf P) is
+    (record {
+      names = λ names is. shown layout.selection.is_numbered (names_of layout.selection.has_header records) (λ names is. first layout.selection.has_header records names is each) names is;
+      rows = each_row P beside layout.selection.is_numbered _ (all_limited P layout.selection.limit _ (all_below P layout.selection.has_header records each));
+    })
   where
     shown : (is_numbered : Bool) (own : Option (List Text)) → ((names : List Text) → own ≡ Some names → P names) → (names : List Text) → names_beside is_numbered own ≡ Some names → P names
     shown false own each names is = each names is
@@ -105,11 +100,6 @@ each_of P beside options records columns each =
         let same : record_ ≡ names = cc is in
         subst P same (All-head P record_ records each)
     first false records names is each = absurd (cc is)
-
-pub each_content : (P : List Text → Type 0) → HoldsBeside P → (options : Options) (records : List (List Text)) (content : ContentValue) → content_of options records ≡ Ok content → All P records → EachOf P content
-each_content P beside options records content is each =
-    let found = made_of (content_with options records) (columns_for options (unwrap_or (names_of options.selection.has_header records) []) (drawn_rows options records)) content is in
-    subst (EachOf P) found.2 (each_of P beside options records found.0 each)
 
 -- ---- tables
 

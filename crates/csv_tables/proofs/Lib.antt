@@ -4,12 +4,12 @@ pub mod BlankLemmas
 pub mod BuiltLemmas
 pub mod CleanCharacterLemmas
 pub mod ColumnLemmas
+pub mod CountLemmas
 pub mod DecimalLawLemmas
 pub mod DecimalLemmas
 mod ExpandedLemmas
 pub mod FieldControlLemmas
 pub mod FieldLemmas
-pub mod FirstRowLemmas
 pub mod FittingLemmas
 pub mod KeptFieldLemmas
 pub mod KeptWidthLemmas
@@ -28,7 +28,6 @@ pub mod OutputLemmas
 pub mod PrintableTableLemmas
 pub mod ReachedLemmas
 pub mod RowLemmas
-pub mod RunLemmas
 pub mod SeenLemmas
 pub mod SeparatorLemmas
 pub mod SpacedLemmas

@@ -27,7 +27,7 @@ use Rattle.csv_tables.specs.Cells.{row_for}
 use Rattle.csv_tables.specs.Drawn.{ContentValue, RendersRecords, RendersAsTable, RendersContent, condensed_style, drawn_fields, empty_table, is_expanded_for, is_table_expanded, output_table, pairs_in, separated_table, some_lines, table_text}
 use Rattle.csv_tables.specs.Laws.{EachLineHas, HasLines, IsFilling, IsOutputWith, IsWithin, OutputFillsWidth, OutputKeepsToWidth}
 use Rattle.csv_tables.specs.declared.options.Look.{Look}
-use Rattle.csv_tables.specs.declared.options.Options.{Options}
+use Rattle.csv_tables.specs.declared.options.Layout.{Layout}
 
 abbrev pub Any : RowValue → Type 0
 Any row = Unit {0}
@@ -90,29 +90,29 @@ drawn_lines true content arranged unbroken = (
     of_part first (suc count) = part_has_lines_of_table arranged.table arranged.infos first (suc count)
 
 -- an output that isn't for Markdown is the text of a table
-pub is_table_text : (options : Options) (records : List (List Text)) (output : Text) (made : RendersRecords options records output) → options.look.is_markdown ≡ false → RendersAsTable options.look made.content made.text
-is_table_text options records output made none = subst (λ b. RendersContent b options.look made.content made.text) none made.is_text
+pub is_table_text : (counted : Option ℕ) (layout : Layout) (records : List (List Text)) (output : Text) (made : RendersRecords counted layout records output) → layout.look.is_markdown ≡ false → RendersAsTable layout.look made.content made.text
+is_table_text counted layout records output made none = subst (λ b. RendersContent b layout.look made.content made.text) none made.is_text
 
 -- records for Markdown are never expanded
 pub never_expanded : (look : Look) (content : ContentValue) → look.is_markdown ≡ true → false ≡ is_expanded_for look content
 never_expanded look content is = ap (λ b. not b && is_table_expanded look content) (sym is)
 
-module _ (options : Options) (records : List (List Text)) (output : Text) (made : RendersRecords options records output) (text : RendersAsTable options.look made.content made.text) (none : options.look.is_markdown ≡ false) where
+module _ (counted : Option ℕ) (layout : Layout) (records : List (List Text)) (output : Text) (made : RendersRecords counted layout records output) (text : RendersAsTable layout.look made.content made.text) (none : layout.look.is_markdown ≡ false) where
   abbrev pub drawn_table : TableValue
-  drawn_table = separated_table text.drawn.has_separators (output_table text.is_expanded options.look made.content)
+  drawn_table = separated_table text.drawn.has_separators (output_table text.is_expanded layout.look made.content)
 
   abbrev pub drawn : List Text
   drawn = drawing_of_infos drawn_table text.drawn.arranged.infos
 
   -- it is expanded where its look asks for it
-  pub expansion : text.is_expanded ≡ is_expanded_for options.look made.content
-  expansion = text.expansion ∙ ap (λ b. not b && is_table_expanded options.look made.content) (sym none)
+  pub expansion : text.is_expanded ≡ is_expanded_for layout.look made.content
+  expansion = text.expansion ∙ ap (λ b. not b && is_table_expanded layout.look made.content) (sym none)
 
-  module _ (style : IsStyleWithout 0x0A options.look.style) where
+  module _ (style : IsStyleWithout 0x0A layout.look.style) where
     pub unbroken : All HasNoBreak drawn
-    unbroken = unbroken_lines options.look made.content text.is_expanded text.drawn.has_separators drawn style text.drawn.is_arranged.headline
+    unbroken = unbroken_lines layout.look made.content text.is_expanded text.drawn.has_separators drawn style text.drawn.is_arranged.headline
 
-    abbrev pub with_lines : IsOutputWith options records output drawn
+    abbrev pub with_lines : IsOutputWith counted layout records output drawn
     with_lines =
         record {
           content = made.content;
@@ -131,9 +131,9 @@ module _ (options : Options) (records : List (List Text)) (output : Text) (made 
             (subst (HasLines text.is_expanded made.content (drawing_of_infos text.drawn.arranged.table text.drawn.arranged.infos)) (sym is)
             (drawn_lines text.is_expanded made.content text.drawn.arranged (subst (λ (u : TableValue). All HasNoBreak (drawing_of_infos u text.drawn.arranged.infos)) same unbroken)))
 
-    has_lines : (P : TableValue → ℕ → Type 0) → LineWidthsSatisfy (P drawn_table) drawn_table text.drawn.is_arranged.headline.widths → EachLineHas P options records output
+    has_lines : (P : TableValue → ℕ → Type 0) → LineWidthsSatisfy (P drawn_table) drawn_table text.drawn.is_arranged.headline.widths → EachLineHas P counted layout records output
     has_lines P counts =
-        record { lines = drawn; is_output = with_lines; table = drawn_table; is_table = (text.drawn.has_separators, ap (λ e. separated_table text.drawn.has_separators (output_table e options.look made.content)) expansion); drawing = text.drawn.is_arranged.headline; counts = counts }
+        record { lines = drawn; is_output = with_lines; table = drawn_table; is_table = (text.drawn.has_separators, ap (λ e. separated_table text.drawn.has_separators (output_table e layout.look made.content)) expansion); drawing = text.drawn.is_arranged.headline; counts = counts }
 
 -- ---- widths
 
@@ -190,16 +190,16 @@ pub kept_setting : {A : Type 0} (of : Look → A) (look : Look) → of (separate
 kept_setting of look same true a is = is
 kept_setting of look same false a is = sym same ∙ is
 
-pub keeps_to_width : (w : ℕ) (options : Options) (records : List (List Text)) (output : Text) → OutputKeepsToWidth w options records output
-keeps_to_width w options records output none wide kept plain style made =
-    let text = is_table_text options records output made none in
-    let look = options.look in
-    has_lines options records output made text none style (IsWithin w)
+pub keeps_to_width : (w : ℕ) (counted : Option ℕ) (layout : Layout) (records : List (List Text)) (output : Text) → OutputKeepsToWidth w counted layout records output
+keeps_to_width w counted layout records output none wide kept plain style made =
+    let text = is_table_text counted layout records output made none in
+    let look = layout.look in
+    has_lines counted layout records output made text none style (IsWithin w)
     (keeps w (separated text.drawn.has_separators look) made.content _ (any_drawn look made.content text.is_expanded text.drawn.has_separators) _ text.drawn.is_arranged.headline (kept_setting (λ l. l.width) look refl text.drawn.has_separators (Some w) wide) (kept_setting (λ l. l.fills_width) look refl text.drawn.has_separators false kept))
 
-pub fills_width : (w : ℕ) (options : Options) (records : List (List Text)) (output : Text) → OutputFillsWidth w options records output
-fills_width w options records output none wide filled plain style made =
-    let text = is_table_text options records output made none in
-    let look = options.look in
-    has_lines options records output made text none style (IsFilling w)
+pub fills_width : (w : ℕ) (counted : Option ℕ) (layout : Layout) (records : List (List Text)) (output : Text) → OutputFillsWidth w counted layout records output
+fills_width w counted layout records output none wide filled plain style made =
+    let text = is_table_text counted layout records output made none in
+    let look = layout.look in
+    has_lines counted layout records output made text none style (IsFilling w)
     (fills w (separated text.drawn.has_separators look) made.content _ (any_drawn look made.content text.is_expanded text.drawn.has_separators) _ text.drawn.is_arranged.headline (kept_setting (λ l. l.width) look refl text.drawn.has_separators (Some w) wide) (kept_setting (λ l. l.fills_width) look refl text.drawn.has_separators true filled))

@@ -1,5 +1,5 @@
 -- The lines of an output for Markdown give back its records.
-use Rattle.std.proofs.Common.{◌≡◌, ◌<◌, ◌≤◌, ℕ, ◌+◌, Bool, false, List, [], ◌∷◌, ◌++◌, Some, arith, flat_map, length, map, max, append-nil, refl, slice_get, ap, ap₂, sym, ◌∙◌, subst, unwrap_or, true, None, ◌⊎◌, inl, inr}
+use Rattle.std.proofs.Common.{◌≡◌, ◌<◌, ◌≤◌, ℕ, ◌+◌, Bool, false, List, [], ◌∷◌, ◌++◌, Option, Some, arith, flat_map, length, map, max, append-nil, refl, slice_get, ap, ap₂, sym, ◌∙◌, subst, unwrap_or, true, None, ◌⊎◌, inl, inr}
 use Rattle.std.specs.List.{All, AllZip, enumerate_from, range_with_len}
 use Rattle.std.specs.Str.{IsUtf8}
 use Rattle.std.proofs.lemmas.List.Elements.{All-head, All-nil, All-tail, All-weaker}
@@ -21,7 +21,7 @@ use Rattle.csv_tables.specs.Cells.{field_or_blank, field_text, row_for, cell_for
 use Rattle.csv_tables.specs.Markdown.{rule_line}
 use Rattle.csv_tables.specs.declared.options.DrawnColumn.{DrawnColumn}
 use Rattle.csv_tables.specs.declared.options.Look.{Look}
-use Rattle.csv_tables.specs.declared.options.Options.{Options}
+use Rattle.csv_tables.specs.declared.options.Layout.{Layout}
 use Rattle.csv_tables.proofs.BuiltLemmas.{each_content, each_field}
 use Rattle.csv_tables.proofs.MarkdownLineLemmas.{gives_back}
 use Rattle.csv_tables.proofs.MarkdownRowLemmas.{FitsAmong, IsOnly, all_fit, first_line, height_of, infos_placed, markdown_row, one_high, one_text_line, only_pieces, pieces_of, placed, IsCellAt}
@@ -187,15 +187,15 @@ none : AllText []
 unfolding AllText
 none = tt
 
-pub records_are_given_back : (options : Options) (records : List (List Text)) (output : Text) → MarkdownGivesRecordsBack options records output
-records_are_given_back options records output is short text made some =
-    let look = options.look in
+pub records_are_given_back : (counted : Option ℕ) (layout : Layout) (records : List (List Text)) (output : Text) → MarkdownGivesRecordsBack counted layout records output
+records_are_given_back counted layout records output is short text made some =
+    let look = layout.look in
     let content = made.content in
     let Short = All (EachLine IsShort (markdown_look look)) in
     let drawn : RendersAsMarkdown look content made.text = subst (λ b. RendersContent b look content made.text) is made.is_text in
     let fields : All Short records = All-weaker (All (EachLine IsShort look)) Short (λ fields. All-weaker (EachLine IsShort look) (EachLine IsShort (markdown_look look)) (drawn_for_markdown look is) fields) records short in
-    let each = with_names Short (All-nil (EachLine IsShort (markdown_look look))) content (each_content Short (lines_beside IsShort short_printable (markdown_look look)) options records content made.is_content fields) in
-    let texts = with_names AllText none content (each_content AllText text_beside options records content made.is_content text) in
+    let each = with_names Short (All-nil (EachLine IsShort (markdown_look look))) content (each_content Short (lines_beside IsShort short_printable (markdown_look look)) counted layout records content made.is_content fields) in
+    let texts = with_names AllText none content (each_content AllText text_beside counted layout records content made.is_content text) in
     let names = unwrap_or content.names [] in
     let widths = drawn.drawing.widths in
     let arranged = drawn.drawing.arranged in
@@ -210,7 +210,7 @@ records_are_given_back options records output is short text made some =
       lines = map (line_of look content widths arranged false) content.rows;
       is =
           made.joined
-          ∙ ap₂ (λ (t : Text) (b : Bool). t ++ note_for b options.selection.limit content.count) (drawn.is ∙ ap (λ (ls : List Text). terminated_text_of (below_first rule ls)) lines) is;
+          ∙ ap₂ (λ (t : Text) (b : Bool). t ++ note_for b layout.selection.limit content.count) (drawn.is ∙ ap (λ (ls : List Text). terminated_text_of (below_first rule ls)) lines) is;
       unbroken = subst (All HasNoBreak) lines (drawn.drawing.controls.without_breaks (markdown_unbroken look content));
       names = line_gives_back look content widths arranged some true names (texts.names names refl) first;
       rows = lines_give_back look content widths arranged some content.rows texts.rows others;

@@ -1,5 +1,5 @@
 -- The lines of a table for Markdown are equally wide, the line below the header among them.
-use Rattle.std.proofs.Common.{◌≡◌, ◌<◌, ◌≤◌, ℕ, zero, suc, ◌+◌, ◌*◌, ◌-◌, Bool, true, false, List, [], ◌∷◌, ◌++◌, Option, Some, None, Ok, arith, codes, cond, flat_map, length, map, max, refl, sym, ap, ap₂, ◌∙◌, subst, filter, not, slice_get, sum, sum_by, zip, option_to_list, unwrap_or}
+use Rattle.std.proofs.Common.{◌≡◌, ◌<◌, ◌≤◌, ℕ, zero, suc, ◌+◌, ◌*◌, ◌-◌, Bool, true, false, List, [], ◌∷◌, ◌++◌, Option, Some, None, arith, codes, cond, flat_map, length, map, max, refl, sym, ap, ap₂, ◌∙◌, subst, filter, not, slice_get, sum, sum_by, zip, option_to_list, unwrap_or}
 use Rattle.std.specs.List.{All, AllByRecursion, cons_option, enumerate_from, filter_map, range_with_len, repeat}
 use Rattle.std.specs.Option.{MatchOption}
 use Rattle.std.specs.Prelude.{if◌then◌else◌}
@@ -34,7 +34,7 @@ use Rattle.csv_records.specs.Cleaning.{cleaned, visible_of}
 use Rattle.csv_tables.specs.Markdown.{is_right, rule_line, rule_part}
 use Rattle.csv_tables.specs.declared.options.DrawnColumn.{DrawnColumn}
 use Rattle.csv_tables.specs.declared.options.Look.{Look}
-use Rattle.csv_tables.specs.declared.options.Options.{Options}
+use Rattle.csv_tables.specs.declared.options.Layout.{Layout}
 use Rattle.csv_tables.proofs.BuiltLemmas.{Built, EachOf, each_content}
 use Rattle.csv_tables.proofs.OutputControlLemmas.{each_below_first, free_markdown, markdown_lines_of, printable_is_seen, rule_is_clear, rule_is_printable}
 use Rattle.csv_tables.proofs.LineLemmas.{Any, any_built, never_expanded}
@@ -298,19 +298,19 @@ abbrev AreSeenInMarkdown : Bool → List (List Text) → Type 0
 AreSeenInMarkdown false records = Unit {0}
 AreSeenInMarkdown true records = All AllText records
 
-seen_markdown : (visible : Bool) (options : Options) (records : List (List Text)) (content : ContentValue) → content_of options records ≡ Ok content → AreSeenInMarkdown visible records → IsSeenTable visible (markdown_look options.look) (markdown_table options.look content)
-seen_markdown false options records content is any = refl
-seen_markdown true options records content is text = free_markdown options.look content (each_content AllText text_beside options records content is text)
+seen_markdown : (visible : Bool) (counted : Option ℕ) (layout : Layout) (records : List (List Text)) (content : ContentValue) → content_of counted layout records ≡ content → AreSeenInMarkdown visible records → IsSeenTable visible (markdown_look layout.look) (markdown_table layout.look content)
+seen_markdown false counted layout records content is any = refl
+seen_markdown true counted layout records content is text = free_markdown layout.look content (each_content AllText text_beside counted layout records content is text)
 
-markdown_straight : (visible : Bool) (options : Options) (records : List (List Text)) (output : Text) → AreSeenInMarkdown visible records → options.look.is_markdown ≡ true
-    → EachText IsShort options.look records → RendersRecords options records output → IsStraightOutput visible options records output
-markdown_straight visible options records output own is short made =
-    let look = options.look in
+markdown_straight : (visible : Bool) (counted : Option ℕ) (layout : Layout) (records : List (List Text)) (output : Text) → AreSeenInMarkdown visible records → layout.look.is_markdown ≡ true
+    → EachText IsShort layout.look records → RendersRecords counted layout records output → IsStraightOutput visible counted layout records output
+markdown_straight visible counted layout records output own is short made =
+    let look = layout.look in
     let Short = All (EachLine IsShort (markdown_look look)) in
     let text : RendersAsMarkdown look made.content made.text = subst (λ b. RendersContent b look made.content made.text) is made.is_text in
     let fields : All Short records = All-weaker (All (EachLine IsShort look)) Short (λ fields. All-weaker (EachLine IsShort look) (EachLine IsShort (markdown_look look)) (drawn_for_markdown look is) fields) records short in
-    let each = with_names Short (All-nil (EachLine IsShort (markdown_look look))) made.content (each_content Short (lines_beside IsShort short_printable (markdown_look look)) options records made.content made.is_content fields) in
-    let seen = seen_markdown visible options records made.content made.is_content own in
+    let each = with_names Short (All-nil (EachLine IsShort (markdown_look look))) made.content (each_content Short (lines_beside IsShort short_printable (markdown_look look)) counted layout records made.content made.is_content fields) in
+    let seen = seen_markdown visible counted layout records made.content made.is_content own in
     let rule = rule_line made.content.columns (max_content_widths (markdown_table look made.content)) in
     record {
       lines = below_first rule text.lines;
@@ -319,16 +319,16 @@ markdown_straight visible options records output own is short made =
       clear = clear_markdown visible look made.content text.lines text.drawing seen;
     }
 
-pub markdown_is_straight : (options : Options) (records : List (List Text)) (output : Text) → MarkdownOutputIsStraight options records output
-markdown_is_straight options records output is short made = markdown_straight false options records output tt is short made
+pub markdown_is_straight : (counted : Option ℕ) (layout : Layout) (records : List (List Text)) (output : Text) → MarkdownOutputIsStraight counted layout records output
+markdown_is_straight counted layout records output is short made = markdown_straight false counted layout records output tt is short made
 
-pub whole_is_straight : (visible : Bool) (options : Options) (records : List (List Text)) (output : Text) → WholeOutputIsStraight visible options records output
-whole_is_straight visible options records output characters plain no_width cut short made = by_markdown options.look.is_markdown refl
+pub whole_is_straight : (visible : Bool) (counted : Option ℕ) (layout : Layout) (records : List (List Text)) (output : Text) → WholeOutputIsStraight visible counted layout records output
+whole_is_straight visible counted layout records output characters plain no_width cut short made = by_markdown layout.look.is_markdown refl
   where
-    in_markdown : (kind : Bool) → AreSeen kind options.look records → AreSeenInMarkdown kind records
+    in_markdown : (kind : Bool) → AreSeen kind layout.look records → AreSeenInMarkdown kind records
     in_markdown true own = own.1
     in_markdown false own = tt
 
-    by_markdown : (b : Bool) → options.look.is_markdown ≡ b → IsStraightOutput visible options records output
-    by_markdown true is = markdown_straight visible options records output (in_markdown visible plain.seen) is short made
-    by_markdown false none = rows_are_straight visible options records output none characters plain no_width cut short made
+    by_markdown : (b : Bool) → layout.look.is_markdown ≡ b → IsStraightOutput visible counted layout records output
+    by_markdown true is = markdown_straight visible counted layout records output (in_markdown visible plain.seen) is short made
+    by_markdown false none = rows_are_straight visible counted layout records output none characters plain no_width cut short made

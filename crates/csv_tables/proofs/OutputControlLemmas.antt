@@ -30,7 +30,7 @@ use Rattle.csv_tables.specs.Controls.{HasNoStrayControl, IsStyleWithoutControls,
 use Rattle.csv_tables.specs.Markdown.{is_right, rule_line, rule_part}
 use Rattle.csv_tables.specs.declared.options.DrawnColumn.{DrawnColumn}
 use Rattle.csv_tables.specs.declared.options.Look.{Look}
-use Rattle.csv_tables.specs.declared.options.Options.{Options}
+use Rattle.csv_tables.specs.declared.options.Layout.{Layout}
 use Rattle.csv_tables.proofs.BuiltLemmas.{Built, EachOf, each_content, plain_table}
 use Rattle.csv_tables.proofs.FieldLemmas.{number_is_printable, printable_unbroken}
 use Rattle.csv_tables.proofs.NumberedLemmas.{text_beside}
@@ -40,8 +40,8 @@ use Rattle.csv_tables.proofs.OutputLemmas.{markdown_unbroken}
 use Rattle.csv_tables.proofs.SeparatorLemmas.{condensed-all, separated}
 use Rattle.csv_tables.proofs.TextTableLemmas.{EachLine, MakesRows, cells_each, pair_each, rows_of_texts, table_of_texts}
 use Rattle.csv_tables.proofs.WholeTableLemmas.{IsDrawn, drawn-is, drawn_plain, drawn_table-is, measured-drawn}
-use Rattle.csv_tables.specs.Drawn.{ContentValue, RendersAsMarkdown, RendersRecords, RendersAnyRecords, RendersAsTable, RendersContent, are_more, below_first, condensed_style, count_text, counting, markdown_content, markdown_look, markdown_table, note_for, output_table, record_line, rows_table, separated_table}
-use Rattle.csv_tables.specs.Laws.{BeginningIsDrawnWithoutControls, HasLines, InputIsDrawnWithoutControls, IsOutputWith, OutputHoldsNoControls}
+use Rattle.csv_tables.specs.Drawn.{ContentValue, RendersAsMarkdown, RendersRecords, RendersAsTable, RendersContent, are_more, below_first, condensed_style, count_text, markdown_content, markdown_look, markdown_table, note_for, output_table, record_line, rows_table, separated_table}
+use Rattle.csv_tables.specs.Laws.{HasLines, IsOutputWith, OutputHoldsNoControls}
 
 -- ---- rows
 
@@ -263,10 +263,10 @@ after_text true content lines text rest (parts, within, unbroken, is) none more 
         (after_lines (parts at) (flat_map one places ++ rest) (All-weaker (Contains lines) IsClear (λ l in_lines. All-contains IsClear lines l none in_lines) (parts at) (within at)) (records places)))
 
 -- an output of such lines
-output_of_clear : (options : Options) (records : List (List Text)) (output : Text) (lines : List Text) → IsOutputWith options records output lines → All IsClear lines → HasNoStrayControl (visible_text output)
-output_of_clear options records output lines made none =
+output_of_clear : (counted : Option ℕ) (layout : Layout) (records : List (List Text)) (output : Text) (lines : List Text) → IsOutputWith counted layout records output lines → All IsClear lines → HasNoStrayControl (visible_text output)
+output_of_clear counted layout records output lines made none =
     subst (λ (t : Text). HasNoStrayControl (visible_text t)) (sym made.joined)
-    (after_text made.is_expanded made.content lines made.text _ made.has_lines none (note_is_seen options.look.is_markdown options.selection.limit made.content.count))
+    (after_text made.is_expanded made.content lines made.text _ made.has_lines none (note_is_seen layout.look.is_markdown layout.selection.limit made.content.count))
 
 -- the line below a header for Markdown is clear
 part_is_printable : (column : DrawnColumn) (width : ℕ) → is_printable_ascii (rule_part (column, width)) ≡ true
@@ -321,36 +321,24 @@ titled content own = record { names = λ names is. by_names content.names own.na
 pub free_markdown : (look : Look) (content : ContentValue) → EachOf AllText content → IsFreeOfControls (markdown_table look content)
 free_markdown look content text = free_rows (markdown_look look) refl (markdown_content content) (titled content text)
 
-markdown_is_clear : (options : Options) (records : List (List Text)) (output : Text) → IsStyleWithoutControls options.look.style → All AllText records → (made : RendersRecords options records output) → RendersAsMarkdown options.look made.content made.text → options.look.is_markdown ≡ true → HasNoStrayControl (visible_text output)
-markdown_is_clear options records output look text made drawn is =
-    let rule = rule_line made.content.columns (max_content_widths (markdown_table options.look made.content)) in
-    let own = each_content AllText text_beside options records made.content made.is_content text in
-    output_of_clear options records output (below_first rule drawn.lines) (record { content = made.content; is_content = made.is_content; is_expanded = false; expansion = never_expanded options.look made.content is; text = made.text; has_lines = markdown_lines_of options.look made.content made.text drawn; joined = made.joined })
+markdown_is_clear : (counted : Option ℕ) (layout : Layout) (records : List (List Text)) (output : Text) → IsStyleWithoutControls layout.look.style → All AllText records → (made : RendersRecords counted layout records output) → RendersAsMarkdown layout.look made.content made.text → layout.look.is_markdown ≡ true → HasNoStrayControl (visible_text output)
+markdown_is_clear counted layout records output look text made drawn is =
+    let rule = rule_line made.content.columns (max_content_widths (markdown_table layout.look made.content)) in
+    let own = each_content AllText text_beside counted layout records made.content made.is_content text in
+    output_of_clear counted layout records output (below_first rule drawn.lines) (record { content = made.content; is_content = made.is_content; is_expanded = false; expansion = never_expanded layout.look made.content is; text = made.text; has_lines = markdown_lines_of layout.look made.content made.text drawn; joined = made.joined })
     (each_below_first IsClear rule drawn.lines (rule_is_clear made.content.columns _)
-    (drawn.drawing.controls.without_controls (free_markdown options.look made.content own)))
+    (drawn.drawing.controls.without_controls (free_markdown layout.look made.content own)))
 
-table_is_clear : (options : Options) (records : List (List Text)) (output : Text) → IsStyleWithoutControls options.look.style → All AllText records → (made : RendersRecords options records output) → RendersAsTable options.look made.content made.text → options.look.is_markdown ≡ false → HasNoStrayControl (visible_text output)
-table_is_clear options records output look text made drawn_text none =
+table_is_clear : (counted : Option ℕ) (layout : Layout) (records : List (List Text)) (output : Text) → IsStyleWithoutControls layout.look.style → All AllText records → (made : RendersRecords counted layout records output) → RendersAsTable layout.look made.content made.text → layout.look.is_markdown ≡ false → HasNoStrayControl (visible_text output)
+table_is_clear counted layout records output look text made drawn_text none =
     let has = drawn_text.drawn.has_separators in
-    let own = each_content AllText text_beside options records made.content made.is_content text in
-    output_of_clear options records output (drawn options records output made drawn_text none) (with_lines options records output made drawn_text none (unbroken_without options.look.style look))
-    (drawn_text.drawn.is_arranged.headline.controls.without_controls (free_output options.look look made.content own drawn_text.is_expanded has))
+    let own = each_content AllText text_beside counted layout records made.content made.is_content text in
+    output_of_clear counted layout records output (drawn counted layout records output made drawn_text none) (with_lines counted layout records output made drawn_text none (unbroken_without layout.look.style look))
+    (drawn_text.drawn.is_arranged.headline.controls.without_controls (free_output layout.look look made.content own drawn_text.is_expanded has))
 
-pub output_without_controls : (options : Options) (records : List (List Text)) (output : Text) → OutputHoldsNoControls options records output
-output_without_controls options records output look text made = by_markdown options.look.is_markdown refl made.is_text
+pub output_without_controls : (counted : Option ℕ) (layout : Layout) (records : List (List Text)) (output : Text) → OutputHoldsNoControls counted layout records output
+output_without_controls counted layout records output look text made = by_markdown layout.look.is_markdown refl made.is_text
   where
-    by_markdown : (b : Bool) → options.look.is_markdown ≡ b → RendersContent b options.look made.content made.text → HasNoStrayControl (visible_text output)
-    by_markdown true is drawn = markdown_is_clear options records output look text made drawn is
-    by_markdown false none drawn = table_is_clear options records output look text made drawn none
-
--- records of an input are text
-pub input_without_controls : (options : Options) (input output : Text) → InputIsDrawnWithoutControls options input output
-input_without_controls options input output look made = any made.records made.are_records.are_records.are_records.are_text made.is_output
-  where
-    any : (records : List (List Text)) → All AllText records → RendersAnyRecords (counting options) records output → HasNoStrayControl (visible_text output)
-    any [] text is = rw is (NoCharPasses-nil is_stray_control)
-    any (first ∷ rest) text is = output_without_controls (counting options) (first ∷ rest) output look text is
-
--- so are those of a beginning
-pub beginning_without_controls : (options : Options) (beginning output : Text) → BeginningIsDrawnWithoutControls options beginning output
-beginning_without_controls options beginning output look made = output_without_controls options made.records output look made.are_enough.are.are_records.are_records.are_text made.is_output
+    by_markdown : (b : Bool) → layout.look.is_markdown ≡ b → RendersContent b layout.look made.content made.text → HasNoStrayControl (visible_text output)
+    by_markdown true is drawn = markdown_is_clear counted layout records output look text made drawn is
+    by_markdown false none drawn = table_is_clear counted layout records output look text made drawn none

@@ -24,7 +24,7 @@ use Rattle.csv_tables.proofs.WholeTableLemmas.{IsDrawn, columns-drawn, drawn-is,
 use Rattle.csv_tables.specs.Drawn.{ContentValue, is_expanded_for}
 use Rattle.csv_tables.specs.Laws.{IsDrawnTable, PrintableLinesHave, seen_lines}
 use Rattle.csv_tables.specs.declared.options.Look.{Look}
-use Rattle.csv_tables.specs.declared.options.Options.{Options}
+use Rattle.csv_tables.specs.declared.options.Layout.{Layout}
 use Rattle.csv_tables.proofs.SeparatorLemmas.{separated}
 
 abbrev IsPrintable : Text → Type 0
@@ -71,18 +71,18 @@ module _ (look : Look) (no_sequences : look.has_sequences ≡ false) (content : 
     built_output is_expanded = table_of_texts IsPrintable refl look IsBareRow (default_rows_of IsPrintable refl look) content each (number_drawn IsPrintable gives look) is_expanded
 
 -- the lines of an output of such records are counted
-pub lines_have : (P : TableValue → ℕ → Type 0) (visible : Bool) (options : Options) (records : List (List Text)) (output : Text) → PrintableLinesHave P visible options records output
-lines_have P visible options records output has plain each = by_table has.is_table
+pub lines_have : (P : TableValue → ℕ → Type 0) (visible : Bool) (counted : Option ℕ) (layout : Layout) (records : List (List Text)) (output : Text) → PrintableLinesHave P visible counted layout records output
+lines_have P visible counted layout records output has plain each = by_table has.is_table
   where
     look : Look
-    look = options.look
+    look = layout.look
 
     content : ContentValue
     content = has.is_output.content
 
     texts : EachOf (All (EachLine IsPrintable look)) content
     texts =
-        each_content (All (EachLine IsPrintable look)) (lines_beside IsPrintable gives look) options records content has.is_output.is_content
+        each_content (All (EachLine IsPrintable look)) (lines_beside IsPrintable gives look) counted layout records content has.is_output.is_content
         (All-weaker (All IsPrintable) (All (EachLine IsPrintable look)) (λ fields own. All-weaker IsPrintable (EachLine IsPrintable look) (fields_stay look) fields own) records each)
 
     drawn : ContentValue
@@ -100,7 +100,7 @@ lines_have P visible options records output has plain each = by_table has.is_tab
         let own = separated separators look in
         let is_expanded = is_expanded_for look content in
         let unkept = kept_setting (λ l. l.has_sequences) look refl separators false plain.no_sequences in
-        let seen = subst (IsSeenTable visible own) (sym is) (seen_table options records content has.is_output.is_content is_expanded separators visible plain.seen) in
+        let seen = subst (IsSeenTable visible own) (sym is) (seen_table counted layout records content has.is_output.is_content is_expanded separators visible plain.seen) in
         let built = built_output own unkept drawn (separated_texts separators) is_expanded in
         let known = subst (IsDrawn own IsBareRow content) (sym is) (drawn_table-is look IsBareRow content is_expanded separators built) in
         seen_all own unkept content has.table has.lines has.drawing IsBareRow known visible seen (λ line. P has.table (count line))

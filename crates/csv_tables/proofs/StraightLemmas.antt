@@ -1,5 +1,5 @@
 -- What is visible of the lines of an output is equally wide.
-use Rattle.std.proofs.Common.{◌≡◌, ℕ, ◌≤◌, ◌⊎◌, Bool, true, false, List, [], ◌∷◌, Option, Some, None, Ok, All, arith, decimal, inl, inr, map, max, option_map, slice_index_or, unwrap_or, ap, refl, subst, sym, ◌∙◌}
+use Rattle.std.proofs.Common.{◌≡◌, ℕ, ◌≤◌, ◌⊎◌, Bool, true, false, List, [], ◌∷◌, Option, Some, None, All, arith, decimal, inl, inr, map, max, option_map, slice_index_or, unwrap_or, ap, refl, subst, sym, ◌∙◌}
 use Rattle.std.proofs.lemmas.List.Elements.{All-cons, All-map, All-nil, All-weaker}
 use Rattle.std.proofs.lemmas.Str.{chars-nil}
 use Rattle.cluster_width.specs.ClusterSums.{selectors_agree}
@@ -37,7 +37,7 @@ use Rattle.csv_records.specs.Cleaning.{visible_of}
 use Rattle.csv_tables.specs.Drawn.{ContentValue, RendersRecords, RendersAsTable, content_of, is_expanded_for, output_table, separated_table}
 use Rattle.csv_tables.specs.Laws.{ArePlainLines, AreSeen, CanBeCut, EachText, FittingOutputIsStraight, IsStraightOutput, IsDrawnTable, NarrowLinesHave, NarrowOutputIsStraight, WholeOutputIsStraight, seen_lines}
 use Rattle.csv_tables.specs.declared.options.Look.{Look}
-use Rattle.csv_tables.specs.declared.options.Options.{Options}
+use Rattle.csv_tables.specs.declared.options.Layout.{Layout}
 use Rattle.csv_tables.specs.declared.options.DrawnColumn.{DrawnColumn}
 use Rattle.csv.specs.Records.{AllText}
 
@@ -262,23 +262,23 @@ each_separated P look true content each = each
 each_separated P look false content each = each
 
 -- the drawn table is seen as its lines are
-pub seen_table : (options : Options) (records : List (List Text)) (content : ContentValue) → content_of options records ≡ Ok content → (is_expanded has visible : Bool) → AreSeen visible options.look records
-    → IsSeenTable visible (separated has options.look) (separated_table has (output_table is_expanded options.look content))
-seen_table options records content is is_expanded true false plain = plain
-seen_table options records content is is_expanded false false plain = plain
-seen_table options records content is is_expanded has true (clear, text) = free_output options.look clear content (each_content AllText text_beside options records content is text) is_expanded has
+pub seen_table : (counted : Option ℕ) (layout : Layout) (records : List (List Text)) (content : ContentValue) → content_of counted layout records ≡ content → (is_expanded has visible : Bool) → AreSeen visible layout.look records
+    → IsSeenTable visible (separated has layout.look) (separated_table has (output_table is_expanded layout.look content))
+seen_table counted layout records content is is_expanded true false plain = plain
+seen_table counted layout records content is is_expanded false false plain = plain
+seen_table counted layout records content is is_expanded has true (clear, text) = free_output layout.look clear content (each_content AllText text_beside counted layout records content is text) is_expanded has
 
 -- short texts, whose selectors agree where texts are cut
 whole_texts : (look : Look) (records : List (List Text)) → EachText IsShort look records → CanBeCut look records → EachText (IsWholeText look.max_height) look records
 whole_texts look records short (inl uncut) k fields under j field below i text inside = (short k fields under j field below i text inside, inl uncut)
 whole_texts look records short (inr agree) k fields under j field below i text inside = (short k fields under j field below i text inside, inr (agree k fields under j field below i text inside))
 
-module _ (visible : Bool) (options : Options) (records : List (List Text)) (output : Text) (none : options.look.is_markdown ≡ false) (characters : IsOneColumnStyle options.look.style) (plain : ArePlainLines visible options.look records) (made : RendersRecords options records output) where
+module _ (visible : Bool) (counted : Option ℕ) (layout : Layout) (records : List (List Text)) (output : Text) (none : layout.look.is_markdown ≡ false) (characters : IsOneColumnStyle layout.look.style) (plain : ArePlainLines visible layout.look records) (made : RendersRecords counted layout records output) where
   abbrev look : Look
-  look = options.look
+  look = layout.look
 
   abbrev text : RendersAsTable look made.content made.text
-  text = is_table_text options records output made none
+  text = is_table_text counted layout records output made none
 
   abbrev has : Bool
   has = text.drawn.has_separators
@@ -287,10 +287,10 @@ module _ (visible : Bool) (options : Options) (records : List (List Text)) (outp
   own = separated has look
 
   abbrev table : TableValue
-  table = drawn_table options records output made text none
+  table = drawn_table counted layout records output made text none
 
   abbrev lines : List Text
-  lines = drawn options records output made text none
+  lines = drawn counted layout records output made text none
 
   abbrev headline : IsTableDrawing table lines
   headline = text.drawn.is_arranged.headline
@@ -299,69 +299,69 @@ module _ (visible : Bool) (options : Options) (records : List (List Text)) (outp
   unkept = kept_setting (λ l. l.has_sequences) look refl has false plain.no_sequences
 
   seen : IsSeenTable visible own table
-  seen = seen_table options records made.content made.is_content text.is_expanded has visible plain.seen
+  seen = seen_table counted layout records made.content made.is_content text.is_expanded has visible plain.seen
 
   -- the drawn table, of rows of which Q holds
   of_texts : (P : Text → Type 0) (empty : P []) (Q : RowValue → Type 0) → MakesRows P empty own Q → EachText P look records → HoldsOfShort P → IsDrawn own Q made.content table
   of_texts P empty Q makes each gives =
-      let fields = each_content (All (EachLine P look)) (lines_beside P gives look) options records made.content made.is_content each in
+      let fields = each_content (All (EachLine P look)) (lines_beside P gives look) counted layout records made.content made.is_content each in
       let fitting = each_drawn (EachLine P look) (short_drawn P gives look) look plain.no_sequences made.content fields text.is_expanded in
       let drawn = drawn_content text.is_expanded look made.content in
       drawn_table-is look Q made.content text.is_expanded has
       (table_of_texts P empty own Q makes drawn (each_separated P look has drawn fitting) (number_drawn P gives own) text.is_expanded)
 
   -- the output is straight where its table is
-  straight : (Q : RowValue → Type 0) → IsDrawn own Q made.content table → IsStraightTable table headline.widths → IsStraightOutput visible options records output
+  straight : (Q : RowValue → Type 0) → IsDrawn own Q made.content table → IsStraightTable table headline.widths → IsStraightOutput visible counted layout records output
   straight Q known is =
       record {
         lines = lines;
-        is_output = with_lines options records output made text none plain.unbroken;
+        is_output = with_lines counted layout records output made text none plain.unbroken;
         equally_wide = equally_wide own unkept (separated_is_one_column has look characters) made.content table lines headline Q known visible seen is;
         clear = clear_lines visible own table lines headline seen;
       }
 
-pub rows_are_straight : (visible : Bool) (options : Options) (records : List (List Text)) (output : Text) → options.look.is_markdown ≡ false → WholeOutputIsStraight visible options records output
-rows_are_straight visible options records output none characters plain no_width cut short made =
-    let separators = has visible options records output none characters plain made in
-    let limit = options.look.max_height in
-    let own = separated separators options.look in
+pub rows_are_straight : (visible : Bool) (counted : Option ℕ) (layout : Layout) (records : List (List Text)) (output : Text) → layout.look.is_markdown ≡ false → WholeOutputIsStraight visible counted layout records output
+rows_are_straight visible counted layout records output none characters plain no_width cut short made =
+    let separators = has visible counted layout records output none characters plain made in
+    let limit = layout.look.max_height in
+    let own = separated separators layout.look in
     let known =
-    of_texts visible options records output none characters plain made (IsWholeText limit) (empty_is_whole limit) IsWholeRow (whole_rows limit own (kept_setting (λ l. l.max_height) options.look refl separators limit refl))
-    (whole_texts options.look records short cut) (whole_printable limit) in
-    straight visible options records output none characters plain made IsWholeRow known
-    (whole own (unkept visible options records output none characters plain made) (separated_is_one_column separators options.look characters) made.content _ _ (headline visible options records output none characters plain made) known
-    (kept_setting (λ l. l.width) options.look refl separators None no_width))
+    of_texts visible counted layout records output none characters plain made (IsWholeText limit) (empty_is_whole limit) IsWholeRow (whole_rows limit own (kept_setting (λ l. l.max_height) layout.look refl separators limit refl))
+    (whole_texts layout.look records short cut) (whole_printable limit) in
+    straight visible counted layout records output none characters plain made IsWholeRow known
+    (whole own (unkept visible counted layout records output none characters plain made) (separated_is_one_column separators layout.look characters) made.content _ _ (headline visible counted layout records output none characters plain made) known
+    (kept_setting (λ l. l.width) layout.look refl separators None no_width))
 
-pub narrow_is_straight : (visible : Bool) (options : Options) (records : List (List Text)) (output : Text) → NarrowOutputIsStraight visible options records output
-narrow_is_straight visible options records output none characters plain each made =
-    let separators = has visible options records output none characters plain made in
-    let own = separated separators options.look in
+pub narrow_is_straight : (visible : Bool) (counted : Option ℕ) (layout : Layout) (records : List (List Text)) (output : Text) → NarrowOutputIsStraight visible counted layout records output
+narrow_is_straight visible counted layout records output none characters plain each made =
+    let separators = has visible counted layout records output none characters plain made in
+    let own = separated separators layout.look in
     let empty : CharactersFit 1 [] = printable_fits [] refl in
     let known =
-    of_texts visible options records output none characters plain made (CharactersFit 1) empty (IsDefaultRowOf (CharactersFit 1)) (default_rows_of (CharactersFit 1) empty own) each
+    of_texts visible counted layout records output none characters plain made (CharactersFit 1) empty (IsDefaultRowOf (CharactersFit 1)) (default_rows_of (CharactersFit 1) empty own) each
     (λ text printable few. printable_fits text printable) in
-    straight visible options records output none characters plain made (IsDefaultRowOf (CharactersFit 1)) known
-    (narrow own (unkept visible options records output none characters plain made) (separated_is_one_column separators options.look characters) made.content _ _ (headline visible options records output none characters plain made) known)
+    straight visible counted layout records output none characters plain made (IsDefaultRowOf (CharactersFit 1)) known
+    (narrow own (unkept visible counted layout records output none characters plain made) (separated_is_one_column separators layout.look characters) made.content _ _ (headline visible counted layout records output none characters plain made) known)
 
-pub fitting_is_straight : (visible : Bool) (options : Options) (records : List (List Text)) (output : Text) → FittingOutputIsStraight visible options records output
-fitting_is_straight visible options records output none characters plain fits made =
-    let separators = has visible options records output none characters plain made in
-    let own = separated separators options.look in
-    let drawing = headline visible options records output none characters plain made in
-    let text = is_table_text options records output made none in
+pub fitting_is_straight : (visible : Bool) (counted : Option ℕ) (layout : Layout) (records : List (List Text)) (output : Text) → FittingOutputIsStraight visible counted layout records output
+fitting_is_straight visible counted layout records output none characters plain fits made =
+    let separators = has visible counted layout records output none characters plain made in
+    let own = separated separators layout.look in
+    let drawing = headline visible counted layout records output none characters plain made in
+    let text = is_table_text counted layout records output made none in
     let known =
-    drawn_table-is options.look IsDefaultRow made.content text.is_expanded separators
-    (table_of_texts IsAny tt own IsDefaultRow (default_rows own) (drawn_content text.is_expanded options.look made.content) (any_content own (drawn_content text.is_expanded options.look made.content)) (λ number. any_line own (decimal number)) text.is_expanded) in
-    straight visible options records output none characters plain made IsDefaultRow known
-    (fitting own (unkept visible options records output none characters plain made) (separated_is_one_column separators options.look characters) made.content _ _ drawing IsDefaultRow known (λ row is. is)
-    (fits made.content (drawn_table options records output made text none) drawing.widths made.is_content (separators, ap (λ e. separated_table separators (output_table e options.look made.content)) (expansion options records output made text none)) drawing.arranged))
+    drawn_table-is layout.look IsDefaultRow made.content text.is_expanded separators
+    (table_of_texts IsAny tt own IsDefaultRow (default_rows own) (drawn_content text.is_expanded layout.look made.content) (any_content own (drawn_content text.is_expanded layout.look made.content)) (λ number. any_line own (decimal number)) text.is_expanded) in
+    straight visible counted layout records output none characters plain made IsDefaultRow known
+    (fitting own (unkept visible counted layout records output none characters plain made) (separated_is_one_column separators layout.look characters) made.content _ _ drawing IsDefaultRow known (λ row is. is)
+    (fits made.content (drawn_table counted layout records output made text none) drawing.widths made.is_content (separators, ap (λ e. separated_table separators (output_table e layout.look made.content)) (expansion counted layout records output made text none)) drawing.arranged))
 
 -- its lines are counted in terminal columns
-pub narrow_lines_have : (P : TableValue → ℕ → Type 0) (visible : Bool) (options : Options) (records : List (List Text)) (output : Text) → NarrowLinesHave P visible options records output
-narrow_lines_have P visible options records output has none characters plain each = by_table has.is_table
+pub narrow_lines_have : (P : TableValue → ℕ → Type 0) (visible : Bool) (counted : Option ℕ) (layout : Layout) (records : List (List Text)) (output : Text) → NarrowLinesHave P visible counted layout records output
+narrow_lines_have P visible counted layout records output has none characters plain each = by_table has.is_table
   where
     look : Look
-    look = options.look
+    look = layout.look
 
     content : ContentValue
     content = has.is_output.content
@@ -374,9 +374,9 @@ narrow_lines_have P visible options records output has none characters plain eac
         let unkept = kept_setting (λ l. l.has_sequences) look refl separators false plain.no_sequences in
         let wide = separated_is_one_column separators look characters in
         let empty : CharactersFit 1 [] = printable_fits [] refl in
-        let seen = subst (IsSeenTable visible own) (sym is) (seen_table options records content has.is_output.is_content is_expanded separators visible plain.seen) in
+        let seen = subst (IsSeenTable visible own) (sym is) (seen_table counted layout records content has.is_output.is_content is_expanded separators visible plain.seen) in
         let gives : HoldsOfShort (CharactersFit 1) = λ text printable few. printable_fits text printable in
-        let fields = each_content (All (EachLine (CharactersFit 1) look)) (lines_beside (CharactersFit 1) gives look) options records content has.is_output.is_content each in
+        let fields = each_content (All (EachLine (CharactersFit 1) look)) (lines_beside (CharactersFit 1) gives look) counted layout records content has.is_output.is_content each in
         let drawn = drawn_content is_expanded look content in
         let fitting = each_drawn (EachLine (CharactersFit 1) look) (short_drawn (CharactersFit 1) gives look) look plain.no_sequences content fields is_expanded in
         let texts = each_separated (CharactersFit 1) look separators drawn fitting in

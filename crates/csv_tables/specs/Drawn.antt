@@ -1,6 +1,6 @@
 -- What is drawn of some records, and what is written of it.
 -- Source: this library's own.
-use Rattle.std.specs.Prelude.{ℕ, zero, suc, ◌+◌, ◌==◌, Bool, true, false, not, ◌&&◌, ◌||◌, ◌≡◌, nat_lt, List, [], ◌∷◌, ◌++◌, Option, Some, None, Result, Ok, Err, codes, decimal, drop, flat_map, length, map, option_map, slice_get, slice_index_or, sum_by, take, unwrap_or, if◌then◌else◌, ◌⊎◌}
+use Rattle.std.specs.Prelude.{ℕ, zero, suc, ◌+◌, ◌==◌, Bool, true, false, not, ◌&&◌, ◌||◌, ◌≡◌, nat_lt, List, [], ◌∷◌, ◌++◌, Option, Some, None, codes, decimal, drop, flat_map, length, map, option_map, slice_get, slice_index_or, sum_by, take, unwrap_or, if◌then◌else◌}
 use Rattle.std.specs.List.{list_any, range_with_len}
 use Rattle.comfy_parts.specs.CellValue.{RowValue}
 use Rattle.comfy_parts.specs.Presets.{ascii_markdown}
@@ -16,21 +16,19 @@ use Rattle.comfy_table.specs.Parts.{ArrangedValue, IsArrangedTable, part_lines, 
 use Rattle.comfy_table.specs.Pieces.{row_height}
 use Rattle.comfy_table.specs.TableValue.{TableValue, max_content_widths, new_table, with_header, with_rows}
 use Rattle.csv_tables.specs.Cells.{field_or_blank, header_for, held, pair_for, row_for}
-use Rattle.csv_tables.specs.Columns.{ColumnFault, columns_for, name_from, seen}
+use Rattle.csv_tables.specs.Columns.{count_of, drawn_columns, name_from, seen}
 use Rattle.csv_tables.specs.Decimals.{mark_at, spaced_fields}
 use Rattle.csv_records.specs.Numbered.{behind_mark, numbered_from}
 use Rattle.csv_records.specs.declared.decimals.Points.{Points}
-use Rattle.csv_records.specs.Beginning.{IsEnough, whole_lines}
-use Rattle.csv_records.specs.Reading.{AreRecordsFor}
-use Rattle.devices.specs.Outcome.{Beginning, Extent, IsAsked, NoneIsEnough, Whole, asked_front}
 use Rattle.csv_tables.specs.Markdown.{rule_line}
 use Rattle.csv_tables.specs.declared.options.Expansion.{Expansion}
 use Rattle.csv_tables.specs.declared.options.Expansion.TheVariants.{Always, Auto, Never as NeverExpanded}
 use Rattle.csv_tables.specs.declared.options.Look.{Look}
-use Rattle.csv_tables.specs.declared.options.Options.{Options}
+use Rattle.csv_tables.specs.declared.options.Layout.{Layout}
 use Rattle.csv_tables.specs.declared.options.RowSeparators.{RowSeparators}
 use Rattle.csv_tables.specs.declared.options.RowSeparators.TheVariants.{Styled, Needed, Never}
 use Rattle.csv_tables.specs.declared.options.DrawnColumn.{DrawnColumn}
+use Rattle.csv_tables.specs.declared.selection.Selection.{Selection}
 use Rattle.csv_tables.specs.Unbroken.{has_room, kept_unbroken, kept_unbroken_fields, unbroken_columns}
 
 -- ---- records
@@ -48,9 +46,19 @@ names_of has_header records = if has_header then slice_get records 0 else None
 abbrev pub records_below : Bool → List (List Text) → List (List Text)
 records_below has_header records = if has_header then drop 1 records else records
 
--- how many records of an input are drawn at most, with the header
-abbrev pub most_drawn : Bool → ℕ → ℕ
-most_drawn has_header limit = if has_header then limit + 1 else limit
+-- the fields of the header, or none
+abbrev pub names_or_none : Selection → List (List Text) → List Text
+names_or_none selection records = unwrap_or (names_of selection.has_header records) []
+
+-- the rows that are drawn of some records
+abbrev pub drawn_rows : Selection → List (List Text) → List (List Text)
+drawn_rows selection records =
+    limited selection.limit (records_below selection.has_header records)
+
+-- how many columns the header and these rows have
+abbrev pub column_count : Selection → List (List Text) → ℕ
+column_count selection records =
+    count_of (names_or_none selection records) (drawn_rows selection records)
 
 -- ---- numbers
 
@@ -82,48 +90,26 @@ pub record ContentValue : Type 0 where
   pub count : Option ℕ
   pub is_numbered : Bool
 
--- what is made of a value, where there is one
-abbrev pub ok_map : {A B E : Type 0} → (A → B) → Result A E → Result B E
-ok_map f (Ok x) = Ok (f x)
-ok_map f (Err e) = Err e
+-- the columns that are drawn of some records, each with its alignment
+abbrev pub columns_of : Layout → List (List Text) → List DrawnColumn
+columns_of layout records =
+    drawn_columns layout.columns.right layout.columns.left
+    (map (seen layout.look.has_sequences) (drawn_rows layout.selection records))
+    layout.columns.drawn
 
-abbrev pub drawn_rows : Options → List (List Text) → List (List Text)
-drawn_rows options records =
-    limited options.selection.limit (records_below options.selection.has_header records)
-
--- how many records stand below the header, where they are counted
-abbrev pub count_below : Options → List (List Text) → Option ℕ
-count_below options records =
-    if options.selection.counts_all
-    then Some (length (records_below options.selection.has_header records))
-    else None
-
-abbrev pub content_with : Options → List (List Text) → List DrawnColumn → ContentValue
-content_with options records columns =
+-- what is drawn of some records, of which so many stand below the header, where that is known. The
+-- columns are aligned before numbers stand beside them
+abbrev pub content_of : Option ℕ → Layout → List (List Text) → ContentValue
+content_of counted layout records =
     record {
       names =
-          names_beside options.selection.is_numbered
-          (names_of options.selection.has_header records);
-      rows = rows_beside options.selection.is_numbered (drawn_rows options records);
-      columns = columns_beside options.selection.is_numbered columns;
-      count = count_below options records;
-      is_numbered = options.selection.is_numbered;
+          names_beside layout.selection.is_numbered
+          (names_of layout.selection.has_header records);
+      rows = rows_beside layout.selection.is_numbered (drawn_rows layout.selection records);
+      columns = columns_beside layout.selection.is_numbered (columns_of layout records);
+      count = counted;
+      is_numbered = layout.selection.is_numbered;
     }
-
--- what is drawn of some records, or a fault of the columns, which are chosen before numbers stand
--- beside them
-abbrev pub content_of : Options → List (List Text) → Result ContentValue ColumnFault
-content_of options records =
-    ok_map (content_with options records)
-    (columns_for options (unwrap_or (names_of options.selection.has_header records) [])
-    (drawn_rows options records))
-
--- the same with another count
-abbrev pub with_count : Option ℕ → ContentValue → ContentValue
-with_count count content = record content { count = count }
-
-abbrev pub content_counted : Option ℕ → Options → List (List Text) → Result ContentValue ColumnFault
-content_counted count options records = ok_map (with_count count) (content_of options records)
 
 -- ---- tables
 
@@ -154,9 +140,9 @@ rows_table look content =
     with_rows (map (row_for look content.columns) content.rows)
     (headed_table look content.columns content.names)
 
--- the table of some records, as many as are drawn, or a fault of the columns
-abbrev pub table_for : Options → List (List Text) → Result TableValue ColumnFault
-table_for options records = ok_map (rows_table options.look) (content_of options records)
+-- the table of some records, as many as are drawn
+abbrev pub table_for : Layout → List (List Text) → TableValue
+table_for layout records = rows_table layout.look (content_of None layout records)
 
 -- the fields of one record, each below the one before, beside the names of their columns, of which
 -- the first has this number where there is no header
@@ -391,71 +377,24 @@ note_for is_markdown (Some limit) count =
     ++ (((decimal limit ++ codes " of ") ++ count_text count) ++ codes " records\n")
     else []
 
--- the text of a content, where one was found, and the line on records that aren't drawn
-pub record RendersFound (look : Look) (limit : Option ℕ) (found : Result ContentValue ColumnFault)
+-- the output for some records, of which so many stand below the header, where that is known: the
+-- text of what is drawn, and the line on records that aren't
+pub record RendersRecords (counted : Option ℕ) (layout : Layout) (records : List (List Text))
     (output : Text) : Type 0 where
   pub content : ContentValue
-  pub is_content : found ≡ Ok content
+  pub is_content : content_of counted layout records ≡ content
   pub text : Text
-  pub is_text : RendersContent look.is_markdown look content text
-  pub joined : output ≡ text ++ note_for look.is_markdown limit content.count
+  pub is_text : RendersContent layout.look.is_markdown layout.look content text
+  pub joined :
+      output ≡ text ++ note_for layout.look.is_markdown layout.selection.limit content.count
 
--- the output for some records: the text of their table, and the line on records that aren't drawn
-abbrev pub RendersRecords : Options → List (List Text) → Text → Type 0
-RendersRecords options records output =
-    RendersFound options.look options.selection.limit (content_of options records) output
+-- how many records stand below the header
+abbrev pub count_below : Selection → List (List Text) → ℕ
+count_below selection records = length (records_below selection.has_header records)
 
--- the output for the records of an input: nothing where there are none
-abbrev pub RendersAnyRecords : Options → List (List Text) → Text → Type 0
-RendersAnyRecords options [] output = output ≡ []
-RendersAnyRecords options (first ∷ rest) output = RendersRecords options (first ∷ rest) output
-
--- by the same options all records are counted
-abbrev pub counting : Options → Options
-counting options = record options { selection = record options.selection { counts_all = true } }
-
--- the output for a whole input is that for its records, which are counted
-pub record RendersInput (options : Options) (input output : Text) : Type 0 where
-  pub records : List (List Text)
-  pub are_records : AreRecordsFor options.input input records
-  pub is_output : RendersAnyRecords (counting options) records output
-
--- ---- beginnings of inputs
-
--- there is a limit, and records aren't counted
-pub record HasLimit (options : Options) : Type 0 where
-  pub limit : ℕ
-  pub is : options.selection.limit ≡ Some limit
-  pub uncounted : options.selection.counts_all ≡ false
-
--- these are the records of a beginning of an input, which is enough: there are more than are drawn
-pub record AreEnough (options : Options) (beginning : Text) (records : List
-    (List Text)) : Type 0 where
-  pub has_limit : HasLimit options
-  pub are :
-      IsEnough options.input (most_drawn options.selection.has_header has_limit.limit) beginning
-      records
-
--- the output for a beginning that is enough is that for its records, which aren't counted
-pub record RendersBeginning (options : Options) (beginning output : Text) : Type 0 where
-  pub records : List (List Text)
-  pub are_enough : AreEnough options beginning records
-  pub is_output : RendersRecords options records output
-
--- the output for an input, or for the whole lines of what was read of one
-abbrev pub RendersExtent : Options → Extent → Text → Text → Type 0
-RendersExtent options Whole input output = RendersInput options input output
-RendersExtent options Beginning read output = RendersBeginning options (whole_lines read) output
-
--- no records are enough of the whole lines of what was read
-abbrev pub IsNotEnough : Options → Text → Type 0
-IsNotEnough options read =
-    (records : List (List Text)) → ¬ (AreEnough options (whole_lines read) records)
-
--- what `draw` writes of an input: the output for the first beginning of 65536 bytes, twice as many
--- and so on that is enough, and where none is, that for all of it
-abbrev pub IsDrawnOf : Options → Text → Text → Type 0
-IsDrawnOf options input output =
-    (NoneIsEnough (IsNotEnough options) input × RendersInput options input output)
-    ⊎ ((n : ℕ) × IsAsked (IsNotEnough options) n input
-    × RendersBeginning options (whole_lines (asked_front n input)) output)
+-- the output for records that are counted: nothing where there are none
+abbrev pub RendersAnyRecords : Layout → List (List Text) → Text → Type 0
+RendersAnyRecords layout [] output = output ≡ []
+RendersAnyRecords layout (first ∷ rest) output =
+    RendersRecords (Some (count_below layout.selection (first ∷ rest))) layout (first ∷ rest)
+    output

@@ -1,6 +1,6 @@
 -- What is so of every output.
 -- Source: this library's own.
-use Rattle.std.specs.Prelude.{◌≡◌, ◌⊎◌, ℕ, ◌+◌, ◌<◌, ◌≤◌, Bool, true, false, List, [], ◌∷◌, ◌++◌, Option, Some, None, Ok, All, Contains, flat_map, length, map, max, slice_get, slice_index}
+use Rattle.std.specs.Prelude.{◌≡◌, ◌⊎◌, ℕ, ◌+◌, ◌<◌, ◌≤◌, Bool, true, false, List, [], ◌∷◌, ◌++◌, Option, Some, None, All, Contains, flat_map, length, map, max, slice_get, slice_index}
 use Rattle.std.specs.List.{AllZip, range_with_len}
 use Rattle.comfy_parts.specs.CellValue.{CellValue, plain_cell}
 use Rattle.comfy_parts.specs.Columns.{CharactersFit, IsOneColumnStyle, SelectorsAgree}
@@ -22,12 +22,12 @@ use Rattle.csv_records.specs.Decimals.{byte_of, digits_in, fraction_len, points_
 use Rattle.csv_records.specs.Number.{halves, is_neutral}
 use Rattle.csv_records.specs.declared.decimals.Points.{Points}
 use Rattle.csv_tables.specs.Controls.{HasNoStrayControl, IsStyleWithoutControls}
-use Rattle.csv_tables.specs.Drawn.{ContentValue, RendersBeginning, RendersInput, RendersRecords, content_of, fitting_content, is_expanded_for, note_for, output_table, record_line, separated_table}
+use Rattle.csv_tables.specs.Drawn.{ContentValue, RendersRecords, content_of, fitting_content, is_expanded_for, note_for, output_table, record_line, separated_table}
 use Rattle.csv_tables.specs.Unbroken.{framed_width, is_unbroken, needed_content, unbroken_columns}
 use Rattle.csv.specs.Records.{AllText}
 use Rattle.csv_tables.specs.declared.options.Expansion.TheVariants.{Auto, Never}
 use Rattle.csv_tables.specs.declared.options.Look.{Look}
-use Rattle.csv_tables.specs.declared.options.Options.{Options}
+use Rattle.csv_tables.specs.declared.options.Layout.{Layout}
 
 -- ---- decimal points
 
@@ -64,16 +64,16 @@ HasLines true content lines text =
     ≡ flat_map (numbered_lines content.count parts) (range_with_len 0 (length content.rows)))
 
 -- an output has these lines, before the line on records that aren't drawn
-pub record IsOutputWith (options : Options) (records : List (List Text)) (output : Text)
-    (lines : List Text) : Type 0 where
+pub record IsOutputWith (counted : Option ℕ) (layout : Layout) (records : List (List Text))
+    (output : Text) (lines : List Text) : Type 0 where
   pub content : ContentValue
-  pub is_content : content_of options records ≡ Ok content
+  pub is_content : content_of counted layout records ≡ content
   pub is_expanded : Bool
-  pub expansion : is_expanded ≡ is_expanded_for options.look content
+  pub expansion : is_expanded ≡ is_expanded_for layout.look content
   pub text : Text
   pub has_lines : HasLines is_expanded content lines text
   pub joined :
-      output ≡ text ++ note_for options.look.is_markdown options.selection.limit content.count
+      output ≡ text ++ note_for layout.look.is_markdown layout.selection.limit content.count
 
 -- the table that is drawn of some records: of their rows or of their fields, with lines between
 -- rows or without
@@ -85,12 +85,12 @@ IsDrawnTable look content table =
 -- ---- widths of lines
 
 -- an output has the lines of a drawing, and P holds of their counts
-pub record EachLineHas (P : TableValue → ℕ → Type 0) (options : Options)
+pub record EachLineHas (P : TableValue → ℕ → Type 0) (counted : Option ℕ) (layout : Layout)
     (records : List (List Text)) (output : Text) : Type 0 where
   pub lines : List Text
-  pub is_output : IsOutputWith options records output lines
+  pub is_output : IsOutputWith counted layout records output lines
   pub table : TableValue
-  pub is_table : IsDrawnTable options.look is_output.content table
+  pub is_table : IsDrawnTable layout.look is_output.content table
   pub drawing : IsTableDrawing table lines
   pub counts : LineWidthsSatisfy (P table) table drawing.widths
 
@@ -103,20 +103,20 @@ abbrev pub IsFilling : ℕ → TableValue → ℕ → Type 0
 IsFilling w table n = 0 < shown_count table → n ≡ max w (least_total table)
 
 -- with a width, a frame line keeps to it
-abbrev pub OutputKeepsToWidth : ℕ → Options → List (List Text) → Text → Type 0
-OutputKeepsToWidth w options records output =
-    options.look.is_markdown ≡ false → options.look.width ≡ Some w
-    → options.look.fills_width ≡ false → options.look.has_sequences ≡ false
-    → IsStyleWithout 0x0A options.look.style → RendersRecords options records output
-    → EachLineHas (IsWithin w) options records output
+abbrev pub OutputKeepsToWidth : ℕ → Option ℕ → Layout → List (List Text) → Text → Type 0
+OutputKeepsToWidth w counted layout records output =
+    layout.look.is_markdown ≡ false → layout.look.width ≡ Some w
+    → layout.look.fills_width ≡ false → layout.look.has_sequences ≡ false
+    → IsStyleWithout 0x0A layout.look.style → RendersRecords counted layout records output
+    → EachLineHas (IsWithin w) counted layout records output
 
 -- where the width is filled, it fills it
-abbrev pub OutputFillsWidth : ℕ → Options → List (List Text) → Text → Type 0
-OutputFillsWidth w options records output =
-    options.look.is_markdown ≡ false → options.look.width ≡ Some w
-    → options.look.fills_width ≡ true → options.look.has_sequences ≡ false
-    → IsStyleWithout 0x0A options.look.style → RendersRecords options records output
-    → EachLineHas (IsFilling w) options records output
+abbrev pub OutputFillsWidth : ℕ → Option ℕ → Layout → List (List Text) → Text → Type 0
+OutputFillsWidth w counted layout records output =
+    layout.look.is_markdown ≡ false → layout.look.width ≡ Some w
+    → layout.look.fills_width ≡ true → layout.look.has_sequences ≡ false
+    → IsStyleWithout 0x0A layout.look.style → RendersRecords counted layout records output
+    → EachLineHas (IsFilling w) counted layout records output
 
 -- ---- what is visible of lines
 
@@ -138,9 +138,9 @@ seen_lines visible lines = map (visible_of visible) lines
 
 -- then each line is counted too, where each field is printable ASCII
 abbrev pub PrintableLinesHave :
-    (TableValue → ℕ → Type 0) → Bool → Options → List (List Text) → Text → Type 0
-PrintableLinesHave P visible options records output =
-    (has : EachLineHas P options records output) → ArePlainLines visible options.look records
+    (TableValue → ℕ → Type 0) → Bool → Option ℕ → Layout → List (List Text) → Text → Type 0
+PrintableLinesHave P visible counted layout records output =
+    (has : EachLineHas P counted layout records output) → ArePlainLines visible layout.look records
     → All (All (λ field. is_printable_ascii field ≡ true)) records
     → All (λ line. P has.table (count line)) (seen_lines visible has.lines)
 
@@ -208,10 +208,10 @@ EachText P look records =
 
 -- the lines of an output, as they are seen, take the same number of terminal columns each; and
 -- where that is without their sequences, no control character is visible of them
-pub record IsStraightOutput (visible : Bool) (options : Options)
+pub record IsStraightOutput (visible : Bool) (counted : Option ℕ) (layout : Layout)
     (records : List (List Text)) (output : Text) : Type 0 where
   pub lines : List Text
-  pub is_output : IsOutputWith options records output lines
+  pub is_output : IsOutputWith counted layout records output lines
   pub equally_wide : AreEquallyWide (seen_lines visible lines)
   pub clear : visible ≡ true → All HasNoControl (seen_lines visible lines)
 
@@ -220,51 +220,52 @@ abbrev pub CanBeCut : Look → List (List Text) → Type 0
 CanBeCut look records = (look.max_height ≡ None) ⊎ EachText SelectorsAgree look records
 
 -- so it is where no width is kept to, for texts of every script
-abbrev pub WholeOutputIsStraight : Bool → Options → List (List Text) → Text → Type 0
-WholeOutputIsStraight visible options records output =
-    IsOneColumnStyle options.look.style → ArePlainLines visible options.look records
-    → options.look.width ≡ None → CanBeCut options.look records
-    → EachText (λ text. measure text ≤ 65535) options.look records
-    → RendersRecords options records output
-    → IsStraightOutput visible options records output
+abbrev pub WholeOutputIsStraight : Bool → Option ℕ → Layout → List (List Text) → Text → Type 0
+WholeOutputIsStraight visible counted layout records output =
+    IsOneColumnStyle layout.look.style → ArePlainLines visible layout.look records
+    → layout.look.width ≡ None → CanBeCut layout.look records
+    → EachText (λ text. measure text ≤ 65535) layout.look records
+    → RendersRecords counted layout records output
+    → IsStraightOutput visible counted layout records output
 
 -- for Markdown whatever the look asks for besides
-abbrev pub MarkdownOutputIsStraight : Options → List (List Text) → Text → Type 0
-MarkdownOutputIsStraight options records output =
-    options.look.is_markdown ≡ true → EachText (λ text. measure text ≤ 65535) options.look records
-    → RendersRecords options records output → IsStraightOutput false options records output
+abbrev pub MarkdownOutputIsStraight : Option ℕ → Layout → List (List Text) → Text → Type 0
+MarkdownOutputIsStraight counted layout records output =
+    layout.look.is_markdown ≡ true → EachText (λ text. measure text ≤ 65535) layout.look records
+    → RendersRecords counted layout records output
+    → IsStraightOutput false counted layout records output
 
 -- under every width, where no character takes more than one terminal column
-abbrev pub NarrowOutputIsStraight : Bool → Options → List (List Text) → Text → Type 0
-NarrowOutputIsStraight visible options records output =
-    options.look.is_markdown ≡ false → IsOneColumnStyle options.look.style
-    → ArePlainLines visible options.look records → EachText (CharactersFit 1) options.look records
-    → RendersRecords options records output
-    → IsStraightOutput visible options records output
+abbrev pub NarrowOutputIsStraight : Bool → Option ℕ → Layout → List (List Text) → Text → Type 0
+NarrowOutputIsStraight visible counted layout records output =
+    layout.look.is_markdown ≡ false → IsOneColumnStyle layout.look.style
+    → ArePlainLines visible layout.look records → EachText (CharactersFit 1) layout.look records
+    → RendersRecords counted layout records output
+    → IsStraightOutput visible counted layout records output
 
 -- and under every width each line is counted in terminal columns then
 abbrev pub NarrowLinesHave :
-    (TableValue → ℕ → Type 0) → Bool → Options → List (List Text) → Text → Type 0
-NarrowLinesHave P visible options records output =
-    (has : EachLineHas P options records output) → options.look.is_markdown ≡ false
-    → IsOneColumnStyle options.look.style → ArePlainLines visible options.look records
-    → EachText (CharactersFit 1) options.look records
+    (TableValue → ℕ → Type 0) → Bool → Option ℕ → Layout → List (List Text) → Text → Type 0
+NarrowLinesHave P visible counted layout records output =
+    (has : EachLineHas P counted layout records output) → layout.look.is_markdown ≡ false
+    → IsOneColumnStyle layout.look.style → ArePlainLines visible layout.look records
+    → EachText (CharactersFit 1) layout.look records
     → All (λ line. P has.table (measure line)) (seen_lines visible has.lines)
 
 -- each character of each text fits its column, for all widths that are arranged for the table
-abbrev pub CharactersFitEachWidth : Options → List (List Text) → Type 0
-CharactersFitEachWidth options records =
+abbrev pub CharactersFitEachWidth : Option ℕ → Layout → List (List Text) → Type 0
+CharactersFitEachWidth counted layout records =
     (content : ContentValue) (table : TableValue) (widths : List ℕ)
-    → content_of options records ≡ Ok content → IsDrawnTable options.look content table
+    → content_of counted layout records ≡ content → IsDrawnTable layout.look content table
     → IsArranged table widths → EachCell CharactersFitColumn table widths
 
 -- and under every width, where each character of each text fits its column
-abbrev pub FittingOutputIsStraight : Bool → Options → List (List Text) → Text → Type 0
-FittingOutputIsStraight visible options records output =
-    options.look.is_markdown ≡ false → IsOneColumnStyle options.look.style
-    → ArePlainLines visible options.look records → CharactersFitEachWidth options records
-    → RendersRecords options records output
-    → IsStraightOutput visible options records output
+abbrev pub FittingOutputIsStraight : Bool → Option ℕ → Layout → List (List Text) → Text → Type 0
+FittingOutputIsStraight visible counted layout records output =
+    layout.look.is_markdown ≡ false → IsOneColumnStyle layout.look.style
+    → ArePlainLines visible layout.look records → CharactersFitEachWidth counted layout records
+    → RendersRecords counted layout records output
+    → IsStraightOutput visible counted layout records output
 
 -- a field of printable ASCII is drawn as such text
 abbrev pub PrintableFieldsStay : Look → Text → Type 0
@@ -275,19 +276,15 @@ PrintableFieldsStay look field =
 -- ---- control characters
 
 -- then nothing harmful is visible of an output for records that are text
-abbrev pub OutputHoldsNoControls : Options → List (List Text) → Text → Type 0
-OutputHoldsNoControls options records output =
-    IsStyleWithoutControls options.look.style → All AllText records
-    → RendersRecords options records output → HasNoStrayControl (visible_text output)
+abbrev pub OutputHoldsNoControls : Option ℕ → Layout → List (List Text) → Text → Type 0
+OutputHoldsNoControls counted layout records output =
+    IsStyleWithoutControls layout.look.style → All AllText records
+    → RendersRecords counted layout records output → HasNoStrayControl (visible_text output)
 
--- nor of the output for any input
-abbrev pub InputIsDrawnWithoutControls : Options → Text → Text → Type 0
-InputIsDrawnWithoutControls options input output =
-    IsStyleWithoutControls options.look.style → RendersInput options input output
-    → HasNoStrayControl (visible_text output)
+-- ---- one output
 
--- nor of the output for a beginning that is enough
-abbrev pub BeginningIsDrawnWithoutControls : Options → Text → Text → Type 0
-BeginningIsDrawnWithoutControls options beginning output =
-    IsStyleWithoutControls options.look.style → RendersBeginning options beginning output
-    → HasNoStrayControl (visible_text output)
+-- two outputs for the same records are equal
+abbrev pub OutputIsOne : Option ℕ → Layout → List (List Text) → Text → Text → Type 0
+OutputIsOne counted layout records output other =
+    RendersRecords counted layout records output → RendersRecords counted layout records other
+    → output ≡ other

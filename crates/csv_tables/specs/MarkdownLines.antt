@@ -1,6 +1,6 @@
 -- What is read back from the lines of an output for Markdown.
 -- Source: this library's own; CommonMark for backslashes, GitHub for tables.
-use Rattle.std.specs.Prelude.{◌≡◌, ℕ, ◌<◌, ◌≤◌, Bool, true, false, not, ◌==◌, ◌&&◌, List, [], ◌∷◌, ◌++◌, Ok, All, chars, length, map, unwrap_or, if◌then◌else◌}
+use Rattle.std.specs.Prelude.{◌≡◌, ℕ, ◌<◌, ◌≤◌, Bool, true, false, not, ◌==◌, ◌&&◌, List, [], ◌∷◌, ◌++◌, Option, All, chars, length, map, unwrap_or, if◌then◌else◌}
 use Rattle.std.specs.List.{AllZip}
 use Rattle.comfy_parts.specs.Text.{Text, measure}
 use Rattle.comfy_table.specs.Drawing.{terminated_text_of}
@@ -11,7 +11,7 @@ use Rattle.csv_tables.specs.Cells.{field_or_blank}
 use Rattle.csv_records.specs.Cleaning.{cleaned}
 use Rattle.csv_tables.specs.Markdown.{rule_line, unescaped}
 use Rattle.csv_tables.specs.declared.options.DrawnColumn.{DrawnColumn}
-use Rattle.csv_tables.specs.declared.options.Options.{Options}
+use Rattle.csv_tables.specs.declared.options.Layout.{Layout}
 use Rattle.csv_tables.specs.Drawn.{ContentValue, RendersRecords, content_of, markdown_table, note_for}
 use Rattle.csv_tables.specs.Laws.{EachText}
 
@@ -68,24 +68,24 @@ GivesBack columns fields line =
 
 -- an output for Markdown gives back the names, and below its second line each record that is drawn
 -- in one line
-pub record GivesRecordsBack (options : Options) (records : List (List Text))
+pub record GivesRecordsBack (counted : Option ℕ) (layout : Layout) (records : List (List Text))
     (output : Text) : Type 0 where
   pub content : ContentValue
-  pub is_content : content_of options records ≡ Ok content
+  pub is_content : content_of counted layout records ≡ content
   pub header : Text
   pub lines : List Text
   pub is :
       output ≡ terminated_text_of (header
-      ∷ rule_line content.columns (max_content_widths (markdown_table options.look content))
-      ∷ lines) ++ note_for true options.selection.limit content.count
+      ∷ rule_line content.columns (max_content_widths (markdown_table layout.look content))
+      ∷ lines) ++ note_for true layout.selection.limit content.count
   pub unbroken : All HasNoBreak (header ∷ lines)
   pub names : GivesBack content.columns (unwrap_or content.names []) header
   pub rows : AllZip (GivesBack content.columns) content.rows lines
 
 -- so it does where a column is drawn, for fields of every script up to 65535 terminal columns
-abbrev pub MarkdownGivesRecordsBack : Options → List (List Text) → Text → Type 0
-MarkdownGivesRecordsBack options records output =
-    options.look.is_markdown ≡ true → EachText (λ text. measure text ≤ 65535) options.look records
-    → All AllText records → (made : RendersRecords options records output)
+abbrev pub MarkdownGivesRecordsBack : Option ℕ → Layout → List (List Text) → Text → Type 0
+MarkdownGivesRecordsBack counted layout records output =
+    layout.look.is_markdown ≡ true → EachText (λ text. measure text ≤ 65535) layout.look records
+    → All AllText records → (made : RendersRecords counted layout records output)
     → 0 < length made.content.columns
-    → GivesRecordsBack options records output
+    → GivesRecordsBack counted layout records output

@@ -1,17 +1,16 @@
 //! What is drawn of some records.
 
-ghost use Rattle.std.specs.Prelude.{◌≡◌, IfOk, IfErr, Ok, [], unwrap_or, if◌then◌else◌};
+ghost use Rattle.std.specs.Prelude.{◌≡◌, IfOk, [], unwrap_or, if◌then◌else◌};
 ghost use Rattle.csv_records.specs.Numbered.{numbered};
-ghost use Rattle.csv_tables.specs.Columns.{IsColumnsRefusal};
 ghost use Rattle.csv_tables.specs.Cells.{reached};
-ghost use Rattle.csv_tables.specs.Drawn.{columns_beside, content_counted, content_of, drawn_fields, first_number, limited, names_of, pair_columns, records_below};
-ghost use Rattle.csv_tables.specs.declared.error.ColumnsError.TheVariants.{OutOfMemory};
+ghost use Rattle.csv_tables.specs.Drawn.{columns_beside, content_of, drawn_fields, first_number, pair_columns};
 ghost use Rattle.csv_tables.specs.Leasts.{least_positions};
 
-use crate::columns::columns_of;
-use crate::error::ColumnsError;
-use crate::options::{DrawnColumn, Options};
+use crate::columns::drawn_columns;
+use crate::options::{DrawnColumn, Layout};
+use crate::selection::{limited, names_of, records_below};
 use comfy_parts::style::CellAlignment;
+use comfy_parts::{Result, TableError};
 use csv_records::{Record, Records, Rows};
 use std::alloc::{AllocError, Global};
 use std::marker::Model;
@@ -52,24 +51,27 @@ impl Model for Content {
 }
 
 impl Content {
-    /// What is drawn of these records, of which so many stand below the header.
+    /// What is drawn of these records, of which so many stand below the header, where that is
+    /// known.
     pub fn new(
         alloc: Global,
         records: Records,
         count: Option<usize>,
-        options: &Options,
-    ) -> Result<Content, ColumnsError>
-        ensures ok { IfOk result (λ content.
-            content_counted count options.now records ≡ Ok content) }
-        ensures refused { IfErr result (λ e. IsColumnsRefusal e (content_of options.now records)) }
+        layout: &Layout,
+    ) -> Result<Content>
+        ensures { IfOk result (λ content. content ≡ content_of count layout.now records) }
     {
-        let has_header = options.selection.has_header;
-        let limit = options.selection.limit;
-        let all = records.rows();
-        let names = names_of(&all, has_header).unwrap_or(all.blank());
-        let rows = limited(&records_below(&all, has_header), limit);
-        let columns = columns_of(alloc, &names, &rows, options)?;
-        let is_numbered = options.selection.is_numbered;
+        let has_header = layout.selection.has_header;
+        let limit = layout.selection.limit;
+        let is_numbered = layout.selection.is_numbered;
+        let columns = drawn_columns(
+            alloc,
+            layout.columns.drawn(),
+            layout.columns.right(),
+            layout.columns.left(),
+            &layout.selection.rows(&records.rows()),
+            layout.look.has_sequences,
+        )?;
         let columns = columns_beside(alloc, columns, is_numbered)?;
         let leasts = leasts_of(alloc, columns.as_slice())?;
         let records = records_beside(alloc, records, has_header, is_numbered)?;
@@ -166,9 +168,8 @@ fn columns_beside(
     alloc: Global,
     columns: Vec<DrawnColumn>,
     is_numbered: bool,
-) -> Result<Vec<DrawnColumn>, ColumnsError>
-    ensures ok { IfOk result (λ beside. beside.items ≡ columns_beside is_numbered columns.items) }
-    ensures refused { IfErr result (λ e. e ≡ OutOfMemory) }
+) -> Result<Vec<DrawnColumn>>
+    ensures { IfOk result (λ beside. beside.items ≡ columns_beside is_numbered columns.items) }
 {
     if !is_numbered {
         return Ok(columns);
@@ -181,7 +182,7 @@ fn columns_beside(
     for column in &columns {
         let position = column.position.checked_add(1);
         beside.push(DrawnColumn {
-            position: position.ok_or(ColumnsError::OutOfMemory)?,
+            position: position.ok_or(TableError::OutOfMemory)?,
             alignment: column.alignment,
         })?;
     }
@@ -217,32 +218,4 @@ fn leasts_of(alloc: Global, columns: &[DrawnColumn]) -> Result<Vec<usize>, Alloc
     }
     leasts.reverse();
     Ok(leasts)
-}
-
-// The header, where there is one.
-fn names_of<'a>(records: &Rows<'a>, has_header: bool) -> Option<Record<'a>>
-    ensures { result ≡ names_of has_header records.now }
-{
-    if has_header { records.first() } else { None }
-}
-
-// The records below the header.
-fn records_below<'a>(records: &Rows<'a>, has_header: bool) -> Rows<'a>
-    ensures { result ≡ records_below has_header records.now }
-{
-    if has_header {
-        records.rows_behind(1)
-    } else {
-        records.iter()
-    }
-}
-
-// The first rows, as many as are drawn.
-fn limited<'a>(rows: &Rows<'a>, limit: Option<usize>) -> Rows<'a>
-    ensures { result ≡ limited limit rows.now }
-{
-    match limit {
-        Some(count) => rows.first_rows(count),
-        None => rows.iter(),
-    }
 }

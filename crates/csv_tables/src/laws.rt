@@ -1,15 +1,14 @@
 //! What is so of every drawing. Each function does nothing: its clauses are the law, so that a
 //! proof of yours can cite it.
 
-ghost use Rattle.std.specs.Prelude.{Bool, List, ℕ};
+ghost use Rattle.std.specs.Prelude.{Bool, List, Option, ℕ};
 ghost use Rattle.comfy_parts.specs.Text.{Text};
 ghost use Rattle.csv_tables.specs.Drawn.{ContentValue};
-ghost use Rattle.csv_tables.specs.Laws.{AutoKeepsWhole, BeginningIsDrawnWithoutControls, ExpandedKeepsWhole, FittingOutputIsStraight, InputIsDrawnWithoutControls, IsFilling, IsWithin, MarkdownOutputIsStraight, MarksStandBelow, NarrowLinesHave, NarrowOutputIsStraight, NeverKeepsWhole, OutputFillsWidth, OutputHoldsNoControls, OutputKeepsToWidth, PrintableLinesHave, SpacesAloneAreAdded, WholeOutputIsStraight};
+ghost use Rattle.csv_tables.specs.Laws.{AutoKeepsWhole, ExpandedKeepsWhole, FittingOutputIsStraight, IsFilling, IsWithin, MarkdownOutputIsStraight, MarksStandBelow, NarrowLinesHave, NarrowOutputIsStraight, NeverKeepsWhole, OutputFillsWidth, OutputHoldsNoControls, OutputIsOne, OutputKeepsToWidth, PrintableLinesHave, SpacesAloneAreAdded, WholeOutputIsStraight};
 ghost use Rattle.csv_tables.specs.Markdown.{IsReadBack};
 ghost use Rattle.csv_tables.specs.MarkdownLines.{MarkdownGivesRecordsBack};
-ghost use Rattle.csv_tables.specs.OneOutput.{OutputIsOne, OutputOfIsOne, WrittenIsOne};
 ghost use Rattle.csv_tables.specs.declared.options.Look.{Look};
-ghost use Rattle.csv_tables.specs.declared.options.Options.{Options};
+ghost use Rattle.csv_tables.specs.declared.options.Layout.{Layout};
 
 /// Decimal marks stand below each other, by spaces alone. The table of rows has the fields of its
 /// records with nothing but spaces behind them. In a column with a decimal mark the fraction of
@@ -28,22 +27,24 @@ pub fn decimal_marks_stand_below_each_other()
 /// style of such characters. Where records are expanded, the lines that number them and the one on
 /// further records aren't among these lines.
 pub fn outputs_keep_to_a_width()
-    ensures dynamic { (w : ℕ) (options : Options) (records : List (List Text)) (output : Text)
-        → OutputKeepsToWidth w options records output }
-    ensures full { (w : ℕ) (options : Options) (records : List (List Text)) (output : Text)
-        → OutputFillsWidth w options records output }
+    ensures dynamic { (w : ℕ)
+        (counted : Option ℕ) (layout : Layout) (records : List (List Text)) (output : Text)
+        → OutputKeepsToWidth w counted layout records output }
+    ensures full { (w : ℕ)
+        (counted : Option ℕ) (layout : Layout) (records : List (List Text)) (output : Text)
+        → OutputFillsWidth w counted layout records output }
     ensures each_line { (w : ℕ) (visible : Bool)
-        (options : Options) (records : List (List Text)) (output : Text)
-        → PrintableLinesHave (IsWithin w) visible options records output }
+        (counted : Option ℕ) (layout : Layout) (records : List (List Text)) (output : Text)
+        → PrintableLinesHave (IsWithin w) visible counted layout records output }
     ensures each_full_line { (w : ℕ) (visible : Bool)
-        (options : Options) (records : List (List Text)) (output : Text)
-        → PrintableLinesHave (IsFilling w) visible options records output }
+        (counted : Option ℕ) (layout : Layout) (records : List (List Text)) (output : Text)
+        → PrintableLinesHave (IsFilling w) visible counted layout records output }
     ensures each_narrow_line { (w : ℕ) (visible : Bool)
-        (options : Options) (records : List (List Text)) (output : Text)
-        → NarrowLinesHave (IsWithin w) visible options records output }
+        (counted : Option ℕ) (layout : Layout) (records : List (List Text)) (output : Text)
+        → NarrowLinesHave (IsWithin w) visible counted layout records output }
     ensures each_full_narrow_line { (w : ℕ) (visible : Bool)
-        (options : Options) (records : List (List Text)) (output : Text)
-        → NarrowLinesHave (IsFilling w) visible options records output }
+        (counted : Option ℕ) (layout : Layout) (records : List (List Text)) (output : Text)
+        → NarrowLinesHave (IsFilling w) visible counted layout records output }
 {}
 
 /// Under `auto` with a width no number and no date of a column of them is broken over lines, where
@@ -75,29 +76,25 @@ pub fn auto_keeps_numbers_and_dates_whole()
 /// wide as the others.
 pub fn outputs_are_straight()
     ensures whole { (visible : Bool)
-        (options : Options) (records : List (List Text)) (output : Text)
-        → WholeOutputIsStraight visible options records output }
-    ensures markdown { (options : Options) (records : List (List Text)) (output : Text)
-        → MarkdownOutputIsStraight options records output }
+        (counted : Option ℕ) (layout : Layout) (records : List (List Text)) (output : Text)
+        → WholeOutputIsStraight visible counted layout records output }
+    ensures markdown { (counted : Option ℕ) (layout : Layout) (records : List (List Text))
+        (output : Text)
+        → MarkdownOutputIsStraight counted layout records output }
     ensures narrow { (visible : Bool)
-        (options : Options) (records : List (List Text)) (output : Text)
-        → NarrowOutputIsStraight visible options records output }
+        (counted : Option ℕ) (layout : Layout) (records : List (List Text)) (output : Text)
+        → NarrowOutputIsStraight visible counted layout records output }
     ensures characters_fit { (visible : Bool)
-        (options : Options) (records : List (List Text)) (output : Text)
-        → FittingOutputIsStraight visible options records output }
+        (counted : Option ℕ) (layout : Layout) (records : List (List Text)) (output : Text)
+        → FittingOutputIsStraight visible counted layout records output }
 {}
 
-/// Without its SGR sequences an output holds no control character but line feeds, whatever bytes
-/// the input has, under every width, limit and height, in Markdown and in bold, also where a
-/// beginning of it is enough. Fields are not left raw, and no character of the style is a control
-/// character. ESC stands in those sequences alone.
+/// Without its SGR sequences an output holds no control character but line feeds, whatever text the
+/// records have, under every width, limit and height, in Markdown and in bold. No character of the
+/// style is a control character. ESC stands in those sequences alone.
 pub fn outputs_hold_no_controls()
-    ensures records { (options : Options) (records : List (List Text)) (output : Text)
-        → OutputHoldsNoControls options records output }
-    ensures input { (options : Options) (input output : Text)
-        → InputIsDrawnWithoutControls options input output }
-    ensures beginning { (options : Options) (beginning output : Text)
-        → BeginningIsDrawnWithoutControls options beginning output }
+    ensures { (counted : Option ℕ) (layout : Layout) (records : List (List Text)) (output : Text)
+        → OutputHoldsNoControls counted layout records output }
 {}
 
 /// An output for Markdown has one line for the names, the rule below it, and one for each record
@@ -106,8 +103,8 @@ pub fn outputs_hold_no_controls()
 /// less the spaces around them. A column is drawn, and no field is wider than 65535 terminal
 /// columns.
 pub fn markdown_lines_give_back_their_fields()
-    ensures { (options : Options) (records : List (List Text)) (output : Text)
-        → MarkdownGivesRecordsBack options records output }
+    ensures { (counted : Option ℕ) (layout : Layout) (records : List (List Text)) (output : Text)
+        → MarkdownGivesRecordsBack counted layout records output }
 {}
 
 /// What was escaped for Markdown is read back.
@@ -115,14 +112,9 @@ pub fn escaped_texts_are_read_back()
     ensures { (text : List ℕ) → IsReadBack text }
 {}
 
-/// An input has one output: two that are drawn of it by the same options are equal, under a limit
-/// too, and so are two for the same records. Options are the same where their texts are, wherever
-/// these are held.
+/// Records have one output: two that are drawn of them by the same layout are equal.
 pub fn outputs_are_one()
-    ensures input { (options others : Options) (input output other : Text)
-        → OutputIsOne options others input output other }
-    ensures written { (options others : Options) (input output other : Text)
-        → WrittenIsOne options others input output other }
-    ensures records { (options : Options) (records : List (List Text)) (output other : Text)
-        → OutputOfIsOne options records output other }
+    ensures { (counted : Option ℕ) (layout : Layout) (records : List (List Text))
+        (output other : Text)
+        → OutputIsOne counted layout records output other }
 {}

@@ -1,27 +1,26 @@
-//! From records to tables and their drawings: which columns are drawn, how their cells look, rows
-//! and expanded records, and Markdown.
+//! From records to tables and their drawings: how the cells of columns look, rows and expanded
+//! records, and Markdown.
 #![tactic(auto)]
 
 mod cells;
 mod columns;
 mod content;
 mod decimals;
-mod error;
 mod expanded;
-mod hints;
 pub mod laws;
 mod markdown;
 mod options;
 mod output;
 mod references;
+mod selection;
 mod separators;
 mod summary;
 mod table;
-mod transfer;
 mod unbroken;
 
-pub use error::{ColumnsError, CsvError};
+pub use columns::name_from;
 pub use markdown::escaped;
-pub use options::{DrawnColumn, Expansion, Look, Options, RowSeparators, Selection};
+pub use options::{DrawnColumn, Expansion, Layout, Look, RowSeparators};
+pub use output::{output_of_records, text_of_records};
+pub use selection::{Columns, Selection};
 pub use table::table_of;
-pub use transfer::{draw, output_of_input, output_of_records};

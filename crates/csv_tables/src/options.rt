@@ -1,67 +1,25 @@
 //! What a caller may choose about the drawing of records.
 
+use crate::selection::{Columns, Selection};
 use comfy_parts::style::{CellAlignment, TableStyle};
-use csv_records::InputOptions;
 
-/// How an input is read, which of its records and columns are drawn, and how.
+/// Which records and columns are drawn, and how.
 #[derive(Debug)]
-pub struct Options {
-    /// How the input is read.
-    pub input: InputOptions,
-    /// Which records and columns are drawn.
+pub struct Layout {
+    /// Which records are drawn.
     pub selection: Selection,
+    /// Which columns are drawn.
+    pub columns: Columns,
     /// How the table looks.
     pub look: Look,
 }
 
-impl Drop for Options {
+impl Drop for Layout {
     fn drop(self) {
-        let Options {
-            input: _,
+        let Layout {
             selection: _,
-            look: _,
-        } = self;
-    }
-}
-
-/// Which records and columns are drawn.
-#[derive(Debug)]
-pub struct Selection {
-    /// Whether the first record is the header.
-    pub has_header: bool,
-    /// How many records below the header are drawn; all where there is no limit.
-    pub limit: Option<usize>,
-    /// Whether an input is read to its end where there is a limit, to tell how many records it has.
-    pub counts_all: bool,
-    /// Whether a column `#` stands ahead, with the number of each record below the header, counted
-    /// from 1. No word chooses it, and other columns keep their numbers. Records that are expanded
-    /// have their numbers above them anyway, and no such field.
-    pub is_numbered: bool,
-    /// The columns in the order in which they are drawn, by words; an empty list stands for all of
-    /// them. A word is the number of a column that is there, counted from 1, else a name, else a
-    /// range around a hyphen. Each end of a range is such a number, else a name; nothing behind the
-    /// hyphen stands for the last column. Of several hyphens the first one counts around which both
-    /// ends are there, in order.
-    pub columns: Vec<String>,
-    /// Columns that aren't drawn, by such words.
-    pub dropped: Vec<String>,
-    /// Columns that stand at the right, by such words.
-    pub right: Vec<String>,
-    /// Columns that stand at the left, by such words; one that is in both lists is refused.
-    pub left: Vec<String>,
-}
-
-impl Drop for Selection {
-    fn drop(self) {
-        let Selection {
-            has_header: _,
-            limit: _,
-            counts_all: _,
-            is_numbered: _,
             columns: _,
-            dropped: _,
-            right: _,
-            left: _,
+            look: _,
         } = self;
     }
 }
@@ -71,7 +29,7 @@ impl Drop for Selection {
 pub struct Look {
     /// The characters of the frame.
     pub style: TableStyle,
-    /// Where `draw` has the style's line between two rows.
+    /// Where an output has the style's line between two rows.
     pub separators: RowSeparators,
     /// Whether a record is drawn as a table of its own, of names and fields.
     pub expansion: Expansion,

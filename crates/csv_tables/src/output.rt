@@ -1,17 +1,15 @@
 //! The text that is written for some records.
 
-ghost use Rattle.std.specs.Prelude.{◌≡◌, ◌∷◌, ◌++◌, IfOk, IfErr, OnOk, false, map, string_bytes, true};
-ghost use Rattle.csv_tables.specs.Columns.{IsColumnsRefusal};
+ghost use Rattle.std.specs.Prelude.{◌≡◌, ◌∷◌, ◌++◌, IfOk, OnOk, false, map, string_bytes, true};
 ghost use Rattle.csv_tables.specs.Markdown.{rule_line};
-ghost use Rattle.csv_tables.specs.Drawn.{RendersAsMarkdown, RendersAsTable, RendersContent, RendersFound, RendersTable, are_more, content_counted, content_of, count_text, fitting_content, has_room_for, note_for, output_table, rows_table, unbroken_in};
+ghost use Rattle.csv_tables.specs.Drawn.{RendersAnyRecords, RendersAsMarkdown, RendersAsTable, RendersContent, RendersRecords, RendersTable, are_more, count_text, fitting_content, has_room_for, note_for, output_table, rows_table, unbroken_in};
 ghost use Rattle.csv_tables.specs.Unbroken.{kept_unbroken};
 
 use crate::content::Content;
 use crate::decimals::{has_marks, marks_of};
-use crate::error::ColumnsError;
 use crate::expanded::{between_fields, is_expanded, records_text};
 use crate::markdown::push_rule;
-use crate::options::{Expansion, Look, Options};
+use crate::options::{Expansion, Layout, Look};
 use crate::separators::separate_rows;
 use crate::unbroken::{keep_unbroken, keep_unbroken_fields};
 use comfy_table::{Result, Table};
@@ -19,28 +17,39 @@ use csv_records::Records;
 use std::alloc::{AllocError, Global};
 use std::fmt::Write;
 
-/// The output for these records, of which so many stand below the header, where that is known.
-pub(crate) fn output_of(
+/// The text for these records, of which so many stand below the header, where that is known. Where
+/// not all of them are drawn, a line says how many there are, or that there are more.
+pub fn text_of_records(
     alloc: Global,
     records: Records,
     count: Option<usize>,
-    options: &Options,
-) -> std::result::Result<String, ColumnsError>
-    ensures output { IfOk result (λ output.
-        RendersFound options.now.look options.now.selection.limit
-        (content_counted count options.now records) (string_bytes output)) }
-    ensures refused { IfErr result (λ e. IsColumnsRefusal e (content_of options.now records)) }
+    layout: &Layout,
+) -> Result<String>
+    ensures { IfOk result (λ output.
+        RendersRecords count layout.now records (string_bytes output)) }
 {
-    let content = Content::new(alloc, records, count, options)?;
-    let count = content.count();
-    let mut output = drawn_text(content, &options.look)?;
+    let content = Content::new(alloc, records, count, layout)?;
+    let mut output = drawn_text(content, &layout.look)?;
     push_note(
         &mut output,
-        options.look.is_markdown,
-        options.selection.limit,
+        layout.look.is_markdown,
+        layout.selection.limit,
         count,
     )?;
     Ok(output)
+}
+
+/// The text for records that are all there are: nothing where there are none.
+pub fn output_of_records(alloc: Global, records: Records, layout: &Layout) -> Result<String>
+    ensures { IfOk result (λ output.
+        RendersAnyRecords layout.now records (string_bytes output)) }
+{
+    let count = records.rows().len();
+    if count == 0 {
+        return Ok(String::new(alloc));
+    }
+    let below = count - usize::from(layout.selection.has_header);
+    text_of_records(alloc, records, Some(below), layout)
 }
 
 fn drawn_text(content: Content, look: &Look) -> Result<String>

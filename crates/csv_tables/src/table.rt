@@ -1,37 +1,28 @@
 //! The tables of some records.
 
-ghost use Rattle.std.specs.Prelude.{◌≡◌, IfErr, IfOk, Ok, OnOk, map, option_map, unwrap_or};
-ghost use Rattle.csv_tables.specs.Columns.{IsColumnsRefusal};
-ghost use Rattle.csv_tables.specs.Drawn.{arrangement_for, content_of, empty_table, first_number, headed_table, markdown_look, markdown_style, markdown_table, pair_columns, pairs_of, pairs_table, rows_table, spaced_content, table_for};
+ghost use Rattle.std.specs.Prelude.{◌≡◌, IfOk, OnOk, map, option_map, unwrap_or};
+ghost use Rattle.csv_tables.specs.Drawn.{arrangement_for, empty_table, first_number, headed_table, markdown_look, markdown_style, markdown_table, pair_columns, pairs_of, pairs_table, rows_table, spaced_content, table_for};
 ghost use Rattle.csv_tables.specs.Decimals.{mark_in};
 ghost use Rattle.comfy_table.specs.TableValue.{with_rows};
 
 use crate::cells::{header_of, pair_of, row_of};
 use crate::columns::name_from;
 use crate::content::Content;
-use crate::error::ColumnsError;
-use crate::options::{Look, Options};
+use crate::options::{Layout, Look};
 use comfy_table::presets::ASCII_MARKDOWN;
 use comfy_table::{ContentArrangement, LineStyle, Result, Table, TableStyle};
 use csv_records::{Points, Record, Records};
 use std::alloc::Global;
 
 /// The table of these records, with the columns, rows and looks that are wanted, and all lines of
-/// the style. `NoColumn` has the first word that chooses no column that is there, in the list of
-/// columns, then in those of the dropped ones, of the right and of the left. `NoneLeft` comes
-/// before those of the right. `TwoSides` has the first column of the right that is at the left too.
-/// Where Markdown is wanted its texts alone are for Markdown; `draw` draws such a table. No spaces
-/// are added that put decimal points below each other; `draw` adds them.
-pub fn table_of(
-    alloc: Global,
-    records: Records,
-    options: &Options,
-) -> std::result::Result<Table, ColumnsError>
-    ensures ok { IfOk result (λ table. table_for options.now records ≡ Ok table) }
-    ensures refused { IfErr result (λ e. IsColumnsRefusal e (content_of options.now records)) }
+/// the style. Where Markdown is wanted its texts alone are for Markdown; `text_of_records` draws
+/// such a table. No spaces are added that put decimal points below each other; `text_of_records`
+/// adds them.
+pub fn table_of(alloc: Global, records: Records, layout: &Layout) -> Result<Table>
+    ensures { IfOk result (λ table. table ≡ table_for layout.now records) }
 {
-    let content = Content::new(alloc, records, None, options)?;
-    Ok(content.rows_table(&options.look)?)
+    let content = Content::new(alloc, records, None, layout)?;
+    content.rows_table(&layout.look)
 }
 
 impl Content {

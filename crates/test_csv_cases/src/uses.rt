@@ -1,11 +1,11 @@
 //! Calls as a program writes them, each with a claim that their contracts and the laws carry.
 
 ghost use Rattle.std.specs.Prelude.{◌≡◌, IfOk, true};
-ghost use Rattle.csv_tables.specs.Drawn.{IsDrawnOf};
+ghost use Rattle.csv_command.specs.Drawn.{IsDrawnOf};
 ghost use Rattle.test_csv_cases.specs.Uses.{GivesInputBack};
 
+use csv_command::{CsvError, Options, draw};
 use csv_tables::laws::markdown_lines_give_back_their_fields;
-use csv_tables::{CsvError, Options, draw};
 use devices::{MemorySink, MemorySource};
 use std::alloc::Global;
 

@@ -4,12 +4,12 @@ use Prim.Native.String.{String}
 use Rattle.std.specs.Fmt.{digits}
 use Rattle.comfy_parts.specs.Text.{Text}
 use Rattle.csv.specs.Records.{field_at}
-use Rattle.csv_tables.specs.Columns.{less, positions_of_word}
-use Rattle.csv_tables.specs.Columns.ColumnFault.{missing, none_left}
+use Rattle.csv_command.specs.Columns.{less, positions_of_word}
+use Rattle.csv_command.specs.Columns.ColumnFault.{missing, none_left}
 use Rattle.comfy_parts.specs.declared.style.cell.CellAlignment.TheVariants.{Right}
 use Rattle.csv_records.specs.Numbered.{numbered}
 use Rattle.csv_tables.specs.Drawn.{columns_beside}
-use Rattle.csv_tables.specs.Hints.{hint_for}
+use Rattle.csv_command.specs.Hints.{hint_for}
 
 abbrev texts : List String → List Text
 texts words = map (λ (word : String). codes word) words

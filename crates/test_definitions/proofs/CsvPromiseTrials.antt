@@ -16,7 +16,7 @@ use Rattle.comfy_parts.specs.Text.{Text, measure}
 use Rattle.csv.specs.Records.{field_at}
 use Rattle.csv_tables.specs.declared.options.Expansion.TheVariants.{Always, Auto}
 use Rattle.csv_tables.specs.declared.options.Look.{Look}
-use Rattle.csv_tables.specs.declared.options.Options.{Options}
+use Rattle.csv_command.specs.declared.arguments.Options.{Options}
 use Rattle.csv_tables.specs.declared.options.RowSeparators.TheVariants.{Styled}
 use Rattle.promises.specs.Shown.{ShowsColumns}
 use Rattle.csv_tables.specs.Drawn.{count_text, record_line}

@@ -115,7 +115,7 @@ tabs_are_written : visible_text (output (record look { style = with_tabs })) ≡
 unfolding wrapping lib.Utf8.encode chars field_at
 tabs_are_written = refl
 
--- false: csv_tables::laws::outputs_hold_no_controls, csv_command::laws::drawings_hold_no_controls
+-- false: csv_tables::laws::outputs_hold_no_controls, csv_command::laws::outputs_hold_no_controls, csv_command::laws::drawings_hold_no_controls
 output_with_tabs_is_harmful : ¬ (HasNoStrayControl (visible_text (output (record look { style = with_tabs }))))
 output_with_tabs_is_harmful none =
     harmful (codes "+\t\t\t\t\t\t\t\t+\n| a      |\n+========+\n| �[2J�J |\n+--------+\n") refl (subst HasNoStrayControl tabs_are_written none)

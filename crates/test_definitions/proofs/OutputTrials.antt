@@ -1,5 +1,5 @@
 -- Outputs of which the conclusions of laws are false.
-use Rattle.std.proofs.Common.{◌≡◌, ◌==◌, ℕ, Bool, true, false, List, [], ◌∷◌, ◌++◌, None, append-nil, arith, codes, refl, sym, ap, ◌∙◌, subst}
+use Rattle.std.proofs.Common.{◌≡◌, ◌==◌, ℕ, Bool, true, false, List, [], ◌∷◌, ◌++◌, None, Option, append-nil, arith, codes, refl, sym, ap, ◌∙◌, subst}
 use Rattle.std.specs.List.{All, slice_split}
 use Rattle.std.proofs.lemmas.Bool.{true≢false}
 use Rattle.std.proofs.lemmas.List.Elements.{All-head, All-tail}
@@ -12,24 +12,25 @@ use Rattle.comfy_table.specs.Laws.{AreLinesOf}
 use Rattle.csv_records.specs.Cleaning.{visible_of}
 use Rattle.csv_command.specs.declared.arguments.Invocation.{Invocation}
 use Rattle.csv_tables.specs.declared.options.Expansion.TheVariants.{Never}
+use Rattle.csv_tables.specs.declared.options.Layout.{Layout}
 use Rattle.csv_tables.specs.declared.options.Look.{Look}
-use Rattle.csv_tables.specs.declared.options.Options.{Options}
+use Rattle.csv_command.specs.declared.arguments.Options.{Options}
 use Rattle.csv_tables.specs.declared.options.RowSeparators.TheVariants.{Styled}
 use Rattle.csv_tables.specs.Laws.{EachLineHas, HasLines, IsOutputWith, IsStraightOutput, seen_lines}
 use Rattle.csv_command.specs.Laws.{AreSameInvocations}
-use Rattle.csv_tables.specs.OneOutput.{AreSameOptions}
+use Rattle.csv_command.specs.OneOutput.{AreSameOptions}
 use Rattle.comfy_table.specs.TableValue.{TableValue}
 
 -- rows are never expanded, and all are drawn
 abbrev look : Look
 look = record { style = ascii_full; separators = Styled; expansion = Never; width = None; fills_width = false; max_height = None; has_bold_header = false; aligns_decimals = true; has_sequences = false; is_markdown = false }
 
-abbrev drawn_by : Options → Options
-drawn_by options = record options { selection = record options.selection { limit = None }; look = look }
+abbrev drawn_by : Layout → Layout
+drawn_by layout = record layout { selection = record layout.selection { limit = None }; look = look }
 
--- the lines of an output by these options stand between its line feeds
-lines_of_output : (options : Options) (records : List (List Text)) (output : Text) (lines : List Text) → IsOutputWith (drawn_by options) records output lines → slice_split (λ b. b == 0x0A) output ≡ lines ++ [] ∷ []
-lines_of_output options records output lines is =
+-- the lines of an output by this layout stand between its line feeds
+lines_of_output : (count : Option ℕ) (layout : Layout) (records : List (List Text)) (output : Text) (lines : List Text) → IsOutputWith count (drawn_by layout) records output lines → slice_split (λ b. b == 0x0A) output ≡ lines ++ [] ∷ []
+lines_of_output count layout records output lines is =
     let are : AreLinesOf is.text lines = subst (λ (b : Bool). HasLines b is.content lines is.text) is.expansion is.has_lines in
     ap (slice_split (λ b. b == 0x0A)) (is.joined ∙ append-nil is.text ∙ are.joined) ∙ terminated_lines lines are.unbroken
 
@@ -55,9 +56,9 @@ two_columns true = refl
 two_columns false = refl
 
 -- false: csv_tables::laws::outputs_are_straight
-two_widths_are_not_straight : (visible : Bool) (options : Options) (records : List (List Text)) → ¬ (IsStraightOutput visible (drawn_by options) records (codes "ab\na\n"))
-two_widths_are_not_straight visible options records is =
-    let are = two_lines (codes "ab") (codes "a") is.lines (lines_of_output options records (codes "ab\na\n") is.lines is.is_output) in
+two_widths_are_not_straight : (visible : Bool) (count : Option ℕ) (layout : Layout) (records : List (List Text)) → ¬ (IsStraightOutput visible count (drawn_by layout) records (codes "ab\na\n"))
+two_widths_are_not_straight visible count layout records is =
+    let are = two_lines (codes "ab") (codes "a") is.lines (lines_of_output count layout records (codes "ab\na\n") is.lines is.is_output) in
     let n = is.equally_wide.0 in
     let Is = λ (line : Text). measure line ≡ n in
     let first = visible_of visible (codes "ab") in
@@ -74,13 +75,13 @@ unended (a ∷ []) is = cc is
 unended (a ∷ b ∷ more) is = cc is
 
 -- false: csv_tables::laws::outputs_keep_to_a_width
-unended_output_has_no_lines : (P : TableValue → ℕ → Type 0) (options : Options) (records : List (List Text)) → ¬ (EachLineHas P (drawn_by options) records (codes "ab"))
-unended_output_has_no_lines P options records is = unended is.lines (lines_of_output options records (codes "ab") is.lines is.is_output)
+unended_output_has_no_lines : (P : TableValue → ℕ → Type 0) (count : Option ℕ) (layout : Layout) (records : List (List Text)) → ¬ (EachLineHas P count (drawn_by layout) records (codes "ab"))
+unended_output_has_no_lines P count layout records is = unended is.lines (lines_of_output count layout records (codes "ab") is.lines is.is_output)
 
--- false: csv_tables::laws::outputs_are_one
-others_are_not_the_same : (options : Options) → ¬ (AreSameOptions (drawn_by options) (record (drawn_by options) { look = record look { fills_width = true } }))
+-- false: csv_command::laws::outputs_are_one
+others_are_not_the_same : (options : Options) → ¬ (AreSameOptions (record options { look = look }) (record options { look = record look { fills_width = true } }))
 others_are_not_the_same options is = true≢false (sym (ap (λ (l : Look). l.fills_width) is.look))
 
 -- false: csv_command::laws::drawings_are_one
-other_looks_are_not_parsed : (invocation : Invocation) → ¬ (AreSameInvocations (record invocation { options = drawn_by invocation.options }) (record invocation { options = record (drawn_by invocation.options) { look = record look { fills_width = true } } }))
+other_looks_are_not_parsed : (invocation : Invocation) → ¬ (AreSameInvocations (record invocation { options = record invocation.options { look = look } }) (record invocation { options = record invocation.options { look = record look { fills_width = true } } }))
 other_looks_are_not_parsed invocation is = others_are_not_the_same invocation.options is.options

@@ -22,7 +22,7 @@ use Rattle.csv_records.specs.declared.delimiter.Delimiter.TheVariants.{Auto, Byt
 use Rattle.csv_records.specs.declared.encoding.Encoding.TheVariants.{Cp1252, Utf16, Utf8}
 use Rattle.csv_records.specs.declared.error.DecodeError.TheVariants as decode
 use Rattle.csv_records.specs.declared.foreign.Foreign.TheVariants.{Binary, Gzip, Utf16 as UnmarkedUtf16, Zip}
-use Rattle.csv_tables.specs.declared.error.CsvError.TheVariants as err
+use Rattle.csv_command.specs.declared.error.CsvError.TheVariants as err
 
 abbrev texts : List String → List Text
 texts words = map (λ (word : String). codes word) words

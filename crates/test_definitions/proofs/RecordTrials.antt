@@ -13,8 +13,9 @@ use Rattle.ucd_category.proofs.Computing.{ucd_category}
 use Rattle.csv.specs.Records.{field_at}
 use Rattle.csv_records.specs.Cleaning.{after_piece, pieces, start}
 use Rattle.csv_records.specs.Input.{line_breaks as line_breaks_of, line_number}
-use Rattle.csv_tables.specs.Columns.{alignment_for, columns_with, position_named, positions_of_word, seen, is_number_column}
-use Rattle.csv_tables.specs.Columns.ColumnFault.{missing, none_left, two_sided}
+use Rattle.csv_tables.specs.Columns.{alignment_for, seen, is_number_column}
+use Rattle.csv_command.specs.Columns.{columns_with, position_named, positions_of_word}
+use Rattle.csv_command.specs.Columns.ColumnFault.{missing, none_left, two_sided}
 use Rattle.csv_tables.specs.Drawn.{condensed_style, limited, note_for, record_line}
 use Rattle.csv_tables.specs.Markdown.{rule_line}
 use Rattle.comfy_parts.specs.CellValue.{plain_cell, plain_row}
@@ -243,15 +244,15 @@ missing_columns :
 unfolding digits
 missing_columns = refl
 
-columns_before_right : columns_with [] [] (Err (missing (codes "a") [])) (Err none_left) (Err (missing (codes "c") [])) ≡ Err (missing (codes "a") [])
+columns_before_right : columns_with [] (Err (missing (codes "a") [])) (Err none_left) (Err (missing (codes "c") [])) ≡ Err (missing (codes "a") [])
 columns_before_right = refl
 
 -- the first column at the right that is at the left too; it has a name, or else a number
-at_two_sides_named : columns_with (texts ("a" ∷ "b" ∷ [])) [] (Ok (0 ∷ 1 ∷ [])) (Ok (1 ∷ 0 ∷ [])) (Ok (0 ∷ 1 ∷ [])) ≡ Err (two_sided (codes "b"))
+at_two_sides_named : columns_with (texts ("a" ∷ "b" ∷ [])) (Ok (0 ∷ 1 ∷ [])) (Ok (1 ∷ 0 ∷ [])) (Ok (0 ∷ 1 ∷ [])) ≡ Err (two_sided (codes "b"))
 unfolding field_at
 at_two_sides_named = refl
 
-at_two_sides_numbered : columns_with [] [] (Ok (0 ∷ [])) (Ok (2 ∷ [])) (Ok (2 ∷ [])) ≡ Err (two_sided (decimal 3))
+at_two_sides_numbered : columns_with [] (Ok (0 ∷ [])) (Ok (2 ∷ [])) (Ok (2 ∷ [])) ≡ Err (two_sided (decimal 3))
 unfolding field_at
 at_two_sides_numbered = refl
 

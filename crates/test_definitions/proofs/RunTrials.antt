@@ -8,10 +8,11 @@ use Rattle.std.proofs.lemmas.Str.{is_utf8-from_IsUtf8}
 use Rattle.comfy_parts.specs.Text.{Text}
 use Rattle.csv_records.specs.Beginning.{whole_lines}
 use Rattle.csv_records.specs.declared.encoding.Encoding.TheVariants.{Utf8}
-use Rattle.csv_tables.specs.Drawn.{AreEnough, IsNotEnough, note_for}
-use Rattle.csv_tables.specs.Run.{IsAfter}
-use Rattle.csv_tables.specs.declared.error.CsvError.TheVariants.{OutOfMemory}
-use Rattle.csv_tables.specs.declared.options.Options.{Options}
+use Rattle.csv_tables.specs.Drawn.{note_for}
+use Rattle.csv_command.specs.Drawn.{AreEnough, IsNotEnough}
+use Rattle.csv_command.specs.Run.{IsAfter}
+use Rattle.csv_command.specs.declared.error.CsvError.TheVariants.{OutOfMemory}
+use Rattle.csv_command.specs.declared.arguments.Options.{Options}
 use Rattle.devices.proofs.AskedLemmas.{asked_some}
 use Rattle.devices.specs.Outcome.{IsByBeginning, NoneIsEnough, RunFacts, asked_at, asked_front}
 
@@ -33,7 +34,7 @@ out_of_memory options (inr part) = let unread : true ≡ false = part.unread in 
 
 -- a beginning of a longer one may, of which the rest wasn't read
 abbrev limited : Options → Options
-limited options = record options { selection = record options.selection { limit = Some 3; counts_all = false } }
+limited options = record options { counts_all = false; selection = record options.selection { limit = Some 3 } }
 
 abbrev begun : RunFacts
 begun = record { input = replicate 65536 0xFF; end_was_read = false; written = []; read_failed = false; write_failed = false }
@@ -76,7 +77,7 @@ whole options input records long enough none = none 0 long records enough
 lines : map whole_lines (codes "a\nb\nc" ∷ codes "a\n" ∷ codes "ab" ∷ codes "\n\n\r" ∷ []) ≡ codes "a\nb\n" ∷ codes "a\n" ∷ [] ∷ codes "\n\n" ∷ []
 lines = refl
 
--- false: csv_tables::laws::outputs_are_one
+-- false: csv_tables::laws::outputs_are_one, csv_command::laws::outputs_are_one
 two_notes : ¬ (note_for false (Some 3) (Some 12) ≡ note_for false (Some 3) None)
 unfolding digits
 two_notes is = let differ : 16 ≡ 18 = ap length is in absurd (omega (arith, differ))

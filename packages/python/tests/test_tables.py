@@ -101,6 +101,16 @@ class Drawings(unittest.TestCase):
 1 of 2 rows
 """))
         self.assertEqual(
+            tabulate([["x"], ["y", 5, 7]], headers=["a"], right=[2], limit=1, style="box"),
+            drawn("""
+┌───┐
+│ a │
+╞═══╡
+│ x │
+└───┘
+1 of 2 rows
+"""))
+        self.assertEqual(
             tabulate([["a\nb\nlong text", 1.5]], max_height=2, floatfmt=".3f", style="box"),
             drawn("""
 ┌───────────┬───────┐

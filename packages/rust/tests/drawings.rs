@@ -44,6 +44,15 @@ fn width_height_and_limit() {
 └──────────┘
 1 of 2 rows
 ");
+    let sided = Rows::new(["a"]).row(["x"]).row(["y", "5", "7"]).right([2]).unwrap().limit(1).style(Style::Box);
+    assert_eq!(sided.to_string(), "\
+┌───┐
+│ a │
+╞═══╡
+│ x │
+└───┘
+1 of 2 rows
+");
     let cut = Rows::without_header().row(["a\nb\nlong text"]).row(["c"]).max_height(2).row_lines(false);
     assert_eq!(cut.to_string(), "\
 ╭───────────╮

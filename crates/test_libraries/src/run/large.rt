@@ -5,8 +5,9 @@ use crate::support::{assert_bytes, sink_of};
 use comfy_run::run::{FromReader, MemorySource, Settings, ToWriter, run};
 use comfy_table::ContentArrangement;
 use comfy_table::presets::ASCII_FULL;
+use csv_command::{ColumnWords, Options, draw};
 use csv_records::{Delimiter, InputOptions};
-use csv_tables::{Expansion, Look, Options, RowSeparators, Selection, draw};
+use csv_tables::{Expansion, Look, RowSeparators, Selection};
 use std::alloc::{Alloc, AllocError, Global};
 use std::process::Abort;
 
@@ -244,12 +245,14 @@ pub(super) fn options(alloc: Global, width: Option<u16>, has_sequences: bool) ->
             delimiter: Delimiter::Auto,
             has_quotes: true,
         },
+        counts_all: false,
         selection: Selection {
             has_header: true,
             limit: None,
-            counts_all: false,
             is_numbered: false,
-            columns: Vec::new(alloc),
+        },
+        columns: ColumnWords {
+            chosen: Vec::new(alloc),
             dropped: Vec::new(alloc),
             right: Vec::new(alloc),
             left: Vec::new(alloc),

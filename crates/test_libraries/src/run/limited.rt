@@ -3,7 +3,7 @@
 use super::large::{Pieces, options, text_of};
 use crate::support::assert_bytes;
 use comfy_run::run::{FromReader, ToWriter};
-use csv_tables::draw;
+use csv_command::draw;
 use std::alloc::{Alloc, Global};
 use std::io::{self, Read};
 use std::process::Abort;
@@ -50,7 +50,7 @@ fn drawn(
     let mut bytes = Vec::new(rt.alloc());
     let mut options = options(rt.alloc(), None, false);
     options.selection.limit = Some(limit);
-    options.selection.counts_all = counts_all;
+    options.counts_all = counts_all;
     let mut source = FromReader::new(&mut reader);
     let mut sink = ToWriter::new(&mut bytes);
     assert!(rt; draw(rt.alloc(), &mut source, &mut sink, &options).is_ok());

@@ -2,8 +2,9 @@
 
 use super::large::options;
 use comfy_run::run::{FromReader, ToWriter};
+use csv_command::{Options, draw};
 use csv_records::shown_text;
-use csv_tables::{Options, RowSeparators, draw};
+use csv_tables::RowSeparators;
 use std::alloc::{Alloc, AllocError, Global};
 use std::process::Abort;
 

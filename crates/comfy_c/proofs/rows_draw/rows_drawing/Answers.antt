@@ -1,23 +1,30 @@
-use Rattle.std.proofs.Common.{rules, string_bytes, subst}
+use Rattle.std.proofs.Common.{◌≡◌, ◌∙◌, Bool, List, None, Some, ap, ap₂, rules, string_bytes, subst, tests, true}
 use Rattle.std.proofs.lemmas.Str.{IsUtf8-string_bytes}
-use Rattle.csv_tables.specs.Columns.{IsColumnsRefusal}
-use Rattle.csv_tables.specs.Drawn.{RendersAnyRecords, content_of, counting}
-use Rattle.comfy_c.proofs.TextLemmas.{columns_refused}
-use Rattle.comfy_c.specs.RowCalls.{AreOptionsFor}
+use Rattle.std.specs.Prelude.{if◌then◌else◌}
+use Rattle.comfy_parts.specs.Text.{Text}
+use Rattle.comfy_c.specs.RowCalls.{are_bytes, columns_for, layout_by, look_for, rows_of, selection_for}
+use Rattle.csv_tables.specs.Drawn.{RendersAnyRecords}
+use Rattle.csv_tables.specs.declared.options.Layout.{Layout}
+use Rattle.csv_tables.specs.declared.selection.Selection.{Selection}
 use Rattle.comfy_c.proofs.rows_draw.rows_drawing.Goals as goal
 
-pub returns-in-Ok-clause-drawn : goal.returns-in-Ok-clause-drawn
-returns-in-Ok-clause-drawn c =
+pub returns-clause-drawn : goal.returns-clause-drawn
+returns-clause-drawn c =
+    let settings = c.args.settings.now in
+    let bytes = c.args.columns.now in
+    let rows : List (List Text) = rows_of c.args.texts.now c.args.lengths.now c.args.counts.now in
+    let selection = selection_for settings in
+    let drawing = string_bytes c.in_ok-output_of_records.field-0 in
+    let layout : Selection → Layout = λ (s : Selection). record { selection = s; columns = c.in-Some-2.columns; look = c.in-Some.look } in
+    let are : are_bytes bytes ≡ true = search (rules, tests) in
+    let look : look_for settings ≡ Some c.in-Some.look = search rules in
+    let columns : columns_for selection bytes rows ≡ Some c.in-Some-2.columns = search rules in
     record {
       add_up = c.in_ok-records.ensures.all;
-      is_text = IsUtf8-string_bytes c.in-Ok.drawing;
-      options = c.in-Some.options;
-      are_options = search rules;
-      is_output = subst (λ rows. RendersAnyRecords (counting c.in-Some.options) rows (string_bytes c.in-Ok.drawing)) c.in_ok-records.ensures.records c.in-Ok.ensures.output;
+      is_text = IsUtf8-string_bytes c.in_ok-output_of_records.field-0;
+      layout = layout selection;
+      is_layout = ap (λ (b : Bool). if b then layout_by selection (look_for settings) (columns_for selection bytes rows) else None) are ∙ ap₂ (layout_by selection) look columns;
+      is_output =
+          subst (λ (rs : List (List Text)). RendersAnyRecords (layout selection) rs drawing) c.in_ok-records.ensures.records
+          (subst (λ (s : Selection). RendersAnyRecords (layout s) c.in_ok-records.records drawing) c.selection-selection.ensures c.in_ok-output_of_records.ensures);
     }
-
-pub returns-clause-refused : goal.returns-clause-refused
-returns-clause-refused c =
-    let are : AreOptionsFor c.args.settings.now c.args.columns.now c.in-Some.options = search rules in
-    let refused = columns_refused c.args.texts.now c.args.lengths.now c.args.counts.now c.args.columns.now c.args.settings.now c.in-Some.options are in
-    rw c.refusal_of_columns.ensures (refused c.in-Err.error (subst (λ rows. IsColumnsRefusal c.in-Err.error (content_of c.in-Some.options rows)) c.in_ok-records.ensures.records c.in-Err.ensures.refused))

@@ -1,7 +1,6 @@
-use Rattle.std.proofs.Common.{◌∙◌, not, ap}
+use Rattle.std.proofs.Common.{not, ap}
 use Rattle.std.specs.Str.Parse.{ParsesUnsigned, ExplainsUnsignedError, HasUnsignedDigitsIfOk}
 use Rattle.csv_command.proofs.ValueLemmas.{of_found}
-use Rattle.csv_command.specs.Arguments.{words_in}
 use Rattle.csv_command.proofs.arguments.selection_of.Goals as goal
 
 pub returns : goal.returns
@@ -10,10 +9,5 @@ returns c =
     record {
       header = ap not c.is_given.ensures;
       limit = limit;
-      counts = c.is_given-2.ensures;
-      numbers = c.is_given-3.ensures;
-      columns = c.in_ok-words_of.ensures ∙ ap words_in c.get_str.ensures;
-      dropped = c.in_ok-words_of-2.ensures ∙ ap words_in c.get_str-2.ensures;
-      right = c.in_ok-words_of-3.ensures ∙ ap words_in c.get_str-3.ensures;
-      left = c.in_ok-words_of-4.ensures ∙ ap words_in c.get_str-4.ensures;
+      numbers = c.is_given-2.ensures;
     }

@@ -1,8 +1,8 @@
 use Rattle.std.proofs.Common.{string_bytes, subst}
 use Rattle.comfy_parts.specs.Text.{Text}
 use Rattle.csv_command.proofs.RefusalLemmas.{refused_input, refused_arguments}
-use Rattle.csv_tables.specs.Drawn.{RendersInput}
-use Rattle.csv_tables.specs.Run.{IsInputRefusal}
+use Rattle.csv_command.specs.Drawn.{RendersInput}
+use Rattle.csv_command.specs.Run.{IsInputRefusal}
 use Rattle.csv_command.proofs.drawing.render_csv.Goals as goal
 
 pub returns-in-Ok-output_of_input-clause-drawn : goal.returns-in-Ok-output_of_input-clause-drawn

@@ -60,5 +60,6 @@ returns-clause-some c =
             is_enough = record { no_utf16 = no_utf16; feeds = feeds; text = text; is_text = is_text; ends = ends; shows = shows; are_records = first.are; more = more };
             are_first = first.records;
           };
-      doubt = rw c.as_str-3.ensures.value at c.in_ok-doubt.ensures;
+      count = first.count;
+      doubt = rw (c.as_str-2.ensures.value, c.in-Some-2.is) at c.in_ok-first.ensures.doubt;
     }

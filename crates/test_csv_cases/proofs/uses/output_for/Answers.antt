@@ -1,9 +1,9 @@
 use Rattle.std.proofs.Common.{[], Ok, inl, inr, Option, Some, ap, List, ℕ}
 use Rattle.std.specs.Prelude.{unwrap_or}
 use Rattle.devices.specs.Device.{MemorySinkValue, MemorySourceValue, left_in}
-use Rattle.csv_tables.specs.Drawn.{IsDrawnOf}
-use Rattle.csv_tables.specs.Run.{IsAfter}
-use Rattle.csv_tables.specs.declared.options.Options.{Options}
+use Rattle.csv_command.specs.Drawn.{IsDrawnOf}
+use Rattle.csv_command.specs.Run.{IsAfter}
+use Rattle.csv_command.specs.declared.arguments.Options.{Options}
 use Rattle.devices.specs.Outcome.{RunFacts}
 use Rattle.test_csv_cases.proofs.uses.output_for.Goals as goal
 

@@ -1,0 +1,178 @@
+-- Which columns words choose.
+-- Source: this library's own.
+use Rattle.std.specs.Prelude.{ℕ, Bool, ◌≡◌, ◌+◌, ◌-◌, ◌==◌, ◌&&◌, nat_le, nat_lt, not, List, [], ◌∷◌, ◌++◌, Option, Some, None, Result, Ok, Err, String, bytes_eq, drop, find, fold, get_or, length, ok_or, option_map, string_bytes, take, unwrap_or, if◌then◌else◌}
+use Rattle.std.specs.Option.{option_or}
+use Rattle.std.specs.List.{filter, list_any, position_from, range_with_len}
+use Rattle.comfy_parts.specs.Text.{Text}
+use Rattle.csv_records.specs.Numerals.{number_for}
+use Rattle.csv_command.specs.Hints.{hint_for, passes}
+use Rattle.csv_command.specs.declared.arguments.Options.{Options}
+use Rattle.csv_command.specs.declared.columns.ColumnWords.{ColumnWords}
+use Rattle.csv_command.specs.declared.error.ColumnsError.{ColumnsError}
+use Rattle.csv_command.specs.declared.error.ColumnsError.TheVariants.{NoColumn, NoneLeft, OutOfMemory, TwoSides}
+use Rattle.csv_tables.specs.Columns.{ColumnsValue, name_from}
+use Rattle.csv_tables.specs.Drawn.{column_count, names_or_none}
+
+-- the position of the first field that is this text
+abbrev pub position_named : Text → List Text → Option ℕ
+position_named name names = position_from (λ field. bytes_eq field name) 0 names
+
+-- a field is there, and is this text
+abbrev pub is_text : Text → Option Text → Bool
+is_text name field = passes (λ own. bytes_eq own name) field
+
+-- why columns can't be drawn: a word chooses nothing that is there, for which something helps; no
+-- column is left; or one of this name is to stand at two sides
+pub data ColumnFault : Type 0 where
+  missing : (word hint : Text) → ColumnFault
+  none_left : ColumnFault
+  two_sided : (name : Text) → ColumnFault
+
+-- the column of a number, counted from 1, where it is there
+abbrev pub numbered : ℕ → ℕ → Option ℕ
+numbered count number = if nat_lt 0 number && nat_le number count then Some (number - 1) else None
+
+-- the position of a column: that of its number where it is there, else the first of its name
+abbrev pub column_by : List Text → ℕ → Text → Option ℕ → Option ℕ
+column_by names count word (Some number) =
+    option_or (numbered count number) (position_named word names)
+column_by names count word None = position_named word names
+
+abbrev pub column_of : List Text → ℕ → Text → Option ℕ
+column_of names count word = column_by names count word (number_for 64 word)
+
+-- the position after the last column of a range, by what stands behind its hyphen: with nothing
+-- there, it goes on to the last of all
+abbrev pub end_of : List Text → ℕ → Text → Option ℕ
+end_of names count word =
+    if length word == 0
+    then Some count
+    else option_map (λ (position : ℕ). position + 1) (column_of names count word)
+
+-- from one position on, before another, where both are known and in order
+abbrev pub rising : Option ℕ → Option ℕ → Option (ℕ × ℕ)
+rising (Some start) (Some end) = if nat_lt start end then Some (start, end) else None
+rising (Some start) None = None
+rising None end = None
+
+-- the columns around a hyphen that stands at a place of a word, where both ends are there, in order
+abbrev pub range_at : List Text → ℕ → Text → ℕ → Option (ℕ × ℕ)
+range_at names count word at =
+    if get_or word at 0 == 0x2D
+    then rising (column_of names count (take at word)) (end_of names count (drop (at + 1) word))
+    else None
+
+-- the first answer to some numbers
+abbrev pub first_answer : {A : Type 0} → (ℕ → Option A) → List ℕ → Option A
+first_answer f [] = None
+first_answer f (n ∷ ns) = option_or (f n) (first_answer f ns)
+
+-- the columns around the first such hyphen
+abbrev pub range_of : List Text → ℕ → Text → Option (ℕ × ℕ)
+range_of names count word =
+    first_answer (range_at names count word) (range_with_len 0 (length word))
+
+-- a single column, else those of a range, as the position of the first and the one after the last
+abbrev pub single_or : Option ℕ → Option (ℕ × ℕ) → Option (ℕ × ℕ)
+single_or (Some position) range = Some (position, position + 1)
+single_or None range = range
+
+-- the columns that a word chooses
+abbrev pub columns_chosen : List Text → ℕ → Text → Option (ℕ × ℕ)
+columns_chosen names count word = single_or (column_of names count word) (range_of names count word)
+
+-- the positions from one on, before another
+abbrev pub positions_between : ℕ × ℕ → List ℕ
+positions_between ends = range_with_len ends.0 (ends.1 - ends.0)
+
+-- the positions that a word chooses
+abbrev pub positions_of_word : List Text → ℕ → Text → Result (List ℕ) ColumnFault
+positions_of_word names count word =
+    ok_or (option_map positions_between (columns_chosen names count word))
+    (missing word (hint_for names count word))
+
+-- one list after another, or the first fault
+abbrev pub joined : Result (List ℕ) ColumnFault → Result (List ℕ) ColumnFault
+    → Result (List ℕ) ColumnFault
+joined (Ok xs) (Ok ys) = Ok (xs ++ ys)
+joined (Ok xs) (Err fault) = Err fault
+joined (Err fault) ys = Err fault
+
+-- the positions that some words choose, in their order
+abbrev pub positions_of : {A : Type 0} → List Text → ℕ → List (String A)
+    → Result (List ℕ) ColumnFault
+positions_of {A} names count words =
+    fold (λ (found : Result (List ℕ) ColumnFault) (word : String A).
+    joined found (positions_of_word names count (string_bytes word))) (Ok []) words
+
+-- the chosen columns: all where none is chosen
+abbrev pub chosen_columns : {A : Type 0} → List Text → ℕ → List (String A)
+    → Result (List ℕ) ColumnFault
+chosen_columns names count words =
+    if length words == 0 then Ok (range_with_len 0 count) else positions_of names count words
+
+-- the positions of one list that aren't in another
+abbrev pub without : List ℕ → List ℕ → List ℕ
+without positions dropped =
+    filter (λ position. not (list_any (λ other. other == position) dropped)) positions
+
+-- positions, where there are some
+abbrev pub some_left : List ℕ → Result (List ℕ) ColumnFault
+some_left positions = if length positions == 0 then Err none_left else Ok positions
+
+-- these, or the first fault
+abbrev pub less : Result (List ℕ) ColumnFault → Result (List ℕ) ColumnFault
+    → Result (List ℕ) ColumnFault
+less (Ok positions) (Ok dropped) = some_left (without positions dropped)
+less (Ok positions) (Err fault) = Err fault
+less (Err fault) dropped = Err fault
+
+-- those of the columns that are drawn: the chosen ones, less those that are left out; there is one
+abbrev pub kept_columns : {A : Type 0} → List Text → ℕ → List (String A) → List (String A)
+    → Result (List ℕ) ColumnFault
+kept_columns names count words dropped =
+    less (chosen_columns names count words) (positions_of names count dropped)
+
+-- so where they are counted from 1
+abbrev pub name_at : List Text → ℕ → Text
+name_at names position = name_from 1 names position
+
+-- the first column at the right that is at the left too
+abbrev pub at_two_sides : List ℕ → List ℕ → Option ℕ
+at_two_sides right left = find (λ p. list_any (λ q. q == p) left) right
+
+-- these columns, unless one is to stand at two sides
+abbrev pub placed_columns : List Text → ColumnsValue → Option ℕ → Result ColumnsValue ColumnFault
+placed_columns names columns (Some position) = Err (two_sided (name_at names position))
+placed_columns names columns None = Ok columns
+
+-- the columns that are drawn, or the first fault: in the lists that choose and leave out columns,
+-- then in that of the right, then in that of the left, then between these two
+abbrev pub columns_with : List Text → Result (List ℕ) ColumnFault → Result (List ℕ) ColumnFault
+    → Result (List ℕ) ColumnFault → Result ColumnsValue ColumnFault
+columns_with names (Ok positions) (Ok right) (Ok left) =
+    placed_columns names (record { drawn = positions; right = right; left = left })
+    (at_two_sides right left)
+columns_with names (Ok positions) (Ok right) (Err fault) = Err fault
+columns_with names (Ok positions) (Err fault) left = Err fault
+columns_with names (Err fault) right left = Err fault
+
+-- those that words choose of so many columns
+abbrev pub columns_by : ColumnWords → List Text → ℕ → Result ColumnsValue ColumnFault
+columns_by words names count =
+    columns_with names (kept_columns names count words.chosen.items words.dropped.items)
+    (positions_of names count words.right.items) (positions_of names count words.left.items)
+
+-- those that are drawn of some records
+abbrev pub columns_for : Options → List (List Text) → Result ColumnsValue ColumnFault
+columns_for options records =
+    columns_by options.columns (names_or_none options.selection records)
+    (column_count options.selection records)
+
+-- why there are no columns: a fault of the lists, or there is no memory
+abbrev pub IsColumnsRefusal : {A : Type 0} → ColumnsError → Result A ColumnFault → Type 0
+IsColumnsRefusal (NoColumn word hint) columns =
+    columns ≡ Err (missing (string_bytes word) (string_bytes hint))
+IsColumnsRefusal NoneLeft columns = columns ≡ Err none_left
+IsColumnsRefusal (TwoSides name) columns = columns ≡ Err (two_sided (string_bytes name))
+IsColumnsRefusal OutOfMemory columns = Unit {0}

@@ -1,0 +1,166 @@
+//! Reads an input, draws the table of its records, and writes the drawing.
+
+ghost use Rattle.std.specs.Prelude.{◌≡◌, ◌≤◌, ◌^◌, ◌⊎◌, OnOk, IfErr, IfNone, IfOk, IfSome, Some, false, option_map, string_bytes, true};
+ghost use Rattle.csv_command.specs.Columns.{IsColumnsRefusal, columns_for};
+ghost use Rattle.csv_command.specs.Doubt.{IsDoubtOf, IsDoubtOfInput};
+ghost use Rattle.csv_command.specs.Drawn.{HasLimit, IsNotEnough, RendersChosen, RendersExtent, RendersInput, most_drawn};
+ghost use Rattle.csv_command.specs.Run.{IsAfter, IsInputRefusal, IsRefusal, is_read_fault, is_write_fault};
+ghost use Rattle.devices.specs.Outcome.{Between};
+ghost use Rattle.devices.specs.Run.{IsNoted};
+
+use crate::arguments::Options;
+use crate::columns::columns_of;
+use crate::error::{ColumnsError, CsvError};
+use csv_records::{Records, decoded, read_beginning, read_first_records};
+use csv_tables::{Layout, Selection, text_of_records};
+use devices::{Render, Rendered, Sink, Source};
+use std::alloc::Global;
+
+/// Reads the source, and writes the drawing of the table of its records to the sink, each line
+/// followed by a line feed. Where not all records are drawn, a line says how many there are.
+///
+/// The source is read whole. Where there is a limit and records aren't counted, 65536 bytes are
+/// read, then twice as many, and so on, until their whole lines have more records than are drawn,
+/// and show what stands between fields; that line says then that there are more. What stands behind
+/// these lines isn't judged, and however the source parts its bytes, the drawing is the same.
+///
+/// An input without records has an empty output.
+///
+/// Returns the delimiter that was taken although fewer than half of the first records agree on it,
+/// where there is one to doubt.
+///
+/// All memory is asked for before the first write. Where the input can't be read, is no text, isn't
+/// in its encoding or has a quote that is never closed, columns can't be chosen so, or memory runs
+/// out, nothing is written. Where the output can't be written, a beginning of it was.
+///
+/// ```
+/// let mut source = FromReader::new(rt.stdin());
+/// let mut sink = ToWriter::new(rt.stdout());
+/// draw(rt.alloc(), &mut source, &mut sink, &options)?;
+/// ```
+pub fn draw<R: Source, W: Sink>(
+    alloc: Global,
+    source: &mut R,
+    sink: &mut W,
+    options: &Options,
+) -> Result<Option<u8>, CsvError>
+    ensures ended { OnOk result ((R.end_was_read source.new ≡ true) ⊎ HasLimit options.now) }
+    ensures source { R.has_failed source.new ≡ is_read_fault result }
+    ensures sink { W.has_failed sink.old ≡ false → W.has_failed sink.new ≡ is_write_fault result }
+    ensures known { Between R.Source W.Sink (source.old, sink.old) (source.new, sink.new)
+        (IsAfter options.now result) }
+    ensures doubt { Between R.Source W.Sink (source.old, sink.old) (source.new, sink.new)
+        (IsNoted (IsNotEnough options.now) (IsDoubtOf options.now) result) }
+{
+    Ok(devices::run(alloc, source, sink, options)?)
+}
+
+impl Render for Options {
+    type Error = CsvError;
+
+    type Note = Option<u8>;
+
+    ghost is_not_enough = { IsNotEnough };
+
+    ghost is_output = { RendersExtent };
+
+    ghost is_note = { IsDoubtOf };
+
+    ghost is_refusal = { IsRefusal };
+
+    fn render(&self, alloc: Global, input: Vec<u8>) -> Result<Rendered<Option<u8>>, CsvError> {
+        rendered_input(alloc, input, self)
+    }
+
+    fn render_beginning(
+        &self,
+        alloc: Global,
+        read: &[u8],
+    ) -> Option<Result<Rendered<Option<u8>>, CsvError>> {
+        if self.counts_all {
+            return None;
+        }
+        let most = most_drawn(&self.selection)?;
+        let Ok(found) = read_beginning(alloc, read, &self.input, most) else {
+            return Some(Err(CsvError::OutOfMemory));
+        };
+        let first = found?;
+        let note = first.doubt;
+        match output_of(alloc, first.records, None, self) {
+            Ok(text) => Some(Ok(Rendered { text, note })),
+            Err(error) => Some(Err(CsvError::from(error))),
+        }
+    }
+}
+
+// How many records of an input are drawn at most, with the header, where there is a limit.
+fn most_drawn(selection: &Selection) -> Option<usize>
+    ensures some { IfSome result (λ most.
+        option_map (most_drawn selection.now.has_header) selection.now.limit ≡ Some most) }
+    ensures none { IfNone result (IfSome selection.now.limit (λ limit.
+        2 ^ 64 ≤ most_drawn selection.now.has_header limit)) }
+{
+    let limit = selection.limit?;
+    if selection.has_header {
+        limit.checked_add(1)
+    } else {
+        Some(limit)
+    }
+}
+
+// The output for these records, of which so many stand below the header, where that is known.
+fn output_of(
+    alloc: Global,
+    records: Records,
+    count: Option<usize>,
+    options: &Options,
+) -> Result<String, ColumnsError>
+    ensures output { IfOk result (λ output.
+        RendersChosen count options.now records (string_bytes output)) }
+    ensures refused { IfErr result (λ e. IsColumnsRefusal e (columns_for options.now records)) }
+{
+    let selection = options.selection;
+    let rows = records.rows();
+    let (names, columns) = (selection.names(&rows), selection.column_count(&rows));
+    let layout = Layout {
+        selection,
+        columns: columns_of(alloc, &names, columns, &options.columns)?,
+        look: options.look,
+    };
+    Ok(text_of_records(alloc, records, count, &layout)?)
+}
+
+/// The output for an input that was read whole.
+pub fn output_of_input(alloc: Global, input: Vec<u8>, options: &Options) -> Result<String, CsvError>
+    ensures output { IfOk result (λ output.
+        RendersInput options.now input.items (string_bytes output)) }
+    ensures refused { IfErr result (λ e. IsInputRefusal options.now input.items e) }
+{
+    Ok(rendered_input(alloc, input, options)?.text)
+}
+
+// The same, with the delimiter that is doubtful.
+fn rendered_input(
+    alloc: Global,
+    input: Vec<u8>,
+    options: &Options,
+) -> Result<Rendered<Option<u8>>, CsvError>
+    ensures output { IfOk result (λ rendered.
+        RendersInput options.now input.items (string_bytes rendered.text)) }
+    ensures doubt { IfOk result (λ rendered.
+        IsDoubtOfInput options.now input.items rendered.note) }
+    ensures refused { IfErr result (λ e. IsInputRefusal options.now input.items e) }
+{
+    let text = decoded(alloc, input, &options.input)?;
+    // The other records are only counted.
+    let most = most_drawn(&options.selection).unwrap_or(usize::MAX);
+    let first = read_first_records(alloc, text.as_str(), &options.input, most)?;
+    let note = first.doubt;
+    if first.count == 0 {
+        let output = String::new(alloc);
+        return Ok(Rendered { text: output, note });
+    }
+    let below = first.count - usize::from(options.selection.has_header);
+    let output = output_of(alloc, first.records, Some(below), options)?;
+    Ok(Rendered { text: output, note })
+}

@@ -1,0 +1,150 @@
+//! Which records and columns are drawn.
+
+ghost use Rattle.std.specs.Prelude.{◌≡◌, ◌==◌, length};
+ghost use Rattle.csv_tables.specs.Columns.{ColumnsValue, count_of};
+ghost use Rattle.csv_tables.specs.Drawn.{column_count, drawn_rows, limited, names_of, names_or_none, records_below};
+
+use csv_records::{Record, Rows};
+use std::marker::Model;
+
+/// Which records are drawn.
+#[derive(Clone, Copy, Debug)]
+pub struct Selection {
+    /// Whether the first record is the header.
+    pub has_header: bool,
+    /// How many records below the header are drawn; all where there is no limit.
+    pub limit: Option<usize>,
+    /// Whether a column `#` stands ahead, with the number of each record below the header, counted
+    /// from 1. No position is its own, and other columns keep theirs. Records that are expanded
+    /// have their numbers above them anyway, and no such field.
+    pub is_numbered: bool,
+}
+
+impl Selection {
+    /// The header of these records, or a record without fields.
+    pub fn names<'a>(&self, records: &Rows<'a>) -> Record<'a>
+        ensures { result ≡ names_or_none self.now records.now }
+    {
+        names_of(records, self.has_header).unwrap_or(records.blank())
+    }
+
+    /// Those that are drawn below the header.
+    pub fn rows<'a>(&self, records: &Rows<'a>) -> Rows<'a>
+        ensures { result ≡ drawn_rows self.now records.now }
+    {
+        limited(&records_below(records, self.has_header), self.limit)
+    }
+
+    /// How many columns the header and the drawn records have.
+    pub fn column_count(&self, records: &Rows<'_>) -> usize
+        ensures { result ≡ column_count self.now records.now }
+    {
+        count_of(&self.names(records), &self.rows(records))
+    }
+}
+
+/// Which columns are drawn, by their positions, which are counted from 0.
+#[derive(Debug)]
+pub struct Columns {
+    drawn: Vec<usize>,
+    right: Vec<usize>,
+    left: Vec<usize>,
+}
+
+impl Drop for Columns {
+    fn drop(self) {
+        let Columns {
+            drawn: _,
+            right: _,
+            left: _,
+        } = self;
+    }
+}
+
+impl Model for Columns {
+    ghost use Rattle.csv_tables.specs.Columns.{ColumnsValue};
+
+    ghost Value = { ColumnsValue };
+
+    ghost view = { λ c. record {
+      drawn = c.drawn.items;
+      right = c.right.items;
+      left = c.left.items;
+    } };
+}
+
+impl Columns {
+    /// Those that are drawn, in their order, and those that stand at the right and at the left,
+    /// where a position in both lists stands at the right. All others stand at the right where
+    /// their fields are numbers. No record needs to have a field at such a position.
+    pub fn new(drawn: Vec<usize>, right: Vec<usize>, left: Vec<usize>) -> Columns
+        ensures { result
+            ≡ record { drawn = drawn.items; right = right.items; left = left.items } }
+    {
+        Columns { drawn, right, left }
+    }
+
+    /// Whether none is drawn.
+    pub fn is_empty(&self) -> bool
+        ensures { result ≡ (length self.now.drawn == 0) }
+    {
+        self.drawn.is_empty()
+    }
+
+    pub(crate) fn drawn(&self) -> &[usize]
+        ensures { result.now ≡ self.now.drawn }
+    {
+        self.drawn.as_slice()
+    }
+
+    pub(crate) fn right(&self) -> &[usize]
+        ensures { result.now ≡ self.now.right }
+    {
+        self.right.as_slice()
+    }
+
+    pub(crate) fn left(&self) -> &[usize]
+        ensures { result.now ≡ self.now.left }
+    {
+        self.left.as_slice()
+    }
+}
+
+// The greatest number of fields.
+fn count_of(names: &Record<'_>, rows: &Rows<'_>) -> usize
+    ensures { result ≡ count_of names.now rows.now }
+{
+    let mut count = names.len();
+    for row in rows.iter() {
+        count = count.max(row.len());
+    }
+    count
+}
+
+/// The header, where there is one.
+pub(crate) fn names_of<'a>(records: &Rows<'a>, has_header: bool) -> Option<Record<'a>>
+    ensures { result ≡ names_of has_header records.now }
+{
+    if has_header { records.first() } else { None }
+}
+
+/// The records below the header.
+pub(crate) fn records_below<'a>(records: &Rows<'a>, has_header: bool) -> Rows<'a>
+    ensures { result ≡ records_below has_header records.now }
+{
+    if has_header {
+        records.rows_behind(1)
+    } else {
+        records.iter()
+    }
+}
+
+/// The first rows, as many as are drawn.
+pub(crate) fn limited<'a>(rows: &Rows<'a>, limit: Option<usize>) -> Rows<'a>
+    ensures { result ≡ limited limit rows.now }
+{
+    match limit {
+        Some(count) => rows.first_rows(count),
+        None => rows.iter(),
+    }
+}
