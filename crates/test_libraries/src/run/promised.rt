@@ -69,3 +69,17 @@ fn promised_fields_are_those_of_the_records(rt: HostRuntime) {
     assert!(rt; harmless_message(rt.alloc(), &WORDS, input).is_none());
     assert!(rt; harmless_message(rt.alloc(), &WORDS, b"\xff").is_some());
 }
+
+// Whether there is a promise on the fields that are drawn for these words.
+fn is_promised(rt: &impl Alloc<A = Global>, words: &[&str]) -> bool {
+    output_with_all_fields(rt.alloc(), words, TERMINAL, FILE.as_bytes(), 400).is_some()
+}
+
+#[test]
+fn chosen_and_expanded_fields_are_promised_too(rt: HostRuntime) {
+    assert!(rt; is_promised(&rt, &["csvtable", "-x", "-w", "20"]));
+    assert!(rt; is_promised(&rt, &["csvtable", "-c", "days", "--limit", "0"]));
+    assert!(rt; is_promised(&rt, &["csvtable", "--drop", "1", "--expanded", "never"]));
+    assert!(rt; !is_promised(&rt, &["csvtable", "-l"]));
+    assert!(rt; !is_promised(&rt, &["csvtable", "-m", "1"]));
+}
