@@ -7,6 +7,7 @@ use csv_command::OutputContext;
 use csv_promises::harmless::{harmless_drawing, harmless_message, harmless_output};
 use csv_promises::kept::output_with_all_fields;
 use csv_promises::straight::{straight_output, straight_whole_output};
+use csv_promises::width::output_within;
 use csv_records::Records;
 use std::alloc::{Alloc, Global};
 use std::process::Abort;
@@ -68,6 +69,17 @@ fn promised_fields_are_those_of_the_records(rt: HostRuntime) {
     assert_written(&rt, Some((records, sink)));
     assert!(rt; harmless_message(rt.alloc(), &WORDS, input).is_none());
     assert!(rt; harmless_message(rt.alloc(), &WORDS, b"\xff").is_some());
+}
+
+#[test]
+fn promised_widths_are_those_of_the_program(rt: HostRuntime) {
+    let input = FILE.as_bytes();
+    let words = ["csvtable", "-s", "ascii", "-w", "40"];
+    let drawn = output_within(rt.alloc(), &words, TERMINAL, input, 200);
+    let (_invocation, records, sink) = drawn.expect(&rt, "a drawing");
+    assert_written(&rt, Some((records, sink)));
+    let filled = ["csvtable", "--full", "-w", "40", "--expanded", "never"];
+    assert!(rt; output_within(rt.alloc(), &filled, TERMINAL, input, 1000).is_some());
 }
 
 // Whether there is a promise on the fields that are drawn for these words.
