@@ -1,5 +1,5 @@
 /*
- * Tables drawn by the library comfy_table: of rows of texts, of CSV, and of tab-separated text.
+ * Tables drawn by the library comfy_table: of rows of texts, of cells with settings of their own, and of CSV.
  *
  * Proved of each function:
  *  - Each result comes only where the function's list says so, but for what it says of malloc. There is no other result.
@@ -15,14 +15,15 @@
  *  - The functions of this header that allocate.
  *
  * Owed by the caller, and checked by nothing:
- *  - Each pointer points to as many bytes or numbers as its length says, settings to a struct, and needed to a size_t. A pointer
- *    whose length is 0 isn't read or written, and may be null; settings and needed may not.
+ *  - Each pointer points to as many bytes, numbers or structs as its length says, settings to a struct, and needed to a size_t.
+ *    A pointer whose length is 0 isn't read or written, and may be null; settings and needed may not.
  *  - These objects don't overlap, and nothing else writes them during the call, nor reads output and *needed.
  *  - malloc, realloc and free belong to one allocator, and align a block to each power of two up to 16 that divides its
  *    size, as those of C libraries do.
  *  - There is no call from a signal handler, nor from the forked child of a process with threads.
  *
- * Lengths are in bytes. What is written to output is UTF-8, each line ends with a line feed, and no zero byte follows.
+ * Lengths are in bytes. What is written to output is UTF-8, each line ends with a line feed unless otherwise said, and no zero
+ * byte follows.
  *
  * Link libcomfy_c.a, and after it liblibc_c.a of the Rattle toolchain, through which it asks for memory.
  */
@@ -59,7 +60,7 @@ enum {
     COMFY_LENGTHS_REFUSED
 };
 
-/* The presets for the frame, and behind them that of csvtable, COMFY_UTF8_FULL with round corners, for rows alone. */
+/* The presets for the frame, and behind them that of csvtable, COMFY_UTF8_FULL with round corners. */
 enum {
     COMFY_ASCII_FULL,
     COMFY_ASCII_FULL_CONDENSED,
@@ -125,6 +126,183 @@ uint32_t comfy_rows_draw(const uint8_t *texts, size_t texts_length, const size_t
                          const size_t *counts, size_t counts_length, const uint8_t *columns, size_t columns_length,
                          const struct comfy_rows_settings *settings, uint8_t *output, size_t output_length, size_t *needed);
 
+/* ---- cells with settings of their own */
+
+/* In the structs of this part 0 stands for nothing that is set, but as a width and as a padding. */
+
+/* Where a character is asked for, its number stands, 0 stands for none, and this stands for U+0000. Any other number stands for
+ * none. */
+#define COMFY_NUL 0x110000
+
+/* Where texts stand; any other number stands for the first. */
+enum { COMFY_ALIGNED_BY_COLUMN, COMFY_ALIGNED_LEFT, COMFY_ALIGNED_RIGHT, COMFY_ALIGNED_CENTER };
+
+/* What a colour is: none, the terminal's own, one of 256, or one by its parts. Any other number stands for none. */
+enum { COMFY_COLOR_NONE, COMFY_COLOR_TERMINAL, COMFY_COLOR_NUMBERED, COMFY_COLOR_BY_PARTS };
+
+/* The first of the 256. */
+enum {
+    COMFY_BLACK,
+    COMFY_DARK_RED,
+    COMFY_DARK_GREEN,
+    COMFY_DARK_YELLOW,
+    COMFY_DARK_BLUE,
+    COMFY_DARK_MAGENTA,
+    COMFY_DARK_CYAN,
+    COMFY_GREY,
+    COMFY_DARK_GREY,
+    COMFY_RED,
+    COMFY_GREEN,
+    COMFY_YELLOW,
+    COMFY_BLUE,
+    COMFY_MAGENTA,
+    COMFY_CYAN,
+    COMFY_WHITE
+};
+
+struct comfy_color {
+    uint8_t kind;   /* COMFY_COLOR_.. */
+    uint8_t number; /* of one of 256 */
+    uint8_t red;
+    uint8_t green;
+    uint8_t blue;
+};
+
+/* Bits of attributes, which are written in this order. The four highest bits stand for nothing. */
+enum {
+    COMFY_ATTRIBUTE_RESET = 1 << 0,
+    COMFY_ATTRIBUTE_BOLD = 1 << 1,
+    COMFY_ATTRIBUTE_DIM = 1 << 2,
+    COMFY_ATTRIBUTE_ITALIC = 1 << 3,
+    COMFY_ATTRIBUTE_UNDERLINED = 1 << 4,
+    COMFY_ATTRIBUTE_DOUBLE_UNDERLINED = 1 << 5,
+    COMFY_ATTRIBUTE_UNDERCURLED = 1 << 6,
+    COMFY_ATTRIBUTE_UNDERDOTTED = 1 << 7,
+    COMFY_ATTRIBUTE_UNDERDASHED = 1 << 8,
+    COMFY_ATTRIBUTE_SLOW_BLINK = 1 << 9,
+    COMFY_ATTRIBUTE_RAPID_BLINK = 1 << 10,
+    COMFY_ATTRIBUTE_REVERSE = 1 << 11,
+    COMFY_ATTRIBUTE_HIDDEN = 1 << 12,
+    COMFY_ATTRIBUTE_CROSSED_OUT = 1 << 13,
+    COMFY_ATTRIBUTE_FRAKTUR = 1 << 14,
+    COMFY_ATTRIBUTE_NO_BOLD = 1 << 15,
+    COMFY_ATTRIBUTE_NORMAL_INTENSITY = 1 << 16,
+    COMFY_ATTRIBUTE_NO_ITALIC = 1 << 17,
+    COMFY_ATTRIBUTE_NO_UNDERLINE = 1 << 18,
+    COMFY_ATTRIBUTE_NO_BLINK = 1 << 19,
+    COMFY_ATTRIBUTE_NO_REVERSE = 1 << 20,
+    COMFY_ATTRIBUTE_NO_HIDDEN = 1 << 21,
+    COMFY_ATTRIBUTE_NOT_CROSSED_OUT = 1 << 22,
+    COMFY_ATTRIBUTE_FRAMED = 1 << 23,
+    COMFY_ATTRIBUTE_ENCIRCLED = 1 << 24,
+    COMFY_ATTRIBUTE_OVERLINED = 1 << 25,
+    COMFY_ATTRIBUTE_NOT_FRAMED_OR_ENCIRCLED = 1 << 26,
+    COMFY_ATTRIBUTE_NOT_OVERLINED = 1 << 27
+};
+
+struct comfy_cell {
+    size_t length;       /* the bytes of its text, in which line feeds stand between lines */
+    uint32_t delimiter;  /* the character at which its lines may break, in place of the column's */
+    uint32_t alignment;  /* COMFY_ALIGNED_.. */
+    uint32_t attributes; /* COMFY_ATTRIBUTE_.., joined by | */
+    struct comfy_color foreground;
+    struct comfy_color background;
+};
+
+struct comfy_row {
+    size_t cells;      /* how many it has */
+    size_t max_height; /* how many lines it has at most; 0 and COMFY_NO_LIMIT stand for no limit */
+};
+
+/*
+ * Constraints on a column's width, paddings included; any other number stands for none. It isn't drawn, is as wide as its
+ * contents, has a width, has at least or at most a width, or at least one and at most another.
+ */
+enum {
+    COMFY_CONSTRAINT_NONE,
+    COMFY_CONSTRAINT_HIDDEN,
+    COMFY_CONSTRAINT_CONTENT_WIDTH,
+    COMFY_CONSTRAINT_ABSOLUTE,
+    COMFY_CONSTRAINT_LOWER_BOUNDARY,
+    COMFY_CONSTRAINT_UPPER_BOUNDARY,
+    COMFY_CONSTRAINT_BOUNDARIES
+};
+
+struct comfy_width {
+    uint16_t is_percentage; /* a flag: percent of the table's width without its borders; else terminal columns */
+    uint16_t value;
+};
+
+struct comfy_column {
+    uint16_t left_padding;    /* in terminal columns, as the other; comfy-table begins with 1 and 1 */
+    uint16_t right_padding;
+    uint32_t delimiter;       /* the character at which its lines may break, in place of the table's */
+    uint32_t alignment;       /* COMFY_ALIGNED_..; the first stands for the left */
+    uint32_t constraint;      /* COMFY_CONSTRAINT_.. */
+    struct comfy_width width; /* that of the constraint; the least of COMFY_CONSTRAINT_BOUNDARIES */
+    struct comfy_width upper; /* the greatest of COMFY_CONSTRAINT_BOUNDARIES */
+};
+
+/* The characters of a line of the frame, and of one that holds contents. */
+struct comfy_line {
+    uint32_t left;
+    uint32_t fill;
+    uint32_t junction;
+    uint32_t right;
+};
+
+struct comfy_content_line {
+    uint32_t left;
+    uint32_t junction;
+    uint32_t right;
+};
+
+/* What is written: the lines; the lines without white space at their ends, and without the last line feed; or the greatest width
+ * of each column's contents, in decimal with a line feed behind it. */
+enum { COMFY_FORM_LINES, COMFY_FORM_TRIMMED, COMFY_FORM_CONTENT_WIDTHS };
+
+/* How the widths of the columns are found: by their contents alone, within the table's width, or so that they fill it. */
+enum { COMFY_DISABLED, COMFY_DYNAMIC, COMFY_DYNAMIC_FULL_WIDTH };
+
+/* Stands for the frame of the struct's own lines. */
+#define COMFY_OWN_STYLE UINT32_MAX
+
+/* How a table of cells is drawn. A flag is set where it isn't 0. */
+struct comfy_cells_settings {
+    uint32_t form;            /* COMFY_FORM_.. */
+    uint32_t style;           /* a preset, COMFY_ROUNDED or COMFY_OWN_STYLE */
+    uint32_t arrangement;     /* COMFY_DISABLED, COMFY_DYNAMIC or COMFY_DYNAMIC_FULL_WIDTH */
+    uint32_t width;           /* in terminal columns, or COMFY_NO_WIDTH; no terminal is asked */
+    uint32_t delimiter;       /* the character at which lines may break; 0 stands for a space */
+    uint32_t has_header;      /* a flag: the first row is the header */
+    uint32_t enforce_styling; /* a flag: colours and attributes are written */
+    uint32_t style_text_only; /* a flag: they stand round the texts alone, and not round the paddings */
+    uint32_t custom_styling;  /* a flag: SGR sequences in texts count no columns */
+    struct comfy_line top_border; /* from here on the lines of COMFY_OWN_STYLE, which no other style reads */
+    struct comfy_content_line header_lines;
+    struct comfy_line header_separator;
+    struct comfy_content_line content_lines;
+    struct comfy_line row_separator;
+    struct comfy_line bottom_border;
+};
+
+/*
+ * Draws a table of cells, rows and columns into the caller's buffer, as comfy-table 8.0.1 draws such a table, but for the
+ * differences that docs/DIFFERENCES.md of the sources lists.
+ *
+ * texts are the texts of all cells, one behind another. cells has the length and the settings of each, rows how many of them each
+ * row has, and columns each column of the table; a cell that has no column isn't drawn. indicator is UTF-8, and stands behind a
+ * line at which a row's height cuts a text; comfy-table has "\xe2\x80\xa6".
+ *
+ * COMFY_INPUT_REFUSED says that a text or the indicator isn't UTF-8. COMFY_SETTINGS_REFUSED says that form, style or arrangement
+ * is none of those above. COMFY_LENGTHS_REFUSED says that the lengths aren't those of the texts, or the counts not those of the
+ * cells.
+ */
+uint32_t comfy_cells_draw(const uint8_t *texts, size_t texts_length, const struct comfy_cell *cells, size_t cells_length,
+                          const struct comfy_row *rows, size_t rows_length, const struct comfy_column *columns,
+                          size_t columns_length, const uint8_t *indicator, size_t indicator_length,
+                          const struct comfy_cells_settings *settings, uint8_t *output, size_t output_length, size_t *needed);
+
 /* ---- CSV */
 
 /*
@@ -144,20 +322,6 @@ uint32_t comfy_rows_draw(const uint8_t *texts, size_t texts_length, const size_t
 uint32_t comfy_csv_draw(const uint8_t *input, size_t input_length, const uint8_t *arguments, size_t arguments_length,
                         uint8_t *output, size_t output_length, size_t *needed);
 
-/* ---- tab-separated text */
-
-/* How the widths of the columns are found: by their texts alone, within the table's width, or so that they fill it. */
-enum { COMFY_DISABLED, COMFY_DYNAMIC, COMFY_DYNAMIC_FULL_WIDTH };
-
-/*
- * Draws the table of a text into the caller's buffer. The text's first line is the header, its other lines are rows.
- * Cells stand between TABs, and U+000B inside a cell is a line break. The style is a preset.
- *
- * COMFY_INPUT_REFUSED says that the text isn't UTF-8, COMFY_SETTINGS_REFUSED that arrangement or style is none of those above.
- */
-uint32_t comfy_table_draw(const uint8_t *input, size_t input_length, uint32_t width, uint32_t arrangement,
-                          uint32_t style, uint8_t *output, size_t output_length, size_t *needed);
-
 /* ---- drawings in memory of malloc */
 
 /*
@@ -174,6 +338,27 @@ static inline char *comfy_rows_text(const uint8_t *texts, size_t texts_length, c
         if (!output) return NULL;
         *result = comfy_rows_draw(texts, texts_length, lengths, lengths_length, counts, counts_length, columns, columns_length,
                                   settings, (uint8_t *)output, room, &needed);
+        if (*result == COMFY_DRAWN) {
+            output[needed] = 0;
+            return output;
+        }
+        free(output);
+        if (*result != COMFY_ROOM_TOO_SMALL) return NULL;
+        room = needed;
+    }
+}
+
+static inline char *comfy_cells_text(const uint8_t *texts, size_t texts_length, const struct comfy_cell *cells, size_t cells_length,
+                                     const struct comfy_row *rows, size_t rows_length, const struct comfy_column *columns,
+                                     size_t columns_length, const uint8_t *indicator, size_t indicator_length,
+                                     const struct comfy_cells_settings *settings, uint32_t *result) {
+    size_t room = 4096 + 4 * texts_length + 8 * cells_length, needed = 0;
+    for (;;) {
+        char *output = (char *)malloc(room + 1);
+        *result = COMFY_OUT_OF_MEMORY;
+        if (!output) return NULL;
+        *result = comfy_cells_draw(texts, texts_length, cells, cells_length, rows, rows_length, columns, columns_length, indicator,
+                                   indicator_length, settings, (uint8_t *)output, room, &needed);
         if (*result == COMFY_DRAWN) {
             output[needed] = 0;
             return output;

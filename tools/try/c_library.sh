@@ -1,9 +1,9 @@
 #!/bin/sh
-# Builds the static library of comfy_c and the programs ctable and csvtable, which proves them, and looks at what callers get:
+# Builds the static library of comfy_c and the program csvtable, which proves them, and looks at what callers get:
 #  - programs in C with bad and extreme arguments, with each request for memory refused in turn, and with random bytes
-#    and arguments must end as packages/c/comfy_table.h says; valgrind, where it is there, must find nothing in the first
-#    two, nor clang's AddressSanitizer in the third
-#  - the packages for C, Rust and Python must draw as ctable and csvtable do (tools/try/package_test.sh)
+#    and arguments must end as packages/c/comfy_table.h says; valgrind, where it is there, must find nothing in any but the last,
+#    nor clang's AddressSanitizer in that
+#  - the packages for C, Rust and Python must draw as csvtable does (tools/try/package_test.sh)
 #
 # usage: tools/try/c_library.sh
 # CC is the compiler for C, cc where it isn't set. The Rattle toolchain, whose `rt` is on the PATH, has liblibc_c.a.
@@ -16,8 +16,6 @@ work=$(mktemp -d)
 trap 'rm -rf "$work"' EXIT
 
 (cd "$crate" && rt lib > "$work/log") || { cat "$work/log"; exit 1; }
-(cd "$top/crates/ctable" && rt run < stdin > "$work/printed" 2> "$work/log") || { cat "$work/log"; exit 1; }
-cmp "$work/printed" "$top/crates/ctable/stdout"
 (cd "$top/crates/csvtable" && rt run -- --version > /dev/null 2> "$work/log") || { cat "$work/log"; exit 1; }
 cp "$crate/out/libcomfy_c.a" "$libc" "$work"
 
@@ -28,6 +26,7 @@ compile() {
   ${CC:-cc} -O2 -Wall -Wextra -Werror -I packages/c "$crate/$name.c" "$work/libcomfy_c.a" "$work/liblibc_c.a" "$@" -o "$work/$(basename "$name")"
 }
 compile tests/calls -pthread
+compile tests/cells
 compile tests/refused -Wl,--wrap=malloc,--wrap=realloc,--wrap=free
 if echo 'int main(void) { return 0; }' | clang -fsanitize=address -x c - -o "$work/sanitized" 2> /dev/null; then
   (CC=clang && compile tests/random_calls -pthread -fsanitize=address)
@@ -36,7 +35,7 @@ else
   compile tests/random_calls -pthread
 fi
 "$work/random_calls"
-for program in calls refused; do
+for program in calls cells refused; do
   "$work/$program"
   if command -v valgrind > /dev/null; then
     valgrind -q --leak-check=full --error-exitcode=9 "$work/$program" > /dev/null

@@ -1,7 +1,7 @@
 #!/bin/sh
 # Makes the packages for C, Rust and Python, installs each where nothing else is, and tries it: an empty prefix, an empty
 # project of cargo, an empty virtual environment. The tests of the packages must pass, and their example programs must print
-# the same bytes as ctable and csvtable, or what they say of themselves. A language whose compiler or interpreter isn't there is left out, and the last line
+# the same bytes as csvtable, or what they say of themselves. A language whose compiler or interpreter isn't there is left out, and the last line
 # says which were tried.
 #
 # usage: tools/try/package_test.sh
@@ -11,7 +11,6 @@ cd "$(dirname "$0")/../.."
 top=$PWD
 . tools/installing.sh
 . tools/measure/csv_inputs.sh
-build ctable ctable rt run
 build csvtable csvtable rt run -- --version
 work=$(mktemp -d)
 trap 'rm -rf "$work"' EXIT
@@ -19,33 +18,14 @@ tools/package.sh "$work/packages"
 export CSVTABLE="$top/crates/csvtable/out/csvtable" PYTHONDONTWRITEBYTECODE=1
 tried=C
 
-# The inputs of tab-separated text: ctable's own, cases in many scripts, no bytes, and more rows than the first buffer of the
-# examples holds.
-mkdir "$work/tabs" "$work/csv"
-cp crates/ctable/stdin "$work/tabs/stored"
-cp crates/test_cases/stdin "$work/tabs/scripts"
-: > "$work/tabs/nothing"
-awk 'BEGIN { for (i = 0; i < 1000; i++) printf "%d\t\t\t\t\t\t\t\t\t\n", i }' > "$work/tabs/rows"
-
-# Those of CSV: a ledger, messages with quotes and line breaks, TABs, another encoding, a quote that is never closed, nothing.
+# The inputs of CSV: a ledger, messages with quotes and line breaks, TABs, another encoding, a quote that is never closed, nothing.
+mkdir "$work/csv"
 cp crates/csvtable/data/ledger.csv "$work/csv"
 csv_of messages 300 > "$work/csv/messages.csv"
 cp crates/ctable/stdin "$work/csv/stored.tsv"
 printf 'name;price\n\377;\351\n' > "$work/csv/bank.csv"
 printf 'name,price\n"oats,3\n' > "$work/csv/open.csv"
 : > "$work/csv/nothing"
-
-# Compares a program's drawings with those of ctable. Further arguments are the program and its arguments.
-compare() {
-  arguments=$1
-  shift
-  for input in "$work"/tabs/*; do
-    crates/ctable/out/ctable $arguments < "$input" > "$work/wanted"
-    "$@" < "$input" > "$work/drawn"
-    cmp "$work/wanted" "$work/drawn"
-  done
-  echo "$* draws as ctable $arguments"
-}
 
 # Compares what a program writes, or says where it draws nothing, with what csvtable does, with arguments that are accepted and
 # others. What csvtable says beside a drawing has no place in a call.
@@ -62,6 +42,19 @@ compare_csv() {
   echo "$* draws as csvtable"
 }
 
+# In a terminal of 44 columns the program's table keeps to them and has colours, but with NO_COLOR. Into a pipe it has neither.
+try_in_terminal() {
+  columns() { sed 's/.\[[0-9;]*m//g; s/\r//' "$work/drawn" | LC_ALL=C.UTF-8 wc -L; }
+  colors() { grep -c '38;5;' "$work/drawn" || true; }
+  script -qec "stty cols 44 && $1" /dev/null < /dev/null > "$work/drawn"
+  [ "$(columns) $(colors)" = "44 2" ]
+  NO_COLOR=1 script -qec "stty cols 44 && $1" /dev/null < /dev/null > "$work/drawn"
+  [ "$(columns) $(colors)" = "44 0" ]
+  "$1" > "$work/drawn"
+  [ "$(columns) $(colors)" = "72 0" ]
+  echo "$1 keeps to its terminal"
+}
+
 # C, by pkg-config where it is there.
 mkdir "$work/prefix" "$work/programs"
 tar -C "$work/prefix" --strip-components=1 -xzf "$work"/packages/comfy_table-*.tar.gz
@@ -73,20 +66,22 @@ if command -v pkg-config > /dev/null; then
 else
   flags="-I$work/prefix/include -L$work/prefix/lib -lcomfy_c -llibc_c"
 fi
-for example in draw csv rows; do
+for example in csv rows cells; do
   ${CC:-cc} -O2 -Wall -Wextra -Werror "packages/c/examples/$example.c" $flags -o "$work/programs/$example"
 done
-compare '- dynamic ASCII_FULL' "$work/programs/draw"
-compare '40 dynamic ASCII_FULL' "$work/programs/draw" 40
 compare_csv "$work/programs/csv"
-sed -n 's/^ \* \([+|].*\)/\1/p' packages/c/examples/rows.c > "$work/wanted"
-"$work/programs/rows" | cmp "$work/wanted" -
+for example in rows cells; do
+  sed -n 's/^ \* \([+|].*\)/\1/p' "packages/c/examples/$example.c" > "$work/wanted"
+  "$work/programs/$example" | sed 's/.\[[0-9;]*m//g' | cmp "$work/wanted" -
+done
 
 if command -v cargo > /dev/null; then
   tried="$tried, Rust"
   mkdir -p "$work/crate" "$work/project/src/bin"
   tar -C "$work/crate" --strip-components=1 -xzf "$work"/packages/*.crate
+  # The examples call the package by the name of the original, as programs do that were written for it.
   cp packages/rust/examples/*.rs "$work/project/src/bin"
+  sed -i 's/comfy_table_proved/comfy_table/' "$work"/project/src/bin/*.rs
   cat > "$work/project/Cargo.toml" <<END
 [package]
 name = "project"
@@ -94,13 +89,16 @@ version = "0.1.0"
 edition = "2024"
 
 [dependencies]
-comfy_table_proved = { path = "../crate" }
+comfy-table = { package = "comfy_table_proved", path = "../crate" }
 END
   (cd "$work/project" && cargo build -q --offline)
   sed -n 's|^//! \([^P].*\)|\1|p' packages/rust/examples/boats.rs > "$work/wanted"
-  "$work/project/target/debug/boats" | sed 's/.\[[0-9]*m//g' | cmp "$work/wanted" -
+  "$work/project/target/debug/boats" | sed 's/.\[[0-9;]*m//g' | cmp "$work/wanted" -
   compare_csv "$work/project/target/debug/csv"
+  try_in_terminal "$work/project/target/debug/bikes"
   (cd "$work/crate" && cargo test -q --offline)
+  (cd "$work/crate" && cargo test -q --offline --no-default-features)
+  (cd "$work/crate" && cargo test -q --offline --features custom_styling)
 fi
 
 if command -v python3 > /dev/null; then

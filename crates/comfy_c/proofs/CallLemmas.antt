@@ -2,14 +2,12 @@
 use Rattle.std.proofs.Common.{◌≡◌, ◌∙◌, true, cond, List, ℕ, ◌++◌, ap, ap₂, drop, inl, length, nat_le, refl, subst, sym, take}
 use Rattle.std.proofs.lemmas.List.{take_at}
 use Rattle.std.proofs.lemmas.Str.{IsUtf8-string_bytes}
-use Rattle.std.specs.Prelude.{IsUtf8, Option, Some}
+use Rattle.std.specs.Prelude.{IsUtf8}
 use Rattle.comfy_parts.specs.Text.{Text}
 use Rattle.csv_command.specs.Refusals.{IsRefusedFor}
 use Rattle.csv_command.specs.declared.drawing.Refusal.{Refusal}
 use Rattle.csv_command.specs.declared.drawing.Refusal.TheVariants.{Arguments, Input, OutOfMemory}
-use Rattle.comfy_run.specs.Input.{RendersInput}
-use Rattle.comfy_run.specs.declared.settings.Settings.{Settings}
-use Rattle.comfy_c.specs.Calls.{IsCommandLine, IsCsvRefusal, IsDrawnAs, IsHanded, with_front}
+use Rattle.comfy_c.specs.Calls.{IsCommandLine, IsCsvRefusal, IsHanded, with_front}
 
 -- ---- the buffer
 
@@ -30,12 +28,6 @@ module _ (P : Text → Type 0) (bytes buffer : Text) {text after : Text} {needed
   -- and of what was handed to the caller
   pub handed : IsHanded P buffer after needed
   handed = record { text = bytes; is_so = subst P (sym same) so; is_counted = counted; is_put = put }
-
--- ---- tab-separated text
-
--- the output for a text that is the input's, under the settings that are asked for
-pub drawn_as : {invocation : Option Settings} {settings : Settings} {input text drawing : Text} → Some settings ≡ invocation → text ≡ input → IsUtf8 input → IsUtf8 drawing → RendersInput settings.width settings.arrangement settings.style text drawing → IsDrawnAs invocation input drawing
-drawn_as invocation same whole whole_drawing output = rw (← invocation) (whole, whole_drawing, rw same at output)
 
 -- ---- CSV
 

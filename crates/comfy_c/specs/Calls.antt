@@ -1,17 +1,11 @@
 -- What numbers and arguments mean that a caller passes, and what is made of its buffer.
 -- Source: this library's own.
-use Rattle.std.specs.Prelude.{◌≡◌, ◌⊎◌, ◌-◌, ℕ, nat_le, ◌==◌, List, [], ◌∷◌, ◌++◌, All, Option, Some, None, IsUtf8, codes, drop, flat_map, length, slice_get, slice_index, string_bytes, if◌then◌else◌}
-use Rattle.comfy_parts.specs.Presets.{preset_at}
+use Rattle.std.specs.Prelude.{◌≡◌, ◌⊎◌, ◌-◌, ℕ, nat_le, ◌==◌, List, [], ◌∷◌, ◌++◌, All, Option, Some, None, IsUtf8, codes, drop, flat_map, length, slice_index, string_bytes, if◌then◌else◌}
 use Rattle.comfy_parts.specs.Text.{HasNo, Text}
-use Rattle.comfy_parts.specs.declared.style.table.ContentArrangement.{ContentArrangement}
-use Rattle.comfy_parts.specs.declared.style.table.ContentArrangement.TheVariants.{Disabled, Dynamic, DynamicFullWidth}
 use Rattle.csv_command.specs.Ending.{argument_not_utf8}
 use Rattle.csv_command.specs.Refusals.{IsRendered, IsSaidOfInput, IsSaidOfArguments}
 use Rattle.csv_command.specs.declared.drawing.Refusal.{Refusal}
 use Rattle.csv_command.specs.declared.drawing.Refusal.TheVariants.{Arguments, Input, OutOfMemory}
-use Rattle.comfy_run.specs.Arguments.{settings_with}
-use Rattle.comfy_run.specs.Input.{RendersInput}
-use Rattle.comfy_run.specs.declared.settings.Settings.{Settings}
 
 -- ---- the buffer
 
@@ -27,28 +21,11 @@ pub record IsHanded (P : Text → Type 0) (buffer : Text) (after : Text) (needed
   pub is_counted : needed ≡ length text
   pub is_put : after ≡ with_front text buffer
 
--- ---- tab-separated text
+-- ---- settings
 
 -- a width up to 65535; any greater number stands for none
 abbrev pub width_of : ℕ → Option ℕ
 width_of width = if nat_le width 65535 then Some width else None
-
--- the arrangements, counted from 0
-abbrev pub arrangements : List ContentArrangement
-arrangements = Disabled ∷ Dynamic ∷ DynamicFullWidth ∷ []
-
--- the settings that three numbers stand for
-abbrev pub settings_for : ℕ → ℕ → ℕ → Option Settings
-settings_for width arrangement style =
-    settings_with (Some (width_of width)) (slice_get arrangements arrangement) (preset_at style)
-
--- with these settings, which are known, the input is text, and the output is text that draws its
--- table
-abbrev pub IsDrawnAs : Option Settings → Text → Text → Type 0
-IsDrawnAs None input output = ⊥
-IsDrawnAs (Some settings) input output =
-    IsUtf8 input × IsUtf8 output × RendersInput settings.width settings.arrangement settings.style
-    input output
 
 -- ---- CSV
 

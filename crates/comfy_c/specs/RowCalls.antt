@@ -6,8 +6,8 @@ use Rattle.comfy_parts.specs.Presets.{preset_at}
 use Rattle.comfy_parts.specs.Text.{Text}
 use Rattle.comfy_parts.specs.declared.style.table_style.TableStyle.{TableStyle}
 use Rattle.comfy_c.specs.Calls.{width_of}
-use Rattle.comfy_c.specs.declared.rows_draw.RowsRefusal.{RowsRefusal}
-use Rattle.comfy_c.specs.declared.rows_draw.RowsRefusal.TheVariants.{Texts, Settings, OutOfMemory as NoMemory}
+use Rattle.comfy_c.specs.declared.refusal.DrawRefusal.{DrawRefusal}
+use Rattle.comfy_c.specs.declared.refusal.DrawRefusal.TheVariants.{Texts, Settings, OutOfMemory as NoMemory}
 use Rattle.comfy_c.specs.declared.rows_settings.RowsSettings.{RowsSettings}
 use Rattle.comfy_c.specs.declared.texts.TextsRefusal.{TextsRefusal}
 use Rattle.comfy_c.specs.declared.texts.TextsRefusal.TheVariants.{Lengths, NotUtf8, OutOfMemory}
@@ -170,7 +170,7 @@ abbrev pub IsSettingRefused : List (List Text) → List ℕ → RowsSettings →
 IsSettingRefused rows columns settings = layout_for settings columns rows ≡ None
 
 -- why rows have no drawing
-abbrev pub IsRowsRefusal : Text → List ℕ → List ℕ → List ℕ → RowsSettings → RowsRefusal → Type 0
+abbrev pub IsRowsRefusal : Text → List ℕ → List ℕ → List ℕ → RowsSettings → DrawRefusal → Type 0
 IsRowsRefusal texts lengths counts columns settings (Texts refusal) =
     IsTextsRefusal texts lengths counts refusal
 IsRowsRefusal texts lengths counts columns settings Settings =

@@ -3,18 +3,27 @@
 #![tactic(auto)]
 
 mod arguments;
+mod cells_columns;
+mod cells_draw;
+mod cells_numbers;
+mod cells_rows;
+mod cells_settings;
 mod csv_draw;
+mod refusal;
 mod room;
 mod rows_columns;
 mod rows_draw;
 mod rows_settings;
-mod table_draw;
 mod texts;
 
+pub use cells_columns::{ColumnNumbers, WidthNumbers};
+pub use cells_draw::comfy_cells_draw;
+pub use cells_numbers::ColorNumbers;
+pub use cells_rows::{CellNumbers, RowNumbers};
+pub use cells_settings::{CellsSettings, ContentLineNumbers, LineNumbers};
 pub use csv_draw::comfy_csv_draw;
 pub use rows_draw::comfy_rows_draw;
 pub use rows_settings::RowsSettings;
-pub use table_draw::comfy_table_draw;
 
 #[cfg(test)]
 mod tests;

@@ -1,19 +1,18 @@
 //! Tables of rows, as values.
 
 ghost use Rattle.std.specs.Prelude.{◌≡◌, ◌≢◌, ◌≤◌, ◌<◌, IfErr, IfOk, List, ℕ, drop, length, string_bytes, take};
-ghost use Rattle.comfy_c.specs.declared.rows_draw.RowsRefusal.TheVariants as rows;
 ghost use Rattle.comfy_c.specs.declared.texts.TextsRefusal.TheVariants.{Lengths, NotUtf8};
 ghost use Rattle.comfy_c.specs.RowCalls.{IsRowsDrawing, IsRowsRefusal, IsSettingRefused, IsTextsRefusal, rows_of};
 
+use crate::refusal::DrawRefusal;
 use crate::room::{
     DRAWN, INPUT_REFUSED, LENGTHS_REFUSED, OUT_OF_MEMORY, ROOM_TOO_SMALL, SETTINGS_REFUSED, put,
 };
 use crate::rows_columns::{are_bytes, columns_of};
 use crate::rows_settings::RowsSettings;
 use crate::texts::{TextsRefusal, records_of};
-use comfy_parts::TableError;
 use csv_tables::{Layout, output_of_records};
-use std::alloc::{AllocError, Global};
+use std::alloc::Global;
 
 /// Draws the table of rows into the caller's buffer, as `csvtable` draws records of these texts.
 ///
@@ -72,44 +71,11 @@ pub extern "C" fn comfy_rows_draw(
                 ROOM_TOO_SMALL
             }
         }
-        Err(RowsRefusal::Texts(TextsRefusal::NotUtf8)) => INPUT_REFUSED,
-        Err(RowsRefusal::Texts(TextsRefusal::Lengths)) => LENGTHS_REFUSED,
-        Err(RowsRefusal::Settings) => SETTINGS_REFUSED,
-        Err(RowsRefusal::Texts(TextsRefusal::OutOfMemory)) => OUT_OF_MEMORY,
-        Err(RowsRefusal::OutOfMemory) => OUT_OF_MEMORY,
-    }
-}
-
-// Why rows have no drawing.
-enum RowsRefusal {
-    // Their texts make no records.
-    Texts(TextsRefusal),
-    // Settings or columns ask for nothing that can be drawn.
-    Settings,
-    OutOfMemory,
-}
-
-impl From<AllocError> for RowsRefusal {
-    ghost from_gives = { λ _ refusal. refusal ≡ rows.OutOfMemory };
-
-    fn from(_error: AllocError) -> RowsRefusal {
-        RowsRefusal::OutOfMemory
-    }
-}
-
-impl From<TableError> for RowsRefusal {
-    ghost from_gives = { λ _ refusal. refusal ≡ rows.OutOfMemory };
-
-    fn from(_error: TableError) -> RowsRefusal {
-        RowsRefusal::OutOfMemory
-    }
-}
-
-impl From<TextsRefusal> for RowsRefusal {
-    ghost from_gives = { λ texts refusal. refusal ≡ rows.Texts texts };
-
-    fn from(texts: TextsRefusal) -> RowsRefusal {
-        RowsRefusal::Texts(texts)
+        Err(DrawRefusal::Texts(TextsRefusal::NotUtf8)) => INPUT_REFUSED,
+        Err(DrawRefusal::Texts(TextsRefusal::Lengths)) => LENGTHS_REFUSED,
+        Err(DrawRefusal::Settings) => SETTINGS_REFUSED,
+        Err(DrawRefusal::Texts(TextsRefusal::OutOfMemory)) => OUT_OF_MEMORY,
+        Err(DrawRefusal::OutOfMemory) => OUT_OF_MEMORY,
     }
 }
 
@@ -121,7 +87,7 @@ fn rows_drawing(
     counts: &[usize],
     columns: &[u8],
     settings: &RowsSettings,
-) -> Result<String, RowsRefusal>
+) -> Result<String, DrawRefusal>
     ensures drawn { IfOk result (λ drawing.
         IsRowsDrawing texts.now lengths.now counts.now columns.now settings.now
         (string_bytes drawing)) }
@@ -129,15 +95,15 @@ fn rows_drawing(
         IsRowsRefusal texts.now lengths.now counts.now columns.now settings.now refusal) }
 {
     let Some(look) = settings.look() else {
-        return Err(RowsRefusal::Settings);
+        return Err(DrawRefusal::Settings);
     };
     if !are_bytes(columns) {
-        return Err(RowsRefusal::Settings);
+        return Err(DrawRefusal::Settings);
     }
     let records = records_of(alloc, texts, lengths, counts)?;
     let selection = settings.selection();
     let Some(columns) = columns_of(alloc, columns, selection, &records.rows())? else {
-        return Err(RowsRefusal::Settings);
+        return Err(DrawRefusal::Settings);
     };
     let layout = Layout {
         selection,

@@ -75,7 +75,8 @@ impl RowsSettings {
     }
 }
 
-fn style_at(position: u32) -> Option<TableStyle>
+/// The frame at a position, as `RowsSettings::style` counts them.
+pub(crate) fn style_at(position: u32) -> Option<TableStyle>
     ensures { result ≡ style_at position }
 {
     if position == ROUNDED {
@@ -106,8 +107,8 @@ fn expansion_at(number: u32) -> Option<Expansion>
     }
 }
 
-// A limit; the greatest number stands for none.
-fn limit_of(number: usize) -> Option<usize>
+/// A limit; the greatest number stands for none.
+pub(crate) fn limit_of(number: usize) -> Option<usize>
     ensures { result ≡ limit_of number }
 {
     if number == usize::MAX {

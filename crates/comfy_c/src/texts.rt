@@ -5,6 +5,7 @@ ghost use Rattle.csv_records.specs.CutLists.{cut_by, total};
 ghost use Rattle.comfy_c.specs.declared.texts.TextsRefusal.TheVariants as texts;
 ghost use Rattle.comfy_c.specs.RowCalls.{AddUp, IsTextsRefusal, rows_of};
 
+use comfy_parts::TableError;
 use csv_records::Records;
 use simdutf8::basic::from_utf8;
 use std::alloc::{AllocError, AllocFailed, Global};
@@ -31,6 +32,14 @@ impl<T: Drop> From<AllocFailed<T>> for TextsRefusal {
     ghost from_gives = { λ _ refusal. refusal ≡ texts.OutOfMemory };
 
     fn from(_error: AllocFailed<T>) -> TextsRefusal {
+        TextsRefusal::OutOfMemory
+    }
+}
+
+impl From<TableError> for TextsRefusal {
+    ghost from_gives = { λ _ refusal. refusal ≡ texts.OutOfMemory };
+
+    fn from(_error: TableError) -> TextsRefusal {
         TextsRefusal::OutOfMemory
     }
 }

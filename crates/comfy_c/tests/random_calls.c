@@ -32,7 +32,7 @@ struct caller {
     uint64_t seed;
     long calls, wrong;
     long results[3][6];
-    struct region input, lengths, arguments, output;
+    struct region input, lengths, arguments, columns, output;
 };
 
 static uint64_t next(struct caller *caller) {
@@ -112,7 +112,7 @@ static int is_too_small(const uint8_t *output, size_t room, size_t needed) {
 
 static int is_as_said(uint32_t status, const uint8_t *output, size_t room, size_t needed) {
     switch (status) {
-    case COMFY_DRAWN: return is_put(output, room, needed);
+    case COMFY_DRAWN: return needed <= room && is_untouched(output, needed, room);
     case COMFY_ROOM_TOO_SMALL: return is_too_small(output, room, needed);
     case COMFY_INPUT_REFUSED:
     case COMFY_SETTINGS_REFUSED:
@@ -137,11 +137,6 @@ static uint32_t call_csv(struct caller *caller, size_t length, size_t room, size
     if (count && below(caller, 16) == 0) line[below(caller, count)] = (uint8_t)next(caller);
     memcpy(caller->arguments.end - count, line, count);
     return comfy_csv_draw(caller->input.end - length, length, caller->arguments.end - count, count, caller->output.end - room, room, needed);
-}
-
-static uint32_t call_table(struct caller *caller, size_t length, size_t room, size_t *needed) {
-    uint32_t width = any_number(caller, 120), arrangement = any_number(caller, 3), style = any_number(caller, 13);
-    return comfy_table_draw(caller->input.end - length, length, width, arrangement, style, caller->output.end - room, room, needed);
 }
 
 /* Numbers that mostly add up to a sum, at the end of some pages. */
@@ -173,14 +168,84 @@ static uint32_t call_rows(struct caller *caller, size_t length, size_t room, siz
                            (size_t *)(void *)caller->arguments.end - rows, rows, columns, count, &settings, caller->output.end - room, room, needed);
 }
 
+/* A number that mostly stands for one of a few things. */
+static uint32_t any_of(struct caller *caller, uint32_t count) {
+    return below(caller, 32) ? (uint32_t)below(caller, count) : (uint32_t)next(caller);
+}
+
+static uint32_t any_character(struct caller *caller) {
+    static const uint32_t some[] = {0, ' ', '|', '-', ',', '\n', 0x2502, 0x96e8, 0x301, 0xd800, COMFY_NUL, UINT32_MAX};
+    return below(caller, 3) ? some[below(caller, sizeof some / sizeof *some)] : 0;
+}
+
+static uint16_t any_padding(struct caller *caller) {
+    return (uint16_t)(below(caller, 64) ? below(caller, 3) : any_number(caller, 40));
+}
+
+static struct comfy_width any_width(struct caller *caller) {
+    return (struct comfy_width){(uint16_t)below(caller, 2), (uint16_t)any_number(caller, 40)};
+}
+
+static struct comfy_color any_color(struct caller *caller) {
+    uint64_t bits = next(caller);
+    return (struct comfy_color){(uint8_t)any_of(caller, 4), (uint8_t)bits, (uint8_t)(bits >> 8), (uint8_t)(bits >> 16), (uint8_t)(bits >> 24)};
+}
+
+static struct comfy_line any_line(struct caller *caller) {
+    return (struct comfy_line){any_character(caller), any_character(caller), any_character(caller), any_character(caller)};
+}
+
+static struct comfy_content_line any_content_line(struct caller *caller) {
+    return (struct comfy_content_line){any_character(caller), any_character(caller), any_character(caller)};
+}
+
+/* Cells of the lengths that stand at the end of some pages, in their place. */
+static struct comfy_cell *put_cells(struct caller *caller, size_t count) {
+    size_t lengths[64];
+    memcpy(lengths, caller->lengths.end - count * sizeof(size_t), count * sizeof(size_t));
+    struct comfy_cell *cells = (struct comfy_cell *)(void *)caller->lengths.end - count;
+    for (size_t i = 0; i < count; i++)
+        cells[i] = (struct comfy_cell){lengths[i], any_character(caller), any_of(caller, 4), below(caller, 2) ? 0 : (uint32_t)(next(caller) & next(caller)),
+            any_color(caller), any_color(caller)};
+    return cells;
+}
+
+static struct comfy_row *put_rows(struct caller *caller, size_t count) {
+    size_t counts[64];
+    memcpy(counts, caller->arguments.end - count * sizeof(size_t), count * sizeof(size_t));
+    struct comfy_row *rows = (struct comfy_row *)(void *)caller->arguments.end - count;
+    for (size_t i = 0; i < count; i++) rows[i] = (struct comfy_row){counts[i], any_of(caller, 4)};
+    return rows;
+}
+
+static struct comfy_column *put_columns(struct caller *caller, size_t count) {
+    struct comfy_column *columns = (struct comfy_column *)(void *)caller->columns.end - count;
+    for (size_t i = 0; i < count; i++)
+        columns[i] = (struct comfy_column){any_padding(caller), any_padding(caller), any_character(caller), any_of(caller, 4),
+            any_of(caller, 7), any_width(caller), any_width(caller)};
+    return columns;
+}
+
+static uint32_t call_cells(struct caller *caller, size_t length, size_t room, size_t *needed) {
+    const struct comfy_cells_settings settings = {any_of(caller, 3), below(caller, 4) ? any_of(caller, 14) : COMFY_OWN_STYLE, any_of(caller, 3),
+        any_number(caller, 120), any_character(caller), any_of(caller, 2), any_of(caller, 2), any_of(caller, 2), any_of(caller, 2), any_line(caller),
+        any_content_line(caller), any_line(caller), any_content_line(caller), any_line(caller), any_line(caller)};
+    size_t texts = put_parts(caller, caller->lengths, length, 12), rows = put_parts(caller, caller->arguments, texts, 5), columns = below(caller, 6);
+    const struct comfy_cell *cells = put_cells(caller, texts);
+    const struct comfy_row *all = put_rows(caller, rows);
+    size_t indicator = below(caller, 3) + (below(caller, 32) == 0);
+    return comfy_cells_draw(caller->input.end - length, length, cells, texts, all, rows, put_columns(caller, columns), columns,
+                            (const uint8_t *)"..\xff", indicator, &settings, caller->output.end - room, room, needed);
+}
+
 /* A call of one of the functions. What it reads stands at the ends of its pages, where arguments are written from a copy. */
 static void call(struct caller *caller) {
-    static const char *const names[] = {"table", "csv", "rows"};
+    static const char *const names[] = {"cells", "csv", "rows"};
     size_t length = any_length(caller), room = any_length(caller), needed = KEPT, which = below(caller, 3);
     uint8_t *output = caller->output.end - room;
     fill_input(caller, caller->input.end - length, length);
     memset(output, UNTOUCHED, room);
-    uint32_t status = (which == 0 ? call_table : which == 1 ? call_csv : call_rows)(caller, length, room, &needed);
+    uint32_t status = (which == 0 ? call_cells : which == 1 ? call_csv : call_rows)(caller, length, room, &needed);
     if (status < 6) caller->results[which][status]++;
     if (!(which == 1 ? is_as_said_of_csv : is_as_said)(status, output, room, needed)) {
         caller->wrong++;
@@ -195,13 +260,13 @@ static void *call_often(void *it) {
 }
 
 static struct caller new_caller(uint64_t seed, long calls) {
-    return (struct caller){seed, calls, 0, {{0}, {0}, {0}}, new_region(), new_region(), new_region(), new_region()};
+    return (struct caller){seed, calls, 0, {{0}, {0}, {0}}, new_region(), new_region(), new_region(), new_region(), new_region()};
 }
 
-/* Whether each result came that comes without a refused request for memory. Rows alone have lengths. */
+/* Whether each result came that comes without a refused request for memory. CSV has no lengths. */
 static int has_all(const struct caller *caller) {
     for (int which = 0; which < 3; which++)
-        for (uint32_t status = 0; status < (which == 2 ? 6 : 5); status++)
+        for (uint32_t status = 0; status < (which == 1 ? 5 : 6); status++)
             if (status != COMFY_OUT_OF_MEMORY && !caller->results[which][status]) return 0;
     return 1;
 }

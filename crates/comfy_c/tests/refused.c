@@ -39,9 +39,22 @@ static uint8_t output[8192];
 
 /* Calls that end with one result where memory is there. */
 
-static uint32_t table_is_drawn(size_t *needed) {
-    static const uint8_t input[] = "name\tdays\noats and \xe9\x9b\xa8 more\t3\na\vb\t\t\n";
-    return comfy_table_draw(input, sizeof input - 1, 12, COMFY_DYNAMIC, COMFY_ASCII_FULL, output, sizeof output, needed);
+static uint32_t cells_are_drawn(size_t *needed) {
+    static const uint8_t texts[] = "namedaysoats and \xe9\x9b\xa8 more3";
+    static const struct comfy_cell cells[] = {{.length = 4, .attributes = COMFY_ATTRIBUTE_BOLD}, {.length = 4}, {.length = 17, .delimiter = 'd'},
+        {.length = 1, .foreground = {COMFY_COLOR_NUMBERED, COMFY_RED, 0, 0, 0}}};
+    static const struct comfy_row rows[] = {{2, 0}, {2, 2}};
+    static const struct comfy_column columns[] = {{1, 1, 0, 0, COMFY_CONSTRAINT_UPPER_BOUNDARY, {0, 8}, {0, 0}}, {.left_padding = 1}};
+    const struct comfy_cells_settings settings = {.arrangement = COMFY_DYNAMIC, .width = 20, .has_header = 1, .enforce_styling = 1, .custom_styling = 1};
+    return comfy_cells_draw(texts, sizeof texts - 1, cells, 4, rows, 2, columns, 2, (const uint8_t *)"..", 2, &settings, output, sizeof output, needed);
+}
+
+static uint32_t widths_are_counted(size_t *needed) {
+    static const struct comfy_cell cells[] = {{.length = 4}, {.length = 9}};
+    static const struct comfy_row rows[] = {{2, 0}};
+    static const struct comfy_column columns[] = {{.left_padding = 1}, {.left_padding = 1}};
+    const struct comfy_cells_settings settings = {.form = COMFY_FORM_CONTENT_WIDTHS};
+    return comfy_cells_draw((const uint8_t *)"namedays\n3\n4", 13, cells, 2, rows, 1, columns, 2, NULL, 0, &settings, output, sizeof output, needed);
 }
 
 static uint32_t csv_with(const char *arguments, size_t length, size_t *needed) {
@@ -112,7 +125,8 @@ static long wrong_in(const char *what, uint32_t (*call)(size_t *), uint32_t want
 }
 
 int main(void) {
-    long wrong = wrong_in("a table", table_is_drawn, COMFY_DRAWN);
+    long wrong = wrong_in("cells", cells_are_drawn, COMFY_DRAWN);
+    wrong += wrong_in("widths of cells", widths_are_counted, COMFY_DRAWN);
     wrong += wrong_in("csv", csv_is_drawn, COMFY_DRAWN);
     wrong += wrong_in("expanded records", records_are_drawn, COMFY_DRAWN);
     wrong += wrong_in("markdown", markdown_is_drawn, COMFY_DRAWN);

@@ -18,6 +18,7 @@ pub mod Laws
 pub mod Levels
 pub mod Lines
 pub mod LongestLine
+pub mod MadeTable
 pub mod NewTables
 pub mod Output
 pub mod Parts

@@ -21,6 +21,7 @@ pub use table::Table;
 pub use table::arranged::ArrangedTable;
 pub use table::column_cells::ColumnCellIter;
 pub use table::output::Lines;
+pub use table::parts::TableParts;
 pub use table::terminal::Terminal;
 
 /// A row of values of several types, as an array of their cells: of each value that a cell can be

@@ -14,6 +14,7 @@ pub mod column_cells;
 mod columns;
 pub(crate) mod content;
 pub mod output;
+pub mod parts;
 mod rows;
 mod settings;
 pub mod terminal;

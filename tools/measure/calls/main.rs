@@ -1,101 +1,110 @@
-//! calls [WIDTH]: draws standard input by the original, by `Rows` of the proved library and from CSV, in one process, and
-//! compares. It prints the best time of each out of as many calls as TIMES says, one where it isn't set. With ONLY=original,
-//! ONLY=rows or ONLY=csv it makes one such call alone. The function for CSV gets the same table as CSV.
-use comfy_table::{Cell, ContentArrangement, Row, Table, presets};
-use comfy_table_proved::{Rows, Style, draw_csv};
+//! calls [WIDTH|- [styled]]: draws standard input by the original and by `Table`, `Rows` and `draw_csv` of the proved package, in
+//! one process, and compares. It prints the best time of each out of as many calls as TIMES says, one where it isn't set. With
+//! ONLY=original, ONLY=table, ONLY=rows or ONLY=csv it makes one such call alone. `draw_csv` gets the same table as CSV. With
+//! `styled` a third of the cells are bold and green and stand at the right; only the first two draw them.
+use comfy_table_proved::csvtable::{Rows, Style, draw_csv};
 use std::io::{Read, stdin};
 use std::time::Instant;
 
-fn row(line: &str) -> Row {
-    let mut row = Row::new();
-    for text in line.split('\t') {
-        row.add_cell(Cell::new_owned(text.replace('\u{b}', "\n")));
-    }
-    row
+/// What is drawn, and how.
+struct Input {
+    header: Vec<String>,
+    rows: Vec<Vec<String>>,
+    csv: String,
+    width: Option<u16>,
+    is_styled: bool,
+}
+
+// The cells of a line, between TABs. U+000B stands for a line feed.
+fn cells(line: &str) -> Vec<String> {
+    line.split('\t').map(|text| text.replace('\u{b}', "\n")).collect()
+}
+
+// The same calls of a library that has them.
+macro_rules! by_calls {
+    ($name:ident, $library:ident) => {
+        #[unsafe(no_mangle)]
+        #[inline(never)]
+        fn $name(input: &Input) -> String {
+            use $library::{Attribute, Cell, CellAlignment, Color, ContentArrangement, Row, Table};
+
+            let row = |texts: &Vec<String>| {
+                Row::from(texts.iter().enumerate().map(|(position, text)| {
+                    let cell = Cell::new(text.as_str());
+                    if input.is_styled && position % 3 == 2 {
+                        return cell.add_attribute(Attribute::Bold).fg(Color::Green).set_alignment(CellAlignment::Right);
+                    }
+                    cell
+                }))
+            };
+            let mut table = Table::new();
+            if let Some(width) = input.width {
+                table.set_width(width).set_content_arrangement(ContentArrangement::Dynamic);
+            }
+            if input.is_styled {
+                table.enforce_styling();
+            }
+            table.set_header(row(&input.header)).add_rows(input.rows.iter().map(row));
+            table.to_string()
+        }
+    };
+}
+
+by_calls!(by_original, comfy_table);
+by_calls!(by_table, comfy_table_proved);
+
+#[unsafe(no_mangle)]
+#[inline(never)]
+fn by_rows(input: &Input) -> String {
+    let mut rows = Rows::new(&input.header);
+    rows.extend(&input.rows);
+    let rows = rows.left(0..input.header.len()).expect("columns").style(Style::Ascii);
+    rows.width(input.width.unwrap_or(0)).draw().expect("memory")
 }
 
 #[unsafe(no_mangle)]
 #[inline(never)]
-fn by_original(text: &str, width: Option<u16>) -> String {
-    let mut table = Table::new();
-    table.load_style(presets::ASCII_FULL);
-    if let Some(width) = width {
-        table.set_width(width).set_content_arrangement(ContentArrangement::Dynamic);
-    }
-    let mut lines = text.lines();
-    if let Some(first) = lines.next() {
-        table.set_header(row(first));
-    }
-    for line in lines {
-        table.add_row(row(line));
-    }
-    let mut drawing = String::new();
-    for line in table.lines() {
-        drawing.push_str(&line);
-        drawing.push('\n');
-    }
-    drawing
+fn by_csv(input: &Input) -> String {
+    let width = input.width.unwrap_or(0).to_string();
+    draw_csv(&input.csv, &["-d", ",", "-s", "ASCII_FULL", "--left", "1-", "--expanded", "never", "-w", &width]).expect("memory")
 }
 
-#[unsafe(no_mangle)]
-#[inline(never)]
-fn by_rows(text: &str, width: Option<u16>) -> String {
-    let cells = |line: &str| -> Vec<String> { line.split('\t').map(|text| text.replace('\u{b}', "\n")).collect() };
-    let mut lines = text.lines();
-    let mut rows = Rows::new(cells(lines.next().unwrap_or("")));
-    let mut count = 0;
-    for line in lines {
-        let row = cells(line);
-        count = row.len().max(count);
-        rows.push(row);
-    }
-    let rows = rows.left(0..count).expect("columns").style(Style::Ascii);
-    rows.width(width.unwrap_or(0)).draw().expect("memory")
+// A row of CSV.
+fn record(texts: &Vec<String>) -> String {
+    format!("\"{}\"\n", texts.iter().map(|text| text.replace('"', "\"\"")).collect::<Vec<String>>().join("\",\""))
 }
 
-#[unsafe(no_mangle)]
-#[inline(never)]
-fn by_csv(csv: &str, width: Option<u16>) -> String {
-    let width = width.unwrap_or(0).to_string();
-    draw_csv(csv, &["-d", ",", "-s", "ASCII_FULL", "--left", "1-", "--expanded", "never", "-w", &width]).expect("memory")
-}
-
-// The table as CSV.
-fn csv_of(text: &str) -> String {
-    let mut csv = String::new();
-    for line in text.lines() {
-        let cells: Vec<String> = line.split('\t').map(|text| text.replace('\u{b}', "\n").replace('"', "\"\"")).collect();
-        csv += &format!("\"{}\"\n", cells.join("\",\""));
-    }
-    csv
-}
+const CALLS: [(&str, fn(&Input) -> String); 4] =
+    [("original", by_original), ("table", by_table), ("rows", by_rows), ("csv", by_csv)];
 
 fn main() {
-    let width = std::env::args().nth(1).map(|word| word.parse().expect("a width"));
-    let times = std::env::var("TIMES").map_or(1, |word| word.parse().expect("a number"));
+    let words: Vec<String> = std::env::args().skip(1).collect();
     let mut text = String::new();
     stdin().read_to_string(&mut text).expect("UTF-8 on standard input");
-    let csv = csv_of(&text);
-    if let Ok(library) = std::env::var("ONLY") {
-        let drawing = match library.as_str() {
-            "original" => by_original(&text, width),
-            "rows" => by_rows(&text, width),
-            _ => by_csv(&csv, width),
-        };
-        println!("{} bytes", drawing.len());
+    let mut lines = text.lines().map(cells);
+    let header = lines.next().expect("a header");
+    let rows: Vec<Vec<String>> = lines.collect();
+    let csv = record(&header) + &rows.iter().map(record).collect::<String>();
+    let is_styled = words.get(1).is_some();
+    let input = Input { header, rows, csv, width: words.first().and_then(|word| word.parse().ok()), is_styled };
+    if let Ok(only) = std::env::var("ONLY") {
+        let (_, call) = CALLS.iter().find(|(name, _)| *name == only).expect("one of the names");
+        println!("{} bytes", call(&input).len());
         return;
     }
-    let mut best = [f64::MAX; 3];
-    for _ in 0..times {
-        let calls: [&dyn Fn() -> String; 3] = [&|| by_original(&text, width), &|| by_rows(&text, width), &|| by_csv(&csv, width)];
+    let calls = if is_styled { &CALLS[..2] } else { &CALLS[..] };
+    let mut best = [f64::MAX; CALLS.len()];
+    for _ in 0..std::env::var("TIMES").map_or(1, |word| word.parse().expect("a number")) {
         let mut drawings = Vec::new();
-        for (call, best) in calls.iter().zip(&mut best) {
+        for ((_, call), best) in calls.iter().zip(&mut best) {
             let begun = Instant::now();
-            drawings.push(call());
+            drawings.push(call(&input));
             *best = best.min(begun.elapsed().as_secs_f64());
         }
-        assert!(drawings.iter().all(|drawing| *drawing == drawings[0]), "the drawings differ");
+        assert!(drawings.iter().all(|drawing| drawing.trim_end() == drawings[0]), "the drawings differ");
     }
-    let [original, rows, csv] = best.map(|seconds| seconds * 1e3);
-    println!("{original:.3} ms by the original, {rows:.3} ms by Rows of the proved library, {csv:.3} ms from CSV");
+    for ((name, _), seconds) in calls.iter().zip(best) {
+        print!("  {:.3} ms by {name}", seconds * 1e3);
+    }
+    println!();
 }

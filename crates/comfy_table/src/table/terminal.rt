@@ -36,8 +36,8 @@ pub struct Terminal {
 }
 
 impl Terminal {
-    // A terminal of which nothing is known.
-    pub(crate) const UNKNOWN: Terminal = Terminal {
+    /// A terminal of which nothing is known.
+    pub const UNKNOWN: Terminal = Terminal {
         stdout_is_tty: false,
         stderr_is_tty: false,
         width: None,

@@ -1,0 +1,143 @@
+-- The table that numbers and texts describe, and what is drawn of it.
+-- Source: this library's own.
+use Rattle.std.specs.Prelude.{◌≡◌, ◌⊎◌, ◌<◌, ◌∷◌, ◌++◌, [], ℕ, false, List, All, Option, Some, None, IsUtf8, decimal, drop, flat_map, length, map, slice_get, zip, if◌then◌else◌}
+use Rattle.comfy_parts.specs.CellValue.{CellValue, RowValue}
+use Rattle.comfy_parts.specs.Text.{Text}
+use Rattle.comfy_parts.specs.declared.style.table.ContentArrangement.{ContentArrangement}
+use Rattle.comfy_parts.specs.declared.style.table_style.TableStyle.{TableStyle}
+use Rattle.comfy_table.specs.Headline.{JoinsTrimmedLines, TerminatesLines}
+use Rattle.comfy_table.specs.TableValue.{TableValue, max_content_widths, no_terminal}
+use Rattle.csv_records.specs.CutLists.{cut_by, total}
+use Rattle.comfy_c.specs.Calls.{width_of}
+use Rattle.comfy_c.specs.Numbers.{arrangements, cell_with, char_of, columns_with, row_with, style_for}
+use Rattle.comfy_c.specs.RowCalls.{AddUp, is_set}
+use Rattle.comfy_c.specs.declared.cells_columns.ColumnNumbers.{ColumnNumbers}
+use Rattle.comfy_c.specs.declared.cells_rows.CellNumbers.{CellNumbers}
+use Rattle.comfy_c.specs.declared.cells_rows.RowNumbers.{RowNumbers}
+use Rattle.comfy_c.specs.declared.cells_settings.CellsSettings.{CellsSettings}
+use Rattle.comfy_c.specs.declared.refusal.DrawRefusal.{DrawRefusal}
+use Rattle.comfy_c.specs.declared.refusal.DrawRefusal.TheVariants.{Texts, Settings, OutOfMemory as NoMemory}
+use Rattle.comfy_c.specs.declared.texts.TextsRefusal.{TextsRefusal}
+use Rattle.comfy_c.specs.declared.texts.TextsRefusal.TheVariants.{Lengths, NotUtf8, OutOfMemory}
+
+-- ---- rows
+
+-- how many bytes the texts of cells have
+abbrev pub lengths_of : List CellNumbers → List ℕ
+lengths_of cells = map (λ (cell : CellNumbers). cell.length) cells
+
+-- how many cells rows have
+abbrev pub counts_of : List RowNumbers → List ℕ
+counts_of rows = map (λ (row : RowNumbers). row.cells) rows
+
+-- cells whose texts stand one behind another
+abbrev pub cells_with : List CellNumbers → Text → List CellValue
+cells_with cells texts =
+    map (λ (p : CellNumbers × Text). cell_with p.0 p.1)
+    (zip cells (cut_by (lengths_of cells) texts))
+
+-- rows whose cells stand one behind another
+abbrev pub rows_with : List RowNumbers → List CellValue → List RowValue
+rows_with rows cells =
+    map (λ (p : RowNumbers × List CellValue). row_with p.0 p.1)
+    (zip rows (cut_by (counts_of rows) cells))
+
+-- ---- the table
+
+-- the first row, where it is the header
+abbrev pub header_among : CellsSettings → List RowValue → Option RowValue
+header_among settings rows = if is_set settings.has_header then slice_get rows 0 else None
+
+-- the rows below the header
+abbrev pub below_header : CellsSettings → List RowValue → List RowValue
+below_header settings rows = if is_set settings.has_header then drop 1 rows else rows
+
+-- a table of these, whose width and styles are the caller's: no terminal is asked
+abbrev pub table_with : List RowValue → List ColumnNumbers → Text → CellsSettings → TableStyle
+    → ContentArrangement → TableValue
+table_with rows columns indicator settings style arrangement =
+    record {
+      columns = columns_with columns;
+      header = header_among settings rows;
+      rows = below_header settings rows;
+      style = style;
+      arrangement = arrangement;
+      delimiter = char_of settings.delimiter;
+      indicator = indicator;
+      set_width = width_of settings.width;
+      terminal = no_terminal;
+      no_tty = false;
+      use_stderr = false;
+      enforce_styling = is_set settings.enforce_styling;
+      style_text_only = is_set settings.style_text_only;
+      custom_styling = is_set settings.custom_styling;
+    }
+
+-- the table that numbers and texts describe: these add up, and style and arrangement are known
+pub record IsDescribed (texts : Text) (cells : List CellNumbers) (rows : List RowNumbers)
+    (columns : List ColumnNumbers) (indicator : Text) (settings : CellsSettings)
+    (table : TableValue) : Type 0 where
+  pub add_up : AddUp texts (lengths_of cells) (counts_of rows)
+  pub style : TableStyle
+  pub is_style : style_for settings ≡ Some style
+  pub arrangement : ContentArrangement
+  pub is_arrangement : slice_get arrangements settings.arrangement ≡ Some arrangement
+  pub value : table
+      ≡ table_with (rows_with rows (cells_with cells texts)) columns indicator settings style
+      arrangement
+
+-- ---- drawings
+
+-- numbers in decimal, each with a line feed behind it
+abbrev pub listed : List ℕ → Text
+listed numbers = flat_map (λ number. decimal number ++ 0x0A ∷ []) numbers
+
+-- what is asked for of a table: its lines, its trimmed lines, or the widths of its contents
+abbrev pub IsInForm : ℕ → TableValue → Text → Type 0
+IsInForm form table drawing =
+    (form ≡ 0) × TerminatesLines table drawing
+    ⊎ (form ≡ 1) × JoinsTrimmedLines table drawing
+    ⊎ (form ≡ 2) × (drawing ≡ listed (max_content_widths table))
+
+-- what is asked for of the table that numbers and texts describe
+pub record IsCellsDrawing (texts : Text) (cells : List CellNumbers) (rows : List RowNumbers)
+    (columns : List ColumnNumbers) (indicator : Text) (settings : CellsSettings)
+    (drawing : Text) : Type 0 where
+  pub is_text : IsUtf8 drawing
+  pub table : TableValue
+  pub described : IsDescribed texts cells rows columns indicator settings table
+  pub drawn : IsInForm settings.form table drawing
+
+-- ---- refusals
+
+-- the lengths aren't those of the texts, or the counts not those of the cells
+abbrev pub DoNotAddUp : Text → List CellNumbers → List RowNumbers → Type 0
+DoNotAddUp texts cells rows = ¬ (AddUp texts (lengths_of cells) (counts_of rows))
+
+-- a cell's text isn't UTF-8, or the indicator isn't
+abbrev pub AreNotTexts : Text → List CellNumbers → Text → Type 0
+AreNotTexts texts cells indicator =
+    ¬ (All IsUtf8 (cut_by (lengths_of cells) texts)) ⊎ ¬ (IsUtf8 indicator)
+
+-- the form, the style or the arrangement stands for nothing
+abbrev pub IsUnknown : CellsSettings → Type 0
+IsUnknown settings =
+    (2 < settings.form) ⊎ (style_for settings ≡ None)
+    ⊎ (slice_get arrangements settings.arrangement ≡ None)
+
+-- why there are no texts of these lengths at the front of a block: it is too short, or one of them
+-- isn't UTF-8
+abbrev pub IsFrontRefusal : List ℕ → Text → TextsRefusal → Type 0
+IsFrontRefusal lengths texts Lengths = length texts < total lengths
+IsFrontRefusal lengths texts NotUtf8 = ¬ (All IsUtf8 (cut_by lengths texts))
+IsFrontRefusal lengths texts OutOfMemory = Unit {0}
+
+-- why there is no drawing
+abbrev pub IsCellsRefusal : Text → List CellNumbers → List RowNumbers → Text → CellsSettings
+    → DrawRefusal → Type 0
+IsCellsRefusal texts cells rows indicator settings (Texts Lengths) = DoNotAddUp texts cells rows
+IsCellsRefusal texts cells rows indicator settings (Texts NotUtf8) =
+    AreNotTexts texts cells indicator
+IsCellsRefusal texts cells rows indicator settings (Texts OutOfMemory) = Unit {0}
+IsCellsRefusal texts cells rows indicator settings Settings = IsUnknown settings
+IsCellsRefusal texts cells rows indicator settings NoMemory = Unit {0}

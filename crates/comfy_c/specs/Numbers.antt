@@ -1,0 +1,169 @@
+-- What the numbers of cells, rows, columns and lines stand for.
+-- Source: this library's own.
+use Rattle.std.specs.Prelude.{◌≡◌, ◌||◌, ◌%◌, ◌/◌, ◌-◌, ◌^◌, ◌==◌, nat_lt, ℕ, List, [], ◌∷◌, Option, Some, None, map, slice_index_or, if◌then◌else◌}
+use Rattle.std.specs.Int.{is_in_range}
+use Rattle.std.specs.List.{enumerate_from}
+use Rattle.comfy_parts.specs.CellValue.{CellValue, ColumnValue, RowValue, plain_cell}
+use Rattle.comfy_parts.specs.Text.{Text}
+use Rattle.comfy_parts.specs.declared.style.attribute.Attribute.{Attribute}
+use Rattle.comfy_parts.specs.declared.style.cell.CellAlignment.{CellAlignment}
+use Rattle.comfy_parts.specs.declared.style.cell.CellAlignment.TheVariants.{Center, Left, Right}
+use Rattle.comfy_parts.specs.declared.style.color.Color.{Color}
+use Rattle.comfy_parts.specs.declared.style.color.Color.TheVariants.{AnsiValue, Reset, Rgb}
+use Rattle.comfy_parts.specs.declared.style.column.ColumnConstraint.{ColumnConstraint}
+use Rattle.comfy_parts.specs.declared.style.column.ColumnConstraint.TheVariants.{Absolute, Boundaries, ContentWidth, Hidden, LowerBoundary, UpperBoundary}
+use Rattle.comfy_parts.specs.declared.style.column.Width.{Width}
+use Rattle.comfy_parts.specs.declared.style.column.Width.TheVariants.{Fixed, Percentage}
+use Rattle.comfy_parts.specs.declared.style.table.ContentArrangement.{ContentArrangement}
+use Rattle.comfy_parts.specs.declared.style.table.ContentArrangement.TheVariants.{Disabled, Dynamic, DynamicFullWidth}
+use Rattle.comfy_parts.specs.declared.style.table_style.ContentLineStyle.{ContentLineStyle}
+use Rattle.comfy_parts.specs.declared.style.table_style.LineStyle.{LineStyle}
+use Rattle.comfy_parts.specs.declared.style.table_style.TableStyle.{TableStyle}
+use Rattle.comfy_table.specs.Styling.{all_attributes}
+use Rattle.comfy_c.specs.RowCalls.{is_set, limit_of, style_at}
+use Rattle.comfy_c.specs.declared.cells_columns.ColumnNumbers.{ColumnNumbers}
+use Rattle.comfy_c.specs.declared.cells_columns.WidthNumbers.{WidthNumbers}
+use Rattle.comfy_c.specs.declared.cells_numbers.ColorNumbers.{ColorNumbers}
+use Rattle.comfy_c.specs.declared.cells_rows.CellNumbers.{CellNumbers}
+use Rattle.comfy_c.specs.declared.cells_rows.RowNumbers.{RowNumbers}
+use Rattle.comfy_c.specs.declared.cells_settings.CellsSettings.{CellsSettings}
+use Rattle.comfy_c.specs.declared.cells_settings.ContentLineNumbers.{ContentLineNumbers}
+use Rattle.comfy_c.specs.declared.cells_settings.LineNumbers.{LineNumbers}
+
+-- ---- cells
+
+-- the character of this number: none for 0, and where it is that of none; the number behind the
+-- last character's stands for U+0000
+abbrev pub char_of : ℕ → Option ℕ
+char_of number =
+    if number == 0
+    then None
+    else if number == 0x11_0000
+    then Some 0
+    else if nat_lt number 0xD800 || is_in_range 0xE000 0x10_FFFF number
+    then Some number
+    else None
+
+-- where texts stand, counted from 0, which says nothing
+abbrev pub alignments : List (Option CellAlignment)
+alignments = None ∷ Some Left ∷ Some Right ∷ Some Center ∷ []
+
+abbrev pub alignment_of : ℕ → Option CellAlignment
+alignment_of number = slice_index_or alignments number None
+
+-- the terminal's own colour, one of 256, or one by its parts, counted from 0, which is none
+abbrev pub colors_by : ColorNumbers → List (Option Color)
+colors_by color =
+    None
+    ∷ Some Reset
+    ∷ Some (AnsiValue color.number)
+    ∷ Some (Rgb color.red color.green color.blue)
+    ∷ []
+
+abbrev pub color_of : ColorNumbers → Option Color
+color_of color = slice_index_or (colors_by color) color.kind None
+
+-- those of these attributes whose bits are set; the first one's is worth 1
+abbrev pub attributes_by : List Attribute → ℕ → List Attribute
+attributes_by [] bits = []
+attributes_by (attribute ∷ attributes) bits =
+    if bits % 2 == 1
+    then attribute ∷ attributes_by attributes (bits / 2)
+    else attributes_by attributes (bits / 2)
+
+-- a cell of a text
+abbrev pub cell_with : CellNumbers → Text → CellValue
+cell_with numbers text =
+    record (plain_cell text) {
+      delimiter = char_of numbers.delimiter;
+      alignment = alignment_of numbers.alignment;
+      foreground = color_of numbers.foreground;
+      background = color_of numbers.background;
+      attributes = attributes_by all_attributes numbers.attributes;
+    }
+
+-- a row's greatest height, where it isn't 0 nor the greatest number of 64 bits
+abbrev pub height_of : ℕ → Option ℕ
+height_of number = if number == 0 then None else limit_of number
+
+-- a row of cells
+abbrev pub row_with : RowNumbers → List CellValue → RowValue
+row_with numbers cells = record { cells = cells; max_height = height_of numbers.max_height }
+
+-- ---- columns
+
+abbrev pub width_with : WidthNumbers → Width
+width_with numbers =
+    if is_set numbers.is_percentage then Percentage numbers.value else Fixed numbers.value
+
+-- the constraints by these widths, counted from 0, which is none
+abbrev pub constraints_by : Width → Width → List (Option ColumnConstraint)
+constraints_by width upper =
+    None
+    ∷ Some Hidden
+    ∷ Some ContentWidth
+    ∷ Some (Absolute width)
+    ∷ Some (LowerBoundary width)
+    ∷ Some (UpperBoundary width)
+    ∷ Some (Boundaries width upper)
+    ∷ []
+
+abbrev pub constraint_of : ColumnNumbers → Option ColumnConstraint
+constraint_of numbers =
+    slice_index_or (constraints_by (width_with numbers.width) (width_with numbers.upper))
+    numbers.constraint None
+
+abbrev pub column_with : ℕ → ColumnNumbers → ColumnValue
+column_with index numbers =
+    record {
+      padding = (numbers.left_padding, numbers.right_padding);
+      delimiter = char_of numbers.delimiter;
+      alignment = alignment_of numbers.alignment;
+      constraint = constraint_of numbers;
+      index = index;
+    }
+
+abbrev pub columns_with : List ColumnNumbers → List ColumnValue
+columns_with columns =
+    map (λ (p : ℕ × ColumnNumbers). column_with p.0 p.1) (enumerate_from 0 columns)
+
+-- ---- settings
+
+abbrev pub line_with : LineNumbers → LineStyle
+line_with line =
+    record {
+      left = char_of line.left;
+      fill = char_of line.fill;
+      junction = char_of line.junction;
+      right = char_of line.right;
+    }
+
+abbrev pub content_line_with : ContentLineNumbers → ContentLineStyle
+content_line_with line =
+    record {
+      left = char_of line.left;
+      junction = char_of line.junction;
+      right = char_of line.right;
+    }
+
+-- the frame of a caller's own lines
+abbrev pub own_style : CellsSettings → TableStyle
+own_style settings =
+    record {
+      top_border = line_with settings.top_border;
+      header_lines = content_line_with settings.header_lines;
+      header_separator = line_with settings.header_separator;
+      content_lines = content_line_with settings.content_lines;
+      row_separator = line_with settings.row_separator;
+      bottom_border = line_with settings.bottom_border;
+    }
+
+-- the frame, where its number stands for one; the greatest number of 32 bits stands for that of the
+-- caller's own lines
+abbrev pub style_for : CellsSettings → Option TableStyle
+style_for settings =
+    if settings.style == 2 ^ 32 - 1 then Some (own_style settings) else style_at settings.style
+
+-- the arrangements, counted from 0
+abbrev pub arrangements : List ContentArrangement
+arrangements = Disabled ∷ Dynamic ∷ DynamicFullWidth ∷ []

@@ -1,0 +1,178 @@
+//! Tables of cells with settings of their own.
+
+ghost use Rattle.std.specs.Prelude.{◌≡◌, ◌≢◌, ◌≤◌, ◌<◌, IfErr, IfOk, List, ℕ, drop, length, string_bytes, take};
+ghost use Rattle.comfy_c.specs.CellCalls.{AreNotTexts, DoNotAddUp, IsCellsDrawing, IsCellsRefusal, IsDescribed, IsUnknown, below_header, header_among, listed};
+
+use crate::cells_columns::{ColumnNumbers, columns_of};
+use crate::cells_numbers::char_of;
+use crate::cells_rows::{CellNumbers, RowNumbers, rows_of};
+use crate::cells_settings::CellsSettings;
+use crate::refusal::DrawRefusal;
+use crate::room::{
+    DRAWN, INPUT_REFUSED, LENGTHS_REFUSED, OUT_OF_MEMORY, ROOM_TOO_SMALL, SETTINGS_REFUSED, put,
+};
+use crate::texts::TextsRefusal;
+use comfy_table::{Row, Table, TableParts, Terminal};
+use simdutf8::basic::from_utf8;
+use std::alloc::{AllocError, Global};
+
+// What `CellsSettings::form` asks for.
+
+const LINES: u32 = 0;
+
+const TRIMMED: u32 = 1;
+
+const CONTENT_WIDTHS: u32 = 2;
+
+/// Draws a table into the caller's buffer: one of cells, rows, columns and settings as
+/// `comfy_table::Table` has them.
+///
+/// `texts` are the texts of all cells, one behind another. `cells` has their lengths and settings,
+/// `rows` how many cells each row has, and `columns` the settings of the columns; a cell that has
+/// no column isn't drawn. `indicator` stands behind a line that a row's height cuts.
+///
+/// | Returned | Meaning | `needed` |
+/// |---|---|---|
+/// | 0 | the drawing stands at the front of the buffer | its length in bytes |
+/// | 1 | the buffer is too small | the bytes that the drawing takes |
+/// | 2 | a text or the indicator isn't UTF-8 | unchanged |
+/// | 3 | memory ran out | unchanged |
+/// | 4 | `form`, `style` or `arrangement` stands for nothing | unchanged |
+/// | 5 | lengths or counts don't add up | unchanged |
+///
+/// With 1 to 5 the buffer is unchanged; with 0 it is unchanged behind the drawing.
+#[unsafe(no_mangle)]
+pub extern "C" fn comfy_cells_draw(
+    alloc: Global,
+    texts: &[u8],
+    cells: &[CellNumbers],
+    rows: &[RowNumbers],
+    columns: &[ColumnNumbers],
+    indicator: &[u8],
+    settings: &CellsSettings,
+    output: &mut [u8],
+    needed: &mut usize,
+) -> u32
+    ensures drawn { result ≡ 0
+        → (needed.new ≤ length output.old)
+        × IsCellsDrawing texts.now cells.now rows.now columns.now indicator.now settings.now
+        (take needed.new output.new) }
+    ensures room_too_small { result ≡ 1
+        → (length output.old < needed.new) × (drawing : List ℕ) × (needed.new ≡ length drawing)
+        × IsCellsDrawing texts.now cells.now rows.now columns.now indicator.now settings.now
+        drawing }
+    ensures input_refused { result ≡ 2 → AreNotTexts texts.now cells.now indicator.now }
+    ensures settings_refused { result ≡ 4 → IsUnknown settings.now }
+    ensures lengths_refused { result ≡ 5 → DoNotAddUp texts.now cells.now rows.now }
+    ensures no_other { result ≤ 5 }
+    ensures rest { drop needed.new output.new ≡ drop needed.new output.old }
+    ensures untouched { result ≢ 0 → output.new ≡ output.old }
+    ensures needed_kept { result ≢ 0 → result ≢ 1 → needed.new ≡ needed.old }
+{
+    match cells_drawing(alloc, texts, cells, rows, columns, indicator, settings) {
+        Ok(drawing) => {
+            if put(drawing.as_bytes(), output, needed) {
+                DRAWN
+            } else {
+                ROOM_TOO_SMALL
+            }
+        }
+        Err(DrawRefusal::Texts(TextsRefusal::NotUtf8)) => INPUT_REFUSED,
+        Err(DrawRefusal::Texts(TextsRefusal::Lengths)) => LENGTHS_REFUSED,
+        Err(DrawRefusal::Settings) => SETTINGS_REFUSED,
+        Err(DrawRefusal::Texts(TextsRefusal::OutOfMemory)) => OUT_OF_MEMORY,
+        Err(DrawRefusal::OutOfMemory) => OUT_OF_MEMORY,
+    }
+}
+
+// What is asked for of the table, or why there is none.
+fn cells_drawing(
+    alloc: Global,
+    texts: &[u8],
+    cells: &[CellNumbers],
+    rows: &[RowNumbers],
+    columns: &[ColumnNumbers],
+    indicator: &[u8],
+    settings: &CellsSettings,
+) -> Result<String, DrawRefusal>
+    ensures drawn { IfOk result (λ drawing.
+        IsCellsDrawing texts.now cells.now rows.now columns.now indicator.now settings.now
+        (string_bytes drawing)) }
+    ensures refused { IfErr result (λ refusal.
+        IsCellsRefusal texts.now cells.now rows.now indicator.now settings.now refusal) }
+{
+    let table = table_of(alloc, texts, cells, rows, columns, indicator, settings)?;
+    match settings.form {
+        LINES => Ok(table.to_terminated_text()?),
+        TRIMMED => Ok(table.trim_fmt()?),
+        CONTENT_WIDTHS => Ok(listed(alloc, table.column_max_content_widths()?.as_slice())?),
+        _ => Err(DrawRefusal::Settings),
+    }
+}
+
+// The table that numbers and texts describe.
+fn table_of(
+    alloc: Global,
+    texts: &[u8],
+    cells: &[CellNumbers],
+    rows: &[RowNumbers],
+    columns: &[ColumnNumbers],
+    indicator: &[u8],
+    settings: &CellsSettings,
+) -> Result<Table, DrawRefusal>
+    ensures table { IfOk result
+        (IsDescribed texts.now cells.now rows.now columns.now indicator.now settings.now) }
+    ensures refused { IfErr result (λ refusal.
+        IsCellsRefusal texts.now cells.now rows.now indicator.now settings.now refusal) }
+{
+    let Some(style) = settings.table_style() else {
+        return Err(DrawRefusal::Settings);
+    };
+    let Some(arrangement) = settings.content_arrangement() else {
+        return Err(DrawRefusal::Settings);
+    };
+    let Ok(indicator) = from_utf8(indicator) else {
+        return Err(DrawRefusal::Texts(TextsRefusal::NotUtf8));
+    };
+    let (header, rows) = parted(settings, rows_of(alloc, rows, cells, texts)?);
+    Ok(Table::from_parts(TableParts {
+        columns: columns_of(alloc, columns)?,
+        header,
+        rows,
+        style,
+        arrangement,
+        delimiter: char_of(settings.delimiter),
+        indicator: Some(String::from_str(alloc, indicator)?),
+        set_width: u16::try_from(settings.width).ok(),
+        terminal: Terminal::UNKNOWN,
+        no_tty: false,
+        use_stderr: false,
+        enforce_styling: settings.enforce_styling != 0,
+        style_text_only: settings.style_text_only != 0,
+        custom_styling: settings.custom_styling != 0,
+    }))
+}
+
+// The first row, where it is the header, and the rows below it.
+fn parted(settings: &CellsSettings, mut rows: Vec<Row>) -> (Option<Row>, Vec<Row>)
+    ensures header { result.0 ≡ header_among settings.now rows.items }
+    ensures below { result.1.items ≡ below_header settings.now rows.items }
+{
+    if settings.has_header == 0 || rows.is_empty() {
+        return (None, rows);
+    }
+    let header = rows.remove(0);
+    (Some(header), rows)
+}
+
+// Numbers in decimal, each with a line feed behind it.
+fn listed(alloc: Global, numbers: &[u16]) -> Result<String, AllocError>
+    ensures { IfOk result (λ text. string_bytes text ≡ listed numbers.now) }
+{
+    let mut text = String::new(alloc);
+    for number in numbers {
+        text.push_str(format!(in alloc; "{}", *number)?.as_str())?;
+        text.push('\n')?;
+    }
+    Ok(text)
+}

@@ -1,0 +1,109 @@
+//! What the numbers of a cell stand for.
+
+ghost use Rattle.std.specs.Prelude.{◌≡◌, None, IfOk, slice_index_or};
+ghost use Rattle.comfy_table.specs.Styling.{all_attributes};
+ghost use Rattle.comfy_c.specs.Numbers.{alignments, attributes_by, char_of, color_of};
+
+use comfy_parts::style::{Attribute, CellAlignment, Color};
+use std::alloc::{AllocError, Global};
+
+/// A colour.
+#[derive(Clone, Copy, Debug)]
+#[repr(C)]
+pub struct ColorNumbers {
+    /// 1 for the terminal's own, 2 for the one of 256 that `number` counts, and 3 for one by its
+    /// parts. Any other number stands for none.
+    pub kind: u8,
+    pub number: u8,
+    pub red: u8,
+    pub green: u8,
+    pub blue: u8,
+}
+
+// Stands for U+0000, since 0 stands for no character: the number behind the last character's.
+const NUL: u32 = 0x11_0000;
+
+static ATTRIBUTES: [Attribute; 28] = [
+    Attribute::Reset,
+    Attribute::Bold,
+    Attribute::Dim,
+    Attribute::Italic,
+    Attribute::Underlined,
+    Attribute::DoubleUnderlined,
+    Attribute::Undercurled,
+    Attribute::Underdotted,
+    Attribute::Underdashed,
+    Attribute::SlowBlink,
+    Attribute::RapidBlink,
+    Attribute::Reverse,
+    Attribute::Hidden,
+    Attribute::CrossedOut,
+    Attribute::Fraktur,
+    Attribute::NoBold,
+    Attribute::NormalIntensity,
+    Attribute::NoItalic,
+    Attribute::NoUnderline,
+    Attribute::NoBlink,
+    Attribute::NoReverse,
+    Attribute::NoHidden,
+    Attribute::NotCrossedOut,
+    Attribute::Framed,
+    Attribute::Encircled,
+    Attribute::OverLined,
+    Attribute::NotFramedOrEncircled,
+    Attribute::NotOverLined,
+];
+
+/// The character of this number; none for 0, and where it isn't that of one.
+pub(crate) fn char_of(number: u32) -> Option<char>
+    ensures { result ≡ char_of number }
+{
+    match number {
+        0 => None,
+        NUL => Some('\0'),
+        _ => char::from_u32(number),
+    }
+}
+
+/// Where texts stand.
+pub(crate) fn alignment_of(number: u32) -> Option<CellAlignment>
+    ensures { result ≡ slice_index_or alignments number None }
+{
+    match number {
+        1 => Some(CellAlignment::Left),
+        2 => Some(CellAlignment::Right),
+        3 => Some(CellAlignment::Center),
+        _ => None,
+    }
+}
+
+/// The colour that numbers stand for.
+pub(crate) fn color_of(color: ColorNumbers) -> Option<Color>
+    ensures { result ≡ color_of color }
+{
+    match color.kind {
+        1 => Some(Color::Reset),
+        2 => Some(Color::AnsiValue(color.number)),
+        3 => Some(Color::Rgb {
+            r: color.red,
+            g: color.green,
+            b: color.blue,
+        }),
+        _ => None,
+    }
+}
+
+/// The attributes whose bits are set.
+pub(crate) fn attributes_of(alloc: Global, bits: u32) -> Result<Vec<Attribute>, AllocError>
+    ensures { IfOk result (λ attributes. attributes.items ≡ attributes_by all_attributes bits) }
+{
+    let mut attributes = Vec::new(alloc);
+    let mut rest = bits;
+    for attribute in &ATTRIBUTES {
+        if rest % 2 == 1 {
+            attributes.push(*attribute)?;
+        }
+        rest /= 2;
+    }
+    Ok(attributes)
+}

@@ -1,0 +1,198 @@
+//! The rows of docs/DIFFERENCES.md that can explain why two drawings differ.
+
+use crate::described::{Described, UNDISPUTED};
+use crate::{Drawing, original, proved};
+use std::panic::catch_unwind;
+
+/// A row of the page: whether it speaks of a table, and a table of which it doesn't speak. The original has to draw the latter as
+/// the package draws the table itself, or, where the row is about both libraries, as the package draws the latter.
+struct Row {
+    name: &'static str,
+    speaks_of: fn(&Described) -> bool,
+    remedy: fn(&mut Described),
+    changes: Changes,
+}
+
+#[derive(PartialEq)]
+enum Changes {
+    Original,
+    Both,
+    /// The drawing of the original is changed, as `without_junctions` does.
+    Lines,
+    /// As `Original`, and SGR sequences of both drawings aren't compared.
+    Sequences,
+}
+
+const ROWS: [Row; 8] = [
+    Row {
+        name: "a row with cells that no column knows indexes out of range",
+        speaks_of: |it| (0..it.rows.len()).any(|row| it.cells_in(row) > it.column_count()),
+        remedy: |it| {
+            let count = it.column_count();
+            let mut cells: Vec<usize> = it.rows.iter().map(|row| row.cells.len()).collect();
+            it.late_cells.retain(|(row, _)| {
+                cells[*row] += 1;
+                cells[*row] <= count
+            });
+        },
+        changes: Changes::Original,
+    },
+    Row {
+        name: "a column's position is its public field `index`",
+        speaks_of: |it| it.columns.iter().any(|column| column.index.is_some()),
+        remedy: |it| it.columns.iter_mut().for_each(|column| column.index = None),
+        changes: Changes::Original,
+    },
+    Row {
+        name: "a dynamic arrangement claims 0 for a column without content and stores 1, so a table passes its width",
+        speaks_of: |it| it.arrangement > 0 && it.headers.last().is_some_and(|header| header.cells.len() < it.column_count()),
+        remedy: |it| {
+            let count = it.column_count();
+            it.headers.last_mut().expect("a header").cells.resize_with(count, Default::default);
+        },
+        changes: Changes::Original,
+    },
+    Row {
+        name: "without vertical lines, top and bottom border still have junctions, and are wider than the rows",
+        speaks_of: |it| !it.style.has_junctions(),
+        remedy: |_| (),
+        changes: Changes::Lines,
+    },
+    Row {
+        name: "`ColumnDisplayInfo::width` stops at 65535, and sums in `u16` can overflow",
+        speaks_of: |it| it.columns.iter().any(has_more_than_65535),
+        remedy: |it| it.columns.iter_mut().filter(|column| has_more_than_65535(column)).for_each(|column| column.padding = None),
+        changes: Changes::Both,
+    },
+    Row {
+        name: "texts are measured as by `unicode-width` 0.2.3 and divided as by Unicode 18",
+        speaks_of: |it| it.clone().texts_mut().any(|text| text.chars().any(is_disputed)),
+        remedy: |it| it.texts_mut().for_each(|text| *text = text.chars().map(|it| if is_disputed(it) { 'x' } else { it }).collect()),
+        changes: Changes::Both,
+    },
+    Row {
+        name: "with `custom_styling`, a line's sequences end with its last visible character, and a cut line has none",
+        speaks_of: has_sequences,
+        remedy: |_| (),
+        changes: Changes::Sequences,
+    },
+    Row {
+        name: "with `custom_styling`, what is visible decides where lines break",
+        speaks_of: has_sequences,
+        remedy: |it| it.texts_mut().for_each(|text| *text = visible(text)),
+        changes: Changes::Sequences,
+    },
+];
+
+fn has_more_than_65535(column: &crate::described::DescribedColumn) -> bool {
+    column.padding.is_some_and(|(left, right)| left == u16::MAX || right == u16::MAX)
+}
+
+fn has_sequences(described: &Described) -> bool {
+    cfg!(feature = "custom_styling") && described.clone().texts_mut().any(|text| text.contains("\u{1b}["))
+}
+
+fn is_disputed(character: char) -> bool {
+    let is_of_sequence = cfg!(feature = "custom_styling") && character == '\u{1b}';
+    !(' '..='~').contains(&character) && character != '\n' && !is_of_sequence && !UNDISPUTED.contains(character)
+}
+
+/// The row that explains how what the libraries say of a table differs; a few words where it doesn't differ or several rows do
+/// together, and none where no rows do.
+pub fn between(described: &Described) -> Option<&'static str> {
+    // With `custom_styling` the original closes and resumes sequences in the text of a cell.
+    let text = if cfg!(feature = "custom_styling") { visible } else { str::to_owned };
+    if original::readings(described, text) != proved::readings(described, text) {
+        return None;
+    }
+    let rows: Vec<&Row> = ROWS.iter().filter(|row| (row.speaks_of)(described)).collect();
+    if are_explained(described, &[]) {
+        return Some("the same");
+    }
+    if let Some(row) = rows.iter().find(|row| are_explained(described, &[row])) {
+        return Some(row.name);
+    }
+    are_explained(described, &rows).then_some("several of these rows")
+}
+
+fn are_explained(described: &Described, rows: &[&Row]) -> bool {
+    let (mut ours, mut theirs) = (described.clone(), described.clone());
+    for row in rows {
+        (row.remedy)(&mut theirs);
+        if row.changes == Changes::Both {
+            (row.remedy)(&mut ours);
+        }
+    }
+    let mut drawing = proved::drawing(&ours);
+    let Ok(mut original) = catch_unwind(|| original::drawing(&theirs)) else {
+        return false;
+    };
+    if rows.iter().any(|row| row.changes == Changes::Lines) {
+        original = without_junctions(original, &drawing);
+    }
+    if rows.iter().any(|row| row.changes == Changes::Sequences) {
+        drawing = drawing.without_sequences();
+        original = original.without_sequences();
+    }
+    drawing == original && widths_are_explained(described, rows)
+}
+
+// An empty cell has a width where no cell has none, so widths aren't compared with those of a table with more cells.
+fn widths_are_explained(described: &Described, rows: &[&Row]) -> bool {
+    let (mut ours, mut theirs) = (described.clone(), described.clone());
+    for row in rows {
+        if row.changes == Changes::Both {
+            (row.remedy)(&mut ours);
+            (row.remedy)(&mut theirs);
+        }
+    }
+    let widths = proved::widths(&ours);
+    match catch_unwind(|| original::widths(&theirs)) {
+        Ok(original) => widths == original,
+        Err(_) => {
+            (ROWS[0].remedy)(&mut theirs);
+            rows.iter().any(|row| row.name == ROWS[0].name) && catch_unwind(|| original::widths(&theirs)).is_ok_and(|it| it == widths)
+        }
+    }
+}
+
+impl Drawing {
+    // Trimmed lines are compared by their texts, since a space may stand before a sequence.
+    fn without_sequences(self) -> Drawing {
+        let trimmed: Vec<String> = self.trimmed.split('\n').map(|line| visible(line).trim_end().into()).collect();
+        Drawing { text: visible(&self.text), trimmed: trimmed.join("\n"), lines: self.lines.iter().map(|it| visible(it)).collect() }
+    }
+}
+
+// A text without its SGR sequences.
+fn visible(text: &str) -> String {
+    let mut parts = text.split("\u{1b}[");
+    let first = parts.next().unwrap_or_default().to_owned();
+    parts.fold(first, |text, part| {
+        let behind = part.trim_start_matches(|it: char| it.is_ascii_digit() || it == ';' || it == ':');
+        text + behind.strip_prefix('m').unwrap_or(part)
+    })
+}
+
+// The original's drawing with its first and last line as the package has them, where these only lack spaces.
+fn without_junctions(mut original: Drawing, drawing: &Drawing) -> Drawing {
+    if original.lines.len() != drawing.lines.len() {
+        return original;
+    }
+    let last = original.lines.len().saturating_sub(1);
+    for (at, (line, ours)) in original.lines.iter_mut().zip(&drawing.lines).enumerate() {
+        if (at == 0 || at == last) && lacks_spaces(ours, line) {
+            line.clone_from(ours);
+        }
+    }
+    original.text = original.lines.join("\n");
+    original.trimmed = original.lines.iter().map(|line| line.trim_end()).collect::<Vec<&str>>().join("\n");
+    original
+}
+
+// Whether a line is another one without some of its spaces.
+fn lacks_spaces(line: &str, other: &str) -> bool {
+    let mut left = line.chars().peekable();
+    let are_spaces = other.chars().all(|character| left.next_if_eq(&character).is_some() || character == ' ');
+    are_spaces && left.next().is_none()
+}
