@@ -6,12 +6,13 @@
 //! │ Anna  ┆   11.5 ┆ no   │
 //! │ Marie ┆    9.0 ┆ yes  │
 //! ╰───────┴────────┴──────╯
-use comfy_table_proved::{Paint, Rows};
+use comfy_table_proved::Color;
+use comfy_table_proved::csvtable::Rows;
 
 fn main() {
     let mut boats = Rows::new(["boat", "metres", "leak"]);
     for (name, metres, leaks) in [("Anna", 11.5, false), ("Marie", 9.0, true)] {
         boats.push((name, format!("{metres:.1}"), if leaks { "yes" } else { "no" }));
     }
-    print!("{}", boats.paint(|_, _, text| if text == "yes" { Paint::RED } else { Paint::NONE }));
+    print!("{}", boats.paint(|_, _, cell| if cell.content() == "yes" { cell.fg(Color::Red) } else { cell }));
 }

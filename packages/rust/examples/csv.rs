@@ -1,5 +1,5 @@
 //! Draws CSV of standard input as a table, by the arguments of csvtable: csv [ARGUMENT]..
-use comfy_table_proved::draw_csv;
+use comfy_table_proved::csvtable::draw_csv;
 use std::io::{Read, stdin};
 use std::process::ExitCode;
 

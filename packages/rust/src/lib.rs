@@ -1,56 +1,45 @@
-//! Tables drawn as text, by the library `comfy_table` of Rattle, whose drawing is proved: straight edges, and widths
-//! that hold.
+//! Tables drawn as text, by the calls of the crate comfy-table 8.0.1. What draws is a library whose drawing is proved; the code
+//! of this package isn't proved, but tested.
 //!
 //! ```
-//! use comfy_table_proved::Rows;
+//! use comfy_table_proved::{Table, presets::UTF8_FULL};
 //!
-//! let mut prices = Rows::new(["name", "price"]);
-//! prices.push(("oats", 3));
-//! prices.push(("rye", -12.5));
-//! assert_eq!(prices.to_string(), "\
-//! ╭──────┬───────╮
-//! │ name ┆ price │
-//! ╞══════╪═══════╡
-//! │ oats ┆   3   │
-//! │ rye  ┆ -12.5 │
-//! ╰──────┴───────╯
-//! ");
+//! let mut bikes = Table::new();
+//! bikes.load_style(UTF8_FULL).set_header(["Bike", "Where it stands"]).add_row(["17", "dock 3"]);
+//! assert_eq!(bikes.to_string(), "\
+//! ┌──────┬─────────────────┐
+//! │ Bike ┆ Where it stands │
+//! ╞══════╪═════════════════╡
+//! │ 17   ┆ dock 3          │
+//! └──────┴─────────────────┘");
 //! ```
 //!
-//! [`draw_csv`] takes CSV and the arguments of the program csvtable.
+//! A program that uses comfy-table takes this package in its place by one line of its Cargo.toml, and stays as it is:
+//!
+//! ```toml
+//! comfy-table = { package = "comfy_table_proved", path = "../comfy_table_proved" }
+//! ```
+//!
+//! The module [`csvtable`] has the tables of the program csvtable, of CSV and of rows: columns of numbers stand at the right
+//! there, with their decimal points below each other.
 #![warn(missing_docs)]
 
-mod cells;
+mod cell;
 mod column;
-mod error;
+mod column_cells;
+pub mod csvtable;
 mod library;
-mod paint;
-mod rows;
+mod row;
 mod style;
+mod table;
+#[cfg(feature = "tty")]
 mod terminal;
 
-pub use cells::IntoCells;
+pub use cell::{Cell, Cells};
 pub use column::Column;
-pub use error::Error;
-pub use paint::Paint;
-pub use rows::{Expanded, Rows};
-pub use style::Style;
-
-/// The drawing of CSV, by the arguments of the program csvtable, as `&["-r", "price", "-w", "60"]`.
-///
-/// The input is UTF-8, or in another encoding, which csvtable finds or is told by `-e`. An argument that names a file opens none:
-/// messages have the name. The drawing ends with a line feed, and there is no width but that of `-w`.
-///
-/// ```
-/// let drawing = comfy_table_proved::draw_csv("name,price\noats,3\n", &["-r", "name", "-s", "ascii"]).unwrap();
-/// assert_eq!(drawing, "\
-/// +------+-------+
-/// | name | price |
-/// +==============+
-/// | oats |     3 |
-/// +------+-------+
-/// ");
-/// ```
-pub fn draw_csv(input: impl AsRef<[u8]>, arguments: &[&str]) -> Result<String, Error> {
-    library::draw_csv(input.as_ref(), arguments)
-}
+pub use column_cells::ColumnCellIter;
+pub use row::Row;
+#[cfg(feature = "tty")]
+pub use style::{Attribute, Color};
+pub use style::{CellAlignment, ColumnConstraint, ContentArrangement, ContentLineStyle, LineStyle, TableStyle, Width, presets};
+pub use table::Table;

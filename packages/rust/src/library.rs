@@ -1,27 +1,28 @@
-//! The functions of the library for C.
+//! The functions of the library for C, as comfy_table.h declares them. Nothing compares these declarations with the library that
+//! is linked.
 
-use crate::error::Error;
+pub mod numbers;
 
-/// The settings of comfy_table.h, in its order.
-#[repr(C)]
-pub struct RowsSettings {
-    pub max_height: usize,
-    pub limit: usize,
-    pub style: u32,
-    pub width: u32,
-    pub fills_width: u32,
-    pub row_lines: u32,
-    pub expansion: u32,
-    pub has_header: u32,
-    pub has_bold_header: u32,
-    pub is_numbered: u32,
-    pub aligns_decimals: u32,
-    pub has_sequences: u32,
-    pub is_markdown: u32,
-}
+use numbers::{Cell, CellsSettings, Column, Row, RowsSettings};
 
-// As comfy_table.h declares them. Nothing compares these declarations with the library.
 unsafe extern "C" {
+    fn comfy_cells_draw(
+        texts: *const u8,
+        texts_length: usize,
+        cells: *const Cell,
+        cells_length: usize,
+        rows: *const Row,
+        rows_length: usize,
+        columns: *const Column,
+        columns_length: usize,
+        indicator: *const u8,
+        indicator_length: usize,
+        settings: *const CellsSettings,
+        output: *mut u8,
+        output_length: usize,
+        needed: *mut usize,
+    ) -> u32;
+
     fn comfy_rows_draw(
         texts: *const u8,
         texts_length: usize,
@@ -53,24 +54,63 @@ const DRAWN: u32 = 0;
 const INPUT_REFUSED: u32 = 2;
 const OUT_OF_MEMORY: u32 = 3;
 
-/// The texts of cells, row for row.
+/// Memory ran out.
+#[derive(Debug)]
+pub struct OutOfMemory;
+
+/// A table of cells: the texts of all cells, one behind another, and what is said of each cell, row and column.
+#[derive(Default)]
+pub struct CellTable {
+    pub texts: String,
+    pub cells: Vec<Cell>,
+    pub rows: Vec<Row>,
+    pub columns: Vec<Column>,
+}
+
+/// The drawing of a table of cells. Its lengths and counts add up, and all settings are those of comfy_table.h, so memory alone
+/// can be refused. Where the drawing has more bytes than the room, it is made twice.
+pub fn draw_cells(table: &CellTable, indicator: &str, settings: &CellsSettings, room: usize) -> Result<String, OutOfMemory> {
+    let (status, drawing) = written(room, |output, room, needed| {
+        // SAFETY: the pointers and lengths are those of slices and vectors, which are borrowed for the call and don't overlap, and
+        // of the room for its output. The function asks nothing else of its arguments.
+        unsafe {
+            comfy_cells_draw(
+                table.texts.as_ptr(),
+                table.texts.len(),
+                table.cells.as_ptr(),
+                table.cells.len(),
+                table.rows.as_ptr(),
+                table.rows.len(),
+                table.columns.as_ptr(),
+                table.columns.len(),
+                indicator.as_ptr(),
+                indicator.len(),
+                settings,
+                output,
+                room,
+                needed,
+            )
+        }
+    })?;
+    assert_eq!(status, DRAWN, "comfy_cells_draw refuses a table of this package");
+    Ok(drawing)
+}
+
+/// The texts of rows, one behind another.
 #[derive(Clone, Debug, Default)]
 pub struct Texts {
-    /// The texts, one behind another.
     pub joined: String,
-    /// How many bytes each of them has.
+    /// How many bytes each text has.
     pub lengths: Vec<usize>,
-    /// How many of them each row has.
+    /// How many texts each row has.
     pub counts: Vec<usize>,
 }
 
-/// The drawing of rows of texts, with a byte for each column. All settings are those of comfy_table.h, the lengths and counts add
-/// up, and each byte is for a column that is there; so memory alone can be refused.
-pub fn draw_rows(texts: &Texts, columns: &[u8], settings: &RowsSettings) -> Result<String, Error> {
-    let size = texts.joined.len() + 8 * texts.lengths.len();
-    let (status, text) = written(size, |output, needed| {
-        // SAFETY: the pointers and lengths are those of slices and of a vector, which are borrowed for the call and don't overlap.
-        // The function asks nothing else of its arguments.
+/// The drawing of rows of texts, with a byte for each column that is there. As above, memory alone can be refused.
+pub fn draw_rows(texts: &Texts, columns: &[u8], settings: &RowsSettings) -> Result<String, OutOfMemory> {
+    let room = room_for(texts.joined.len() + 8 * texts.lengths.len());
+    let (status, drawing) = written(room, |output, room, needed| {
+        // SAFETY: as above.
         unsafe {
             comfy_rows_draw(
                 texts.joined.as_ptr(),
@@ -82,57 +122,65 @@ pub fn draw_rows(texts: &Texts, columns: &[u8], settings: &RowsSettings) -> Resu
                 columns.as_ptr(),
                 columns.len(),
                 settings,
-                output.as_mut_ptr(),
-                output.len(),
+                output,
+                room,
                 needed,
             )
         }
     })?;
     assert_eq!(status, DRAWN, "comfy_rows_draw refuses settings of this package");
-    Ok(text)
+    Ok(drawing)
 }
 
-/// The drawing of CSV, by the arguments of csvtable.
-pub fn draw_csv(input: &[u8], arguments: &[&str]) -> Result<String, Error> {
-    if arguments.iter().any(|argument| argument.contains('\0')) {
-        return Err(Error::Arguments("an argument holds a zero byte".into()));
-    }
-    let arguments: String = arguments.iter().flat_map(|argument| [argument, "\0"]).collect();
-    let (status, text) = written(input.len(), |output, needed| {
-        // SAFETY: as above, of two slices and a vector.
+/// What comes of CSV and of arguments of csvtable: a drawing, or what csvtable says.
+pub enum CsvAnswer {
+    Drawing(String),
+    OfInput(String),
+    OfArguments(String),
+}
+
+/// Draws CSV, by arguments each of which ends with a zero byte.
+pub fn draw_csv(input: &[u8], arguments: &str) -> Result<CsvAnswer, OutOfMemory> {
+    let (status, text) = written(room_for(input.len()), |output, room, needed| {
+        // SAFETY: as above.
         unsafe {
             comfy_csv_draw(
                 input.as_ptr(),
                 input.len(),
                 arguments.as_ptr(),
                 arguments.len(),
-                output.as_mut_ptr(),
-                output.len(),
+                output,
+                room,
                 needed,
             )
         }
     })?;
-    match status {
-        DRAWN => Ok(text),
-        INPUT_REFUSED => Err(Error::Input(text)),
-        _ => Err(Error::Arguments(text)),
-    }
+    Ok(match status {
+        DRAWN => CsvAnswer::Drawing(text),
+        INPUT_REFUSED => CsvAnswer::OfInput(text),
+        _ => CsvAnswer::OfArguments(text),
+    })
 }
 
-// What a call returns and writes, in a buffer that has room for it. The size is that of its input.
-fn written(size: usize, mut call: impl FnMut(&mut [u8], &mut usize) -> u32) -> Result<(u32, String), Error> {
-    // Most drawings fit the first buffer. Its pages that stay unused cost nothing.
-    let mut room = size.saturating_mul(4).saturating_add(4096);
+// Room that most drawings of an input of this size fit.
+fn room_for(size: usize) -> usize {
+    size.saturating_mul(4).saturating_add(4096)
+}
+
+// What a call returns and writes, into this room or else into as much as it needs. Pages of the room that stay unused cost
+// nothing.
+fn written(mut room: usize, mut call: impl FnMut(*mut u8, usize, &mut usize) -> u32) -> Result<(u32, String), OutOfMemory> {
     loop {
-        let mut output = vec![0; room];
+        let mut output = Vec::with_capacity(room);
         let mut needed = 0;
-        let status = call(&mut output, &mut needed);
+        let status = call(output.as_mut_ptr(), room, &mut needed);
         if status == OUT_OF_MEMORY {
-            return Err(Error::OutOfMemory);
+            return Err(OutOfMemory);
         }
         if needed <= room {
-            output.truncate(needed);
-            // The functions are proved to write UTF-8, but the library that is linked may be another one.
+            // SAFETY: where the room is enough, the functions write the first `needed` bytes.
+            unsafe { output.set_len(needed) };
+            // They are proved to write UTF-8, but the library that is linked may be another one.
             let text = String::from_utf8(output).expect("libcomfy_c.a writes UTF-8");
             return Ok((status, text));
         }

@@ -1,74 +1,69 @@
-/// The frame of a table: five by the names that csvtable has for them, one for Markdown, and the presets of comfy_table.
-#[derive(Clone, Copy, Debug, Default, PartialEq, Eq)]
-#[non_exhaustive]
-pub enum Style {
-    /// Round corners, and lines between rows only where a row has several lines.
-    #[default]
-    Rounded,
-    /// As `Rounded`, with square corners.
-    Box,
-    /// As `Rounded`, with lines between all rows.
-    Grid,
-    /// ASCII, with lines between all rows.
-    Ascii,
-    /// Spaces alone.
-    Plain,
-    /// A table for Markdown, which keeps to no width.
-    Markdown,
-    /// The preset `ASCII_FULL`.
-    AsciiFull,
-    /// The preset `ASCII_FULL_CONDENSED`.
-    AsciiFullCondensed,
-    /// The preset `ASCII_NO_BORDERS`.
-    AsciiNoBorders,
-    /// The preset `ASCII_BORDERS_ONLY`.
-    AsciiBordersOnly,
-    /// The preset `ASCII_BORDERS_ONLY_CONDENSED`.
-    AsciiBordersOnlyCondensed,
-    /// The preset `ASCII_HORIZONTAL_ONLY`.
-    AsciiHorizontalOnly,
-    /// The preset `ASCII_MARKDOWN`, as a frame alone: `Markdown` escapes texts too.
-    AsciiMarkdown,
-    /// The preset `UTF8_FULL`.
-    Utf8Full,
-    /// The preset `UTF8_FULL_CONDENSED`.
-    Utf8FullCondensed,
-    /// The preset `UTF8_NO_BORDERS`.
-    Utf8NoBorders,
-    /// The preset `UTF8_BORDERS_ONLY`.
-    Utf8BordersOnly,
-    /// The preset `UTF8_HORIZONTAL_ONLY`.
-    Utf8HorizontalOnly,
-    /// The preset `NOTHING`.
-    Nothing,
+//! How tables look.
+
+pub mod presets;
+#[cfg(feature = "tty")]
+mod sequences;
+mod table_style;
+
+#[cfg(feature = "tty")]
+pub use sequences::{Attribute, Color};
+pub use table_style::{ContentLineStyle, LineStyle, TableStyle};
+
+/// Where a text stands in its column.
+///
+/// ```text
+/// | Left           |
+/// |     Center     |
+/// |          Right |
+/// ```
+#[derive(Clone, Copy, Debug, PartialEq, Eq, Hash)]
+pub enum CellAlignment {
+    /// At the left.
+    Left,
+    /// At the right.
+    Right,
+    /// In the middle; where a terminal column is left over, it stands before the text.
+    Center,
 }
 
-// The position of UTF8_FULL with round corners, behind the presets.
-const ROUNDED: u32 = 13;
+/// A constraint on the width of a column.
+#[derive(Clone, Copy, Debug, PartialEq, Eq)]
+pub enum ColumnConstraint {
+    /// The column isn't drawn.
+    Hidden,
+    /// It is as wide as its widest line.
+    ContentWidth,
+    /// It has this width.
+    Absolute(Width),
+    /// It has at least this width.
+    LowerBoundary(Width),
+    /// It has at most this width.
+    UpperBoundary(Width),
+    /// It has at least the one width and at most the other.
+    Boundaries {
+        /// The least width.
+        lower: Width,
+        /// The greatest width.
+        upper: Width,
+    },
+}
 
-impl Style {
-    /// The number that comfy_table.h has for it.
-    pub(crate) fn number(self) -> u32 {
-        match self {
-            Style::Rounded | Style::Grid | Style::Markdown => ROUNDED,
-            Style::Box | Style::Utf8Full => 7,
-            Style::Ascii | Style::AsciiFull => 0,
-            Style::Plain | Style::Nothing => 12,
-            Style::AsciiFullCondensed => 1,
-            Style::AsciiNoBorders => 2,
-            Style::AsciiBordersOnly => 3,
-            Style::AsciiBordersOnlyCondensed => 4,
-            Style::AsciiHorizontalOnly => 5,
-            Style::AsciiMarkdown => 6,
-            Style::Utf8FullCondensed => 8,
-            Style::Utf8NoBorders => 9,
-            Style::Utf8BordersOnly => 10,
-            Style::Utf8HorizontalOnly => 11,
-        }
-    }
+/// The width of a column, with its paddings.
+#[derive(Clone, Copy, Debug, PartialEq, Eq)]
+pub enum Width {
+    /// In terminal columns.
+    Fixed(u16),
+    /// In percent of the table's width without its borders; more than 100 count as 100. It is ignored where no width is known.
+    Percentage(u16),
+}
 
-    /// Whether it has lines between rows only where a row has several lines.
-    pub(crate) fn is_compact(self) -> bool {
-        matches!(self, Style::Rounded | Style::Box)
-    }
+/// How the widths of columns are found.
+#[derive(Clone, Debug)]
+pub enum ContentArrangement {
+    /// By their texts and constraints alone.
+    Disabled,
+    /// So that the table keeps to its width; where no width is known, as `Disabled`.
+    Dynamic,
+    /// So that the table fills its width; where no width is known, as `Disabled`.
+    DynamicFullWidth,
 }

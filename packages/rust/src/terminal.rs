@@ -1,6 +1,10 @@
-//! The width of the terminal.
+//! What is asked of the terminal and the environment.
 
 use std::env;
+use std::fs::File;
+use std::os::fd::{AsFd, AsRawFd};
+use std::io;
+use std::sync::OnceLock;
 
 // As Linux declares it.
 #[repr(C)]
@@ -12,22 +16,27 @@ struct WindowSize {
     height: u16,
 }
 
-const STANDARD_OUTPUT: i32 = 1;
 const GET_WINDOW_SIZE: u64 = 0x5413;
 
 unsafe extern "C" {
     fn ioctl(descriptor: i32, request: u64, ...) -> i32;
 }
 
-/// What `COLUMNS` says, else the terminal that standard output goes to, else 80.
-pub fn columns() -> u16 {
-    let said = env::var("COLUMNS").ok().and_then(|text| text.parse().ok()).filter(|columns| *columns > 0);
-    said.or_else(of_terminal).unwrap_or(80)
+/// How many columns the terminal of the process has, or else the terminal of standard output.
+pub fn columns() -> Option<u16> {
+    let of_process = File::open("/dev/tty").ok().and_then(|terminal| columns_of(&terminal));
+    of_process.or_else(|| columns_of(&io::stdout()))
 }
 
-fn of_terminal() -> Option<u16> {
+fn columns_of(terminal: &impl AsFd) -> Option<u16> {
     let mut size = WindowSize::default();
-    // SAFETY: the request writes a struct of this form, and nothing where it fails.
-    let result = unsafe { ioctl(STANDARD_OUTPUT, GET_WINDOW_SIZE, &raw mut size) };
+    // SAFETY: the descriptor is open, and the request writes a struct of this form, or nothing where it fails.
+    let result = unsafe { ioctl(terminal.as_fd().as_raw_fd(), GET_WINDOW_SIZE, &raw mut size) };
     (result == 0 && size.columns > 0).then_some(size.columns)
+}
+
+/// Whether NO_COLOR asks for no colours, when this is first called.
+pub fn is_without_colors() -> bool {
+    static ANSWER: OnceLock<bool> = OnceLock::new();
+    *ANSWER.get_or_init(|| env::var_os("NO_COLOR").is_some_and(|word| !word.is_empty()))
 }

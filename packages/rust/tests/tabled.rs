@@ -1,5 +1,5 @@
 //! What people write for the crate tabled, as it is written here. Expected drawings are typed by hand.
-use comfy_table_proved::{Paint, Rows, Style};
+use comfy_table_proved::csvtable::{Rows, Style};
 
 struct Language {
     name: &'static str,
@@ -157,16 +157,19 @@ fn options() {
 }
 
 // table.modify(Rows::single(1), Color::FG_RED)
+#[cfg(feature = "tty")]
 #[test]
 fn a_row_in_red() {
+    use comfy_table_proved::Color;
+
     let table = Rows::new(["name"]).row(["oats"]).row(["rye"]);
-    let painted = table.paint(|row, _, _| if row == 1 { Paint::RED } else { Paint::NONE });
+    let painted = table.paint(|row, _, cell| if row == 1 { cell.fg(Color::DarkRed) } else { cell });
     assert_eq!(painted.to_string(), "\
 ╭──────╮
 │ name │
 ╞══════╡
 │ oats │
-│ \u{1b}[31mrye\u{1b}[0m  │
+│ \u{1b}[38;5;1mrye\u{1b}[0m  │
 ╰──────╯
 ");
 }

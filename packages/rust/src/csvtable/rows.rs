@@ -1,10 +1,16 @@
-use crate::cells::IntoCells;
-use crate::column::Column;
-use crate::error::Error;
-use crate::library::{RowsSettings, Texts, draw_rows};
-use crate::paint::Paint;
-use crate::style::Style;
+#[cfg(feature = "tty")]
+use crate::cell::Cell;
+use crate::csvtable::column::Column;
+use crate::csvtable::error::Error;
+use crate::csvtable::into_cells::IntoCells;
+#[cfg(feature = "tty")]
+use crate::csvtable::sequences::between_sequences;
+use crate::csvtable::style::Style;
+use crate::library::{Texts, draw_rows, numbers::RowsSettings};
+#[cfg(feature = "tty")]
 use crate::terminal;
+#[cfg(feature = "tty")]
+use std::env;
 use std::fmt::{self, Display, Write};
 
 /// When a row is drawn as a table of its own, of names and cells.
@@ -32,13 +38,13 @@ const RIGHT: u8 = 2;
 /// `Display` writes what [`Rows::draw`] returns, which ends with a line feed. Where memory runs out, it is an error.
 ///
 /// ```
-/// use comfy_table_proved::{Rows, Style};
+/// use comfy_table_proved::csvtable::{Rows, Style};
 ///
 /// let mut tides = Rows::new(["harbour", "high water"]);
 /// tides.push(("Brest", "07:49"));
 /// tides.push(("Saint-Malo", "09:55"));
 /// print!("{}", tides.right(["high water"])?.width(30).style(Style::Box));
-/// # Ok::<(), comfy_table_proved::Error>(())
+/// # Ok::<(), comfy_table_proved::csvtable::Error>(())
 /// ```
 #[derive(Clone, Debug)]
 pub struct Rows {
@@ -150,9 +156,11 @@ impl Rows {
         self
     }
 
-    /// Keeps to the width of the terminal: what `COLUMNS` says, else what the terminal of standard output has, else 80.
+    /// Keeps to the width that `COLUMNS` says, else to that of the terminal, else to 80.
+    #[cfg(feature = "tty")]
     pub fn terminal_width(self) -> Rows {
-        self.width(terminal::columns())
+        let said = env::var("COLUMNS").ok().and_then(|text| text.parse().ok()).filter(|columns| *columns > 0);
+        self.width(said.or_else(terminal::columns).unwrap_or(80))
     }
 
     /// Whether the width is filled.
@@ -209,16 +217,20 @@ impl Rows {
         self
     }
 
-    /// Paints the cells of the rows that are there, by a function of a row's position, a column's and the cell's text.
+    /// Colours the cells of the rows that are there. The function is given a row's position, a column's, and the cell, and
+    /// returns the cell that stands in its place, of which text, colours and attributes count. They are written wherever the
+    /// table goes.
     ///
     /// ```
-    /// use comfy_table_proved::{Paint, Rows};
+    /// use comfy_table_proved::Color;
+    /// use comfy_table_proved::csvtable::Rows;
     ///
     /// let rows = Rows::new(["name", "change"]).row(("oats", -3)).row(("rye", 2));
-    /// let painted = rows.paint(|_, column, text| if column == 1 && text.starts_with('-') { Paint::RED } else { Paint::NONE });
-    /// assert!(painted.to_string().contains("\x1b[31m-3\x1b[0m"));
+    /// let painted = rows.paint(|_, _, cell| if cell.content().starts_with('-') { cell.fg(Color::Red) } else { cell });
+    /// assert!(painted.to_string().contains("\x1b[38;5;9m-3\x1b[0m"));
     /// ```
-    pub fn paint(mut self, paint_of: impl Fn(usize, usize, &str) -> Paint) -> Rows {
+    #[cfg(feature = "tty")]
+    pub fn paint(mut self, painted: impl Fn(usize, usize, Cell) -> Cell) -> Rows {
         let rows = std::mem::take(&mut self.texts);
         let was_plain = !self.settings.has_sequences;
         self.settings.has_sequences = true;
@@ -226,10 +238,12 @@ impl Rows {
         for (at, row) in rows.rows().enumerate() {
             for (column, text) in row.iter().enumerate() {
                 let text = if was_plain { plain(text) } else { (*text).into() };
-                match at.checked_sub(first) {
-                    Some(row) => self.texts.push_cell(&paint_of(row, column, &text).around(&text)),
-                    None => self.texts.push_cell(&text),
-                }
+                let Some(row) = at.checked_sub(first) else {
+                    self.texts.push_cell(&text);
+                    continue;
+                };
+                let cell = painted(row, column, Cell::new_owned(text));
+                self.texts.push_cell(&between_sequences(&cell, &cell.text));
             }
             self.texts.counts.push(row.len());
         }

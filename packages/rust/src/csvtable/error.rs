@@ -1,3 +1,4 @@
+use crate::library::OutOfMemory;
 use std::fmt;
 
 /// Why there is no drawing.
@@ -31,3 +32,9 @@ impl fmt::Display for Error {
 }
 
 impl std::error::Error for Error {}
+
+impl From<OutOfMemory> for Error {
+    fn from(_: OutOfMemory) -> Error {
+        Error::OutOfMemory
+    }
+}

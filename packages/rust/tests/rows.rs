@@ -1,6 +1,7 @@
 //! Expected drawings are typed by hand. CSVTABLE, where it is set, is the program csvtable: random rows, written here as CSV
 //! with few quotes, have to be drawn as it draws them.
-use comfy_table_proved::{Error, Expanded, Paint, Rows, Style, draw_csv};
+use comfy_table_proved::csvtable::{Error, Expanded, Rows, Style, draw_csv};
+use comfy_table_proved::presets;
 use std::io::Write;
 use std::process::{Command, Stdio};
 
@@ -141,16 +142,30 @@ fn rows_of_many_forms() {
     assert!(Rows::new(["a"]).is_empty());
 }
 
+#[cfg(feature = "tty")]
 #[test]
 fn painted_cells() {
+    use comfy_table_proved::{Attribute, Color};
+
     let rows = Rows::new(["a", "1"]).row((-1, "\x1b"));
-    let painted = rows.style(Style::Ascii).paint(|row, column, text| {
-        assert_eq!((row, [-1, 0][column]), (0, text.parse().unwrap_or(0)));
-        if text == "-1" { Paint::RED.bold() } else { Paint::NONE }
+    let painted = rows.style(Style::Ascii).paint(|row, column, cell| {
+        assert_eq!((row, [-1, 0][column]), (0, cell.content().parse().unwrap_or(0)));
+        if column == 0 { cell.fg(Color::Red).bg(Color::Reset).add_attribute(Attribute::DoubleUnderlined) } else { cell }
     });
-    assert_eq!(painted.to_string(), "+----+---+\n|  a | 1 |\n+========+\n| \x1b[1;31m-1\x1b[0m | \u{fffd} |\n+----+---+\n");
+    let wanted = "+----+---+\n|  a | 1 |\n+========+\n| \x1b[49;38;5;9;4:2m-1\x1b[0m | \u{fffd} |\n+----+---+\n";
+    assert_eq!(painted.to_string(), wanted);
 }
 
+#[test]
+fn presets_are_frames() {
+    let rows = Rows::without_header().row(["a"]);
+    let frame = |style| rows.clone().style(Style::of_preset(style).unwrap()).to_string();
+    assert_eq!(frame(presets::UTF8_FULL), "┌───┐\n│ a │\n└───┘\n");
+    assert_eq!(frame(presets::NOTHING), " a \n");
+    assert_eq!(Style::of_preset(presets::UTF8_FULL.with_rounded_corners()), None);
+}
+
+#[cfg(feature = "tty")]
 #[test]
 fn widths_of_terminals() {
     let lines = Rows::without_header().row(["x"]).terminal_width().full(true).to_string();

@@ -1,0 +1,29 @@
+//! Colours and attributes as SGR sequences.
+
+use crate::cell::Cell;
+use crate::style::Color;
+
+// For each attribute in its order.
+const PARAMETERS: [&str; 28] = [
+    "0", "1", "2", "3", "4", "4:2", "4:3", "4:4", "4:5", "5", "6", "7", "8", "9", "20", "21", "22", "23", "24", "25", "27", "28",
+    "29", "51", "52", "53", "54", "55",
+];
+
+/// A text of a cell between sequences of the cell's colours and attributes, where it has any.
+pub fn between_sequences(cell: &Cell, text: &str) -> String {
+    let foreground = cell.foreground.map(|color| of_color(color, 30));
+    let background = cell.background.map(|color| of_color(color, 40));
+    let attributes = cell.attributes.iter().map(|attribute| PARAMETERS[*attribute as usize].into());
+    let parameters: Vec<String> = background.into_iter().chain(foreground).chain(attributes).collect();
+    if parameters.is_empty() { text.into() } else { format!("\x1b[{}m{text}\x1b[0m", parameters.join(";")) }
+}
+
+// The first parameter is 8 or 9 more than the ground's.
+fn of_color(color: Color, ground: u8) -> String {
+    let (set, reset) = (ground + 8, ground + 9);
+    match (color, color.number()) {
+        (Color::Rgb { r, g, b }, _) => format!("{set};2;{r};{g};{b}"),
+        (_, Some(number)) => format!("{set};5;{number}"),
+        (_, None) => reset.to_string(),
+    }
+}

@@ -1,0 +1,61 @@
+use crate::style::{TableStyle, presets};
+
+/// The frame of a table: one by the names that csvtable has, or a preset.
+#[derive(Clone, Copy, Debug, Default, PartialEq, Eq)]
+#[non_exhaustive]
+pub enum Style {
+    /// Round corners, and lines between rows only where a row has several lines.
+    #[default]
+    Rounded,
+    /// As `Rounded`, with square corners.
+    Box,
+    /// As `Rounded`, with lines between all rows.
+    Grid,
+    /// ASCII, with lines between all rows.
+    Ascii,
+    /// Spaces alone.
+    Plain,
+    /// A table for Markdown, which keeps to no width.
+    Markdown,
+    /// What [`Style::of_preset`] returns.
+    Preset(Preset),
+}
+
+/// One of the [`presets`].
+#[derive(Clone, Copy, Debug, PartialEq, Eq)]
+pub struct Preset(u32);
+
+// The position of UTF8_FULL with round corners, behind the presets.
+const ROUNDED: u32 = presets::ALL.len() as u32;
+
+impl Style {
+    /// The frame of a preset; none for any other style.
+    ///
+    /// ```
+    /// use comfy_table_proved::csvtable::{Rows, Style};
+    /// use comfy_table_proved::presets::UTF8_HORIZONTAL_ONLY;
+    ///
+    /// let rows = Rows::new(["name", "price"]).row(("oats", 3)).style(Style::of_preset(UTF8_HORIZONTAL_ONLY).unwrap());
+    /// assert_eq!(rows.to_string().lines().nth(2), Some("══════════════"));
+    /// ```
+    pub fn of_preset(style: TableStyle) -> Option<Style> {
+        let position = presets::ALL.iter().position(|preset| *preset == style)?;
+        Some(Style::Preset(Preset(position as u32)))
+    }
+
+    /// The number that comfy_table.h has for it.
+    pub(crate) fn number(self) -> u32 {
+        match self {
+            Style::Rounded | Style::Grid | Style::Markdown => ROUNDED,
+            Style::Box => 7,
+            Style::Ascii => 0,
+            Style::Plain => 12,
+            Style::Preset(Preset(position)) => position,
+        }
+    }
+
+    /// Whether it has lines between rows only where a row has several lines.
+    pub(crate) fn is_compact(self) -> bool {
+        matches!(self, Style::Rounded | Style::Box)
+    }
+}

@@ -1,0 +1,111 @@
+//! The structs of comfy_table.h, without its prefix, in its order.
+
+/// The number for a character, where there may be none.
+pub fn of_character(character: Option<char>) -> u32 {
+    match character {
+        None => 0,
+        Some('\0') => NUL,
+        Some(character) => character.into(),
+    }
+}
+
+// Stands for U+0000.
+const NUL: u32 = 0x110000;
+
+#[repr(C)]
+#[derive(Clone, Copy, Default)]
+pub struct Color {
+    pub kind: u8,
+    pub number: u8,
+    pub red: u8,
+    pub green: u8,
+    pub blue: u8,
+}
+
+#[repr(C)]
+pub struct Cell {
+    pub length: usize,
+    pub delimiter: u32,
+    pub alignment: u32,
+    pub attributes: u32,
+    pub foreground: Color,
+    pub background: Color,
+}
+
+#[repr(C)]
+pub struct Row {
+    pub cells: usize,
+    pub max_height: usize,
+}
+
+#[repr(C)]
+#[derive(Clone, Copy, Default)]
+pub struct Width {
+    pub is_percentage: u16,
+    pub value: u16,
+}
+
+#[repr(C)]
+pub struct Column {
+    pub left_padding: u16,
+    pub right_padding: u16,
+    pub delimiter: u32,
+    pub alignment: u32,
+    pub constraint: u32,
+    pub width: Width,
+    pub upper: Width,
+}
+
+#[repr(C)]
+pub struct Line {
+    pub left: u32,
+    pub fill: u32,
+    pub junction: u32,
+    pub right: u32,
+}
+
+#[repr(C)]
+pub struct ContentLine {
+    pub left: u32,
+    pub junction: u32,
+    pub right: u32,
+}
+
+/// Stands for the lines of `CellsSettings`, where a style is asked for.
+pub const OWN_STYLE: u32 = u32::MAX;
+
+#[repr(C)]
+pub struct CellsSettings {
+    pub form: u32,
+    pub style: u32,
+    pub arrangement: u32,
+    pub width: u32,
+    pub delimiter: u32,
+    pub has_header: u32,
+    pub enforce_styling: u32,
+    pub style_text_only: u32,
+    pub custom_styling: u32,
+    pub top_border: Line,
+    pub header_lines: ContentLine,
+    pub header_separator: Line,
+    pub content_lines: ContentLine,
+    pub row_separator: Line,
+    pub bottom_border: Line,
+}
+
+#[repr(C)]
+pub struct RowsSettings {
+    pub max_height: usize,
+    pub limit: usize,
+    pub style: u32,
+    pub width: u32,
+    pub fills_width: u32,
+    pub row_lines: u32,
+    pub expansion: u32,
+    pub has_header: u32,
+    pub has_bold_header: u32,
+    pub is_numbered: u32,
+    pub aligns_decimals: u32,
+    pub has_sequences: u32,
+    pub is_markdown: u32,
+}

@@ -1,0 +1,201 @@
+//! Styles that are ready to be used. There are thirteen:
+//!
+//! ```text
+//! ASCII_FULL            ASCII_FULL_CONDENSED   ASCII_NO_BORDERS
+//! +-------+-------+     +-------+-------+       Hello | there
+//! | Hello | there |     | Hello | there |      ===============
+//! +===============+     +===============+       a     | b
+//! | a     | b     |     | a     | b     |      -------+-------
+//! |-------+-------|     | c     | d     |       c     | d
+//! | c     | d     |     +-------+-------+
+//! +-------+-------+
+//!
+//! ASCII_BORDERS_ONLY    ASCII_HORIZONTAL_ONLY  ASCII_BORDERS_ONLY_CONDENSED
+//! +---------------+     ---------------        +---------------+
+//! | Hello   there |      Hello   there         | Hello   there |
+//! +===============+     ===============        +===============+
+//! | a       b     |      a       b             | a       b     |
+//! |               |     ---------------        | c       d     |
+//! | c       d     |      c       d             +---------------+
+//! +---------------+     ---------------
+//!
+//! ASCII_MARKDOWN        NOTHING
+//! | Hello | there |      Hello  there
+//! |-------|-------|      a      b
+//! | a     | b     |      c      d
+//! | c     | d     |
+//!
+//! UTF8_FULL             UTF8_FULL_CONDENSED    UTF8_NO_BORDERS
+//! ┌───────┬───────┐     ┌───────┬───────┐       Hello ┆ there
+//! │ Hello ┆ there │     │ Hello ┆ there │      ═══════╪═══════
+//! ╞═══════╪═══════╡     ╞═══════╪═══════╡       a     ┆ b
+//! │ a     ┆ b     │     │ a     ┆ b     │      ╌╌╌╌╌╌╌┼╌╌╌╌╌╌╌
+//! ├╌╌╌╌╌╌╌┼╌╌╌╌╌╌╌┤     │ c     ┆ d     │       c     ┆ d
+//! │ c     ┆ d     │     └───────┴───────┘
+//! └───────┴───────┘
+//!
+//! UTF8_BORDERS_ONLY     UTF8_HORIZONTAL_ONLY
+//! ┌───────────────┐     ───────────────
+//! │ Hello   there │      Hello   there
+//! ╞═══════════════╡     ═══════════════
+//! │ a       b     │      a       b
+//! │ c       d     │     ───────────────
+//! └───────────────┘      c       d
+//!                       ───────────────
+//! ```
+
+use crate::style::{ContentLineStyle, LineStyle, TableStyle};
+
+// Below a space stands for no character.
+
+const fn character(character: char) -> Option<char> {
+    if character == ' ' { None } else { Some(character) }
+}
+
+const fn line([left, fill, junction, right]: [char; 4]) -> LineStyle {
+    LineStyle { left: character(left), fill: character(fill), junction: character(junction), right: character(right) }
+}
+
+const fn contents([left, junction, right]: [char; 3]) -> ContentLineStyle {
+    ContentLineStyle { left: character(left), junction: character(junction), right: character(right) }
+}
+
+/// Lines everywhere, in ASCII. A new table has this style.
+pub const ASCII_FULL: TableStyle = TableStyle {
+    top_border: line(['+', '-', '+', '+']),
+    header_lines: contents(['|', '|', '|']),
+    header_separator: line(['+', '=', '=', '+']),
+    content_lines: contents(['|', '|', '|']),
+    row_separator: line(['|', '-', '+', '|']),
+    bottom_border: line(['+', '-', '+', '+']),
+};
+
+/// As `ASCII_FULL`, without lines between rows.
+pub const ASCII_FULL_CONDENSED: TableStyle = TableStyle {
+    top_border: line(['+', '-', '+', '+']),
+    header_lines: contents(['|', '|', '|']),
+    header_separator: line(['+', '=', '=', '+']),
+    content_lines: contents(['|', '|', '|']),
+    row_separator: LineStyle::none(),
+    bottom_border: line(['+', '-', '+', '+']),
+};
+
+/// As `ASCII_FULL`, without lines around the table.
+pub const ASCII_NO_BORDERS: TableStyle = TableStyle {
+    top_border: LineStyle::none(),
+    header_lines: contents([' ', '|', ' ']),
+    header_separator: line([' ', '=', '=', ' ']),
+    content_lines: contents([' ', '|', ' ']),
+    row_separator: line([' ', '-', '+', ' ']),
+    bottom_border: LineStyle::none(),
+};
+
+/// Lines around the table and below the header, in ASCII, and free lines between rows.
+pub const ASCII_BORDERS_ONLY: TableStyle = TableStyle {
+    top_border: line(['+', '-', '-', '+']),
+    header_lines: contents(['|', ' ', '|']),
+    header_separator: line(['+', '=', '=', '+']),
+    content_lines: contents(['|', ' ', '|']),
+    row_separator: line(['|', ' ', ' ', '|']),
+    bottom_border: line(['+', '-', '-', '+']),
+};
+
+/// Lines around the table and below the header, in ASCII.
+pub const ASCII_BORDERS_ONLY_CONDENSED: TableStyle = TableStyle {
+    top_border: line(['+', '-', '-', '+']),
+    header_lines: contents(['|', ' ', '|']),
+    header_separator: line(['+', '=', '=', '+']),
+    content_lines: contents(['|', ' ', '|']),
+    row_separator: LineStyle::none(),
+    bottom_border: line(['+', '-', '-', '+']),
+};
+
+/// Horizontal lines alone, in ASCII.
+pub const ASCII_HORIZONTAL_ONLY: TableStyle = TableStyle {
+    top_border: line([' ', '-', '-', ' ']),
+    header_lines: ContentLineStyle::none(),
+    header_separator: line([' ', '=', '=', ' ']),
+    content_lines: ContentLineStyle::none(),
+    row_separator: line([' ', '-', '-', ' ']),
+    bottom_border: line([' ', '-', '-', ' ']),
+};
+
+/// The lines that Markdown asks for. Texts aren't escaped.
+pub const ASCII_MARKDOWN: TableStyle = TableStyle {
+    top_border: LineStyle::none(),
+    header_lines: contents(['|', '|', '|']),
+    header_separator: line(['|', '-', '|', '|']),
+    content_lines: contents(['|', '|', '|']),
+    row_separator: LineStyle::none(),
+    bottom_border: LineStyle::none(),
+};
+
+/// Lines everywhere.
+pub const UTF8_FULL: TableStyle = TableStyle {
+    top_border: line(['┌', '─', '┬', '┐']),
+    header_lines: contents(['│', '┆', '│']),
+    header_separator: line(['╞', '═', '╪', '╡']),
+    content_lines: contents(['│', '┆', '│']),
+    row_separator: line(['├', '╌', '┼', '┤']),
+    bottom_border: line(['└', '─', '┴', '┘']),
+};
+
+/// As `UTF8_FULL`, without lines between rows.
+pub const UTF8_FULL_CONDENSED: TableStyle = TableStyle {
+    top_border: line(['┌', '─', '┬', '┐']),
+    header_lines: contents(['│', '┆', '│']),
+    header_separator: line(['╞', '═', '╪', '╡']),
+    content_lines: contents(['│', '┆', '│']),
+    row_separator: LineStyle::none(),
+    bottom_border: line(['└', '─', '┴', '┘']),
+};
+
+/// As `UTF8_FULL`, without lines around the table.
+pub const UTF8_NO_BORDERS: TableStyle = TableStyle {
+    top_border: LineStyle::none(),
+    header_lines: contents([' ', '┆', ' ']),
+    header_separator: line([' ', '═', '╪', ' ']),
+    content_lines: contents([' ', '┆', ' ']),
+    row_separator: line([' ', '╌', '┼', ' ']),
+    bottom_border: LineStyle::none(),
+};
+
+/// Lines around the table and below the header.
+pub const UTF8_BORDERS_ONLY: TableStyle = TableStyle {
+    top_border: line(['┌', '─', '─', '┐']),
+    header_lines: contents(['│', ' ', '│']),
+    header_separator: line(['╞', '═', '═', '╡']),
+    content_lines: contents(['│', ' ', '│']),
+    row_separator: LineStyle::none(),
+    bottom_border: line(['└', '─', '─', '┘']),
+};
+
+/// Horizontal lines alone.
+pub const UTF8_HORIZONTAL_ONLY: TableStyle = TableStyle {
+    top_border: line([' ', '─', '─', ' ']),
+    header_lines: ContentLineStyle::none(),
+    header_separator: line([' ', '═', '═', ' ']),
+    content_lines: ContentLineStyle::none(),
+    row_separator: line([' ', '─', '─', ' ']),
+    bottom_border: line([' ', '─', '─', ' ']),
+};
+
+/// No lines.
+pub const NOTHING: TableStyle = TableStyle::new();
+
+// All of them, in the order of comfy_table.h.
+pub(crate) const ALL: [TableStyle; 13] = [
+    ASCII_FULL,
+    ASCII_FULL_CONDENSED,
+    ASCII_NO_BORDERS,
+    ASCII_BORDERS_ONLY,
+    ASCII_BORDERS_ONLY_CONDENSED,
+    ASCII_HORIZONTAL_ONLY,
+    ASCII_MARKDOWN,
+    UTF8_FULL,
+    UTF8_FULL_CONDENSED,
+    UTF8_NO_BORDERS,
+    UTF8_BORDERS_ONLY,
+    UTF8_HORIZONTAL_ONLY,
+    NOTHING,
+];

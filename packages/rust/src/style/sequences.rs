@@ -1,0 +1,139 @@
+//! Colours and attributes of texts in terminals.
+
+/// An attribute of a text in a terminal.
+#[derive(Clone, Copy, Debug, PartialEq, Eq, PartialOrd, Ord, Hash)]
+#[non_exhaustive]
+pub enum Attribute {
+    /// Ends all attributes and colours.
+    Reset,
+    /// Bold, or brighter.
+    Bold,
+    /// Less bright.
+    Dim,
+    /// Italic.
+    Italic,
+    /// Underlined.
+    Underlined,
+    /// Underlined twice.
+    DoubleUnderlined,
+    /// Underlined by a wave.
+    Undercurled,
+    /// Underlined by dots.
+    Underdotted,
+    /// Underlined by dashes.
+    Underdashed,
+    /// Blinks less than 150 times a minute.
+    SlowBlink,
+    /// Blinks 150 times a minute or more.
+    RapidBlink,
+    /// Text and background change their colours.
+    Reverse,
+    /// Not shown.
+    Hidden,
+    /// Crossed out.
+    CrossedOut,
+    /// In blackletter.
+    Fraktur,
+    /// Ends `Bold`.
+    NoBold,
+    /// Ends `Bold` and `Dim`.
+    NormalIntensity,
+    /// Ends `Italic`.
+    NoItalic,
+    /// Ends each kind of underline.
+    NoUnderline,
+    /// Ends both kinds of blinking.
+    NoBlink,
+    /// Ends `Reverse`.
+    NoReverse,
+    /// Ends `Hidden`.
+    NoHidden,
+    /// Ends `CrossedOut`.
+    NotCrossedOut,
+    /// In a frame.
+    Framed,
+    /// In a circle.
+    Encircled,
+    /// With a line above.
+    OverLined,
+    /// Ends `Framed` and `Encircled`.
+    NotFramedOrEncircled,
+    /// Ends `OverLined`.
+    NotOverLined,
+}
+
+/// A colour of a terminal.
+#[derive(Clone, Copy, Debug, PartialEq, Eq, PartialOrd, Ord, Hash)]
+pub enum Color {
+    /// The terminal's own colour.
+    Reset,
+    /// Colour 0 of 256.
+    Black,
+    /// Colour 8 of 256.
+    DarkGrey,
+    /// Colour 9 of 256.
+    Red,
+    /// Colour 1 of 256.
+    DarkRed,
+    /// Colour 10 of 256.
+    Green,
+    /// Colour 2 of 256.
+    DarkGreen,
+    /// Colour 11 of 256.
+    Yellow,
+    /// Colour 3 of 256.
+    DarkYellow,
+    /// Colour 12 of 256.
+    Blue,
+    /// Colour 4 of 256.
+    DarkBlue,
+    /// Colour 13 of 256.
+    Magenta,
+    /// Colour 5 of 256.
+    DarkMagenta,
+    /// Colour 14 of 256.
+    Cyan,
+    /// Colour 6 of 256.
+    DarkCyan,
+    /// Colour 15 of 256.
+    White,
+    /// Colour 7 of 256.
+    Grey,
+    /// A colour by its red, green and blue part.
+    Rgb {
+        /// The red part.
+        r: u8,
+        /// The green part.
+        g: u8,
+        /// The blue part.
+        b: u8,
+    },
+    /// One of 256 colours by its number.
+    AnsiValue(u8),
+}
+
+impl Color {
+    /// Its number, where it is one of 256.
+    pub(crate) fn number(self) -> Option<u8> {
+        Some(match self {
+            Color::Reset | Color::Rgb { .. } => return None,
+            Color::Black => 0,
+            Color::DarkRed => 1,
+            Color::DarkGreen => 2,
+            Color::DarkYellow => 3,
+            Color::DarkBlue => 4,
+            Color::DarkMagenta => 5,
+            Color::DarkCyan => 6,
+            Color::Grey => 7,
+            Color::DarkGrey => 8,
+            Color::Red => 9,
+            Color::Green => 10,
+            Color::Yellow => 11,
+            Color::Blue => 12,
+            Color::Magenta => 13,
+            Color::Cyan => 14,
+            Color::White => 15,
+            Color::AnsiValue(number) => number,
+        })
+    }
+}
