@@ -10,6 +10,7 @@ import doctest
 import io
 import os
 import random
+import re
 import sqlite3
 import subprocess
 import sys
@@ -21,7 +22,7 @@ from collections import namedtuple
 from pathlib import Path
 
 import comfy_table_proved
-from comfy_table_proved import Table, draw_csv, tabulate
+from comfy_table_proved import Cell, Table, draw_csv, tabulate
 
 EXAMPLES = Path(__file__).parent.parent / "examples"
 CSVTABLE = os.environ.get("CSVTABLE")
@@ -354,6 +355,16 @@ class Snippets(unittest.TestCase):
 └───────┴───┘
 """)
 
+    def test_columns_in_the_middle(self):
+        self.expect(tabulate([["one", 1], ["three", 3]], ["word", "n"], colalign=("center", "left"), style="box"), """
+┌───────┬───┐
+│  word ┆ n │
+╞═══════╪═══╡
+│  one  ┆ 1 │
+│ three ┆ 3 │
+└───────┴───┘
+""")
+
     def test_greatest_widths_of_columns(self):
         self.expect(tabulate([["John Smith", "Middle Manager"]], ["Name", "Title"], maxcolwidths=[None, 8], style="box"), """
 ┌────────────┬─────────┐
@@ -451,6 +462,143 @@ class Snippets(unittest.TestCase):
         self.assertEqual(tabulate(array, headers="keys"), tabulate([{"a": 1, "b": 2.5}], headers="keys"))
 
 
+class Settings(unittest.TestCase):
+    """Of columns, rows and cells, and frames of one's own."""
+
+    maxDiff = None
+
+    def expect(self, drawing, wanted):
+        self.assertEqual(drawing, drawn(wanted))
+
+    def test_widths(self):
+        rows = [["oats", "two masts, teak", 3], ["rye", None, 12.5]]
+        self.expect(tabulate(rows, ["name", "note", "n"], colwidths={"name": 6}, style="ascii"), """
++--------+-----------------+------+
+| name   | note            |    n |
++=================================+
+| oats   | two masts, teak |  3   |
+|--------+-----------------+------|
+| rye    |                 | 12.5 |
++--------+-----------------+------+
+""")
+        self.expect(tabulate(rows, mincolwidths=[None, None, 6], maxcolwidths=[3, 10], style="box"), """
+┌─────┬────────────┬────────┐
+│ oat ┆ two masts, ┆    3   │
+│ s   ┆ teak       ┆        │
+├╌╌╌╌╌┼╌╌╌╌╌╌╌╌╌╌╌╌┼╌╌╌╌╌╌╌╌┤
+│ rye ┆            ┆   12.5 │
+└─────┴────────────┴────────┘
+""")
+        # A least and a greatest width hold within that of the table, and numbers stay whole.
+        self.expect(tabulate(rows, mincolwidths={0: 6}, maxcolwidths={1: 12}, width=26, row_lines=False), """
+╭────────┬────────┬──────╮
+│ oats   ┆ two    ┆  3   │
+│        ┆ masts, ┆      │
+│        ┆ teak   ┆      │
+│ rye    ┆        ┆ 12.5 │
+╰────────┴────────┴──────╯
+""")
+
+    def test_padding_and_hidden_columns(self):
+        self.expect(tabulate([["a", "b", "c"]], ["x", "y", "z"], hidden="y", padding={"x": (0, 3), "z": 0}, style="ascii"), """
++----+-+
+|x   |z|
++======+
+|a   |c|
++----+-+
+""")
+        self.assertEqual(tabulate([["a", "b"]], hidden=-1, style="ascii"), "+---+\n| a |\n+---+")
+        self.assertEqual(tabulate([["a"]], padding=(2, 0), style="ascii"), "+---+\n|  a|\n+---+")
+
+    def test_cells(self):
+        rows = [[Cell("wide text"), Cell(-1000, "bold #ff0000 on_blue")], [Cell("x", align="right"), Cell(None, align="center")]]
+        self.expect(tabulate(rows, [Cell("a", "underline", "center"), "b"], style="ascii", intfmt=",", missingval="n/a"), """
++-----------+--------+
+|\x1b[4m     a     \x1b[0m|      b |
++====================+
+| wide text |\x1b[48;5;4m\x1b[38;2;255;0;0m\x1b[1m -1,000 \x1b[0m|
+|-----------+--------|
+|         x |   n/a  |
++-----------+--------+
+""")
+
+    def test_cells_beside_colours_by_value(self):
+        called = []
+        drawing = tabulate([[Cell("a", "on_#010203"), 1]], colors=lambda *asked: called.append(asked) or "red", style="ascii")
+        self.assertEqual(called, [(0, 0, "a"), (0, 1, 1)])
+        self.assertIn("|\x1b[48;2;1;2;3m \x1b[31ma\x1b[0m", drawing)
+        self.assertIn("| \x1b[31m1\x1b[0m |", drawing)
+
+    def test_cells_in_notebooks(self):
+        table = Table([[Cell("x<y", "bold red")]], [Cell("a", "bold")], style="ascii")
+        self.assertEqual(table._repr_html_(), "<pre>\n+-----+\n| a   |\n+=====+\n| x&lt;y |\n+-----+</pre>")
+
+    def test_controls_in_cells(self):
+        self.expect(tabulate([[Cell("a\tb\r\nc"), "\x1b[31m\0"], ["\ufeffid", "\u202e \t|"]], style="box"), """
+┌───────┬────────┐
+│ a   b ┆ \ufffd[31m\ufffd │
+│ c     ┆        │
+├╌╌╌╌╌╌╌┼╌╌╌╌╌╌╌╌┤
+│ \ufeffid    ┆ \ufffd   |  │
+└───────┴────────┘
+""")
+
+    def test_heights_of_rows(self):
+        self.expect(tabulate([["long\nb\nc"], ["d\ne"], ["f\ng"]], max_height=[2, 1], style="ascii", row_lines=False), """
++------+
+| long |
+| b…   |
+| d…   |
+| f    |
+| g    |
++------+
+""")
+
+    def test_a_limit(self):
+        self.assertEqual(tabulate([["a"], ["b", "c"]], limit=1, center=0, style="ascii"), "+---+\n| a |\n+---+\n1 of 2 rows")
+        with self.assertRaises(ValueError):
+            tabulate([["a"]], limit=0, center=0)
+
+    def test_a_frame_of_six_lines(self):
+        frame = ("╔═╦╗", "║ ║║", "╠═╬╣", "║ │║", "╟─┼╢", "╚═╩╝")
+        rows = [["a", "b"], ["c", "d"]]
+        self.expect(tabulate(rows, ["x", "y"], style=frame), """
+╔═══╦═══╗
+║ x ║ y ║
+╠═══╬═══╣
+║ a │ b ║
+╟───┼───╢
+║ c │ d ║
+╚═══╩═══╝
+""")
+        self.assertEqual(tabulate(rows, style=["", "   !", "", "", "", "    "], padding=0), "ab \ncd ")
+
+    def test_what_stands_for_nothing_is_refused(self):
+        for settings, message in [
+            ({"center": "c"}, "no column 'c'"),
+            ({"center": 0, "right": 0}, "the column at position 0 can't stand in the middle and at the right"),
+            ({"colwidths": 0}, "colwidths has whole numbers from 1 to 65533, not 0"),
+            ({"mincolwidths": {1: "2"}}, "mincolwidths has whole numbers from 1 to 65533, not '2'"),
+            ({"colwidths": 2, "maxcolwidths": 3}, "the column at position 0 has a width, and so no least or greatest one"),
+            ({"mincolwidths": 4, "maxcolwidths": 3}, "the column at position 0 has a least width above its greatest"),
+            ({"padding": -1}, "padding is a whole number from 0 to 65535, a pair of them for left and right, or a dict, not -1"),
+            ({"hidden": [0, 1]}, "no column is left that isn't hidden"),
+            ({"max_height": [1, -2]}, "max_height is a whole number from 0 on or None, not -2"),
+            ({"style": ["+-++"]}, "a frame has six lines, each of four printable characters or none, not ['+-++']"),
+            ({"style": ["+-++"] * 6}, "nothing but a space fills a line of texts, so the second character of '+-++' is one"),
+            ({"center": 0, "markdown": True}, "a table for Markdown and expanded rows have no side in the middle"),
+            ({"padding": 0, "expanded": "auto"}, "a table for Markdown and expanded rows have no padding"),
+        ]:
+            with self.assertRaises(ValueError, msg=settings) as caught:
+                tabulate([["x", "y"]], **settings)
+            self.assertEqual(str(caught.exception), message)
+        for arguments in ("x", "pink"), ("x", "on_bold"), ("x", "#12345"), ("x", None, "middle"):
+            with self.assertRaises(ValueError, msg=arguments):
+                Cell(*arguments)
+        with self.assertRaises(TypeError):
+            tabulate([Cell("x")])
+
+
 class Frame:
     """As much of a DataFrame as is used of it."""
 
@@ -513,7 +661,7 @@ class Messages(unittest.TestCase):
         self.expect(ValueError, "expanded is True, False or \"auto\", not 'yes'", expanded="yes")
         self.expect(ValueError, "style and tablefmt both name a frame", style="box", tablefmt="grid")
         self.expect(ValueError, "showindex has 1 values for 2 rows", rows=[[1], [2]], showindex=["a"])
-        self.expect(ValueError, "colalign has \"left\", \"right\", \"decimal\" or None for each column, not 'center'", colalign=["center"])
+        self.expect(ValueError, "colalign has \"left\", \"right\", \"center\", \"decimal\" or None for each column, not 'middle'", colalign=["middle"])
 
     def test_rows(self):
         self.expect(TypeError, "a row is a list of cells, not 1; for one column pass [[value], ..]", rows=[1, 2])
@@ -607,6 +755,31 @@ def by_csvtable(text, words):
     return (ran.stdout + ran.stderr).decode()
 
 
+FRAMES = ["rounded", "box", "ascii", "plain", "ASCII_FULL_CONDENSED", "ASCII_NO_BORDERS", "ASCII_BORDERS_ONLY", "ASCII_MARKDOWN"]
+FRAMES += ["ASCII_BORDERS_ONLY_CONDENSED", "ASCII_HORIZONTAL_ONLY", "UTF8_FULL_CONDENSED", "UTF8_NO_BORDERS", "UTF8_BORDERS_ONLY"]
+
+
+class RandomCells(unittest.TestCase):
+    """A padding of one column at both sides is that of each table, but asks for one whose columns have settings."""
+
+    maxDiff = None
+
+    def test_tables_of_cells_are_drawn_as_tables_of_rows(self):
+        for seed in range(1000):
+            chance = random.Random(seed)
+            rows = [[value, chance.choice(["-12.80", 3, 2.5, "2026-11-27", None])] for row in random_rows(chance) for value in row]
+            settings = {name: value for line in CHOICES for name, value in chance.choice(line)[0].items() if name != "expanded"}
+            settings.setdefault("style", chance.choice(FRAMES))
+            if chance.random() < 0.5:
+                settings["headers"] = "firstrow"
+            if chance.random() < 0.2:
+                settings["colors"] = lambda row, column, value: "red" if row % 2 else None
+            if chance.random() < 0.3:
+                settings["width"] = chance.randint(9, 30)
+            wanted = tabulate(rows, **settings)
+            self.assertEqual(tabulate(rows, padding=(1, 1), **settings), wanted, (seed, rows, settings))
+
+
 @unittest.skipUnless(CSVTABLE, "CSVTABLE isn't set")
 class RandomRows(unittest.TestCase):
     maxDiff = None
@@ -635,11 +808,12 @@ class RandomRows(unittest.TestCase):
 
 
 class Examples(unittest.TestCase):
-    def test_boats(self):
-        program = EXAMPLES / "boats.py"
-        ran = subprocess.run([sys.executable, program], capture_output=True, check=True, env={**os.environ, "PYTHONIOENCODING": "utf-8"})
-        said = program.read_text().split('"""')[1]
-        self.assertEqual(ran.stdout.decode(), said.split("\n\n", 1)[1])
+    def test_they_draw_what_they_say(self):
+        for name in "boats.py", "report.py":
+            program = EXAMPLES / name
+            ran = subprocess.run([sys.executable, program], capture_output=True, check=True, env={**os.environ, "PYTHONIOENCODING": "utf-8"})
+            said = program.read_text().split('"""')[1]
+            self.assertEqual(re.sub("\x1b\\[[0-9;]*m", "", ran.stdout.decode()), said.split("\n\n", 1)[1])
 
 
 def load_tests(loader, tests, pattern):

@@ -9,13 +9,15 @@
     │ rye  ┆ -12.5 │
     ╰──────┴───────╯
 
-`tabulate` draws rows, and `Table` keeps them for more. `draw_csv` takes CSV and the arguments of the program csvtable, and
-`python -m comfy_table_proved FILE` draws a file as that program does. All may be called from several threads.
+`tabulate` draws rows, and `Table` keeps them for more; a `Cell` has colours and a side of its own. `draw_csv` takes CSV and the
+arguments of the program csvtable, and `python -m comfy_table_proved FILE` draws a file as that program does. All may be called
+from several threads.
 """
 
 from ._library import draw_csv
+from ._paints import Cell
 from ._table import Table, tabulate
 
 __version__ = "0.1.0"
 
-__all__ = ["Table", "__version__", "draw_csv", "tabulate"]
+__all__ = ["Cell", "Table", "__version__", "draw_csv", "tabulate"]

@@ -2,15 +2,26 @@
 
 from __future__ import annotations
 
-from typing import Iterable, Optional, Sequence, Union
+from collections.abc import Mapping
+from typing import Any, Iterable, NamedTuple, Optional, Sequence, Union
 
 from ._texts import Column
 
 Columns = Union[Column, Iterable[Column], None]
+Widths = Union[int, Sequence[Optional[int]], Mapping[Column, int], None]
+Padding = Union[int, tuple[int, int], Mapping[Column, Union[int, tuple[int, int]]]]
 
-# What the library has for a column: by its contents, at the left, at the right.
-_BY_CONTENTS, _LEFT, _RIGHT = range(3)
-_SIDES = {None: _BY_CONTENTS, "left": _LEFT, "right": _RIGHT, "decimal": _RIGHT}
+# At which side a column stands: by its contents, at the left, at the right, in the middle. They are the library's numbers, but
+# for rows of texts without the last one.
+BY_CONTENTS, LEFT, RIGHT, CENTER = range(4)
+_SIDES = {None: BY_CONTENTS, "left": LEFT, "right": RIGHT, "decimal": RIGHT, "center": CENTER}
+
+
+class Limits(NamedTuple):
+    """The least and the greatest width of a column's texts, in terminal columns. They are equal where it is fixed."""
+
+    least: Optional[int]
+    greatest: Optional[int]
 
 
 class Layout:
@@ -25,22 +36,66 @@ class Layout:
             return []
         return [self._position_of(it) for it in ([columns] if isinstance(columns, (str, int)) else columns)]
 
-    def sides(self, left: Columns, right: Columns, colalign: Optional[Sequence[Optional[str]]]) -> list[int]:
-        """What is asked of each column."""
+    def chosen(self, columns: Columns, hidden: Columns) -> list[int]:
+        """The positions of the columns that are drawn, in order."""
+        left_out = set(self.positions_of(hidden))
+        positions = [it for it in self.positions_of(columns) or range(self._count) if it not in left_out]
+        if not positions:
+            raise ValueError("no column is left that isn't hidden")
+        return positions
+
+    def sides(self, left: Columns, right: Columns, center: Columns, colalign: Optional[Sequence[Optional[str]]]) -> list[int]:
+        """At which side each column is asked to stand."""
         sides = self._aligned(colalign)
-        at_left, at_right = self.positions_of(left), self.positions_of(right)
-        for position in set(at_left) & set(at_right):
-            raise ValueError(f"the column at position {position} can't stand at the right and at the left")
-        for positions, side in (at_left, _LEFT), (at_right, _RIGHT):
-            for position in positions:
+        asked: dict[int, int] = {}
+        for side, columns in (LEFT, left), (RIGHT, right), (CENTER, center):
+            for position in self.positions_of(columns):
+                other = asked.setdefault(position, side)
+                if other != side:
+                    raise ValueError(f"the column at position {position} can't stand {_PLACES[side]} and {_PLACES[other]}")
                 sides[position] = side
         return sides
 
+    def limits(self, colwidths: Widths, mincolwidths: Widths, maxcolwidths: Widths) -> list[Limits]:
+        """Between which widths the texts of each column are kept."""
+        fixed, least = self.widths(colwidths, "colwidths"), self.widths(mincolwidths, "mincolwidths")
+        limits = []
+        for position, (width, *between) in enumerate(zip(fixed, least, self.widths(maxcolwidths, "maxcolwidths"))):
+            if width is not None and any(it is not None for it in between):
+                raise ValueError(f"the column at position {position} has a width, and so no least or greatest one")
+            found = Limits(width, width) if width is not None else Limits(*between)
+            if found.least is not None and found.greatest is not None and found.least > found.greatest:
+                raise ValueError(f"the column at position {position} has a least width above its greatest")
+            limits.append(found)
+        return limits
+
+    def widths(self, setting: Widths, name: str) -> list[Optional[int]]:
+        """The width that a setting has for each column, in terminal columns of its texts."""
+        widths = self._for_each(setting)
+        for width in widths:
+            if width is not None and not is_whole(width, 1, 65533):
+                raise ValueError(f"{name} has whole numbers from 1 to 65533, not {width!r}")
+        return [None if width is None else int(width) for width in widths]
+
+    def paddings(self, padding: Padding) -> list[tuple[int, int]]:
+        """How many terminal columns are left free at the left and at the right of each column's texts."""
+        asked = self._for_each(padding) if isinstance(padding, Mapping) else [padding] * self._count
+        return [(1, 1) if it is None else _pair_of(it) for it in asked]
+
+    def _for_each(self, setting: Any) -> list[Any]:
+        """What a setting has for each column: one for all, a list with one for each of the first, or a dict by columns."""
+        if isinstance(setting, Mapping):
+            found = {self._position_of(column): value for column, value in setting.items()}
+            return [found.get(position) for position in range(self._count)]
+        if isinstance(setting, Sequence) and not isinstance(setting, str):
+            return [*setting[: self._count], *[None] * (self._count - len(setting))]
+        return [setting] * self._count
+
     def _aligned(self, colalign: Optional[Sequence[Optional[str]]]) -> list[int]:
-        sides = [_BY_CONTENTS] * self._count
+        sides = [BY_CONTENTS] * self._count
         for position, side in enumerate(colalign or ()):
             if side not in _SIDES:
-                raise ValueError(f'colalign has "left", "right", "decimal" or None for each column, not {side!r}')
+                raise ValueError(f'colalign has "left", "right", "center", "decimal" or None for each column, not {side!r}')
             if position < self._count:
                 sides[position] = _SIDES[side]
         return sides
@@ -56,3 +111,18 @@ class Layout:
         if not -self._count <= column < self._count:
             raise ValueError(f"no column {column}")
         return column % self._count
+
+
+_PLACES = {LEFT: "at the left", RIGHT: "at the right", CENTER: "in the middle"}
+
+
+def is_whole(number: Any, least: int, greatest: int) -> bool:
+    return not isinstance(number, bool) and hasattr(number, "__index__") and least <= number <= greatest
+
+
+def _pair_of(padding: Any) -> tuple[int, int]:
+    pair = (padding, padding) if not isinstance(padding, (list, tuple)) else tuple(padding)
+    if len(pair) != 2 or not all(is_whole(it, 0, 65535) for it in pair):
+        wanted = "a whole number from 0 to 65535, a pair of them for left and right, or a dict"
+        raise ValueError(f"padding is {wanted}, not {padding!r}")
+    return int(pair[0]), int(pair[1])

@@ -1,69 +1,91 @@
-"""The names of frames, and the numbers that the library has for them."""
+"""Frames: their names, the numbers that the library has for them, and their characters."""
 
 from __future__ import annotations
 
-from typing import NamedTuple, Optional
+from typing import NamedTuple, Optional, Sequence, Union
+
+Style = Union[str, Sequence[str], None]
 
 # Where lines between rows are drawn: everywhere, where a row has more than one line, nowhere.
 EVERYWHERE, WHERE_NEEDED, NOWHERE = range(3)
 
-_PRESETS = (
-    "ASCII_FULL",
-    "ASCII_FULL_CONDENSED",
-    "ASCII_NO_BORDERS",
-    "ASCII_BORDERS_ONLY",
-    "ASCII_BORDERS_ONLY_CONDENSED",
-    "ASCII_HORIZONTAL_ONLY",
-    "ASCII_MARKDOWN",
-    "UTF8_FULL",
-    "UTF8_FULL_CONDENSED",
-    "UTF8_NO_BORDERS",
-    "UTF8_BORDERS_ONLY",
-    "UTF8_HORIZONTAL_ONLY",
-    "NOTHING",
-)
-_BOX, _NOTHING, _ROUNDED = _PRESETS.index("UTF8_FULL"), _PRESETS.index("NOTHING"), len(_PRESETS)
+# The presets in the order of their numbers, and behind them the rounded frame. Of each the line above, the header's, the one below
+# the header, a row's, the one between rows and the one below; of each line what stands left, what fills it, what stands between
+# columns, and right. A space stands for nothing.
+_PRESETS = {
+    "ASCII_FULL": ("+-++", "| ||", "+==+", "| ||", "|-+|", "+-++"),
+    "ASCII_FULL_CONDENSED": ("+-++", "| ||", "+==+", "| ||", "    ", "+-++"),
+    "ASCII_NO_BORDERS": ("    ", "  | ", " == ", "  | ", " -+ ", "    "),
+    "ASCII_BORDERS_ONLY": ("+--+", "|  |", "+==+", "|  |", "|  |", "+--+"),
+    "ASCII_BORDERS_ONLY_CONDENSED": ("+--+", "|  |", "+==+", "|  |", "    ", "+--+"),
+    "ASCII_HORIZONTAL_ONLY": (" -- ", "    ", " == ", "    ", " -- ", " -- "),
+    "ASCII_MARKDOWN": ("    ", "| ||", "|-||", "| ||", "    ", "    "),
+    "UTF8_FULL": ("┌─┬┐", "│ ┆│", "╞═╪╡", "│ ┆│", "├╌┼┤", "└─┴┘"),
+    "UTF8_FULL_CONDENSED": ("┌─┬┐", "│ ┆│", "╞═╪╡", "│ ┆│", "    ", "└─┴┘"),
+    "UTF8_NO_BORDERS": ("    ", "  ┆ ", " ═╪ ", "  ┆ ", " ╌┼ ", "    "),
+    "UTF8_BORDERS_ONLY": ("┌──┐", "│  │", "╞══╡", "│  │", "    ", "└──┘"),
+    "UTF8_HORIZONTAL_ONLY": (" ── ", "    ", " ══ ", "    ", " ── ", " ── "),
+    "NOTHING": ("    ",) * 6,
+    "": ("╭─┬╮", "│ ┆│", "╞═╪╡", "│ ┆│", "├╌┼┤", "╰─┴╯"),
+}
+_NUMBERS = {name: number for number, name in enumerate(_PRESETS)}
 
 
 class Frame(NamedTuple):
-    """The characters of a frame, and where its lines between rows are drawn."""
+    """The characters of a frame, the number that the library has for them, if any, and where lines between rows are drawn."""
 
-    number: int
+    lines: tuple[str, ...]
+    number: Optional[int]
     row_lines: int = EVERYWHERE
 
+    def without_row_lines(self) -> Frame:
+        return self._replace(lines=(*self.lines[:4], "    ", self.lines[5]), number=None)
 
+    def border_width(self, columns: int) -> int:
+        """The terminal columns of all borders of a line across so many columns."""
+        left, _, junction, right = (any(line[at] != " " for line in self.lines) for at in range(4))
+        return left + right + (columns - 1 if junction else 0)
+
+
+def _preset(name: str, row_lines: int = EVERYWHERE) -> Frame:
+    return Frame(_PRESETS[name], _NUMBERS[name], row_lines)
+
+
+NOTHING = _preset("NOTHING")
 _STYLES = {
-    "rounded": Frame(_ROUNDED, WHERE_NEEDED),
-    "box": Frame(_BOX, WHERE_NEEDED),
-    "grid": Frame(_ROUNDED),
-    "ascii": Frame(0),
-    "plain": Frame(_NOTHING),
+    "rounded": _preset("", WHERE_NEEDED),
+    "box": _preset("UTF8_FULL", WHERE_NEEDED),
+    "grid": _preset(""),
+    "ascii": _preset("ASCII_FULL"),
+    "plain": NOTHING,
 }
-_STYLES.update({name.lower(): Frame(number) for number, name in enumerate(_PRESETS)})
+_STYLES.update({name.lower(): _preset(name) for name in _PRESETS if name})
 
 # Frames of tabulate beside those that draw the same lines, some in other characters.
 _TABLEFMTS = {
     "plain": _STYLES["plain"],
     "grid": _STYLES["ascii"],
-    "outline": Frame(0, NOWHERE),
-    "psql": Frame(0, NOWHERE),
-    "simple_grid": Frame(_BOX),
-    "simple_outline": Frame(_BOX, NOWHERE),
-    "fancy_grid": Frame(_BOX),
-    "fancy_outline": Frame(_BOX, NOWHERE),
-    "rounded_grid": Frame(_ROUNDED),
-    "rounded_outline": Frame(_ROUNDED, NOWHERE),
+    "outline": _preset("ASCII_FULL", NOWHERE),
+    "psql": _preset("ASCII_FULL", NOWHERE),
+    "simple_grid": _preset("UTF8_FULL"),
+    "simple_outline": _preset("UTF8_FULL", NOWHERE),
+    "fancy_grid": _preset("UTF8_FULL"),
+    "fancy_outline": _preset("UTF8_FULL", NOWHERE),
+    "rounded_grid": _preset(""),
+    "rounded_outline": _preset("", NOWHERE),
 }
 _MARKDOWN_TABLEFMTS = ("github", "pipe")
 
 
-def frame_of(style: object, tablefmt: object) -> Optional[Frame]:
-    """The frame of a name; None for a table for Markdown."""
+def frame_of(style: Style, tablefmt: object) -> Optional[Frame]:
+    """The frame of a name or of lines; None for a table for Markdown."""
     if tablefmt is not None:
         if style is not None:
             raise ValueError("style and tablefmt both name a frame")
         return _frame_of_tablefmt(tablefmt)
     name = "rounded" if style is None else style
+    if isinstance(name, (list, tuple)):
+        return _frame_of_lines(name)
     if isinstance(name, str):
         if name.lower() == "markdown":
             return None
@@ -73,6 +95,16 @@ def frame_of(style: object, tablefmt: object) -> Optional[Frame]:
     raise ValueError(
         f'style is one of rounded, box, grid, ascii, plain, markdown or a preset such as "UTF8_FULL", not {name!r}{hint}'
     )
+
+
+def _frame_of_lines(given: Sequence[object]) -> Frame:
+    lines = [line if line else "    " for line in given]
+    if len(lines) != 6 or not all(isinstance(line, str) and len(line) == 4 and line.isprintable() for line in lines):
+        raise ValueError(f"a frame has six lines, each of four printable characters or none, not {given!r}")
+    for at in 1, 3:
+        if str(lines[at])[1] != " ":
+            raise ValueError(f"nothing but a space fills a line of texts, so the second character of {lines[at]!r} is one")
+    return Frame(tuple(map(str, lines)), None)
 
 
 def _frame_of_tablefmt(name: object) -> Optional[Frame]:

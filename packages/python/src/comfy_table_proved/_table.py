@@ -7,24 +7,26 @@ import html
 import shutil
 from typing import Any, Iterable, NoReturn, Optional, Sequence, Union
 
-from ._columns import Columns, Layout
+from ._cells import CellsTable, ColumnSettings, drawing_of
+from ._columns import Columns, Layout, Padding, Widths, is_whole
 from ._library import NO_LIMIT, NO_WIDTH, RowsSettings, draw_rows
-from ._rows import Headers, ShowIndex, kept, values_of
-from ._styles import EVERYWHERE, NOWHERE, frame_of
-from ._texts import Colors, Texts, Writer
+from ._paints import Cell
+from ._rows import Headers, ShowIndex, Values, kept, values_of
+from ._styles import EVERYWHERE, NOWHERE, Frame, Style, frame_of
+from ._texts import Colors, Text, Texts, Writer, cell_of
 from ._wrapping import wrapped
 
 Width = Union[int, str, None]
-Widths = Union[int, Sequence[Optional[int]], None]
+Heights = Union[int, Sequence[Optional[int]], None]
 
 # What other settings of tabulate are beside those that are here.
 _INSTEAD = {
     "numalign": "left, right and align_decimals",
-    "stralign": "left and right",
-    "colglobalalign": "left, right and colalign",
-    "headersalign": "left and right",
-    "headersglobalalign": "left and right",
-    "rowalign": "left and right",
+    "stralign": "left, right and center",
+    "colglobalalign": "left, right, center and colalign",
+    "headersalign": "Cell",
+    "headersglobalalign": "Cell",
+    "rowalign": "Cell",
     "disable_numparse": "left",
     "maxheadercolwidths": "maxcolwidths",
     "preserve_whitespace": "nothing; spaces stay",
@@ -34,7 +36,7 @@ _INSTEAD = {
 def tabulate(
     rows: Any,
     headers: Headers = None,
-    tablefmt: str | None = None,
+    tablefmt: Optional[str] = None,
     floatfmt: Texts = None,
     *,
     intfmt: Texts = None,
@@ -42,57 +44,72 @@ def tabulate(
     showindex: ShowIndex = "default",
     left: Columns = None,
     right: Columns = None,
-    colalign: Sequence[Optional[str]] | None = None,
+    center: Columns = None,
+    colalign: Optional[Sequence[Optional[str]]] = None,
     align_decimals: bool = True,
     columns: Columns = None,
+    hidden: Columns = None,
     width: Width = None,
     full: bool = False,
+    colwidths: Widths = None,
+    mincolwidths: Widths = None,
     maxcolwidths: Widths = None,
-    max_height: int | None = None,
-    limit: int | None = None,
-    style: str | None = None,
-    row_lines: bool | None = None,
-    expanded: bool | str = False,
+    padding: Padding = 1,
+    max_height: Heights = None,
+    limit: Optional[int] = None,
+    style: Style = None,
+    row_lines: Optional[bool] = None,
+    expanded: Union[bool, str] = False,
     markdown: bool = False,
     bold_header: bool = False,
-    colors: Colors | None = None,
+    colors: Optional[Colors] = None,
     **others: NoReturn,
 ) -> str:
     """The drawing of rows as a table, without a line feed at its end.
 
     rows: a list of rows. A row is a list or whatever else can be iterated, or has keys: a dict, a dataclass, a named tuple, a
         sqlite3.Row. Or a dict of columns, a cursor, a DataFrame, a Series or an array. Rows may have different lengths.
-        `None` is an empty cell, and other values are drawn by `str`.
+        `None` is an empty cell, and other values are drawn by `str`. A `Cell` is a value with colours and a side of its own, in
+        `headers` too.
 
     headers: "keys" of the rows, the "firstrow", a list, a dict that names keys anew, or None for no header.
     tablefmt: a frame by the name that the package tabulate has for it: "grid", "outline", "psql", "simple_grid",
         "simple_outline", "fancy_grid", "fancy_outline", "rounded_grid", "rounded_outline", "plain", "github", "pipe". Lines are
         drawn at the same places, some of other characters.
     style: a frame by name: "rounded" (without it), "box", "grid", "ascii", "plain" or a preset, as "UTF8_FULL"; "markdown" is as
-        `markdown=True`.
+        `markdown=True`. Or a frame of your own, by six lines of four characters: ("╭─┬╮", "│ ┆│", "╞═╪╡", "│ ┆│", "├╌┼┤", "╰─┴╯")
+        are the lines above the table, of the header, below it, of a row, between rows and below the table. The characters stand
+        at the left, all along, between columns and at the right; a space stands for none, and "" for no line.
     floatfmt, intfmt, missingval: how floats and ints are written, as ".2f" and ",", and what stands for `None`: one text for all
         columns, or a list with one for each column.
     showindex: True puts a column with the number of each row in front, counted from 0, or the index of a DataFrame; a list puts
         its values there; "default" does so where rows have an index.
 
-    left, right, columns: a column, or a list of them, by name or position. Names are those of the header. Positions count from
-        0, and from -1 at the end. `columns` chooses which are drawn, in which order. A column in neither `left` nor `right`
-        stands at the right where its values are numbers, negative ones and amounts of money too.
-    colalign: the sides of the first columns, as ("left", "right").
+    left, right, center, columns, hidden: a column, or a list of them, by name or position. Names are those of the header.
+        Positions count from 0, and from -1 at the end. `columns` chooses which are drawn, in which order, and `hidden` which
+        aren't. A column in none of the first three stands at the right where its values are numbers, negative ones and amounts
+        of money too.
+    colalign: the sides of the first columns, as ("left", "right", "center").
     align_decimals: decimal points of a column of numbers stand below each other; False leaves them where they are.
     width: so many terminal columns are kept to; "terminal" is the width of the terminal; with None no width is kept.
-        `full=True` fills it.
-    maxcolwidths: how many terminal columns a column's texts take at most, for all columns, or a list with a number or None for
-        each column.
-    max_height: how many lines a row below the header has at most.
+        `full=True` fills it, and makes columns with widths of their own wider where no other is there.
+    colwidths, mincolwidths, maxcolwidths: how many terminal columns a column's texts take, take at least, or at most: a number for
+        all columns, a list with a number or None for each column, or a dict of columns by name or position.
+    padding: how many terminal columns stay free beside texts, at the left and at the right: a number, a pair for left and right,
+        or a dict of such by columns.
+    max_height: how many lines a row below the header has at most, or a list with a number or None for each row.
     limit: how many rows are drawn; where there are more, a line below says so.
     row_lines: True has lines between rows in each style that has them, False in none.
     expanded: True draws each row as a table of its own, of names and values; "auto" does so where the width is too small.
     markdown: True draws a table for Markdown, which keeps to no width.
     bold_header: True writes the header in bold.
     colors: a function of a row's position, a column's name (its position where it has none) and a value, which returns None or
-        words such as "red" or "bold bright_green". Words are the colours of terminals, those after "bright_", "bold", "dim",
-        "italic", "underline" and "reverse".
+        words such as "red", "bold bright_green" or "black on_#ffcc00". Words are the colours of terminals, those after "bright_",
+        colours as "#ffcc00", each also after "on_" for the background, "bold", "dim", "italic", "underline", "blink", "reverse",
+        "crossed_out" and "overline".
+
+    A table for Markdown and expanded rows have no side in the middle, no widths of columns but the greatest, no other padding, no
+    frame of your own, no heights by row and no `Cell`.
 
     No text in a cell is taken for anything else: control characters become U+FFFD, TABs spaces, and line breaks stay.
 
@@ -114,12 +131,17 @@ def tabulate(
             showindex=showindex,
             left=left,
             right=right,
+            center=center,
             colalign=colalign,
             align_decimals=align_decimals,
             columns=columns,
+            hidden=hidden,
             width=width,
             full=full,
+            colwidths=colwidths,
+            mincolwidths=mincolwidths,
             maxcolwidths=maxcolwidths,
+            padding=padding,
             max_height=max_height,
             limit=limit,
             style=style,
@@ -162,14 +184,19 @@ class Table:
     width: Width = None
     full: bool = False
     maxcolwidths: Widths = None
-    max_height: Optional[int] = None
+    max_height: Heights = None
     limit: Optional[int] = None
-    style: Optional[str] = None
+    style: Style = None
     row_lines: Optional[bool] = None
     expanded: Union[bool, str] = False
     markdown: bool = False
     bold_header: bool = False
     colors: Optional[Colors] = None
+    center: Columns = None
+    hidden: Columns = None
+    colwidths: Widths = None
+    mincolwidths: Widths = None
+    padding: Padding = 1
 
     def __post_init__(self) -> None:
         self.rows = kept(self.rows)
@@ -191,26 +218,54 @@ class Table:
     def _repr_html_(self) -> str:
         plain = dataclasses.replace(self, colors=None, bold_header=False)
         # A browser drops a line feed at the beginning.
-        return f"<pre>\n{html.escape(_drawing(plain))}</pre>"
+        return f"<pre>\n{html.escape(_drawing(plain, has_styles=False))}</pre>"
 
 
-def _drawing(table: Table) -> str:
+def _drawing(table: Table, has_styles: bool = True) -> str:
     values = values_of(table.rows, table.headers, table.showindex)
+    if values.header is None and not values.rows:
+        return ""
+    frame = frame_of(table.style, table.tablefmt)
     writer = Writer(table.floatfmt, table.intfmt, table.missingval, table.colors)
     # An empty row has one empty cell, so that there is a column.
     names = [] if values.header is None else writer.header_of(values.header) or [""]
+    layout = Layout(names, max(len(names), max(map(len, values.rows), default=0), 1))
+    asked = _asked_of_cells(table, values)
+    if frame is None or table.markdown or table.expanded:
+        if asked:
+            raise ValueError(f"a table for Markdown and expanded rows have no {asked[0]}")
+    elif asked or table.maxcolwidths is not None:
+        return _drawing_of_cells(table, values, writer, names, layout, frame, has_styles)
+    return _drawing_of_rows(table, values, writer, names, layout, frame)
+
+
+def _asked_of_cells(table: Table, values: Values) -> list[str]:
+    """What is asked for that a table of rows hasn't, by the names of settings."""
+    asked = {
+        "side in the middle": table.center is not None or "center" in (table.colalign or ()),
+        "colwidths": table.colwidths is not None,
+        "mincolwidths": table.mincolwidths is not None,
+        "padding": table.padding != 1,
+        "frame of your own": not isinstance(table.style, (str, type(None))),
+        "heights by row": isinstance(table.max_height, (list, tuple)),
+        "Cell": any(isinstance(value, Cell) for row in [values.header or [], *values.rows] for value in row),
+    }
+    return [name for name, is_asked in asked.items() if is_asked]
+
+
+def _drawing_of_rows(
+    table: Table, values: Values, writer: Writer, names: list[str], layout: Layout, frame: Optional[Frame]
+) -> str:
+    """The drawing of a table whose columns have sides alone."""
     header = [] if values.header is None else [names]
     records = header + [writer.texts_of(position, row, names) or [""] for position, row in enumerate(values.rows)]
-    settings = _settings_of(table, values.header is not None)
-    if not records:
-        return ""
-    layout = Layout(names, max(map(len, records)))
-    sides = layout.sides(table.left, table.right, table.colalign)
-    records = wrapped(records, table.maxcolwidths, table.colors is not None)
-    chosen = layout.positions_of(table.columns)
-    if chosen:
+    sides = layout.sides(table.left, table.right, None, table.colalign)
+    records = wrapped(records, layout.widths(table.maxcolwidths, "maxcolwidths"), table.colors is not None)
+    if table.columns is not None or table.hidden is not None:
+        chosen = layout.chosen(table.columns, table.hidden)
         records = [_chosen(record, chosen) for record in records]
         sides = [sides[position] for position in chosen]
+    settings = _settings_of(table, values.header is not None, frame)
     # The library speaks of records. No line of a row is taken for its note, since a space stands before each text.
     note = f"{settings.limit} of {len(values.rows)} "
     drawing = draw_rows(records, bytes(sides), settings)[:-1]
@@ -221,20 +276,18 @@ def _chosen(record: list[str], positions: Iterable[int]) -> list[str]:
     return [record[position] if position < len(record) else "" for position in positions]
 
 
-def _settings_of(table: Table, has_header: bool) -> RowsSettings:
-    frame = frame_of(table.style, table.tablefmt)
+def _settings_of(table: Table, has_header: bool, frame: Optional[Frame]) -> RowsSettings:
     is_markdown = frame is None or bool(table.markdown)
-    frame = frame or frame_of(None, None)
-    assert frame is not None
-    lines = frame.row_lines if table.row_lines is None else EVERYWHERE if table.row_lines else NOWHERE
-    height, limit = _whole(table.max_height, "max_height"), _whole(table.limit, "limit")
+    shown = frame or frame_of(None, None)
+    assert shown is not None
+    height, limit = _whole(table.max_height, "max_height"), _limit_of(table, has_header)
     return RowsSettings(
         max_height=NO_LIMIT if height is None else height,
         limit=NO_LIMIT if limit is None else limit,
-        style=frame.number,
+        style=shown.number,
         width=_width_of(table.width),
         fills_width=bool(table.full),
-        row_lines=lines,
+        row_lines=_row_lines_of(table, shown),
         expansion=_expansion_of(table.expanded),
         has_header=has_header,
         has_bold_header=bool(table.bold_header),
@@ -245,10 +298,66 @@ def _settings_of(table: Table, has_header: bool) -> RowsSettings:
     )
 
 
+def _drawing_of_cells(
+    table: Table, values: Values, writer: Writer, names: list[str], layout: Layout, frame: Frame, has_styles: bool
+) -> str:
+    """The drawing of a table of which columns, rows or cells have settings of their own."""
+    limit = _limit_of(table, values.header is not None)
+    shown = values.rows if limit is None else values.rows[:limit]
+    header = [] if values.header is None else [[Text(name, None, cell_of(it)) for name, it in zip(names, values.header or [None])]]
+    records = header + [writer.cells_of(position, row, names) or [Text("")] for position, row in enumerate(shown)]
+    cells = CellsTable(
+        records=records,
+        columns=_columns_of(table, layout, max(map(len, records), default=0)),
+        heights=[None] * len(header) + _heights_of(table.max_height, len(shown)),
+        frame=frame,
+        row_lines=_row_lines_of(table, frame),
+        width=_width_of(table.width),
+        fills_width=bool(table.full),
+        has_header=bool(header),
+        has_bold_header=bool(table.bold_header),
+        aligns_decimals=bool(table.align_decimals),
+        has_styles=has_styles,
+        has_sequences=table.colors is not None,
+    )
+    drawing = drawing_of(cells)[:-1]
+    return f"{drawing}\n{limit} of {len(values.rows)} rows" if len(shown) < len(values.rows) else drawing
+
+
+def _columns_of(table: Table, layout: Layout, reached: int) -> list[ColumnSettings]:
+    """The columns that are drawn: those that are chosen, or those that rows reach."""
+    sides = layout.sides(table.left, table.right, table.center, table.colalign)
+    limits = layout.limits(table.colwidths, table.mincolwidths, table.maxcolwidths)
+    paddings = layout.paddings(table.padding)
+    chosen = layout.chosen(table.columns, table.hidden)
+    if table.columns is None and table.hidden is None:
+        chosen = chosen[:reached]
+    return [ColumnSettings(at, sides[at], limits[at], paddings[at]) for at in chosen]
+
+
+def _heights_of(heights: Heights, rows: int) -> list[Optional[int]]:
+    """The greatest height of each row. As csvtable takes it, 0 is 1."""
+    given = list(heights) if isinstance(heights, (list, tuple)) else [heights] * max(1, rows)
+    wholes = [_whole(height, "max_height") for height in given]
+    found = [None if height is None else max(1, height) for height in wholes]
+    return found[:rows] + [None] * (rows - len(found))
+
+
+def _limit_of(table: Table, has_header: bool) -> Optional[int]:
+    limit = _whole(table.limit, "limit")
+    if limit == 0 and not has_header:
+        raise ValueError("limit=0 leaves nothing to draw where there is no header")
+    return limit
+
+
+def _row_lines_of(table: Table, frame: Frame) -> int:
+    return frame.row_lines if table.row_lines is None else EVERYWHERE if table.row_lines else NOWHERE
+
+
 def _whole(number: Any, name: str, otherwise: str = " or None", greatest: int = NO_LIMIT - 1) -> Optional[int]:
     if number is None:
         return None
-    if isinstance(number, bool) or not hasattr(number, "__index__") or not 0 <= number <= greatest:
+    if not is_whole(number, 0, greatest):
         upward = f"from 0 to {greatest}" if greatest < NO_LIMIT - 1 else "from 0 on"
         raise ValueError(f"{name} is a whole number {upward}{otherwise}, not {number!r}")
     return int(number)

@@ -1,0 +1,108 @@
+"""Words for colours and attributes, and cells that have their own."""
+
+from __future__ import annotations
+
+import functools
+import re
+from typing import NamedTuple, Optional
+
+_COLORS = ("black", "red", "green", "yellow", "blue", "magenta", "cyan", "white")
+# The first 16 of the 256 colours of terminals.
+_NUMBERS = {name: number for number, name in enumerate([*_COLORS, *(f"bright_{color}" for color in _COLORS)])}
+# The parameter of the SGR sequence of each attribute, and the bit that comfy_table.h has for it.
+_ATTRIBUTES = {
+    "bold": (1, 1 << 1),
+    "dim": (2, 1 << 2),
+    "italic": (3, 1 << 3),
+    "underline": (4, 1 << 4),
+    "blink": (5, 1 << 9),
+    "reverse": (7, 1 << 11),
+    "crossed_out": (9, 1 << 13),
+    "overline": (53, 1 << 25),
+}
+BOLD = _ATTRIBUTES["bold"][1]
+
+# The sides of comfy_table.h; 0 is that of the column.
+_SIDES = {None: 0, "left": 1, "right": 2, "center": 3}
+
+# A colour as comfy_table.h has it: its kind, its number, its red, green and blue.
+Color = tuple[int, ...]
+_NO_COLOR = (0, 0, 0, 0, 0)
+
+
+class Paint(NamedTuple):
+    """The colours and attributes of a cell, as numbers of comfy_table.h."""
+
+    attributes: int = 0
+    foreground: Color = _NO_COLOR
+    background: Color = _NO_COLOR
+
+
+class Cell:
+    """A value with colours and a side of its own, for a row or a list of headers.
+
+    colors: words as those that `colors` of a table returns: "red", "bold bright_green", "white on_#204080". They hold for the whole
+        cell, the spaces beside its text too.
+    align: "left", "right", "center", or None for the side of its column.
+    """
+
+    __slots__ = ("value", "colors", "align")
+
+    def __init__(self, value: object, colors: Optional[str] = None, align: Optional[str] = None) -> None:
+        paint_of(colors)
+        if align not in _SIDES:
+            raise ValueError(f'align is "left", "right", "center" or None, not {align!r}')
+        self.value, self.colors, self.align = value, colors, align
+
+    def __repr__(self) -> str:
+        return f"Cell({self.value!r}, {self.colors!r}, {self.align!r})"
+
+
+def side_of(cell: Cell) -> int:
+    """The number of a cell's side."""
+    return _SIDES[cell.align]
+
+
+@functools.lru_cache(maxsize=256)
+def paint_of(words: Optional[str]) -> Paint:
+    """What words ask for, of a cell."""
+    paint = Paint()
+    for word in (words or "").split():
+        ground, color = _color_of(word)
+        if color is None:
+            paint = paint._replace(attributes=paint.attributes | _ATTRIBUTES[word][1])
+        elif ground == "on_":
+            paint = paint._replace(background=color)
+        else:
+            paint = paint._replace(foreground=color)
+    return paint
+
+
+@functools.lru_cache(maxsize=256)
+def sequence_of(words: str) -> str:
+    """The SGR sequence of words, in their order."""
+    return f"\x1b[{';'.join(map(_parameters, words.split()))}m"
+
+
+def _parameters(word: str) -> str:
+    ground, color = _color_of(word)
+    if color is None:
+        return str(_ATTRIBUTES[word][0])
+    first = 40 if ground else 30
+    kind, number, *parts = color
+    if kind == 3:
+        return f"{first + 8};2;{';'.join(map(str, parts))}"
+    return str(first + number if number < 8 else first + 52 + number)
+
+
+def _color_of(word: str) -> tuple[str, Optional[Color]]:
+    """Whether a word is for the background, and the colour that it names; none is named by an attribute."""
+    if word in _ATTRIBUTES:
+        return "", None
+    ground, name = ("on_", word[3:]) if word.startswith("on_") else ("", word)
+    if name in _NUMBERS:
+        return ground, (2, _NUMBERS[name], 0, 0, 0)
+    if re.fullmatch("#[0-9A-Fa-f]{6}", name):
+        return ground, (3, 0, *bytes.fromhex(name[1:]))
+    known = ", ".join([*_ATTRIBUTES, *_NUMBERS])
+    raise ValueError(f"no colour {word!r}; there are {known} and #rrggbb, and colours behind on_ for the background")
