@@ -14,7 +14,7 @@ use Rattle.csv_records.specs.Reading.{AreRecordsFor, AreRecordsIn, IsDecodedBy}
 use Rattle.csv_records.specs.declared.encoding.Encoding.{Encoding}
 use Rattle.csv_command.specs.Columns.{ColumnFault, IsColumnsRefusal, columns_by, columns_for}
 use Rattle.csv_command.specs.Doubt.{IsDoubtOfBeginning, doubt_for}
-use Rattle.csv_tables.specs.Drawn.{ContentValue, columns_beside, content_of, drawn_rows, limited, names_beside, names_of, records_below, rows_beside}
+use Rattle.csv_tables.specs.Drawn.{SelectedValue, selected_of, drawn_rows, limited, names_of, records_below}
 use Rattle.csv_tables.specs.Columns.{ColumnsValue, count_of, drawn_columns, seen}
 use Rattle.csv_tables.specs.declared.selection.Selection.{Selection}
 use Rattle.csv_tables.proofs.CountLemmas.{below_header}
@@ -55,13 +55,12 @@ module _ (options : Options) (first all : List (List Text)) (alike : AreDrawnAli
   same_columns = ap₂ (λ (n : Option (List Text)) (rs : List (List Text)). columns_by options.columns (unwrap_or n []) (count_of (unwrap_or n []) rs)) alike.names alike.rows
 
   -- so what is drawn of them is the same
-  same_content : (count : Option ℕ) (columns : ColumnsValue) → content_of count (layout_with options columns) first ≡ content_of count (layout_with options columns) all
+  same_content : (count : Option ℕ) (columns : ColumnsValue) → selected_of count (layout_with options columns) first ≡ selected_of count (layout_with options columns) all
   same_content count columns = ap₂ shown alike.names alike.rows
     where
-      shown : Option (List Text) → List (List Text) → ContentValue
+      shown : Option (List Text) → List (List Text) → SelectedValue
       shown names rows =
-          let is_numbered = options.selection.is_numbered in
-          record { names = names_beside is_numbered names; rows = rows_beside is_numbered rows; columns = columns_beside is_numbered (drawn_columns columns.right columns.left (map (seen options.look.has_sequences) rows) columns.drawn); count = count; is_numbered = is_numbered }
+          record { names = names; rows = rows; columns = drawn_columns columns (map (seen options.look.has_sequences) rows); count = count; is_numbered = options.selection.is_numbered }
 
   pub same_output : (count : Option ℕ) (output : Text) → RendersChosen count options first output → RendersChosen count options all output
   same_output count output made =

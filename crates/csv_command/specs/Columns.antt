@@ -10,7 +10,7 @@ use Rattle.csv_command.specs.declared.arguments.Options.{Options}
 use Rattle.csv_command.specs.declared.columns.ColumnWords.{ColumnWords}
 use Rattle.csv_command.specs.declared.error.ColumnsError.{ColumnsError}
 use Rattle.csv_command.specs.declared.error.ColumnsError.TheVariants.{NoColumn, NoneLeft, OutOfMemory, TwoSides}
-use Rattle.csv_tables.specs.Columns.{ColumnsValue, name_from}
+use Rattle.csv_tables.specs.Columns.{ColumnsValue, name_at}
 use Rattle.csv_tables.specs.Drawn.{column_count, names_or_none}
 
 -- the position of the first field that is this text
@@ -29,13 +29,14 @@ pub data ColumnFault : Type 0 where
   two_sided : (name : Text) → ColumnFault
 
 -- the column of a number, counted from 1, where it is there
-abbrev pub numbered : ℕ → ℕ → Option ℕ
-numbered count number = if nat_lt 0 number && nat_le number count then Some (number - 1) else None
+abbrev pub column_numbered : ℕ → ℕ → Option ℕ
+column_numbered count number =
+    if nat_lt 0 number && nat_le number count then Some (number - 1) else None
 
 -- the position of a column: that of its number where it is there, else the first of its name
 abbrev pub column_by : List Text → ℕ → Text → Option ℕ → Option ℕ
 column_by names count word (Some number) =
-    option_or (numbered count number) (position_named word names)
+    option_or (column_numbered count number) (position_named word names)
 column_by names count word None = position_named word names
 
 abbrev pub column_of : List Text → ℕ → Text → Option ℕ
@@ -132,10 +133,6 @@ abbrev pub kept_columns : {A : Type 0} → List Text → ℕ → List (String A)
     → Result (List ℕ) ColumnFault
 kept_columns names count words dropped =
     less (chosen_columns names count words) (positions_of names count dropped)
-
--- so where they are counted from 1
-abbrev pub name_at : List Text → ℕ → Text
-name_at names position = name_from 1 names position
 
 -- the first column at the right that is at the left too
 abbrev pub at_two_sides : List ℕ → List ℕ → Option ℕ

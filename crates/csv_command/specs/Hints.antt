@@ -4,7 +4,7 @@ use Rattle.std.specs.Prelude.{ℕ, Bool, false, ◌+◌, ◌-◌, ◌==◌, nat_
 use Rattle.std.specs.List.{position_from, range_with_len}
 use Rattle.comfy_parts.specs.Text.{Text}
 use Rattle.csv_records.specs.Number.{is_word}
-use Rattle.csv_tables.specs.Cells.{field_or_blank}
+use Rattle.csv_tables.specs.Fields.{field_or_blank}
 
 -- a field is there, and passes
 abbrev pub passes : (Text → Bool) → Option Text → Bool

@@ -3,12 +3,12 @@
 ghost use Rattle.std.specs.Prelude.{◌≡◌, ◌<◌, ◌≤◌, ◌-◌, ◌^◌, IfOk, IfErr, IfSome, Ok, length, string_bytes};
 ghost use Rattle.std.specs.List.{range_with_len};
 ghost use Rattle.csv.specs.Records.{field_at};
-ghost use Rattle.csv_command.specs.Columns.{IsColumnsRefusal, at_two_sides, chosen_columns, column_of, columns_by, columns_chosen, end_of, is_text, kept_columns, name_at, numbered, position_named, positions_of, positions_of_word, range_at, range_of, without};
+ghost use Rattle.csv_command.specs.Columns.{IsColumnsRefusal, at_two_sides, chosen_columns, column_of, columns_by, columns_chosen, end_of, is_text, kept_columns, column_numbered, position_named, positions_of, positions_of_word, range_at, range_of, without};
 
 use crate::error::ColumnsError;
 use crate::hints::hint_of;
 use csv_records::{Record, parse_digits};
-use csv_tables::{Columns, name_from};
+use csv_tables::{Columns, name_at};
 use std::alloc::{AllocError, Global};
 
 /// Columns by words. A word is the number of a column that is there, counted from 1, else a name,
@@ -71,13 +71,6 @@ fn at_two_sides(right: &[usize], left: &[usize]) -> Option<usize>
         }
     }
     None
-}
-
-// The name of the column at a position, or its number where there is no header.
-fn name_at(alloc: Global, names: &Record<'_>, position: usize) -> Result<String, AllocError>
-    ensures { IfOk result (λ name. string_bytes name ≡ name_at names.now position) }
-{
-    name_from(alloc, 1, names, position)
 }
 
 // The positions of the chosen columns, without those that are left out; there has to be one.
@@ -192,7 +185,7 @@ fn column_of(names: &Record<'_>, count: usize, word: &str) -> Option<usize>
     ensures below { IfSome result (λ position. position < 2 ^ 64 - 1) }
 {
     if let Some(number) = parse_digits(word) {
-        if let Some(position) = numbered(count, number) {
+        if let Some(position) = column_numbered(count, number) {
             return Some(position);
         }
     }
@@ -200,8 +193,8 @@ fn column_of(names: &Record<'_>, count: usize, word: &str) -> Option<usize>
 }
 
 // The position of the column with a number, where it is there.
-fn numbered(count: usize, number: usize) -> Option<usize>
-    ensures value { result ≡ numbered count number }
+fn column_numbered(count: usize, number: usize) -> Option<usize>
+    ensures value { result ≡ column_numbered count number }
     ensures below { IfSome result (λ position. position < 2 ^ 64 - 1) }
 {
     if 0 < number && number <= count {

@@ -10,12 +10,11 @@ use Rattle.comfy_parts.specs.Text.{Text}
 use Rattle.csv_command.specs.Columns.{column_by, column_of, columns_chosen, columns_for, end_of, first_answer, positions_between, range_at, range_of, rising, single_or}
 use Rattle.csv_command.specs.Drawn.{layout_with}
 use Rattle.csv_command.specs.declared.arguments.Options.{Options}
-use Rattle.csv_records.specs.Numbered.{numbered_from}
 use Rattle.csv_records.specs.Numerals.{number_for}
 use Rattle.csv_tables.proofs.RowLemmas.{positions-shown}
 use Rattle.csv_tables.specs.Cells.{has_field}
 use Rattle.csv_tables.specs.Columns.{ColumnsValue, count_of, seen}
-use Rattle.csv_tables.specs.Drawn.{ContentValue, columns_beside, columns_of, content_of, drawn_rows, names_beside, names_of, names_or_none, rows_beside}
+use Rattle.csv_tables.specs.Drawn.{SelectedValue, columns_of, selected_of, drawn_rows, names_or_none}
 use Rattle.csv_tables.specs.declared.options.DrawnColumn.{DrawnColumn}
 use Rattle.csv_promises.proofs.FrameLemmas.{reaches}
 use Rattle.csv_promises.proofs.PositionLemmas.{chosen, kept_positions, some_kept}
@@ -142,14 +141,9 @@ any_more p q more (x ∷ xs) some = by_test (p x) refl some (any_more p q more x
     by_test true own some later = ap (λ (c : Bool). c || list_any q xs) (more x own)
     by_test false own some later = ap (λ (c : Bool). q x || c) (later some) ∙ or_true (q x)
 
--- numbers leave as many rows
-numbered-length : (n : ℕ) (rows : List (List Text)) → length (numbered_from n rows) ≡ length rows
-numbered-length n [] = refl
-numbered-length n (fields ∷ rows) = ap suc (numbered-length (n + 1) rows)
-
 -- ---- contents
 
-module _ (options : Options) (records : List (List Text)) (known : Option ℕ) (own : ColumnsValue) (found : columns_for options records ≡ Ok own) (content : ContentValue) (is : content_of known (layout_with options own) records ≡ content) where
+module _ (options : Options) (records : List (List Text)) (known : Option ℕ) (own : ColumnsValue) (found : columns_for options records ≡ Ok own) (content : SelectedValue) (is : selected_of known (layout_with options own) records ≡ content) where
   abbrev is_numbered : Bool
   is_numbered = options.selection.is_numbered
 
@@ -166,7 +160,7 @@ module _ (options : Options) (records : List (List Text)) (known : Option ℕ) (
   positions = kept_positions names (count_of names rows) options.columns.chosen.items options.columns.dropped.items own.drawn (chosen names _ _ _ own found)
 
   placed : map (λ (column : DrawnColumn). column.position) columns ≡ own.drawn
-  placed = positions-shown own.right own.left (map (seen options.look.has_sequences) rows) own.drawn
+  placed = positions-shown own (map (seen options.look.has_sequences) rows)
 
   long : length columns ≡ length own.drawn
   long = omega (arith, length-map columns (λ (column : DrawnColumn). column.position), ap length placed)
@@ -174,44 +168,31 @@ module _ (options : Options) (records : List (List Text)) (known : Option ℕ) (
   some : 1 ≤ length columns
   some = omega (arith, long, some_kept names (count_of names rows) options.columns.chosen.items options.columns.dropped.items own.drawn (chosen names _ _ _ own found))
 
-  beside-length : (b : Bool) (cs : List DrawnColumn) → length (columns_beside b cs) ≡ length cs + (if b then 1 else 0)
-  beside-length true cs = omega (arith, length-map cs (λ (column : DrawnColumn). record column { position = column.position + 1 }))
-  beside-length false cs = omega arith
-
-  beside : length content.columns ≡ length columns + (if is_numbered then 1 else 0)
-  beside = sym (ap (λ (c : ContentValue). length c.columns) is) ∙ beside-length is_numbered columns
+  own_columns : content.columns ≡ columns
+  own_columns = sym (ap (λ (c : SelectedValue). c.columns) is)
 
   pub some_column : 1 ≤ length content.columns
-  some_column = omega (arith, some, beside)
+  some_column = omega (arith, some, ap (λ (cs : List DrawnColumn). length cs) own_columns)
 
   -- the columns are those of the positions, and that of numbers
-  pub drawn_count : length content.columns ≡ all_columns options records
-  drawn_count = beside ∙ ap (λ (n : ℕ). n + (if is_numbered then 1 else 0)) (long ∙ ap length positions)
+  pub drawn_count : length content.columns + (if content.is_numbered then 1 else 0) ≡ all_columns options records
+  drawn_count =
+      ap₂ (λ (n : ℕ) (b : Bool). n + (if b then 1 else 0)) (ap (λ (cs : List DrawnColumn). length cs) own_columns ∙ long ∙ ap length positions) (sym (ap (λ (c : SelectedValue). c.is_numbered) is))
 
-  same_rows : content.rows ≡ rows_beside is_numbered rows
-  same_rows = sym (ap (λ (c : ContentValue). c.rows) is)
+  same_rows : content.rows ≡ rows
+  same_rows = sym (ap (λ (c : SelectedValue). c.rows) is)
 
   -- there are rows where records are drawn below the header
   pub no_rows-is : (length content.rows == 0) ≡ (length rows == 0)
-  no_rows-is = ap (λ (rs : List (List Text)). length rs == 0) same_rows ∙ by_numbers is_numbered rows
-    where
-      by_numbers : (b : Bool) (rs : List (List Text)) → (length (rows_beside b rs) == 0) ≡ (length rs == 0)
-      by_numbers false rs = refl
-      by_numbers true rs = ap (λ (n : ℕ). n == 0) (numbered-length 1 rs)
+  no_rows-is = ap (λ (rs : List (List Text)). length rs == 0) same_rows
 
   -- without names a row has the field of a column
   pub reaches_one : content.names ≡ None → reaches content.columns content.rows ≡ true
   reaches_one none =
-      ap₂ (λ (cs : List DrawnColumn) (rs : List (List Text)). reaches cs rs) (sym (ap (λ (c : ContentValue). c.columns) is)) same_rows
-      ∙ by_columns is_numbered columns some below
+      ap₂ (λ (cs : List DrawnColumn) (rs : List (List Text)). reaches cs rs) own_columns same_rows ∙ by_columns columns some below
     where
-      no_names : (b : Bool) (o : Option (List Text)) → names_beside b o ≡ None → o ≡ None
-      no_names false o is = is
-      no_names true None is = refl
-      no_names true (Some n) is = absurd (cc is)
-
       unnamed : names ≡ []
-      unnamed = ap (λ (o : Option (List Text)). unwrap_or o []) (no_names is_numbered (names_of options.selection.has_header records) (ap (λ (c : ContentValue). c.names) is ∙ none))
+      unnamed = ap (λ (o : Option (List Text)). unwrap_or o []) (ap (λ (c : SelectedValue). c.names) is ∙ none)
 
       IsIn : DrawnColumn → Type 0
       IsIn column = column.position < count_of [] rows
@@ -221,16 +202,8 @@ module _ (options : Options) (records : List (List Text)) (known : Option ℕ) (
           All-of_map (Below (count_of [] rows)) (λ (column : DrawnColumn). column.position) columns
           (subst (All (Below (count_of [] rows))) (sym (placed ∙ positions ∙ ap (λ (ns : List Text). positions_in options ns rows) unnamed)) (positions-below options rows))
 
-      by_columns : (b : Bool) (cs : List DrawnColumn) → 1 ≤ length cs → All IsIn cs → reaches (columns_beside b cs) (rows_beside b rows) ≡ true
-      by_columns b [] one inside = absurd (omega (arith, one))
-      by_columns b (column ∷ cs) one inside = by_numbers b (in_row column.position rows 0 (omega arith) (All-head IsIn column cs inside))
-        where
-          by_rows : (rs : List (List Text)) → list_any (λ (fields : List Text). nat_lt column.position (length fields)) rs ≡ true → reaches (columns_beside true (column ∷ cs)) (rows_beside true rs) ≡ true
-          by_rows [] none = absurd (cc none)
-          by_rows (fields ∷ rs) some = let own : nat_lt 0 (suc (length fields)) ≡ true = grind arith in rw own refl
-
-          by_numbers : (b : Bool) → list_any (λ (fields : List Text). nat_lt column.position (length fields)) rows ≡ true → reaches (columns_beside b (column ∷ cs)) (rows_beside b rows) ≡ true
-          by_numbers true some = by_rows rows some
-          by_numbers false some =
-              any_more (λ (fields : List Text). nat_lt column.position (length fields)) (λ (fields : List Text). list_any (has_field fields) (column ∷ cs))
-              (λ fields own. ap (λ (b : Bool). b || list_any (has_field fields) cs) own) rows some
+      by_columns : (cs : List DrawnColumn) → 1 ≤ length cs → All IsIn cs → reaches cs rows ≡ true
+      by_columns [] one inside = absurd (omega (arith, one))
+      by_columns (column ∷ cs) one inside =
+          any_more (λ (fields : List Text). nat_lt column.position (length fields)) (λ (fields : List Text). list_any (has_field fields) (column ∷ cs))
+          (λ fields own. ap (λ (b : Bool). b || list_any (has_field fields) cs) own) rows (in_row column.position rows 0 (omega arith) (All-head IsIn column cs inside))

@@ -7,9 +7,8 @@ use Rattle.std.proofs.lemmas.List.{length-map}
 use Rattle.std.proofs.lemmas.List.Sums.{sum_by-cons}
 use Rattle.comfy_parts.specs.CellValue.{RowValue}
 use Rattle.comfy_parts.specs.Text.{Text}
-use Rattle.csv_tables.specs.Drawn.{ContentValue, drawn_fields, pairs_in}
+use Rattle.csv_tables.specs.Drawn.{SelectedValue, drawn_fields, pairs_in}
 use Rattle.csv_tables.specs.Cells.{held}
-use Rattle.csv_tables.specs.Drawn.{pair_columns}
 use Rattle.csv_tables.specs.declared.options.Look.{Look}
 
 module _ {X Y : Type 0} (f : X → List Y) where
@@ -19,12 +18,12 @@ module _ {X Y : Type 0} (f : X → List Y) where
       ap (λ (ys : List Y). take (length (f x)) (drop (length (flat_map f front)) ys)) (flat_map-append f front (x ∷ more))
       ∙ ap (take (length (f x))) (drop-append_seam (flat_map f front) (f x ++ flat_map f more)) ∙ take-append_seam (f x) (flat_map f more)
 
-module _ (look : Look) (content : ContentValue) where
+module _ (look : Look) (content : SelectedValue) where
   abbrev pairs : List Text → List RowValue
   pairs fields = pairs_in look content fields
 
   as_many : (fields : List Text) → drawn_fields content fields ≡ length (pairs fields)
-  as_many fields = sym (length-map (held fields (pair_columns content)) _)
+  as_many fields = sym (length-map (held fields content.columns) _)
 
   all_before : (front : List (List Text)) → sum_by (drawn_fields content) front ≡ length (flat_map pairs front)
   all_before [] = refl

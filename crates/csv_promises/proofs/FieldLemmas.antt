@@ -1,7 +1,7 @@
 -- Fields of records in rows of cells, and in the lines that show these.
-use Rattle.std.proofs.Common.{◌≡◌, ◌⊎◌, ◌<◌, ◌≤◌, inl, inr, ℕ, zero, suc, ◌+◌, Bool, true, false, List, [], ◌∷◌, Option, Some, None, cond, filter, length, map, max, flat_map, get_or, nat_lt, refl, sym, ap, ap₂, ◌∙◌, subst, arith, append-nil, slice_index_or, unwrap_or}
+use Rattle.std.proofs.Common.{◌≡◌, ◌⊎◌, ◌<◌, ◌≤◌, inl, inr, ℕ, zero, suc, ◌+◌, Bool, true, false, List, [], ◌∷◌, Option, Some, None, cond, filter, length, map, max, flat_map, get_or, nat_lt, refl, sym, ap, ap₂, ◌∙◌, subst, arith, slice_index_or, unwrap_or, decimal, ◌++◌}
 use Rattle.std.specs.List.{All, AllByRecursion, AllZip, concat, enumerate_from, slice_get}
-use Rattle.std.specs.Prelude.{Contains, fold, MatchOption, option_map}
+use Rattle.std.specs.Prelude.{Contains, fold, MatchOption, option_map, if◌then◌else◌}
 use Rattle.std.specs.Str.{IsUtf8}
 use Rattle.std.proofs.lemmas.List.Elements.{All-head, All-map, All-tail}
 use Rattle.std.proofs.lemmas.Option.{slice_get_cases, slice_get_past}
@@ -9,19 +9,25 @@ use Rattle.std.proofs.lemmas.Simd.{map-map}
 use Rattle.std.proofs.lemmas.Str.{IsUtf8-nil, chars-nil}
 use Rattle.comfy_parts.specs.CellValue.{CellValue, ColumnValue, RowValue}
 use Rattle.comfy_parts.specs.Columns.{style_characters}
-use Rattle.comfy_parts.specs.Text.{Text}
+use Rattle.comfy_parts.specs.Text.{Text, is_printable_ascii}
 use Rattle.comfy_parts.specs.declared.style.cell.CellAlignment.{CellAlignment}
 use Rattle.comfy_parts.specs.declared.style.table_style.TableStyle.{TableStyle}
 use Rattle.comfy_table.specs.Lines.{cell_delimiter}
 use Rattle.comfy_table.specs.TableValue.{TableValue, shown_columns}
 use Rattle.csv.specs.Records.{field_at}
 use Rattle.csv_records.specs.Cleaning.{after_piece, cleaned, pieces, start}
+use Rattle.csv_records.proofs.CleaningLemmas.{drawn_so, none_replaced}
+use Rattle.comfy_parts.proofs.CallerLemmas.{IsUtf8-printable}
+use Rattle.comfy_parts.specs.declared.style.cell.CellAlignment.TheVariants.{Right}
+use Rattle.csv_tables.proofs.DecimalLawLemmas.{spaces_alone}
+use Rattle.csv_tables.proofs.FieldLemmas.{number_is_printable}
 use Rattle.csv_tables.proofs.BuiltLemmas.{each_field}
 use Rattle.csv_tables.proofs.ReachedLemmas.{mapped_at, reached-at, reached-length, unmapped_at}
 use Rattle.csv_tables.proofs.SeparatorLemmas.{condensed-all, separated}
 use Rattle.csv_tables.proofs.WholeColumnLemmas.{IsPaddedColumn}
-use Rattle.csv_tables.specs.Cells.{cell_for, cells_for, field_or_blank, header_for, held, pair_for, reached, row_for, with_weight}
-use Rattle.csv_command.specs.Columns.{name_at}
+use Rattle.csv_tables.specs.Columns.{name_at}
+use Rattle.csv_tables.specs.Cells.{cell_for, cells_for, header_for, held, pair_for, columns_within, row_for, with_weight, Shown, counted_from, shown_fields, shown_number, text_in, number_name}
+use Rattle.csv_tables.specs.Fields.{field_or_blank}
 use Rattle.csv_tables.specs.Drawn.{condensed_style, pairs_of}
 use Rattle.csv_tables.specs.Laws.{HasSpacesBehind}
 use Rattle.csv_tables.specs.declared.options.DrawnColumn.{DrawnColumn}
@@ -31,7 +37,7 @@ use Rattle.promises.specs.Kept.{AreSlicesOf, IsFrame, ShowsRow, StandAmong}
 use Rattle.promises.specs.Kept.IsFrame.{nothing, space, character as of_style}
 use Rattle.csv_promises.proofs.FilledLemmas.{filled-field, filled-spaced, filled-texts}
 use Rattle.csv_promises.proofs.RecordLemmas.{HasColumns}
-use Rattle.csv_promises.specs.Fields.{AreFields, ShowsFields, fields_at, filled, pairs_at}
+use Rattle.csv_promises.specs.Fields.{AreFields, ShowsFields, fields_at, filled, pairs_at, row_behind, rows_from}
 
 -- ---- frames
 
@@ -130,24 +136,6 @@ module _ (table : TableValue) (spaced : table.delimiter ≡ None) (shown : shown
 
 -- ---- fields with spaces behind them
 
--- fields, of which some have spaces behind them
-abbrev pub AreSpaced : List Text → List Text → Type 0
-AreSpaced fields drawn = (i : ℕ) → HasSpacesBehind (field_or_blank fields i) (field_or_blank drawn i)
-
-as_they_are : (fields : List Text) → AreSpaced fields fields
-as_they_are fields i = (0, sym (append-nil (field_or_blank fields i)))
-
-all_spaced : (fields drawn : List Text) → AllZip HasSpacesBehind fields drawn → AreSpaced fields drawn
-unfolding field_at
-all_spaced [] [] zip = as_they_are []
-all_spaced [] (x ∷ drawn) zip = absurd zip
-all_spaced (field ∷ fields) [] zip = absurd zip
-all_spaced (field ∷ fields) (x ∷ drawn) zip = at (all_spaced fields drawn zip.1)
-  where
-    at : AreSpaced fields drawn → AreSpaced (field ∷ fields) (x ∷ drawn)
-    at each zero = zip.0
-    at each (suc i) = each i
-
 clean-nil : cleaned false [] ≡ []
 clean-nil = ap (λ (cs : List ℕ). (fold after_piece start (pieces false cs)).text) chars-nil
 
@@ -173,8 +161,11 @@ module _ (f : ℕ → Text) where
   past_columns (column ∷ columns) (suc i) none = past_columns columns i none
 
 module _ (look : Look) (unkept : look.has_sequences ≡ false) (none : look.is_markdown ≡ false) where
-  abbrev cell_of : Bool → List Text → DrawnColumn → CellValue
-  cell_of is_bold drawn column = with_weight is_bold (cell_for look column.alignment (field_or_blank drawn column.position))
+  abbrev cell_of : Bool → Shown → CellValue
+  cell_of is_bold s = with_weight is_bold (cell_for look s.alignment s.text)
+
+  abbrev show : Bool → List Text → DrawnColumn → Shown
+  show is_aligned fields column = record { alignment = column.alignment; text = text_in look is_aligned column fields }
 
   -- a cell of a field
   abbrev IsCellOf : Text → CellValue → Type 0
@@ -186,10 +177,15 @@ module _ (look : Look) (unkept : look.has_sequences ≡ false) (none : look.is_m
 
   -- cells for these columns, of which those that aren't drawn are blank
   abbrev Reaches : List Text → List DrawnColumn → List DrawnColumn → Type 0
-  Reaches drawn columns own = (i : ℕ) → MatchOption (slice_get columns i) (slice_get own i ≡ None) (λ d. (slice_get own i ≡ Some d) ⊎ ((slice_get own i ≡ None) × (field_or_blank drawn d.position ≡ [])))
+  Reaches fields columns own = (i : ℕ) → MatchOption (slice_get columns i) (slice_get own i ≡ None) (λ d. (slice_get own i ≡ Some d) ⊎ ((slice_get own i ≡ None) × (field_or_blank fields d.position ≡ [])))
 
-  cells_are : (is_bold : Bool) (columns own : List DrawnColumn) (fields drawn : List Text) → Reaches drawn columns own → AreSpaced fields drawn → All IsUtf8 fields → IsRowOf (fields_at (positions_of columns) fields) (cells_for look is_bold own drawn)
-  cells_are is_bold columns own fields drawn reaches spaced utf8 i = by_column (slice_get columns i) refl (reaches i)
+  -- what a column shows is its field
+  text_is : (is_aligned : Bool) (column : DrawnColumn) (fields : List Text) → All IsUtf8 fields → filled (cleaned false (text_in look is_aligned column fields)) ≡ filled (cleaned false (field_or_blank fields column.position))
+  text_is is_aligned column fields utf8 =
+      spaced-same (field_or_blank fields column.position) (text_in look is_aligned column fields) (spaces_alone look is_aligned column fields) (each_field IsUtf8 IsUtf8-nil fields column.position utf8)
+
+  cells_are : (is_bold is_aligned : Bool) (columns own : List DrawnColumn) (fields : List Text) → Reaches fields columns own → All IsUtf8 fields → IsRowOf (fields_at (positions_of columns) fields) (cells_for look is_bold (shown_fields look is_aligned own fields))
+  cells_are is_bold is_aligned columns own fields reaches utf8 i = by_column (slice_get columns i) refl (reaches i)
     where
       Is : Option CellValue → Type 0
       Is o = MatchOption o (filled (field_or_blank (fields_at (positions_of columns) fields) i) ≡ []) (λ cell. (cell.delimiter ≡ None) × (filled (concat cell.text_lines) ≡ filled (field_or_blank (fields_at (positions_of columns) fields) i)))
@@ -197,27 +193,26 @@ module _ (look : Look) (unkept : look.has_sequences ≡ false) (none : look.is_m
       clean_at : ℕ → Text
       clean_at position = cleaned false (field_or_blank fields position)
 
-      by_column : (o : Option DrawnColumn) → slice_get columns i ≡ o → MatchOption o (slice_get own i ≡ None) (λ d. (slice_get own i ≡ Some d) ⊎ ((slice_get own i ≡ None) × (field_or_blank drawn d.position ≡ []))) → Is (slice_get (map (cell_of is_bold drawn) own) i)
-      by_column None is gone = subst Is (sym (unmapped_at (cell_of is_bold drawn) own i gone)) (ap filled (past_columns clean_at columns i is))
+      by_column : (o : Option DrawnColumn) → slice_get columns i ≡ o → MatchOption o (slice_get own i ≡ None) (λ d. (slice_get own i ≡ Some d) ⊎ ((slice_get own i ≡ None) × (field_or_blank fields d.position ≡ []))) → Is (slice_get (map (cell_of is_bold) (map (show is_aligned fields) own)) i)
+      by_column None is gone = subst Is (sym (unmapped_at (cell_of is_bold) (map (show is_aligned fields) own) i (unmapped_at (show is_aligned fields) own i gone))) (ap filled (past_columns clean_at columns i is))
       by_column (Some d) is (inl found) =
-          let cell = cell_is is_bold d.alignment (field_or_blank drawn d.position) in
-          let same = spaced-same (field_or_blank fields d.position) (field_or_blank drawn d.position) (spaced d.position) (each_field IsUtf8 IsUtf8-nil fields d.position utf8) in
-          subst Is (sym (mapped_at (cell_of is_bold drawn) own i d found)) (cell.0, cell.1 ∙ same ∙ ap filled (sym (at_column clean_at columns i d is)))
+          let cell = cell_is is_bold d.alignment (text_in look is_aligned d fields) in
+          subst Is (sym (mapped_at (cell_of is_bold) (map (show is_aligned fields) own) i (show is_aligned fields d) (mapped_at (show is_aligned fields) own i d found)))
+          (cell.0, cell.1 ∙ text_is is_aligned d fields utf8 ∙ ap filled (sym (at_column clean_at columns i d is)))
       by_column (Some d) is (inr (gone, blank)) =
-          let same = spaced-same (field_or_blank fields d.position) (field_or_blank drawn d.position) (spaced d.position) (each_field IsUtf8 IsUtf8-nil fields d.position utf8) in
-          subst Is (sym (unmapped_at (cell_of is_bold drawn) own i gone))
-          (ap filled (at_column clean_at columns i d is) ∙ sym same ∙ ap (λ (t : Text). filled (cleaned false t)) blank ∙ ap filled clean-nil)
+          subst Is (sym (unmapped_at (cell_of is_bold) (map (show is_aligned fields) own) i (unmapped_at (show is_aligned fields) own i gone)))
+          (ap filled (at_column clean_at columns i d is) ∙ ap (λ (t : Text). filled (cleaned false t)) blank ∙ ap filled clean-nil)
 
   -- a row has cells up to the last field of its record
-  reaches : (drawn : List Text) (columns : List DrawnColumn) → Reaches drawn columns (reached drawn columns)
+  reaches : (drawn : List Text) (columns : List DrawnColumn) → Reaches drawn columns (columns_within drawn columns)
   reaches drawn columns i = by_column (slice_get columns i) refl
     where
-      by_column : (o : Option DrawnColumn) → slice_get columns i ≡ o → MatchOption o (slice_get (reached drawn columns) i ≡ None) (λ d. (slice_get (reached drawn columns) i ≡ Some d) ⊎ ((slice_get (reached drawn columns) i ≡ None) × (field_or_blank drawn d.position ≡ [])))
+      by_column : (o : Option DrawnColumn) → slice_get columns i ≡ o → MatchOption o (slice_get (columns_within drawn columns) i ≡ None) (λ d. (slice_get (columns_within drawn columns) i ≡ Some d) ⊎ ((slice_get (columns_within drawn columns) i ≡ None) × (field_or_blank drawn d.position ≡ [])))
       by_column None is = by_place (slice_get_cases columns i).1
         where
-          by_place : ((x : DrawnColumn) × (i < length columns) × (slice_get columns i ≡ Some x) × (get_or columns i x ≡ x)) ⊎ ((length columns ≤ i) × (slice_get columns i ≡ None)) → slice_get (reached drawn columns) i ≡ None
+          by_place : ((x : DrawnColumn) × (i < length columns) × (slice_get columns i ≡ Some x) × (get_or columns i x ≡ x)) ⊎ ((length columns ≤ i) × (slice_get columns i ≡ None)) → slice_get (columns_within drawn columns) i ≡ None
           by_place (inl (x, below, found, at)) = absurd (cc (sym is ∙ found))
-          by_place (inr (past, gone)) = let short = reached-length drawn columns in slice_get_past (reached drawn columns) i (omega (arith, past, short))
+          by_place (inr (past, gone)) = let short = reached-length drawn columns in slice_get_past (columns_within drawn columns) i (omega (arith, past, short))
       by_column (Some d) is = reached-at drawn columns i d is
 
   -- the header has one for each
@@ -228,19 +223,41 @@ module _ (look : Look) (unkept : look.has_sequences ≡ false) (none : look.is_m
       by_column None is = is
       by_column (Some d) is = inl is
 
+  -- behind a number, or without one
+  behind : (is_bold is_numbered : Bool) (number : Text) → is_printable_ascii number ≡ true → (fields : List Text) (shown : List Shown) → IsRowOf fields (cells_for look is_bold shown)
+      → IsRowOf (row_behind is_numbered number fields) (cells_for look is_bold (shown_number (if is_numbered then Some number else None) ++ shown))
+  unfolding field_at
+  behind is_bold true number printable fields shown own zero =
+      let cell = cell_is is_bold (Some Right) number in
+      let clean : cleaned false number ≡ number = sym (drawn_so false number (IsUtf8-printable number printable) (none_replaced number printable)) in
+      (cell.0, cell.1 ∙ ap filled clean)
+  behind is_bold true number printable fields shown own (suc i) = own i
+  behind is_bold false number printable fields shown own i = own i
+
   -- ---- rows of a table
 
   module _ (whole : look.max_height ≡ None) (columns : List DrawnColumn) where
-    pub is_header : (names : List Text) → All IsUtf8 names → IsWholeRow (fields_at (positions_of columns) names) (header_for look columns names)
-    is_header names utf8 = record { own = cells_are look.has_bold_header columns columns names names (all_own names columns) (as_they_are names) utf8; uncut = refl }
+    name_is_printable : (names : List Text) → is_printable_ascii (number_name names) ≡ true
+    name_is_printable [] = refl
+    name_is_printable (name ∷ names) = refl
 
-    pub are_rows : (rows drawn : List (List Text)) → AllZip (AllZip HasSpacesBehind) rows drawn → All (All IsUtf8) rows → AllZip IsWholeRow (map (fields_at (positions_of columns)) rows) (map (row_for look columns) drawn)
-    are_rows [] [] zip utf8 = tt
-    are_rows [] (x ∷ drawn) zip utf8 = absurd zip
-    are_rows (fields ∷ rows) [] zip utf8 = absurd zip
-    are_rows (fields ∷ rows) (x ∷ drawn) zip utf8 = (
-      record { own = cells_are false columns (reached x columns) fields x (reaches x columns) (all_spaced fields x zip.0) (All-head (All IsUtf8) fields rows utf8); uncut = ap (option_map (max 1)) whole },
-      are_rows rows drawn zip.1 (All-tail (All IsUtf8) fields rows utf8),
+    pub is_header : (is_numbered : Bool) (names : List Text) → All IsUtf8 names → IsWholeRow (row_behind is_numbered (number_name names) (fields_at (positions_of columns) names)) (header_for look is_numbered columns names)
+    is_header is_numbered names utf8 =
+        record {
+          own = behind look.has_bold_header is_numbered (number_name names) (name_is_printable names) (fields_at (positions_of columns) names) (shown_fields look false columns names)
+              (cells_are look.has_bold_header false columns columns names (all_own names columns) utf8);
+          uncut = refl;
+        }
+
+    pub are_rows : (is_aligned is_numbered : Bool) (n : ℕ) (rows : List (List Text)) → All (All IsUtf8) rows → AllZip IsWholeRow (rows_from is_numbered (positions_of columns) n rows) (map (row_for look is_aligned is_numbered columns) (counted_from n rows))
+    are_rows is_aligned is_numbered n [] utf8 = tt
+    are_rows is_aligned is_numbered n (fields ∷ rows) utf8 = (
+      record {
+        own = behind false is_numbered (decimal n) (number_is_printable n) (fields_at (positions_of columns) fields) (shown_fields look is_aligned (columns_within fields columns) fields)
+            (cells_are false is_aligned columns (columns_within fields columns) fields (reaches fields columns) (All-head (All IsUtf8) fields rows utf8));
+        uncut = ap (option_map (max 1)) whole;
+      },
+      are_rows is_aligned is_numbered (n + 1) rows (All-tail (All IsUtf8) fields rows utf8),
     )
 
     -- a name and a field
@@ -254,7 +271,7 @@ module _ (look : Look) (unkept : look.has_sequences ≡ false) (none : look.is_m
         own (suc (suc i)) = refl
 
     -- those of a record
-    pub are_pairs : (names fields : List Text) (own : List DrawnColumn) → AllZip IsWholeRow (pairs_at names (positions_of own) fields) (pairs_of look 1 own names fields)
+    pub are_pairs : (names fields : List Text) (own : List DrawnColumn) → AllZip IsWholeRow (pairs_at names (positions_of own) fields) (pairs_of look own names fields)
     are_pairs names fields [] = tt
     are_pairs names fields (column ∷ own) = by_test (nat_lt column.position (length fields)) (are_pairs names fields own)
       where
@@ -264,7 +281,7 @@ module _ (look : Look) (unkept : look.has_sequences ≡ false) (none : look.is_m
         row_of : DrawnColumn → RowValue
         row_of c = pair_for look (name_at names c.position) (field_or_blank fields c.position)
 
-        by_test : (b : Bool) → AllZip IsWholeRow (pairs_at names (positions_of own) fields) (pairs_of look 1 own names fields)
+        by_test : (b : Bool) → AllZip IsWholeRow (pairs_at names (positions_of own) fields) (pairs_of look own names fields)
             → AllZip IsWholeRow (map pair_at (cond b (column.position ∷ filter (λ position. nat_lt position (length fields)) (positions_of own)) (filter (λ position. nat_lt position (length fields)) (positions_of own))))
             (map row_of (cond b (column ∷ held fields own) (held fields own)))
         by_test true rest = (is_pair (name_at names column.position) (field_or_blank fields column.position), rest)

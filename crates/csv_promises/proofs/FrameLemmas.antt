@@ -1,12 +1,11 @@
 -- What the frame of a drawn table takes, and which columns it has.
-use Rattle.std.proofs.Common.{◌≡◌, ◌≤◌, ◌<◌, ◌||◌, ℕ, ◌+◌, Bool, true, false, not, List, [], ◌∷◌, Option, Some, None, filter, flat_map, length, map, nat_lt, refl, sym, ap, ap₂, ◌∙◌, subst, arith, sum_by}
-use Rattle.std.specs.List.{All, AllByRecursion, AllZip, enumerate_from, list_any}
+use Rattle.std.proofs.Common.{◌≡◌, ◌≤◌, ◌<◌, ◌||◌, ℕ, ◌+◌, Bool, true, false, not, List, [], ◌∷◌, Option, Some, None, filter, flat_map, length, map, refl, sym, ap, ◌∙◌, subst, arith, sum_by}
+use Rattle.std.specs.List.{All, AllByRecursion, enumerate_from, list_any}
 use Rattle.std.specs.Prelude.{if◌then◌else◌}
 use Rattle.std.proofs.lemmas.Bool.{leb-true}
 use Rattle.std.proofs.lemmas.List.{length-map}
 use Rattle.std.proofs.lemmas.List.Elements.{All-head, All-map, All-tail, recursion_from_All}
 use Rattle.std.proofs.lemmas.List.FromFn.{length-enumerate_from}
-use Rattle.std.proofs.lemmas.Slice.Zip.{AllZip-long}
 use Rattle.std.proofs.lemmas.List.Sums.{count_by-le-length, length-filter, sum_by-cons}
 use Rattle.comfy_parts.proofs.CallerLemmas.{All-every, no_fewer_columns}
 use Rattle.comfy_parts.specs.CellValue.{ColumnValue, RowValue, column_padding, is_hidden_column}
@@ -15,16 +14,15 @@ use Rattle.comfy_table.proofs.BuiltTableLemmas.{IsNewColumn}
 use Rattle.comfy_table.specs.Laws.{least_total}
 use Rattle.comfy_table.specs.TableValue.{TableValue, max_content_widths, shown_columns, with_row, with_rows}
 use Rattle.comfy_table.specs.Widths.{shown_count}
-use Rattle.csv_tables.proofs.DecimalLawLemmas.{spaces_alone}
+use Rattle.csv_tables.proofs.BuiltLemmas.{names-length, row-length}
 use Rattle.csv_tables.proofs.KeptWidthLemmas.{same_length}
 use Rattle.csv_tables.proofs.LineLemmas.{Any, any_built, any_drawn}
 use Rattle.csv_tables.proofs.ReachedLemmas.{reached-length}
 use Rattle.csv_tables.proofs.SeparatorLemmas.{separated}
 use Rattle.csv_tables.proofs.WholeColumnLemmas.{HasTwo, IsPaddedColumn, all_shown, both_shown, exactly_two, pairs_are_two, pairs_have_two}
 use Rattle.csv_tables.proofs.WholeTableLemmas.{HasRoom, columns-drawn, fewer_borders, least-fits, room_for, whole_separated}
-use Rattle.csv_tables.specs.Cells.{cell_for, cells_for, field_or_blank, has_field, header_for, reached, row_for, with_weight}
-use Rattle.csv_tables.specs.Drawn.{ContentValue, aligned_content, empty_table, fitting_content, has_room_for, headed_table, output_table, pairs_in, pairs_table, rows_table, separated_table, unbroken_in}
-use Rattle.csv_tables.specs.Laws.{HasSpacesBehind}
+use Rattle.csv_tables.specs.Cells.{cell_for, cells_for, has_field, header_for, columns_within, row_for, with_weight, Shown, counted_from, shown_in, shown_names}
+use Rattle.csv_tables.specs.Drawn.{SelectedValue, empty_table, has_room_for, headed_table, output_table, pairs_in, pairs_table, rows_table, separated_table, unbroken_in, is_aligned_in}
 use Rattle.csv_tables.specs.Unbroken.{constrained_columns, framed_width, has_room, kept_unbroken, kept_unbroken_fields, needed_contents, with_constrained, with_field_width, with_second}
 use Rattle.csv_tables.specs.declared.options.DrawnColumn.{DrawnColumn}
 use Rattle.csv_tables.specs.declared.options.Look.{Look}
@@ -88,66 +86,63 @@ kept_fields-length (Some w) table = by_room _ _
     by_room true field = second-length field table.columns
     by_room false field = refl
 
--- spaces behind fields leave columns and names
-module _ (look : Look) (content : ContentValue) where
-  abbrev fitting : ContentValue
-  fitting = fitting_content look content
+cells-length : (look : Look) (is_bold : Bool) (shown : List Shown) → length (cells_for look is_bold shown).cells ≡ length shown
+cells-length look is_bold shown = length-map shown (λ (s : Shown). with_weight is_bold (cell_for look s.alignment s.text))
 
-  same_columns : fitting.columns ≡ content.columns
-  same_columns = by_room (has_room_for look content (aligned_content look content))
-    where
-      by_room : (b : Bool) → (if b then aligned_content look content else content).columns ≡ content.columns
-      by_room true = refl
-      by_room false = refl
+-- how many columns are drawn, that of numbers too
+abbrev pub places_of : SelectedValue → ℕ
+places_of content = length content.columns + (if content.is_numbered then 1 else 0)
 
-  pub same_names : fitting.names ≡ content.names
-  same_names = by_room (has_room_for look content (aligned_content look content))
-    where
-      by_room : (b : Bool) → (if b then aligned_content look content else content).names ≡ content.names
-      by_room true = refl
-      by_room false = refl
+header_few : (look : Look) (content : SelectedValue) (names : List Text) → length (header_for look content.is_numbered content.columns names).cells ≡ places_of content
+header_few look content names =
+    omega (arith, cells-length look look.has_bold_header (shown_names look content.is_numbered content.columns names), names-length look content.is_numbered content.columns names)
 
-cells-length : (look : Look) (is_bold : Bool) (columns : List DrawnColumn) (fields : List Text) → length (cells_for look is_bold columns fields).cells ≡ length columns
-cells-length look is_bold columns fields = length-map columns (λ (column : DrawnColumn). with_weight is_bold (cell_for look column.alignment (field_or_blank fields column.position)))
-
-rows_few : (look : Look) (content : ContentValue) → length (rows_table look content).columns ≤ length content.columns
-rows_few look content =
-    rows_at_most (length content.columns) (map (row_for look content.columns) content.rows) (headed_table look content.columns content.names)
-    (All-map (λ (row : RowValue). length row.cells ≤ length content.columns) (row_for look content.columns) content.rows
-    (All-every (λ fields. length (row_for look content.columns fields).cells ≤ length content.columns) content.rows (λ fields. omega (arith, reached-length fields content.columns, cells-length look false (reached fields content.columns) fields))))
+rows_few : (look : Look) (is_aligned : Bool) (content : SelectedValue) → length (rows_table look is_aligned content).columns ≤ places_of content
+rows_few look is_aligned content =
+    rows_at_most (places_of content) (map row (counted_from 1 content.rows)) (headed_table look content.is_numbered content.columns content.names)
+    (All-map (λ (r : RowValue). length r.cells ≤ places_of content) row (counted_from 1 content.rows)
+    (All-every (λ r. length (row r).cells ≤ places_of content) (counted_from 1 content.rows) few))
     (headed content.names)
   where
-    headed : (names : Option (List Text)) → length (headed_table look content.columns names).columns ≤ length content.columns
+    row : ℕ × List Text → RowValue
+    row = row_for look is_aligned content.is_numbered content.columns
+
+    few : (r : ℕ × List Text) → length (row r).cells ≤ places_of content
+    few r =
+        let shown = shown_in look is_aligned content.is_numbered (columns_within r.1 content.columns) r in
+        omega (arith, reached-length r.1 content.columns, row-length look is_aligned content.is_numbered (columns_within r.1 content.columns) r, cells-length look false shown)
+
+    headed : (names : Option (List Text)) → length (headed_table look content.is_numbered content.columns names).columns ≤ places_of content
     headed None = omega arith
-    headed (Some names) = omega (arith, no_fewer_columns (length (header_for look content.columns names).cells) [], cells-length look look.has_bold_header content.columns names)
+    headed (Some names) = omega (arith, no_fewer_columns (length (header_for look content.is_numbered content.columns names).cells) [], header_few look content names)
 
 -- a drawn table has two columns at most where records are expanded, else no more than are drawn
-most_columns : (is_expanded has : Bool) (look : Look) (content : ContentValue) → length (separated_table has (output_table is_expanded look content)).columns ≤ (if is_expanded then 2 else length content.columns)
+most_columns : (is_expanded has : Bool) (look : Look) (content : SelectedValue) → length (separated_table has (output_table is_expanded look content)).columns ≤ (if is_expanded then 2 else places_of content)
 most_columns true has look content = omega (arith, pairs_have_two look content, kept_fields-length look.width (pairs_table look content), separated-length has (output_table true look content))
 most_columns false has look content =
-    let rows = rows_table look (fitting look content) in
-    omega (arith, rows_few look (fitting look content), ap length (same_columns look content), kept-length look.width (unbroken_in look content) rows, separated-length has (output_table false look content))
+    let rows = rows_table look (is_aligned_in look content) content in
+    omega (arith, rows_few look (is_aligned_in look content) content, kept-length look.width (unbroken_in content) rows, separated-length has (output_table false look content))
 
 -- so a frame of so many has room
-pub frame_has_room : (is_expanded has : Bool) (look : Look) (content : ContentValue) (n : ℕ) → 1 ≤ n → (if is_expanded then 2 else length content.columns) ≤ n → least_total (separated_table has (output_table is_expanded look content)) ≤ frame_room n
+pub frame_has_room : (is_expanded has : Bool) (look : Look) (content : SelectedValue) (n : ℕ) → 1 ≤ n → (if is_expanded then 2 else places_of content) ≤ n → least_total (separated_table has (output_table is_expanded look content)) ≤ frame_room n
 frame_has_room is_expanded has look content n some few =
     let table = separated_table has (output_table is_expanded look content) in
     least table n some (omega (arith, few, most_columns is_expanded has look content)) (columns-drawn (separated has look) Any content table (any_drawn look content is_expanded has))
 
 -- ---- where a width has room for rows
 
-module _ (look : Look) (content : ContentValue) (has : Bool) where
+module _ (look : Look) (content : SelectedValue) (has : Bool) where
   abbrev rows : TableValue
-  rows = rows_table look (fitting look content)
+  rows = rows_table look (is_aligned_in look content) content
 
   abbrev whole : List Bool
-  whole = unbroken_in look content
+  whole = unbroken_in content
 
   new : AllByRecursion IsNewColumn (separated_table has rows).columns
   new = by_lines has
     where
       own : AllByRecursion IsNewColumn rows.columns
-      own = recursion_from_All IsNewColumn rows.columns (any_built false look (fitting look content)).columns
+      own = recursion_from_All IsNewColumn rows.columns (any_built false (is_aligned_in look content) look content).columns
 
       by_lines : (h : Bool) → AllByRecursion IsNewColumn (separated_table h rows).columns
       by_lines true = own
@@ -158,7 +153,7 @@ module _ (look : Look) (content : ContentValue) (has : Bool) where
   still_fits w false fits = omega (arith, fits, fewer_borders rows.style (length (needed_contents whole (max_content_widths rows))))
 
   -- it has room for the table
-  pub width_has_room : (w : ℕ) → look.width ≡ Some w → has_room_for look content (fitting look content) ≡ true → least_total (separated_table has (output_table false look content)) ≤ w
+  pub width_has_room : (w : ℕ) → look.width ≡ Some w → has_room_for look content (is_aligned_in look content) ≡ true → least_total (separated_table has (output_table false look content)) ≤ w
   width_has_room w wide test =
       let own : has_room (Some w) whole rows ≡ true = ap (λ (width : Option ℕ). has_room width whole rows) (sym wide) ∙ test in
       let made : output_table false look content ≡ with_constrained whole rows = ap (λ (width : Option ℕ). kept_unbroken width whole rows) wide ∙ ap (λ (b : Bool). if b then with_constrained whole rows else rows) own in
@@ -168,85 +163,76 @@ module _ (look : Look) (content : ContentValue) (has : Bool) where
 
 -- ---- columns that are drawn
 
-has_field-long : (fields others : List Text) → length fields ≡ length others → (columns : List DrawnColumn) → list_any (has_field fields) columns ≡ list_any (has_field others) columns
-has_field-long fields others same columns = ap (λ (n : ℕ). list_any (λ (column : DrawnColumn). nat_lt column.position n) columns) same
-
 -- whether a record has the field of one of these columns
 abbrev pub reaches : List DrawnColumn → List (List Text) → Bool
 reaches columns rows = list_any (λ (fields : List Text). list_any (has_field fields) columns) rows
 
-still_reaches : (columns : List DrawnColumn) (rows others : List (List Text)) → AllZip (AllZip HasSpacesBehind) rows others → reaches columns rows ≡ reaches columns others
-still_reaches columns [] [] zip = refl
-still_reaches columns [] (x ∷ others) zip = absurd zip
-still_reaches columns (fields ∷ more) [] zip = absurd zip
-still_reaches columns (fields ∷ more) (x ∷ others) zip = ap₂ (λ (a b : Bool). a || b) (has_field-long fields x (sym (AllZip-long HasSpacesBehind fields x zip.0)) columns) (still_reaches columns more others zip.1)
-
-some_reached : (fields : List Text) (columns : List DrawnColumn) → list_any (has_field fields) columns ≡ true → 1 ≤ length (reached fields columns)
+some_reached : (fields : List Text) (columns : List DrawnColumn) → list_any (has_field fields) columns ≡ true → 1 ≤ length (columns_within fields columns)
 some_reached fields [] none = absurd (cc none)
 some_reached fields (column ∷ columns) some = rw some (omega arith)
 
-module _ (look : Look) (columns : List DrawnColumn) where
-  some_cells : (rows : List (List Text)) (table : TableValue) → reaches columns rows ≡ true → 1 ≤ length (with_rows (map (row_for look columns) rows) table).columns
-  some_cells [] table none = absurd (cc none)
-  some_cells (fields ∷ more) table some = by_test (some_cells more) (list_any (has_field fields) columns) refl
+module _ (look : Look) (is_aligned is_numbered : Bool) (columns : List DrawnColumn) where
+  some_cells : (n : ℕ) (rows : List (List Text)) (table : TableValue) → reaches columns rows ≡ true → 1 ≤ length (with_rows (map (row_for look is_aligned is_numbered columns) (counted_from n rows)) table).columns
+  some_cells n [] table none = absurd (cc none)
+  some_cells n (fields ∷ more) table some = by_test (some_cells (n + 1) more) (list_any (has_field fields) columns) refl
     where
       row : RowValue
-      row = row_for look columns fields
+      row = row_for look is_aligned is_numbered columns (n, fields)
 
-      by_test : ((t : TableValue) → reaches columns more ≡ true → 1 ≤ length (with_rows (map (row_for look columns) more) t).columns) → (b : Bool) → list_any (has_field fields) columns ≡ b → 1 ≤ length (with_rows (map (row_for look columns) more) (with_row row table)).columns
+      rest : List RowValue
+      rest = map (row_for look is_aligned is_numbered columns) (counted_from (n + 1) more)
+
+      by_test : ((t : TableValue) → reaches columns more ≡ true → 1 ≤ length (with_rows rest t).columns) → (b : Bool) → list_any (has_field fields) columns ≡ b → 1 ≤ length (with_rows rest (with_row row table)).columns
       by_test later true own =
-          with_rows-columns 1 (map (row_for look columns) more) (with_row row table)
-          (omega (arith, some_reached fields columns own, cells-length look false (reached fields columns) fields, no_fewer_columns (length row.cells) table.columns))
+          let shown = shown_in look is_aligned is_numbered (columns_within fields columns) (n, fields) in
+          with_rows-columns 1 rest (with_row row table)
+          (omega (arith, some_reached fields columns own, row-length look is_aligned is_numbered (columns_within fields columns) (n, fields), cells-length look false shown, no_fewer_columns (length row.cells) table.columns))
       by_test later false own = later (with_row row table) (ap (λ (b : Bool). b || reaches columns more) (sym own) ∙ some)
 
 -- the table of rows has a column where there are names, or where a record has the field of a column
-some_columns : (look : Look) (content : ContentValue) → 1 ≤ length content.columns → (content.names ≡ None → reaches content.columns content.rows ≡ true) → 1 ≤ length (rows_table look (fitting look content)).columns
-some_columns look content some reach = by_names own.names refl
-  where
-    own : ContentValue
-    own = fitting look content
+abbrev rows_made : Look → SelectedValue → List RowValue
+rows_made look content = map (row_for look (is_aligned_in look content) content.is_numbered content.columns) (counted_from 1 content.rows)
 
-    by_names : (names : Option (List Text)) → own.names ≡ names → 1 ≤ length (with_rows (map (row_for look own.columns) own.rows) (headed_table look own.columns own.names)).columns
-    by_names None is =
-        rw is
-        (some_cells look own.columns own.rows (empty_table look)
-        (ap (λ (columns : List DrawnColumn). reaches columns own.rows) (same_columns look content) ∙ sym (still_reaches content.columns content.rows own.rows (spaces_alone look content)) ∙ reach (sym (same_names look content) ∙ is)))
+some_columns : (look : Look) (content : SelectedValue) → 1 ≤ length content.columns → (content.names ≡ None → reaches content.columns content.rows ≡ true) → 1 ≤ length (rows_table look (is_aligned_in look content) content).columns
+some_columns look content some reach = by_names content.names refl
+  where
+    by_names : (names : Option (List Text)) → content.names ≡ names → 1 ≤ length (with_rows (rows_made look content) (headed_table look content.is_numbered content.columns names)).columns
+    by_names None is = some_cells look (is_aligned_in look content) content.is_numbered content.columns 1 content.rows (empty_table look) (reach is)
     by_names (Some names) is =
-        rw is
-        (with_rows-columns 1 (map (row_for look own.columns) own.rows) (headed_table look own.columns (Some names))
-        (omega (arith, some, ap length (same_columns look content), cells-length look look.has_bold_header own.columns names, no_fewer_columns (length (header_for look own.columns names).cells) [])))
+        with_rows-columns 1 (rows_made look content) (headed_table look content.is_numbered content.columns (Some names))
+        (omega (arith, some, header_few look content names, no_fewer_columns (length (header_for look content.is_numbered content.columns names).cells) []))
 
 -- all columns of it are shown
-rows_shown : (has : Bool) (look : Look) (content : ContentValue) → length (rows_table look (fitting look content)).columns ≤ shown_count (separated_table has (output_table false look content))
+rows_shown : (has : Bool) (look : Look) (content : SelectedValue) → length (rows_table look (is_aligned_in look content) content).columns ≤ shown_count (separated_table has (output_table false look content))
 rows_shown has look content = by_width look.width
   where
     table : TableValue
-    table = rows_table look (fitting look content)
+    table = rows_table look (is_aligned_in look content) content
 
     own : AllByRecursion IsNewColumn table.columns
-    own = recursion_from_All IsNewColumn table.columns (any_built false look (fitting look content)).columns
+    own = recursion_from_All IsNewColumn table.columns (any_built false (is_aligned_in look content) look content).columns
 
     shown : (wholes : List Bool) (h : Bool) → length table.columns ≤ shown_count (separated_table h (with_constrained wholes table))
     shown wholes true = omega (arith, ap length (all_shown wholes table.columns own), length-enumerate_from 0 (constrained_columns wholes table.columns), same_length wholes table.columns)
     shown wholes false = omega (arith, ap length (all_shown wholes table.columns own), length-enumerate_from 0 (constrained_columns wholes table.columns), same_length wholes table.columns)
 
-    by_width : (width : Option ℕ) → length table.columns ≤ shown_count (separated_table has (kept_unbroken width (unbroken_in look content) table))
+    by_width : (width : Option ℕ) → length table.columns ≤ shown_count (separated_table has (kept_unbroken width (unbroken_in content) table))
     by_width None = shown [] has
-    by_width (Some w) = by_room (has_room (Some w) (unbroken_in look content) table)
+    by_width (Some w) = by_room (has_room (Some w) (unbroken_in content) table)
       where
-        by_room : (b : Bool) → length table.columns ≤ shown_count (separated_table has (if b then with_constrained (unbroken_in look content) table else table))
-        by_room true = shown (unbroken_in look content) has
+        by_room : (b : Bool) → length table.columns ≤ shown_count (separated_table has (if b then with_constrained (unbroken_in content) table else table))
+        by_room true = shown (unbroken_in content) has
         by_room false = shown [] has
 
 -- and both columns of expanded records, where one has a field
-pairs_shown : (has : Bool) (look : Look) (content : ContentValue) (row : RowValue) (more : List RowValue) → flat_map (pairs_in look content) content.rows ≡ row ∷ more → 1 ≤ shown_count (separated_table has (output_table true look content))
+pairs_shown : (has : Bool) (look : Look) (content : SelectedValue) (row : RowValue) (more : List RowValue) → flat_map (pairs_in look content) content.rows ≡ row ∷ more → 1 ≤ shown_count (separated_table has (output_table true look content))
 pairs_shown has look content row more some = by_width look.width
   where
     table : TableValue
     table = pairs_table look content
 
     own : AllByRecursion IsNewColumn table.columns
-    own = recursion_from_All IsNewColumn table.columns (any_built true look content).columns
+    own = recursion_from_All IsNewColumn table.columns (any_built true false look content).columns
 
     two : length table.columns ≡ 2
     two =
@@ -276,7 +262,7 @@ pairs_shown has look content row more some = by_width look.width
         by_room false field = whole has
 
 -- a drawn table has a shown column
-pub column_is_shown : (is_expanded has : Bool) (look : Look) (content : ContentValue) → 1 ≤ length content.columns → (content.names ≡ None → reaches content.columns content.rows ≡ true)
+pub column_is_shown : (is_expanded has : Bool) (look : Look) (content : SelectedValue) → 1 ≤ length content.columns → (content.names ≡ None → reaches content.columns content.rows ≡ true)
     → (is_expanded ≡ true → ¬ (flat_map (pairs_in look content) content.rows ≡ [])) → 0 < shown_count (separated_table has (output_table is_expanded look content))
 column_is_shown true has look content some reach pairs = by_pairs (flat_map (pairs_in look content) content.rows) refl
   where

@@ -12,7 +12,7 @@ use Rattle.comfy_table.specs.Drawing.{terminated_text_of}
 use Rattle.comfy_table.specs.Laws.{AreLinesOf, HasNoBreak, HasNoControl}
 use Rattle.csv_tables.proofs.FieldLemmas.{printable_unbroken}
 use Rattle.csv_tables.proofs.OutputControlLemmas.{counts_are_printable}
-use Rattle.csv_tables.specs.Drawn.{ContentValue, are_more, count_text, note_for, record_line}
+use Rattle.csv_tables.specs.Drawn.{SelectedValue, are_more, count_text, note_for, record_line}
 use Rattle.csv_tables.specs.Laws.{HasLines, IsOutputWith, IsStraightOutput, numbered_lines}
 use Rattle.csv_tables.specs.declared.options.Layout.{Layout}
 use Rattle.promises.proofs.ShownLemmas.{shows_visible}
@@ -82,7 +82,7 @@ module _ (IsGood : Text → Type 0) (counts : (line : Text) → CountsRecords li
       by_test false = record { lines = []; are = no_lines; good = All-nil IsGood }
 
   -- the text of a table, whose lines are good
-  table_lines : (is_expanded : Bool) (content : ContentValue) (lines : List Text) (text : Text) → HasLines is_expanded content lines text → All IsGood lines → HasGoodLines text
+  table_lines : (is_expanded : Bool) (content : SelectedValue) (lines : List Text) (text : Text) → HasLines is_expanded content lines text → All IsGood lines → HasGoodLines text
   table_lines false content lines text are good = record { lines = lines; are = are; good = good }
   table_lines true content lines text (parts, within, unbroken, is) good = subst HasGoodLines (sym is) (records (range_with_len 0 (length content.rows)))
     where

@@ -1,6 +1,5 @@
--- Messages hold no control characters but line feeds.
-use Rattle.std.proofs.Common.{◌≡◌, ◌==◌, ◌&&◌, ◌||◌, ℕ, Bool, true, false, not, List, [], ◌∷◌, ◌++◌, Option, Some, None, append-nil, arith, codes, decimal, map, chars, refl, ◌∙◌, string_bytes, option_map}
-use Rattle.std.specs.Char.{is_control}
+-- Messages are lines without control characters.
+use Rattle.std.proofs.Common.{◌≡◌, ℕ, Bool, true, false, List, [], ◌∷◌, ◌++◌, Option, Some, None, append-nil, arith, codes, decimal, map, chars, refl, ◌∙◌, string_bytes, option_map}
 use Rattle.std.specs.Int.{is_in_range}
 use Rattle.std.specs.Prelude.{if◌then◌else◌}
 use Rattle.std.specs.Str.{NonePass}
@@ -12,7 +11,7 @@ use Rattle.std.proofs.lemmas.Str.{NoCharPasses-append, NoCharPasses-nil, encode_
 use Rattle.comfy_parts.specs.Text.{Text, is_printable_ascii}
 use Rattle.csv_command.specs.Ending.{about, columns_reason, decoding_reason, encoding_hint, not_text_reason, input_name, is_of_input, message_for, reading_reason, reason_for, records_reason, shown_name}
 use Rattle.csv_command.specs.declared.arguments.Invocation.{Invocation}
-use Rattle.csv_records.specs.Cleaning.{is_replaced, shown, turns_direction}
+use Rattle.csv_records.specs.Cleaning.{is_replaced, shown}
 use Rattle.csv_records.specs.declared.encoding.Encoding.{Encoding}
 use Rattle.csv_records.specs.declared.error.DecodeError.{DecodeError}
 use Rattle.csv_records.specs.declared.error.DecodeError.TheVariants as decode
@@ -25,45 +24,33 @@ use Rattle.csv_command.specs.declared.error.ColumnsError.{ColumnsError}
 use Rattle.csv_command.specs.declared.error.ColumnsError.TheVariants as columns
 use Rattle.csv_command.specs.declared.error.CsvError.{CsvError}
 use Rattle.csv_command.specs.declared.error.CsvError.TheVariants as err
-use Rattle.csv_promises.specs.Messages.{IsTame}
-
--- a character that no message holds
-abbrev is_wild : ℕ → Bool
-is_wild c = (is_control c && not (c == 0x0A)) || turns_direction c
+use Rattle.csv_promises.specs.Messages.{IsTame, IsTameLine}
 
 both : (xs ys : Text) → IsTame xs → IsTame ys → IsTame (xs ++ ys)
-both = NoCharPasses-append is_wild
+both = NoCharPasses-append is_replaced
 
 -- printable ASCII
 printable : (text : Text) → is_printable_ascii text ≡ true → IsTame text
-printable [] all = NoCharPasses-nil is_wild
+printable [] all = NoCharPasses-nil is_replaced
 printable (b ∷ rest) all =
     let parts = and_parts (is_in_range 0x20 0x7E b) (is_printable_ascii rest) all in
     both (b ∷ []) rest (b ∷ [], append-nil _ ∙ encode_ascii b (grind (arith, nat_tests, parts.0)), (tame b parts.0, tt)) (printable rest parts.1)
   where
-    tame : (c : ℕ) → is_in_range 0x20 0x7E c ≡ true → is_wild c ≡ false
+    tame : (c : ℕ) → is_in_range 0x20 0x7E c ≡ true → is_replaced c ≡ false
     tame c in_range = grind (arith, nat_tests, in_range)
-
-line_feed : IsTame (codes "\n")
-line_feed = (0x0A ∷ [], append-nil _ ∙ encode_ascii 0x0A (omega arith), (refl, tt))
 
 -- a name as it is said
 name : (text : Text) → IsTame (shown_name text)
 name text = (map (shown) (chars text), refl, none (chars text))
   where
-    one : (c : ℕ) → is_wild (shown c) ≡ false
+    one : (c : ℕ) → is_replaced (shown c) ≡ false
     one c = by_test (is_replaced c) refl
       where
-        by_test : (b : Bool) → is_replaced c ≡ b → is_wild (if b then 0xFFFD else c) ≡ false
+        by_test : (b : Bool) → is_replaced c ≡ b → is_replaced (if b then 0xFFFD else c) ≡ false
         by_test true is = refl
-        by_test false is = by_parts (is_control c) (turns_direction c) is
-          where
-            by_parts : (a d : Bool) → (a || d) ≡ false → ((a && not (c == 0x0A)) || d) ≡ false
-            by_parts true d is = absurd (cc is)
-            by_parts false true is = absurd (cc is)
-            by_parts false false is = refl
+        by_test false is = is
 
-    none : (cs : List ℕ) → NonePass is_wild (map (shown) cs)
+    none : (cs : List ℕ) → NonePass is_replaced (map (shown) cs)
     none [] = tt
     none (c ∷ cs) = (one c, none cs)
 
@@ -71,8 +58,8 @@ name text = (map (shown) (chars text), refl, none (chars text))
 number : (n : ℕ) → IsTame (decimal n)
 number n = printable (decimal n) (number_is_printable n)
 
-pub message : (invocation : Invocation) (fault : Option IoErrorKind) (e : CsvError) → IsTame (message_for invocation fault e)
-message invocation fault e = both _ (codes "\n") (both (about (is_of_input e) (option_map string_bytes invocation.file)) _ (front (is_of_input e) (option_map string_bytes invocation.file)) (reason invocation.options.input.encoding e)) line_feed
+pub message : (invocation : Invocation) (fault : Option IoErrorKind) (e : CsvError) → IsTameLine (message_for invocation fault e)
+message invocation fault e = (about (is_of_input e) (option_map string_bytes invocation.file) ++ reason_for invocation.options.input.encoding fault e, refl, both (about (is_of_input e) (option_map string_bytes invocation.file)) _ (front (is_of_input e) (option_map string_bytes invocation.file)) (reason invocation.options.input.encoding e))
   where
     input : (file : Option Text) → IsTame (input_name file)
     input None = printable (codes "standard input") refl

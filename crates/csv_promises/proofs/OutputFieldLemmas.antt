@@ -11,7 +11,7 @@ use Rattle.comfy_table.specs.Drawing.{drawing, drawing_of_infos, infos_of, termi
 use Rattle.comfy_table.specs.Headline.{IsTableDrawing}
 use Rattle.comfy_table.specs.Laws.{HasNoBreak, IsStyleWithout}
 use Rattle.comfy_table.specs.Parts.{ArrangedValue, with_rows_alone}
-use Rattle.comfy_table.specs.TableValue.{TableValue, header_and_rows, with_rows}
+use Rattle.comfy_table.specs.TableValue.{TableValue, header_and_rows}
 use Rattle.csv.specs.Records.{AllText}
 use Rattle.csv_command.proofs.StyleColumnLemmas.{parsed_style_without_controls}
 use Rattle.csv_command.specs.declared.arguments.Invocation.{Invocation}
@@ -21,16 +21,14 @@ use Rattle.csv_records.proofs.OneRecordLemmas.{read_is_one}
 use Rattle.csv_records.specs.Beginning.{whole_lines}
 use Rattle.csv_records.specs.Reading.{AreRecordsFor}
 use Rattle.csv_tables.proofs.BuiltLemmas.{plain_table}
-use Rattle.csv_tables.proofs.DecimalLawLemmas.{spaces_alone}
-use Rattle.csv_tables.proofs.FittingLemmas.{drawn_content}
 use Rattle.csv_tables.proofs.LineLemmas.{is_table_text}
 use Rattle.csv_tables.proofs.OutputControlLemmas.{text_fields, unbroken_without}
 use Rattle.csv_tables.proofs.RowLemmas.{positions-shown, with_rows-rows}
 use Rattle.csv_command.proofs.RunLemmas.{beginning_parts}
-use Rattle.csv_tables.specs.Cells.{row_for}
+use Rattle.csv_tables.specs.Cells.{row_for, counted_from}
 use Rattle.csv_tables.specs.Columns.{ColumnsValue, count_of, seen}
 use Rattle.csv_command.specs.Columns.{columns_for}
-use Rattle.csv_tables.specs.Drawn.{ContentValue, RendersAsTable, RendersTable, aligned_content, columns_beside, columns_of, count_below, count_text, drawn_fields, drawn_rows, empty_table, fitting_content, has_room_for, headed_table, is_expanded_in, limited, names_beside, names_of, note_for, output_table, pairs_in, record_line, record_text, records_below, rows_beside, rows_table, separated_table, some_lines, table_text}
+use Rattle.csv_tables.specs.Drawn.{SelectedValue, RendersAsTable, RendersTable, columns_of, count_below, count_text, drawn_fields, drawn_rows, empty_table, has_room_for, headed_table, is_expanded_in, limited, names_of, note_for, output_table, pairs_in, record_line, record_text, records_below, rows_table, separated_table, some_lines, table_text, is_aligned_in}
 use Rattle.csv_command.specs.Drawn.{IsDrawnOf, RendersChosen, RendersCounted, layout_with, most_drawn}
 use Rattle.csv_tables.specs.declared.options.DrawnColumn.{DrawnColumn}
 use Rattle.csv_tables.specs.declared.options.Expansion.{Expansion}
@@ -44,7 +42,7 @@ use Rattle.csv_promises.proofs.FieldLemmas.{IsWholeRow, are_pairs, are_rows, is_
 use Rattle.csv_promises.proofs.PositionLemmas.{chosen, kept_positions}
 use Rattle.csv_promises.proofs.RecordLemmas.{AreDrawnFirst, all_drawn, first_are_drawn, with_rows-header}
 use Rattle.csv_promises.proofs.ShownTableLemmas.{HasRowsOf, has_rows_of, part_shows}
-use Rattle.csv_promises.specs.Fields.{MayExpand, ShowsDrawn, ShowsExpanded, ShowsRecords, ShowsRows, fields_at, pairs_at, positions_in}
+use Rattle.csv_promises.specs.Fields.{MayExpand, ShowsDrawn, ShowsExpanded, ShowsRecords, ShowsRows, pairs_at, positions_in, all_rows}
 use Rattle.csv_promises.specs.Written.{IsWritten}
 
 -- of no rows nothing
@@ -61,14 +59,6 @@ none_shown look =
       show = tt;
     }
 
--- a content with spaces is the content with other rows
-fitting-is : (look : Look) (content : ContentValue) → fitting_content look content ≡ record content { rows = (fitting_content look content).rows }
-fitting-is look content = by_room (has_room_for look content (aligned_content look content))
-  where
-    by_room : (b : Bool) → (if b then aligned_content look content else content) ≡ record content { rows = (if b then aligned_content look content else content).rows }
-    by_room true = refl
-    by_room false = refl
-
 -- ---- tables
 
 -- what a look asks for, so that all fields are drawn
@@ -78,10 +68,9 @@ pub record DrawsAll (look : Look) : Type 0 where
   pub uncut : look.max_height ≡ None
   pub style : IsStyleWithout 0x0A look.style
 
-module _ (look : Look) (all : DrawsAll look) (names : Option (List Text)) (rows : List (List Text)) (columns : List DrawnColumn) (count : Option ℕ) where
-  -- what is drawn without numbers
-  abbrev pub content : ContentValue
-  content = record { names = names; rows = rows; columns = columns; count = count; is_numbered = false }
+module _ (look : Look) (all : DrawsAll look) (is_numbered : Bool) (names : Option (List Text)) (rows : List (List Text)) (columns : List DrawnColumn) (count : Option ℕ) where
+  abbrev pub content : SelectedValue
+  content = record { names = names; rows = rows; columns = columns; count = count; is_numbered = is_numbered }
 
   abbrev header : List Text
   header = unwrap_or names []
@@ -102,41 +91,37 @@ module _ (look : Look) (all : DrawsAll look) (names : Option (List Text)) (rows 
     is_text : text ≡ table_text is_expanded content arranged
     is_text = renders.is ∙ ap₂ (λ t infos. table_text is_expanded content (record { table = t; infos = infos })) renders.is_arranged.of_table renders.is_arranged.infos
 
-    abbrev is : HasRowsOf (plain_table is_expanded look (drawn_content is_expanded look content)) table
+    abbrev is : HasRowsOf (plain_table is_expanded (is_aligned_in look content) look content) table
     is = has_rows_of look content is_expanded renders.has_separators
 
     abbrev shows : (first n : ℕ) (fields : List (List Text)) → AllZip IsWholeRow fields (option_to_list table.header ++ take n (drop first table.rows)) → ShowsRows look fields (terminated_text_of (drawing (with_rows_alone first n table) drawn.widths))
     shows = part_shows look content is_expanded renders.has_separators all.unkept all.style lines drawn
 
   -- the table of rows
-  pub rows_shown : (text : Text) → RendersTable false look content text → All (All IsUtf8) (option_to_list names ++ rows) → ShowsRows look (map (fields_at (positions_of columns)) (option_to_list names ++ rows)) text
+  pub rows_shown : (text : Text) → RendersTable false look content text → All (All IsUtf8) (option_to_list names ++ rows) → ShowsRows look (all_rows is_numbered (positions_of columns) names rows) text
   rows_shown text renders utf8 =
       subst (ShowsRows look fields) (sym (is_text false text renders))
       (shows false text renders 0 (length (table false text renders).rows) fields
       (subst (λ (own : List RowValue). AllZip IsWholeRow fields (option_to_list (table false text renders).header ++ own)) (sym (take-length (table false text renders).rows)) each))
     where
       fields : List (List Text)
-      fields = map (fields_at (positions_of columns)) (option_to_list names ++ rows)
+      fields = all_rows is_numbered (positions_of columns) names rows
 
       made : List RowValue
-      made = map (row_for look columns) (fitting_content look content).rows
-
-      base : rows_table look (fitting_content look content) ≡ with_rows made (headed_table look columns names)
-      base = ap (rows_table look) (fitting-is look content)
+      made = map (row_for look (is_aligned_in look content) is_numbered columns) (counted_from 1 rows)
 
       by_names : (own : Option (List Text)) → All (All IsUtf8) (option_to_list own ++ rows)
-          → AllZip IsWholeRow (map (fields_at (positions_of columns)) (option_to_list own ++ rows)) (option_to_list (headed_table look columns own).header ++ ((headed_table look columns own).rows ++ made))
-      by_names None each = are_rows look all.unkept all.table all.uncut columns rows (fitting_content look content).rows (spaces_alone look content) each
+          → AllZip IsWholeRow (all_rows is_numbered (positions_of columns) own rows) (option_to_list (headed_table look is_numbered columns own).header ++ ((headed_table look is_numbered columns own).rows ++ made))
+      by_names None each = are_rows look all.unkept all.table all.uncut columns (is_aligned_in look content) is_numbered 1 rows each
       by_names (Some own) each = (
-        is_header look all.unkept all.table all.uncut columns own (All-head (All IsUtf8) own rows each),
-        are_rows look all.unkept all.table all.uncut columns rows (fitting_content look content).rows (spaces_alone look content) (All-tail (All IsUtf8) own rows each),
+        is_header look all.unkept all.table all.uncut columns is_numbered own (All-head (All IsUtf8) own rows each),
+        are_rows look all.unkept all.table all.uncut columns (is_aligned_in look content) is_numbered 1 rows (All-tail (All IsUtf8) own rows each),
       )
 
-      of_base : AllZip IsWholeRow fields (header_and_rows (rows_table look (fitting_content look content)))
+      of_base : AllZip IsWholeRow fields (header_and_rows (rows_table look (is_aligned_in look content) content))
       of_base =
-          subst (λ (t : TableValue). AllZip IsWholeRow fields (header_and_rows t)) (sym base)
-          (subst (λ (own : List RowValue). AllZip IsWholeRow fields own)
-          (sym (ap₂ (λ (header : Option RowValue) (own : List RowValue). option_to_list header ++ own) (with_rows-header made (headed_table look columns names)) (with_rows-rows made (headed_table look columns names)))) (by_names names utf8))
+          subst (λ (own : List RowValue). AllZip IsWholeRow fields own)
+          (sym (ap₂ (λ (header : Option RowValue) (own : List RowValue). option_to_list header ++ own) (with_rows-header made (headed_table look is_numbered columns names)) (with_rows-rows made (headed_table look is_numbered columns names)))) (by_names names utf8)
 
       each : AllZip IsWholeRow fields (header_and_rows (table false text renders))
       each =
@@ -201,7 +186,7 @@ record IsShown (o : Options) (names : Option (List Text)) (rows : List (List Tex
   shows : ShowsDrawn is_expanded o names rows count drawn
   joined : output ≡ drawn ++ note_for false o.selection.limit count
 
-module _ (o : Options) (all : DrawsAll o.look) (unnumbered : o.selection.is_numbered ≡ false) (count : Option ℕ) (records : List (List Text)) (texts : All AllText records) where
+module _ (o : Options) (all : DrawsAll o.look) (count : Option ℕ) (records : List (List Text)) (texts : All AllText records) where
   abbrev look : Look
   look = o.look
 
@@ -221,34 +206,32 @@ module _ (o : Options) (all : DrawsAll o.look) (unnumbered : o.selection.is_numb
     positions : positions_in o (unwrap_or names []) rows ≡ positions_of columns
     positions =
         sym (kept_positions (unwrap_or names []) (count_of (unwrap_or names []) rows) o.columns.chosen.items o.columns.dropped.items (positions_of columns)
-        (chosen (unwrap_or names []) _ _ _ own found ∙ ap Ok (sym (positions-shown own.right own.left (map (seen look.has_sequences) rows) own.drawn))))
+        (chosen (unwrap_or names []) _ _ _ own found ∙ ap Ok (sym (positions-shown own (map (seen look.has_sequences) rows)))))
 
-    by_kind : (is_expanded : Bool) (text : Text) → RendersTable is_expanded look (content look all names rows columns count) text → ShowsDrawn is_expanded o names rows count text
+    by_kind : (is_expanded : Bool) (text : Text) → RendersTable is_expanded look (content look all o.selection.is_numbered names rows columns count) text → ShowsDrawn is_expanded o names rows count text
     by_kind false text renders =
-        subst (λ (ps : List ℕ). ShowsRows look (map (fields_at ps) (option_to_list names ++ rows)) text) (sym positions) (rows_shown look all names rows columns count text renders utf8)
+        subst (λ (ps : List ℕ). ShowsRows look (all_rows o.selection.is_numbered ps names rows) text) (sym positions) (rows_shown look all o.selection.is_numbered names rows columns count text renders utf8)
     by_kind true text renders =
-        subst (λ (ps : List ℕ). ShowsExpanded look (unwrap_or names []) ps count 1 rows text) (sym positions) (records_shown look all names rows columns count text renders)
+        subst (λ (ps : List ℕ). ShowsExpanded look (unwrap_or names []) ps count 1 rows text) (sym positions) (records_shown look all o.selection.is_numbered names rows columns count text renders)
 
   output_shown : (output : Text) → RendersChosen count o records output → IsShown o names rows count output
   output_shown output made =
       record {
         is_expanded = text.is_expanded;
-        expansion = may_expand look.expansion ((length rows == 0) || has_room_for look own (fitting_content look own)) text.is_expanded text.expansion;
+        expansion = may_expand look.expansion ((length rows == 0) || has_room_for look own (is_aligned_in look own)) text.is_expanded text.expansion;
         drawn = made.is_output.text;
         shows = by_kind made.columns made.are_chosen text.is_expanded made.is_output.text text.drawn;
-        joined = made.is_output.joined ∙ ap₂ (λ (b : Bool) (n : Option ℕ). made.is_output.text ++ note_for b o.selection.limit n) all.table (ap (λ (c : ContentValue). c.count) same);
+        joined = made.is_output.joined ∙ ap₂ (λ (b : Bool) (n : Option ℕ). made.is_output.text ++ note_for b o.selection.limit n) all.table (ap (λ (c : SelectedValue). c.count) same);
       }
     where
-      own : ContentValue
-      own = content look all names rows (columns made.columns made.are_chosen) count
+      own : SelectedValue
+      own = content look all o.selection.is_numbered names rows (columns made.columns made.are_chosen) count
 
       same : made.is_output.content ≡ own
-      same =
-          sym made.is_output.is_content
-          ∙ ap (λ (b : Bool). record { names = names_beside b names; rows = rows_beside b rows; columns = columns_beside b (columns made.columns made.are_chosen); count = count; is_numbered = b }) unnumbered
+      same = sym made.is_output.is_content
 
       text : RendersAsTable look own made.is_output.text
-      text = subst (λ (c : ContentValue). RendersAsTable look c made.is_output.text) same (is_table_text count (layout_with o made.columns) records output made.is_output all.table)
+      text = subst (λ (c : SelectedValue). RendersAsTable look c made.is_output.text) same (is_table_text count (layout_with o made.columns) records output made.is_output all.table)
 
 -- ---- no records
 
@@ -261,8 +244,8 @@ module _ (arguments : List Text) (context : OutputContext) (invocation : Invocat
   abbrev options : Options
   options = invocation.options
 
-  pub fields_shown : options.look.max_height ≡ None → options.selection.is_numbered ≡ false → ShowsRecords options records output
-  fields_shown uncut unnumbered = by_made is.made
+  pub fields_shown : options.look.max_height ≡ None → ShowsRecords options records output
+  fields_shown uncut = by_made is.made
     where
       all : DrawsAll options.look
       all = record { unkept = is.unkept; table = is.no_markdown; uncut = uncut; style = unbroken_without options.look.style (parsed_style_without_controls arguments context invocation is.is_asked) }
@@ -311,7 +294,7 @@ module _ (arguments : List Text) (context : OutputContext) (invocation : Invocat
       any : (rs : List (List Text)) → RendersCounted options rs output → All AllText rs → ShowsRecords options rs output
       any [] empty texts = subst (ShowsRecords options []) (sym empty) none
       any (r ∷ rs) made texts =
-          let shown = output_shown options all unnumbered (Some (count_below options.selection (r ∷ rs))) (r ∷ rs) texts output made in
+          let shown = output_shown options all (Some (count_below options.selection (r ∷ rs))) (r ∷ rs) texts output made in
           record { count = Some (count_below options.selection (r ∷ rs)); is_count = refl; is_expanded = shown.is_expanded; expansion = shown.expansion; drawn = shown.drawn; shows = shown.shows; joined = shown.joined }
 
       by_made : IsDrawnOf options input output → ShowsRecords options records output
@@ -327,7 +310,7 @@ module _ (arguments : List Text) (context : OutputContext) (invocation : Invocat
           let shown : IsShown options (names_of header records) (drawn_rows options.selection records) None output =
           subst (λ (own : Option (List Text)). IsShown options own (drawn_rows options.selection records) None output) first.names
           (subst (λ (own : List (List Text)). IsShown options (names_of header made.records) own None output) same
-          (output_shown options all unnumbered None made.records enough.are.are_records.are_records.are_text output made.is_output)) in
+          (output_shown options all None made.records enough.are.are_records.are_records.are_text output made.is_output)) in
           record {
             count = None;
             is_count = subst (λ (l : Option ℕ). length (limited l (records_below header records)) < length (records_below header records)) (sym enough.has_limit.is) first.fewer;

@@ -9,8 +9,8 @@ use Rattle.comfy_parts.specs.CellValue.{RowValue, columns_grown_to}
 use Rattle.comfy_parts.specs.Text.{Text}
 use Rattle.comfy_table.specs.TableValue.{TableValue, header_and_rows, with_row, with_rows}
 use Rattle.csv_tables.proofs.BuiltLemmas.{plain_table}
-use Rattle.csv_tables.specs.Cells.{header_for, row_for}
-use Rattle.csv_tables.specs.Drawn.{ContentValue, empty_table, headed_table, limited, names_of, pairs_in, records_below}
+use Rattle.csv_tables.specs.Cells.{header_for, row_for, counted_from}
+use Rattle.csv_tables.specs.Drawn.{SelectedValue, empty_table, headed_table, limited, names_of, pairs_in, records_below}
 use Rattle.csv_command.specs.Drawn.{most_drawn}
 use Rattle.csv_tables.specs.declared.options.DrawnColumn.{DrawnColumn}
 use Rattle.csv_tables.specs.declared.options.Look.{Look}
@@ -35,15 +35,16 @@ rows_have_columns (row ∷ rows) t each =
     grown : length (columns_grown_to (length row.cells) t.columns) ≡ max (length row.cells) (length t.columns)
     grown = no_fewer_columns (length row.cells) t.columns
 
-header_has_columns : (look : Look) (columns : List DrawnColumn) (names : Option (List Text)) → All (HasColumns (headed_table look columns names)) (header_and_rows (headed_table look columns names))
-header_has_columns look columns None = All-nil (HasColumns (empty_table look))
-header_has_columns look columns (Some names) =
-    let grown = no_fewer_columns (length (header_for look columns names).cells) [] in
-    All-cons (HasColumns (headed_table look columns (Some names))) (header_for look columns names) [] (omega (arith, grown)) (All-nil (HasColumns (headed_table look columns (Some names))))
+header_has_columns : (look : Look) (is_numbered : Bool) (columns : List DrawnColumn) (names : Option (List Text)) → All (HasColumns (headed_table look is_numbered columns names)) (header_and_rows (headed_table look is_numbered columns names))
+header_has_columns look is_numbered columns None = All-nil (HasColumns (empty_table look))
+header_has_columns look is_numbered columns (Some names) =
+    let header = header_for look is_numbered columns names in
+    let grown = no_fewer_columns (length header.cells) [] in
+    All-cons (HasColumns (headed_table look is_numbered columns (Some names))) header [] (omega (arith, grown)) (All-nil (HasColumns (headed_table look is_numbered columns (Some names))))
 
-pub table_has_columns : (is_expanded : Bool) (look : Look) (content : ContentValue) → All (HasColumns (plain_table is_expanded look content)) (header_and_rows (plain_table is_expanded look content))
-table_has_columns true look content = rows_have_columns (flat_map (pairs_in look content) content.rows) (empty_table look) (All-nil (HasColumns (empty_table look)))
-table_has_columns false look content = rows_have_columns (map (row_for look content.columns) content.rows) (headed_table look content.columns content.names) (header_has_columns look content.columns content.names)
+pub table_has_columns : (is_expanded is_aligned : Bool) (look : Look) (content : SelectedValue) → All (HasColumns (plain_table is_expanded is_aligned look content)) (header_and_rows (plain_table is_expanded is_aligned look content))
+table_has_columns true is_aligned look content = rows_have_columns (flat_map (pairs_in look content) content.rows) (empty_table look) (All-nil (HasColumns (empty_table look)))
+table_has_columns false is_aligned look content = rows_have_columns (map (row_for look is_aligned content.is_numbered content.columns) (counted_from 1 content.rows)) (headed_table look content.is_numbered content.columns content.names) (header_has_columns look content.is_numbered content.columns content.names)
 
 -- further rows leave the header as it is, and take no column away
 pub with_rows-header : (rows : List RowValue) (t : TableValue) → (with_rows rows t).header ≡ t.header

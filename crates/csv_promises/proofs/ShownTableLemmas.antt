@@ -15,12 +15,11 @@ use Rattle.comfy_table.specs.Laws.{HasNoBreak, IsStyleWithout}
 use Rattle.comfy_table.specs.Parts.{with_rows_alone}
 use Rattle.comfy_table.specs.TableValue.{TableValue, header_and_rows, is_tty, max_content_widths, should_style, shown_columns}
 use Rattle.csv_tables.proofs.BuiltLemmas.{plain_table}
-use Rattle.csv_tables.proofs.FittingLemmas.{drawn_content}
 use Rattle.csv_tables.proofs.LineLemmas.{Any, any_built, any_drawn, kept_setting, unbroken_lines}
 use Rattle.csv_tables.proofs.SeparatorLemmas.{separated}
 use Rattle.csv_tables.proofs.WholeColumnLemmas.{IsPaddedColumn, all_shown}
 use Rattle.csv_tables.proofs.WholeTableLemmas.{IsDrawn, drawn-is}
-use Rattle.csv_tables.specs.Drawn.{ContentValue, empty_table, fitting_content, output_table, pairs_table, rows_table, separated_table, unbroken_in}
+use Rattle.csv_tables.specs.Drawn.{SelectedValue, empty_table, output_table, pairs_table, rows_table, separated_table, unbroken_in, is_aligned_in}
 use Rattle.csv_tables.specs.Unbroken.{constrained_columns, field_width, has_room, kept_unbroken, kept_unbroken_fields, may_break, room_beside, room_for_two, with_constrained, with_field_width, with_second}
 use Rattle.csv_tables.specs.declared.options.Look.{Look}
 use Rattle.promises.proofs.KeptLemmas.{part_stands}
@@ -72,15 +71,15 @@ second_are_seen field (names ∷ fields ∷ more) new = (new_is_seen names new.0
 
 -- ---- the table that is drawn
 
-module _ (look : Look) (content : ContentValue) where
-  pub has_rows_of : (is_expanded has : Bool) → HasRowsOf (plain_table is_expanded look (drawn_content is_expanded look content)) (separated_table has (output_table is_expanded look content))
+module _ (look : Look) (content : SelectedValue) where
+  pub has_rows_of : (is_expanded has : Bool) → HasRowsOf (plain_table is_expanded (is_aligned_in look content) look content) (separated_table has (output_table is_expanded look content))
   has_rows_of true has = by_width look.width
     where
       pairs : TableValue
       pairs = pairs_table look content
 
       new : AllByRecursion IsNewColumn pairs.columns
-      new = recursion_from_All IsNewColumn pairs.columns (any_built true look content).columns
+      new = recursion_from_All IsNewColumn pairs.columns (any_built true false look content).columns
 
       as_it_is : HasRowsOf pairs (separated_table has pairs)
       as_it_is = with_columns pairs has pairs.columns refl (all_shown [] pairs.columns new)
@@ -106,27 +105,27 @@ module _ (look : Look) (content : ContentValue) where
   has_rows_of false has = by_width look.width
     where
       rows : TableValue
-      rows = rows_table look (fitting_content look content)
+      rows = rows_table look (is_aligned_in look content) content
 
       new : AllByRecursion IsNewColumn rows.columns
-      new = recursion_from_All IsNewColumn rows.columns (any_built false look (fitting_content look content)).columns
+      new = recursion_from_All IsNewColumn rows.columns (any_built false (is_aligned_in look content) look content).columns
 
       constrained : (whole : List Bool) → HasRowsOf rows (separated_table has (with_constrained whole rows))
       constrained whole = with_columns rows has (constrained_columns whole rows.columns) (constrained-length whole rows.columns) (all_shown whole rows.columns new)
 
-      by_width : (width : Option ℕ) → HasRowsOf rows (separated_table has (kept_unbroken width (unbroken_in look content) rows))
+      by_width : (width : Option ℕ) → HasRowsOf rows (separated_table has (kept_unbroken width (unbroken_in content) rows))
       by_width None = constrained []
-      by_width (Some w) = by_room (has_room (Some w) (unbroken_in look content) rows)
+      by_width (Some w) = by_room (has_room (Some w) (unbroken_in content) rows)
         where
-          by_room : (b : Bool) → HasRowsOf rows (separated_table has (if b then with_constrained (unbroken_in look content) rows else rows))
-          by_room true = constrained (unbroken_in look content)
+          by_room : (b : Bool) → HasRowsOf rows (separated_table has (if b then with_constrained (unbroken_in content) rows else rows))
+          by_room true = constrained (unbroken_in content)
           by_room false = constrained []
 
   module _ (is_expanded has : Bool) where
     abbrev pub made : TableValue
     made = separated_table has (output_table is_expanded look content)
 
-    is : HasRowsOf (plain_table is_expanded look (drawn_content is_expanded look content)) made
+    is : HasRowsOf (plain_table is_expanded (is_aligned_in look content) look content) made
     is = has_rows_of is_expanded has
 
     known : IsDrawn (separated has look) Any content made
@@ -148,10 +147,10 @@ module _ (look : Look) (content : ContentValue) where
     columns =
         subst (λ (header : Option RowValue). All (HasColumns made) (option_to_list header ++ made.rows)) (sym is.header)
         (subst (λ (rows : List RowValue). All (HasColumns made) (option_to_list base.header ++ rows)) (sym is.rows)
-        (All-weaker (HasColumns base) (HasColumns made) (λ row own. omega (arith, own, is.as_many)) (header_and_rows base) (table_has_columns is_expanded look (drawn_content is_expanded look content))))
+        (All-weaker (HasColumns base) (HasColumns made) (λ row own. omega (arith, own, is.as_many)) (header_and_rows base) (table_has_columns is_expanded (is_aligned_in look content) look content)))
       where
         base : TableValue
-        base = plain_table is_expanded look (drawn_content is_expanded look content)
+        base = plain_table is_expanded (is_aligned_in look content) look content
 
     -- ---- a part of it
 

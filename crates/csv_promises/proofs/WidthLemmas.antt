@@ -18,9 +18,10 @@ use Rattle.csv_command.specs.declared.arguments.Invocation.{Invocation}
 use Rattle.csv_command.specs.declared.arguments.OutputContext.{OutputContext}
 use Rattle.csv_tables.proofs.LineLemmas.{IsKept, drawn, drawn_table, expansion, is_table_text, output_keeps_to, with_lines}
 use Rattle.csv_tables.proofs.StraightLemmas.{clear, narrow_lines}
-use Rattle.csv_tables.specs.Drawn.{ContentValue, RendersAsTable, RendersRecords, drawn_fields, first_number, fitting_content, has_room_for, is_expanded_in, output_table, pair_columns, pairs_in, separated_table, some_lines, table_text}
-use Rattle.csv_tables.specs.Cells.{field_or_blank, held, pair_for}
-use Rattle.csv_tables.specs.Columns.{name_from}
+use Rattle.csv_tables.specs.Drawn.{SelectedValue, RendersAsTable, RendersRecords, drawn_fields, has_room_for, is_expanded_in, output_table, pairs_in, separated_table, some_lines, table_text, is_aligned_in}
+use Rattle.csv_tables.specs.Cells.{held, pair_for}
+use Rattle.csv_tables.specs.Fields.{field_or_blank}
+use Rattle.csv_tables.specs.Columns.{name_at}
 use Rattle.csv_tables.specs.declared.options.DrawnColumn.{DrawnColumn}
 use Rattle.csv_tables.specs.Laws.{ArePlainLines, EachText, HasLines}
 use Rattle.csv_tables.specs.declared.options.Expansion.{Expansion}
@@ -30,7 +31,7 @@ use Rattle.csv_tables.specs.declared.options.Layout.{Layout}
 use Rattle.comfy_parts.specs.Columns.{CharactersFit, IsOneColumnStyle}
 use Rattle.promises.specs.Tables.{HasCharactersWithin}
 use Rattle.csv_promises.proofs.ColumnLemmas.{drawn_count, no_rows-is, reaches_one, some_column}
-use Rattle.csv_promises.proofs.FrameLemmas.{column_is_shown, frame_has_room, width_has_room}
+use Rattle.csv_promises.proofs.FrameLemmas.{column_is_shown, frame_has_room, width_has_room, places_of}
 use Rattle.csv_promises.proofs.LineLemmas.{HasGoodLines, no_lines, output_lines, shown_line}
 use Rattle.csv_promises.proofs.StraightLemmas.{IsDrawnBy, by_extent, one_column, own_fit, plain}
 use Rattle.csv_promises.specs.Fields.{positions_in}
@@ -46,16 +47,16 @@ both_empty [] ys none = (refl, none)
 both_empty (x ∷ xs) ys none = absurd (cc none)
 
 -- where no record has a field of the columns, none has lines
-module _ (look : Look) (content : ContentValue) (arranged : ArrangedValue) (none : flat_map (pairs_in look content) content.rows ≡ []) where
+module _ (look : Look) (content : SelectedValue) (arranged : ArrangedValue) (none : flat_map (pairs_in look content) content.rows ≡ []) where
   no_fields : (rows : List (List Text)) → flat_map (pairs_in look content) rows ≡ [] → (at : ℕ) → drawn_fields content (slice_index_or rows at []) ≡ 0
-  no_fields [] none at = ap length (no_field (pair_columns content))
+  no_fields [] none at = ap length (no_field content.columns)
     where
       no_field : (columns : List DrawnColumn) → held [] columns ≡ []
       no_field [] = refl
       no_field (column ∷ columns) = let past : nat_lt column.position 0 ≡ false = grind arith in rw past (no_field columns)
   no_fields (fields ∷ rows) none zero =
       let own = ap length (both_empty (pairs_in look content fields) (flat_map (pairs_in look content) rows) none).0 in
-      omega (arith, own, length-map (held fields (pair_columns content)) (λ (column : DrawnColumn). pair_for look (name_from (first_number content) (unwrap_or content.names []) column.position) (field_or_blank fields column.position)))
+      omega (arith, own, length-map (held fields content.columns) (λ (column : DrawnColumn). pair_for look (name_at (unwrap_or content.names []) column.position) (field_or_blank fields column.position)))
   no_fields (fields ∷ rows) none (suc at) = no_fields rows (both_empty (pairs_in look content fields) (flat_map (pairs_in look content) rows) none).1 at
 
   no_part : (at : ℕ) → some_lines arranged (sum_by (drawn_fields content) (take at content.rows)) (drawn_fields content (slice_index_or content.rows at [])) ≡ []
@@ -79,7 +80,7 @@ module _ (w : ℕ) (o : Options) (known : Option ℕ) (records : List (List Text
   abbrev own : RendersRecords known layout records output
   own = made.is_output
 
-  abbrev content : ContentValue
+  abbrev content : SelectedValue
   content = own.content
 
   abbrev text : RendersAsTable o.look content own.text
@@ -94,7 +95,7 @@ module _ (w : ℕ) (o : Options) (known : Option ℕ) (records : List (List Text
   abbrev lines : List Text
   lines = drawn known layout records output own text table
 
-  expanded : text.is_expanded ≡ is_expanded_in o.look.expansion ((length content.rows == 0) || has_room_for o.look content (fitting_content o.look content))
+  expanded : text.is_expanded ≡ is_expanded_in o.look.expansion ((length content.rows == 0) || has_room_for o.look content (is_aligned_in o.look content))
   expanded = text.expansion
 
   -- what the table needs fits the width, or a frame of its columns
@@ -104,16 +105,16 @@ module _ (w : ℕ) (o : Options) (known : Option ℕ) (records : List (List Text
   abbrev frame : ℕ
   frame = frame_room (framed_columns o records)
 
-  counted_columns : length content.columns ≡ all
+  counted_columns : places_of content ≡ all
   counted_columns = drawn_count o records known made.columns made.are_chosen content own.is_content
 
   some_columns : 1 ≤ length content.columns
   some_columns = some_column o records known made.columns made.are_chosen content own.is_content
 
-  framed : (e : Bool) (n : ℕ) → 1 ≤ n → (if e then 2 else length content.columns) ≤ n → least_total (separated_table has (output_table e o.look content)) ≤ max w (frame_room n)
+  framed : (e : Bool) (n : ℕ) → 1 ≤ n → (if e then 2 else places_of content) ≤ n → least_total (separated_table has (output_table e o.look content)) ≤ max w (frame_room n)
   framed e n some few = let room = frame_has_room e has o.look content n some few in omega (arith, room)
 
-  by_look : (x : Expansion) (rows has_room e : Bool) → e ≡ is_expanded_in x (rows || has_room) → has_room_for o.look content (fitting_content o.look content) ≡ has_room → least_total (separated_table has (output_table e o.look content)) ≤ max w (frame_room (columns_by x (not rows) all))
+  by_look : (x : Expansion) (rows has_room e : Bool) → e ≡ is_expanded_in x (rows || has_room) → has_room_for o.look content (is_aligned_in o.look content) ≡ has_room → least_total (separated_table has (output_table e o.look content)) ≤ max w (frame_room (columns_by x (not rows) all))
   by_look Always rows has_room true is fits = framed true 2 (omega arith) (omega arith)
   by_look Always rows has_room false is fits = absurd (cc is)
   by_look Never rows has_room true is fits = absurd (cc is)
@@ -127,7 +128,7 @@ module _ (w : ℕ) (o : Options) (known : Option ℕ) (records : List (List Text
   least_fits : least_total t ≤ max w frame
   least_fits =
       subst (λ (b : Bool). least_total t ≤ max w (frame_room (columns_by o.look.expansion (not b) all))) (no_rows-is o records known made.columns made.are_chosen content own.is_content)
-      (by_look o.look.expansion (length content.rows == 0) (has_room_for o.look content (fitting_content o.look content)) text.is_expanded expanded refl)
+      (by_look o.look.expansion (length content.rows == 0) (has_room_for o.look content (is_aligned_in o.look content)) text.is_expanded expanded refl)
 
   abbrev IsGood : Text → Type 0
   IsGood line = CountsRecords line ⊎ KeepsTo w frame o.look.fills_width line

@@ -1,14 +1,15 @@
 -- Where the fields of records stand in what is written of them.
 -- Source: this library's own.
-use Rattle.std.specs.Prelude.{◌≡◌, ◌<◌, ◌≤◌, ◌==◌, ◌||◌, ℕ, ◌+◌, not, Bool, true, false, List, [], ◌∷◌, ◌++◌, Option, String, All, EachIndex, MatchOption, filter, flat_map, length, map, nat_lt, option_map, option_to_list, slice_index_or, string_bytes, unwrap_or, IsUtf8, chars, if◌then◌else◌}
+use Rattle.std.specs.Prelude.{◌≡◌, ◌<◌, ◌≤◌, ◌==◌, ◌||◌, ℕ, ◌+◌, not, Bool, true, false, List, [], ◌∷◌, ◌++◌, Option, String, All, EachIndex, MatchOption, decimal, filter, flat_map, length, map, nat_lt, option_map, option_to_list, slice_index_or, string_bytes, unwrap_or, IsUtf8, chars, if◌then◌else◌}
 use Rattle.std.specs.List.{AllZip, concat, list_any, range_with_len}
 use Rattle.comfy_parts.specs.Text.{Text}
 use Rattle.comfy_parts.specs.declared.style.table_style.TableStyle.{TableStyle}
 use Rattle.comfy_table.specs.Laws.{AreLinesOf}
 use Rattle.csv_records.specs.Cleaning.{cleaned, is_replaced}
-use Rattle.csv_tables.specs.Cells.{field_or_blank}
-use Rattle.csv_tables.specs.Columns.{count_of}
-use Rattle.csv_command.specs.Columns.{columns_chosen, name_at, positions_between, without}
+use Rattle.csv_tables.specs.Cells.{number_name}
+use Rattle.csv_tables.specs.Fields.{field_or_blank}
+use Rattle.csv_tables.specs.Columns.{count_of, name_at}
+use Rattle.csv_command.specs.Columns.{columns_chosen, positions_between, without}
 use Rattle.csv_tables.specs.Drawn.{drawn_rows, names_of, note_for, record_line, records_below}
 use Rattle.csv_tables.specs.declared.options.Expansion.{Expansion}
 use Rattle.csv_tables.specs.declared.options.Expansion.TheVariants.{Always, Auto, Never}
@@ -60,6 +61,24 @@ abbrev pub fields_at : List ℕ → List Text → List Text
 fields_at positions fields =
     map (λ position. cleaned false (field_or_blank fields position)) positions
 
+-- fields behind the number of their record, or behind what stands above the numbers, where there
+-- are any
+abbrev pub row_behind : Bool → Text → List Text → List Text
+row_behind is_numbered number fields = if is_numbered then number ∷ fields else fields
+
+-- the fields of records, from that of this number on
+abbrev pub rows_from : Bool → List ℕ → ℕ → List (List Text) → List (List Text)
+rows_from is_numbered positions number [] = []
+rows_from is_numbered positions number (fields ∷ rows) =
+    row_behind is_numbered (decimal number) (fields_at positions fields)
+    ∷ rows_from is_numbered positions (number + 1) rows
+
+-- and of the header, where there is one, above them
+abbrev pub all_rows : Bool → List ℕ → Option (List Text) → List (List Text) → List (List Text)
+all_rows is_numbered positions names rows =
+    map (λ fields. row_behind is_numbered (number_name fields) (fields_at positions fields))
+    (option_to_list names) ++ rows_from is_numbered positions 1 rows
+
 -- those that the record has, each behind the name of its column, which is its number where there is
 -- none
 abbrev pub pairs_at : List Text → List ℕ → List Text → List (List Text)
@@ -99,8 +118,8 @@ abbrev pub ShowsDrawn :
     Bool → Options → Option (List Text) → List (List Text) → Option ℕ → Text → Type 0
 ShowsDrawn false options names rows count text =
     ShowsRows options.look
-    (map (fields_at (positions_in options (unwrap_or names []) rows))
-    (option_to_list names ++ rows)) text
+    (all_rows options.selection.is_numbered
+    (positions_in options (unwrap_or names []) rows) names rows) text
 ShowsDrawn true options names rows count text =
     ShowsExpanded options.look (unwrap_or names [])
     (positions_in options (unwrap_or names []) rows) count 1 rows text

@@ -1,7 +1,7 @@
 //! No file speaks to your terminal.
 
 ghost use Rattle.std.specs.Prelude.{IfOk, IfSome, string_bytes};
-ghost use Rattle.csv_promises.specs.Messages.{IsTame};
+ghost use Rattle.csv_promises.specs.Messages.{IsTameLine};
 ghost use Rattle.csv_command.specs.Drawn.{IsDrawnOf};
 ghost use Rattle.promises.specs.Shown.{IsHarmless};
 
@@ -43,7 +43,7 @@ pub fn harmless_drawing(alloc: Global, arguments: &[&str], input: &[u8]) -> Opti
 /// bytes, the names in them and the name of the file are, it holds no control character but the
 /// line feed at its end, and none that turns the direction of text.
 pub fn harmless_message(alloc: Global, arguments: &[&str], input: &[u8]) -> Option<String>
-    ensures { IfSome result (λ message. IsTame (string_bytes message)) }
+    ensures { IfSome result (λ message. IsTameLine (string_bytes message)) }
 {
     match render_csv(alloc, arguments, input) {
         Err(Refusal::Input(message)) => Some(message),

@@ -10,13 +10,14 @@ use devices::MemorySink;
 use std::alloc::Global;
 
 /// What the arguments ask for, the records of a file's bytes, and what the program writes of them:
-/// nothing where the arguments ask for sequences in fields, for Markdown, for numbers of records or
-/// for a height; or for no drawing, or where it can't be drawn so. Whatever the width and the
+/// nothing where the arguments ask for sequences in fields, for Markdown or for a height; or for no
+/// drawing, or where it can't be drawn so. Whatever the width and the
 /// script, each record that is drawn is shown below the one before, and the fields of the columns
 /// that are drawn from left to right, as they are cleaned: they lose only spaces and line breaks.
 /// Where records are expanded, each stands below a line that numbers it, and its fields below each
-/// other, behind the names of their columns. All else are spaces, characters of the style, the SGR
-/// sequences of a bold header, and below all a line that counts records, where not all are drawn.
+/// other, behind the names of their columns. All else are spaces, characters of the style, SGR
+/// sequences where the header is bold, and below all a line that counts records, where not all are
+/// drawn.
 pub fn output_with_all_fields(
     alloc: Global,
     arguments: &[&str],
@@ -27,7 +28,7 @@ pub fn output_with_all_fields(
     ensures { IfSome result (λ drawn. ShowsRecords drawn.0.options drawn.1 drawn.2.bytes) }
 {
     let (invocation, records, sink) = written(alloc, arguments, context, input, room)?;
-    if invocation.options.look.max_height.is_some() || invocation.options.selection.is_numbered {
+    if invocation.options.look.max_height.is_some() {
         return None;
     }
     Some((invocation, records, sink))

@@ -14,8 +14,8 @@ use std::alloc::Global;
 /// where it can't be drawn so. Where a width is kept and no character of a field takes more than
 /// one terminal column, no line shows more than the width, or than the frame takes, but those that
 /// count records. Where the width is filled and has room for the frame, each line shows exactly as
-/// many. The frame is that of two columns where records are expanded at need, else of all that are
-/// drawn.
+/// many. The frame is that of two columns where records are expanded or may be, else of all that
+/// are drawn.
 pub fn output_within(
     alloc: Global,
     arguments: &[&str],

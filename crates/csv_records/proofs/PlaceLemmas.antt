@@ -47,13 +47,6 @@ all_taken [] (suc i) is = refl
 all_taken (f ∷ fs) zero is = absurd (cc is)
 all_taken (f ∷ fs) (suc i) is = ap (λ xs. f ∷ xs) (all_taken fs i is)
 
-pub none_taken : (fields : List Text) (i : ℕ) → field_at fields i ≡ None → take (suc i) fields ≡ take i fields
-unfolding field_at
-none_taken [] zero is = refl
-none_taken [] (suc i) is = refl
-none_taken (f ∷ fs) zero is = absurd (cc is)
-none_taken (f ∷ fs) (suc i) is = ap (λ xs. f ∷ xs) (none_taken fs i is)
-
 -- ---- a field of a record
 
 pub size : (fields : List Text) (place : Place) → IsWithin fields place → length (fields_at fields place) ≡ place.end - place.start

@@ -9,7 +9,6 @@ pub mod NotText
 pub mod Input
 pub mod Lines
 pub mod Number
-pub mod Numbered
 pub mod Numerals
 pub mod Pieces
 pub mod Places

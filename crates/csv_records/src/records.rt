@@ -7,7 +7,6 @@ ghost use Rattle.csv.specs.Records.{field_at, fields_of};
 ghost use Rattle.csv_records.specs.CutLists.{cut_by, total};
 ghost use Rattle.csv_records.specs.First.{AreFirst};
 ghost use Rattle.csv_records.specs.Input.{AreRecordsOf, IsReadingRefusal, IsRecordRefusal};
-ghost use Rattle.csv_records.specs.Numbered.{numbered, numbered_from};
 ghost use Rattle.csv_records.specs.Places.{IsWithin, fields_at, places_for};
 ghost use Rattle.csv_records.specs.Started.{IsStarted};
 
@@ -94,23 +93,6 @@ impl Records {
             fields: &self.fields,
             places: self.places.as_slice(),
         }
-    }
-
-    /// The same records, each behind its number in a field of its own. They are counted from 1. The
-    /// header, where there is one, has none, and stands behind `#`.
-    pub fn numbered(&self, alloc: Global, has_header: bool) -> Result<Records, AllocError>
-        ensures { IfOk result (λ records. records ≡ numbered has_header self.now) }
-    {
-        let mut fields = StringRecord::new(alloc);
-        let mut places = Vec::with_capacity(alloc, self.places.len())?;
-        let mut rows = self.rows();
-        if has_header {
-            if let Some(names) = rows.next() {
-                push_behind(&mut fields, &mut places, "#", &names)?;
-            }
-        }
-        push_numbered(alloc, &mut fields, &mut places, rows)?;
-        Ok(Records { fields, places })
     }
 }
 
@@ -391,58 +373,6 @@ fn push_fields(fields: &mut StringRecord, more: &StringRecord) -> Result<(), All
 {
     for field in more.iter() {
         fields.push_field(field)?;
-    }
-    Ok(())
-}
-
-// Appends records to others, each behind its number.
-fn push_numbered(
-    alloc: Global,
-    fields: &mut StringRecord,
-    places: &mut Vec<Place>,
-    rows: Rows<'_>,
-) -> Result<(), AllocError>
-    requires within { All (IsWithin (fields_of fields.old)) places.old.items }
-    ensures within { OnOk result (All (IsWithin (fields_of fields.new)) places.new.items) }
-    ensures records { OnOk result (map (fields_at (fields_of fields.new)) places.new.items
-        ≡ map (fields_at (fields_of fields.old)) places.old.items ++ numbered_from 1 rows.entry) }
-{
-    for (at, row) in rows.enumerate() {
-        let number = format!(in alloc; "{}", at as u128 + 1)?;
-        push_behind(fields, places, number.as_str(), &row)?;
-    }
-    Ok(())
-}
-
-// Appends a record of this text and the fields of another one.
-fn push_behind(
-    fields: &mut StringRecord,
-    places: &mut Vec<Place>,
-    first: &str,
-    row: &Record<'_>,
-) -> Result<(), AllocError>
-    requires within { All (IsWithin (fields_of fields.old)) places.old.items }
-    ensures within { OnOk result (All (IsWithin (fields_of fields.new)) places.new.items) }
-    ensures records { OnOk result (map (fields_at (fields_of fields.new)) places.new.items
-        ≡ map (fields_at (fields_of fields.old)) places.old.items
-        ++ (first.now ∷ row.now) ∷ []) }
-{
-    let begin = fields.len();
-    fields.push_field(first)?;
-    push_row(fields, row)?;
-    let end = fields.len();
-    places.push(Place { start: begin, end })?;
-    Ok(())
-}
-
-// Appends the fields of a record among others.
-fn push_row(fields: &mut StringRecord, row: &Record<'_>) -> Result<(), AllocError>
-    ensures { OnOk result (fields_of fields.new ≡ fields_of fields.old ++ row.now) }
-{
-    for position in 0..row.len() {
-        if let Some(text) = row.get(position) {
-            fields.push_field(text)?;
-        }
     }
     Ok(())
 }

@@ -1,21 +1,25 @@
 -- The tables of some records are built from an empty one.
-use Rattle.std.proofs.Common.{◌≡◌, ℕ, zero, suc, Bool, true, false, List, [], ◌∷◌, Option, Some, None, decimal, encode_utf8_all, flat_map, map, ◌+◌, ap, refl, subst, ◌∙◌}
+use Rattle.std.proofs.Common.{◌≡◌, ℕ, zero, suc, Bool, true, false, List, [], ◌∷◌, Option, Some, None, arith, codes, decimal, encode_utf8_all, flat_map, length, map, ◌+◌, ap, refl, subst, ◌∙◌}
+use Rattle.std.proofs.lemmas.List.{length-map}
 use Rattle.std.specs.List.{All}
 use Rattle.std.specs.Prelude.{if◌then◌else◌, unwrap_or}
-use Rattle.std.proofs.lemmas.List.Elements.{All-cons, All-head, All-map, All-nil, All-tail, All-take}
+use Rattle.std.proofs.lemmas.List.Elements.{All-cons, All-head, All-map, All-nil, All-tail, All-take, All-weaker}
 use Rattle.std.proofs.lemmas.Str.{chars-nil}
-use Rattle.comfy_parts.proofs.CallerLemmas.{All-flat_map}
+use Rattle.comfy_parts.proofs.CallerLemmas.{All-every, All-flat_map}
 use Rattle.comfy_parts.specs.CellValue.{RowValue}
 use Rattle.comfy_parts.specs.Text.{Text}
 use Rattle.comfy_table.proofs.BuiltTableLemmas.{IsBuilt, IsNewColumn, built-header, built-rows}
 use Rattle.comfy_table.specs.TableValue.{TableValue}
 use Rattle.csv.specs.Records.{field_at}
 use Rattle.csv_records.proofs.CleaningLemmas.{Stays-nil, stays_cleaned}
-use Rattle.csv_tables.specs.Cells.{field_text, field_or_blank, header_for, marked, row_for, unless_blank}
+use Rattle.comfy_parts.specs.declared.style.cell.CellAlignment.TheVariants.{Right}
+use Rattle.csv_tables.proofs.FieldLemmas.{IsShortPrintable, number_is_printable, number_is_short}
+use Rattle.csv_tables.specs.declared.options.DrawnColumn.{DrawnColumn}
+use Rattle.csv_tables.specs.Cells.{Shown, counted_from, text_in, shown_fields, shown_in, shown_names, field_text, header_for, marked, row_for, unless_blank, number_name}
+use Rattle.csv_tables.specs.Fields.{field_or_blank}
 use Rattle.csv_records.specs.Cleaning.{cleaned}
-use Rattle.csv_records.specs.Numbered.{behind_mark, numbered_from}
-use Rattle.csv_tables.specs.Columns.{name_from}
-use Rattle.csv_tables.specs.Drawn.{ContentValue, content_of, empty_table, headed_table, limited, names_beside, names_of, pairs_in, pairs_table, records_below, rows_beside, rows_table}
+use Rattle.csv_tables.specs.Columns.{name_at}
+use Rattle.csv_tables.specs.Drawn.{SelectedValue, selected_of, empty_table, headed_table, limited, names_of, pairs_in, pairs_table, records_below, rows_table}
 use Rattle.csv_tables.specs.Markdown.{escaped}
 use Rattle.csv_tables.specs.declared.options.Look.{Look}
 use Rattle.csv_tables.specs.declared.options.Layout.{Layout}
@@ -37,14 +41,55 @@ each_field P empty (f ∷ fs) zero each = All-head P f fs each
 each_field P empty (f ∷ fs) (suc i) each = each_field P empty fs i (All-tail P f fs each)
 
 -- and a name, where the number that stands for a missing one does
-pub each_name : (P : Text → Type 0) (first : ℕ) (names : List Text) (i : ℕ) → P (decimal (i + first)) → All P names → P (name_from first names i)
+pub each_name : (P : Text → Type 0) (names : List Text) (i : ℕ) → P (decimal (i + 1)) → All P names → P (name_at names i)
 unfolding field_at
-each_name P first names i number each = by_field names i each
+each_name P names i number each = by_field names i each
   where
-    by_field : (fields : List Text) (j : ℕ) → All P fields → P (unwrap_or (field_at fields j) (decimal (i + first)))
+    by_field : (fields : List Text) (j : ℕ) → All P fields → P (unwrap_or (field_at fields j) (decimal (i + 1)))
     by_field [] j each = number
     by_field (f ∷ fs) zero each = All-head P f fs each
     by_field (f ∷ fs) (suc j) each = by_field fs j (All-tail P f fs each)
+
+-- P holds of what columns show of a record
+abbrev pub EachColumn : (Text → Type 0) → Look → Bool → List DrawnColumn → List Text → Type 0
+EachColumn P look is_aligned columns fields = All (λ (column : DrawnColumn). P (text_in look is_aligned column fields)) columns
+
+pub plain_columns : (P : Text → Type 0) → P [] → (look : Look) (columns : List DrawnColumn) (fields : List Text) → All P fields → EachColumn P look false columns fields
+plain_columns P empty look columns fields each = All-every (λ (column : DrawnColumn). P (text_in look false column fields)) columns (λ column. each_field P empty fields column.position each)
+
+-- P holds of each text that a row shows, where it does of its fields, of no text, and of short texts of printable ASCII
+module _ (P : Text → Type 0) (empty : P []) (short : (text : Text) → IsShortPrintable 64 text → P text) where
+  abbrev pub OfShown : Shown → Type 0
+  OfShown shown = P shown.text
+
+  fields_each : (look : Look) (is_aligned : Bool) (columns : List DrawnColumn) (fields : List Text) → EachColumn P look is_aligned columns fields → All OfShown (shown_fields look is_aligned columns fields)
+  fields_each look is_aligned columns fields each = All-map OfShown (λ (column : DrawnColumn). record { alignment = column.alignment; text = text_in look is_aligned column fields }) columns each
+
+  pub number_each : (number : ℕ) → P (decimal number)
+  number_each number = short (decimal number) (number_is_printable number, number_is_short number)
+
+  pub row_each : (look : Look) (is_aligned is_numbered : Bool) (columns : List DrawnColumn) (row : ℕ × List Text) → EachColumn P look is_aligned columns row.1 → All OfShown (shown_in look is_aligned is_numbered columns row)
+  row_each look is_aligned true columns row each =
+      All-cons OfShown (record { alignment = Some Right; text = decimal row.0 }) (shown_fields look is_aligned columns row.1) (number_each row.0) (fields_each look is_aligned columns row.1 each)
+  row_each look is_aligned false columns row each = fields_each look is_aligned columns row.1 each
+
+  name_each : (names : List Text) → P (number_name names)
+  name_each [] = empty
+  name_each (name ∷ names) = short (codes "#") (refl, omega arith)
+
+  pub names_each : (look : Look) (is_numbered : Bool) (columns : List DrawnColumn) (names : List Text) → All P names → All OfShown (shown_names look is_numbered columns names)
+  names_each look true columns names each =
+      All-cons OfShown (record { alignment = Some Right; text = number_name names }) (shown_fields look false columns names) (name_each names) (fields_each look false columns names (plain_columns P empty look columns names each))
+  names_each look false columns names each = fields_each look false columns names (plain_columns P empty look columns names each)
+
+-- a row shows a text in each column
+pub row-length : (look : Look) (is_aligned is_numbered : Bool) (columns : List DrawnColumn) (row : ℕ × List Text) → length (shown_in look is_aligned is_numbered columns row) ≡ (if is_numbered then 1 else 0) + length columns
+row-length look is_aligned true columns row = let own : length (shown_fields look is_aligned columns row.1) ≡ length columns = length-map columns _ in omega (arith, own)
+row-length look is_aligned false columns row = let own : length (shown_fields look is_aligned columns row.1) ≡ length columns = length-map columns _ in omega (arith, own)
+
+pub names-length : (look : Look) (is_numbered : Bool) (columns : List DrawnColumn) (names : List Text) → length (shown_names look is_numbered columns names) ≡ (if is_numbered then 1 else 0) + length columns
+names-length look true columns names = let own : length (shown_fields look false columns names) ≡ length columns = length-map columns _ in omega (arith, own)
+names-length look false columns names = let own : length (shown_fields look false columns names) ≡ length columns = length-map columns _ in omega (arith, own)
 
 blank_cleaned : (keeps : Bool) → cleaned keeps [] ≡ []
 blank_cleaned keeps = stays_cleaned keeps [] (Stays-nil keeps)
@@ -63,37 +108,18 @@ blank_drawn look = by_markdown look.is_markdown
 -- ---- what is drawn
 
 -- P holds of the names, where there are any, and of each row
-pub record EachOf (P : List Text → Type 0) (content : ContentValue) : Type 0 where
+pub record EachOf (P : List Text → Type 0) (content : SelectedValue) : Type 0 where
   pub names : (names : List Text) → content.names ≡ Some names → P names
   pub rows : All P content.rows
 
--- P holds of a record beside its number, and of names beside that of the column of numbers, where it holds without
-pub record HoldsBeside (P : List Text → Type 0) : Type 0 where
-  pub names : (names : List Text) → P names → P (behind_mark names)
-  pub row : (number : ℕ) (fields : List Text) → P fields → P (decimal number ∷ fields)
-
-each_numbered : (P : List Text → Type 0) → HoldsBeside P → (number : ℕ) (rows : List (List Text)) → All P rows → All P (numbered_from number rows)
-each_numbered P beside number [] each = each
-each_numbered P beside number (fields ∷ rows) each =
-    All-cons P (decimal number ∷ fields) (numbered_from (number + 1) rows) (beside.row number fields (All-head P fields rows each)) (each_numbered P beside (number + 1) rows (All-tail P fields rows each))
-
-each_row : (P : List Text → Type 0) → HoldsBeside P → (is_numbered : Bool) (rows : List (List Text)) → All P rows → All P (rows_beside is_numbered rows)
-each_row P beside true rows each = each_numbered P beside 1 rows each
-each_row P beside false rows each = each
-
-pub each_content : (P : List Text → Type 0) → HoldsBeside P → (counted : Option ℕ) (layout : Layout) (records : List (List Text)) (content : ContentValue) → content_of counted layout records ≡ content → All P records → EachOf P content
-each_content P beside counted layout records content is each =
+pub each_content : (P : List Text → Type 0) → (counted : Option ℕ) (layout : Layout) (records : List (List Text)) (content : SelectedValue) → selected_of counted layout records ≡ content → All P records → EachOf P content
+each_content P counted layout records content is each =
     subst (EachOf P) is
     (record {
-      names = λ names is. shown layout.selection.is_numbered (names_of layout.selection.has_header records) (λ names is. first layout.selection.has_header records names is each) names is;
-      rows = each_row P beside layout.selection.is_numbered _ (all_limited P layout.selection.limit _ (all_below P layout.selection.has_header records each));
+      names = λ names is. first layout.selection.has_header records names is each;
+      rows = all_limited P layout.selection.limit _ (all_below P layout.selection.has_header records each);
     })
   where
-    shown : (is_numbered : Bool) (own : Option (List Text)) → ((names : List Text) → own ≡ Some names → P names) → (names : List Text) → names_beside is_numbered own ≡ Some names → P names
-    shown false own each names is = each names is
-    shown true None each names is = absurd (cc is)
-    shown true (Some own) each names is = let same : behind_mark own ≡ names = cc is in subst P same (beside.names own (each own refl))
-
     first : (has_header : Bool) (records : List (List Text)) (names : List Text) → names_of has_header records ≡ Some names → All P records → P names
     first true [] names is each = absurd (cc is)
     first true (record_ ∷ records) names is each =
@@ -101,20 +127,39 @@ each_content P beside counted layout records content is each =
         subst P same (All-head P record_ records each)
     first false records names is each = absurd (cc is)
 
+-- P holds of the names and the fields of a content, and of what its columns show of these
+pub record EachShown (P : Text → Type 0) (look : Look) (is_aligned : Bool) (content : SelectedValue) : Type 0 where
+  pub fields : EachOf (All P) content
+  pub shown : All (EachColumn P look is_aligned content.columns) content.rows
+
+pub plain_shown : (P : Text → Type 0) → P [] → (look : Look) (content : SelectedValue) → EachOf (All P) content → EachShown P look false content
+plain_shown P empty look content each =
+    record { fields = each; shown = All-weaker (All P) (EachColumn P look false content.columns) (λ fields own. plain_columns P empty look content.columns fields own) content.rows each.rows }
+
+-- so it does of each row with its number
+pub each_counted : (P : List Text → Type 0) (number : ℕ) (rows : List (List Text)) → All P rows → All (λ (row : ℕ × List Text). P row.1) (counted_from number rows)
+each_counted P number [] each = All-nil (λ (row : ℕ × List Text). P row.1)
+each_counted P number (fields ∷ rows) each =
+    All-cons (λ (row : ℕ × List Text). P row.1) (number, fields) (counted_from (number + 1) rows) (All-head P fields rows each) (each_counted P (number + 1) rows (All-tail P fields rows each))
+
 -- ---- tables
 
 -- the table of expanded records, or of rows
-abbrev pub plain_table : Bool → Look → ContentValue → TableValue
-plain_table true look content = pairs_table look content
-plain_table false look content = rows_table look content
+abbrev pub plain_table : Bool → Bool → Look → SelectedValue → TableValue
+plain_table true is_aligned look content = pairs_table look content
+plain_table false is_aligned look content = rows_table look is_aligned content
 
-module _ (look : Look) (Q : RowValue → Type 0) (content : ContentValue) where
+module _ (look : Look) (Q : RowValue → Type 0) (content : SelectedValue) where
   abbrev pub Built : TableValue → Type 0
   Built = IsBuilt (empty_table look) Q
 
-  -- Q holds of the row that is made of some fields
-  abbrev pub MakesRow : List Text → Type 0
-  MakesRow fields = Q (row_for look content.columns fields)
+  -- Q holds of the row that is made of some fields and their number
+  abbrev pub MakesRow : Bool → ℕ × List Text → Type 0
+  MakesRow is_aligned row = Q (row_for look is_aligned content.is_numbered content.columns row)
+
+  -- and of the header
+  abbrev pub MakesHeader : Type 0
+  MakesHeader = (names : List Text) → content.names ≡ Some names → Q (header_for look content.is_numbered content.columns names)
 
   -- and of the rows of a record that is expanded
   abbrev pub MakesPairs : List Text → Type 0
@@ -123,17 +168,18 @@ module _ (look : Look) (Q : RowValue → Type 0) (content : ContentValue) where
   empty : Built (empty_table look)
   empty = record { is = refl; columns = All-nil IsNewColumn; header = All-nil Q; rows = All-nil Q }
 
-  headed : (names : Option (List Text)) → ((n : List Text) → names ≡ Some n → Q (header_for look content.columns n)) → Built (headed_table look content.columns names)
+  headed : (names : Option (List Text)) → ((n : List Text) → names ≡ Some n → Q (header_for look content.is_numbered content.columns n)) → Built (headed_table look content.is_numbered content.columns names)
   headed None makes = empty
-  headed (Some names) makes = built-header (empty_table look) Q (header_for look content.columns names) (empty_table look) (makes names refl) empty
+  headed (Some names) makes = built-header (empty_table look) Q (header_for look content.is_numbered content.columns names) (empty_table look) (makes names refl) empty
 
-  pub built_rows : ((n : List Text) → content.names ≡ Some n → Q (header_for look content.columns n)) → All MakesRow content.rows → Built (rows_table look content)
-  built_rows head each =
-      built-rows (empty_table look) Q (map (row_for look content.columns) content.rows) (headed_table look content.columns content.names) (All-map Q (row_for look content.columns) content.rows each) (headed content.names head)
+  pub built_rows : (is_aligned : Bool) → MakesHeader → All (MakesRow is_aligned) (counted_from 1 content.rows) → Built (rows_table look is_aligned content)
+  built_rows is_aligned head each =
+      let row = row_for look is_aligned content.is_numbered content.columns in
+      built-rows (empty_table look) Q (map row (counted_from 1 content.rows)) (headed_table look content.is_numbered content.columns content.names) (All-map Q row (counted_from 1 content.rows) each) (headed content.names head)
 
   pub built_pairs : All MakesPairs content.rows → Built (pairs_table look content)
   built_pairs each = built-rows (empty_table look) Q (flat_map (pairs_in look content) content.rows) (empty_table look) (All-flat_map Q (pairs_in look content) content.rows each) empty
 
-  pub built : (is_expanded : Bool) → ((n : List Text) → content.names ≡ Some n → Q (header_for look content.columns n)) → All MakesRow content.rows → All MakesPairs content.rows → Built (plain_table is_expanded look content)
-  built true head rows pairs = built_pairs pairs
-  built false head rows pairs = built_rows head rows
+  pub built : (is_expanded is_aligned : Bool) → MakesHeader → All (MakesRow is_aligned) (counted_from 1 content.rows) → All MakesPairs content.rows → Built (plain_table is_expanded is_aligned look content)
+  built true is_aligned head rows pairs = built_pairs pairs
+  built false is_aligned head rows pairs = built_rows is_aligned head rows

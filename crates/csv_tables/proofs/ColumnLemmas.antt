@@ -3,11 +3,12 @@ use Rattle.std.proofs.Common.{◌≡◌, ℕ, Bool, true, false, zero, suc, [], 
 use Rattle.std.specs.Str.{chars}
 use Rattle.comfy_parts.specs.Text.{Text}
 use Rattle.csv.specs.Records.{field_at}
-use Rattle.csv_tables.specs.Cells.{field_or_blank}
+use Rattle.csv_tables.specs.Fields.{field_or_blank}
 use Rattle.csv_records.specs.Cleaning.{visible_of}
 use Rattle.csv_records.specs.Number.{is_neutral, is_number}
-use Rattle.csv_tables.specs.Columns.{kind_of, seen}
-use Rattle.csv_tables.specs.declared.columns.FieldKind.TheVariants.{Neutral}
+use Rattle.csv_tables.specs.Columns.{seen}
+use Rattle.csv_tables.specs.Kinds.{kind_of}
+use Rattle.csv_tables.specs.declared.summary.FieldKind.TheVariants.{Neutral}
 
 -- an empty field is no number
 pub kind-empty : (field : Text) → length field ≡ 0 → Neutral ≡ kind_of field

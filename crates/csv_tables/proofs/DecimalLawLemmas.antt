@@ -1,6 +1,6 @@
 -- Decimal marks stand below each other, and nothing but spaces is added for that.
 use Rattle.std.proofs.Common.{◌≡◌, ◌≤◌, ◌+◌, ◌-◌, ◌&&◌, ◌⊎◌, inl, inr, ℕ, Bool, true, false, List, [], ◌∷◌, Option, Some, None, append-nil, fold, map, max, refl, sym, subst, arith}
-use Rattle.std.specs.List.{All, AllZip}
+use Rattle.std.specs.List.{All}
 use Rattle.std.specs.Prelude.{if◌then◌else◌}
 use Rattle.std.proofs.lemmas.List.Elements.{All-cons, All-nil, All-weaker}
 use Rattle.comfy_parts.proofs.CallerLemmas.{All-of_map}
@@ -12,9 +12,9 @@ use Rattle.csv_records.specs.declared.decimals.ColumnMarks.{ColumnMarks}
 use Rattle.csv_records.specs.declared.decimals.DecimalMark.{DecimalMark}
 use Rattle.csv_records.specs.declared.decimals.DecimalMark.TheVariants.{Comma, Point}
 use Rattle.csv_records.specs.declared.decimals.Points.{Points}
-use Rattle.csv_tables.proofs.FittingLemmas.{of_drawn}
-use Rattle.csv_tables.specs.Decimals.{spaced, spaced_fields, spaced_from}
-use Rattle.csv_tables.specs.Drawn.{ContentValue, marks_for}
+use Rattle.csv_tables.specs.Decimals.{spaced}
+use Rattle.csv_tables.specs.Fields.{field_or_blank}
+use Rattle.csv_tables.specs.declared.options.DrawnColumn.{DrawnColumn}
 use Rattle.csv_tables.specs.Laws.{HasSpacesBehind, MarksStandBelow, SpacesAloneAreAdded}
 use Rattle.csv_tables.specs.declared.options.Look.{Look}
 
@@ -65,33 +65,9 @@ marks_stand_below fields points is =
 
 -- ---- spaces
 
-abbrev Added : List Text → List Text → Type 0
-Added = AllZip HasSpacesBehind
+with_spaces : (keeps : Bool) (mark : Option Points) (field : Text) → HasSpacesBehind field (spaced keeps mark field)
+with_spaces keeps None field = (0, sym (append-nil field))
+with_spaces keeps (Some points) field = (spaces_behind points (visible_of keeps field), refl)
 
-as_it_is : (field : Text) → HasSpacesBehind field field
-as_it_is field = (0, sym (append-nil field))
-
-as_they_are : (fields : List Text) → Added fields fields
-as_they_are [] = tt
-as_they_are (field ∷ fields) = (as_it_is field, as_they_are fields)
-
-rows_as_they_are : (rows : List (List Text)) → AllZip Added rows rows
-rows_as_they_are [] = tt
-rows_as_they_are (fields ∷ rows) = (as_they_are fields, rows_as_they_are rows)
-
-module _ (keeps : Bool) (marks : ℕ → Option Points) where
-  with_spaces : (mark : Option Points) (field : Text) → HasSpacesBehind field (spaced keeps mark field)
-  with_spaces None field = as_it_is field
-  with_spaces (Some points) field = (spaces_behind points (visible_of keeps field), refl)
-
-  fields_with_spaces : (position : ℕ) (fields : List Text) → Added fields (spaced_from keeps marks position fields)
-  fields_with_spaces position [] = tt
-  fields_with_spaces position (field ∷ fields) = (with_spaces (marks position) field, fields_with_spaces (position + 1) fields)
-
-  rows_with_spaces : (rows : List (List Text)) → AllZip Added rows (map (spaced_fields keeps marks) rows)
-  rows_with_spaces [] = tt
-  rows_with_spaces (fields ∷ rows) = (fields_with_spaces 0 fields, rows_with_spaces rows)
-
-pub spaces_alone : (look : Look) (content : ContentValue) → SpacesAloneAreAdded look content
-spaces_alone look content =
-    of_drawn (λ (drawn : ContentValue). AllZip Added content.rows drawn.rows) look content (rows_as_they_are content.rows) (rows_with_spaces look.has_sequences (marks_for look content) content.rows) false
+pub spaces_alone : (look : Look) (is_aligned : Bool) (column : DrawnColumn) (fields : List Text) → SpacesAloneAreAdded look is_aligned column fields
+spaces_alone look is_aligned column fields = with_spaces look.has_sequences (if is_aligned then column.points else None) (field_or_blank fields column.position)

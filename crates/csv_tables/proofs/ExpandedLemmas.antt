@@ -7,8 +7,9 @@ use Rattle.comfy_parts.specs.CellValue.{RowValue}
 use Rattle.comfy_parts.specs.Text.{Text}
 use Rattle.comfy_table.specs.TableValue.{TableValue, with_row, with_rows}
 use Rattle.csv.specs.Records.{field_at}
-use Rattle.csv_tables.specs.Cells.{field_or_blank, has_field, held, pair_for}
-use Rattle.csv_tables.specs.Columns.{name_from}
+use Rattle.csv_tables.specs.Cells.{has_field, held, pair_for}
+use Rattle.csv_tables.specs.Fields.{field_or_blank}
+use Rattle.csv_tables.specs.Columns.{name_at}
 use Rattle.csv_tables.specs.Drawn.{pairs_of}
 use Rattle.csv_tables.specs.declared.options.DrawnColumn.{DrawnColumn}
 use Rattle.csv_tables.specs.declared.options.Look.{Look}
@@ -32,13 +33,13 @@ has-none [] position is = grind arith
 has-none (f ∷ fs) zero is = absurd (cc is)
 has-none (f ∷ fs) (suc position) is = let rest = has-none fs position is in grind (arith, rest)
 
-module _ (look : Look) (first : ℕ) (columns : List DrawnColumn) (names fields : List Text) where
+module _ (look : Look) (columns : List DrawnColumn) (names fields : List Text) where
   abbrev pair_of : DrawnColumn → RowValue
-  pair_of column = pair_for look (name_from first names column.position) (field_or_blank fields column.position)
+  pair_of column = pair_for look (name_at names column.position) (field_or_blank fields column.position)
 
   -- the rows with one column more
   pub pairs-more : (i : ℕ) (d : DrawnColumn) → i < length columns
-      → pairs_of look first (take (i + 1) columns) names fields ≡ pairs_of look first (take i columns) names fields ++ map pair_of (cond (has_field fields (slice_index_or columns i d)) (slice_index_or columns i d ∷ []) [])
+      → pairs_of look (take (i + 1) columns) names fields ≡ pairs_of look (take i columns) names fields ++ map pair_of (cond (has_field fields (slice_index_or columns i d)) (slice_index_or columns i d ∷ []) [])
   pairs-more i d below =
       ap (map pair_of) (filter_more (has_field fields) columns i d below)
       ∙ map-append pair_of (held fields (take i columns)) (cond (has_field fields (slice_index_or columns i d)) (slice_index_or columns i d ∷ []) [])

@@ -1,32 +1,36 @@
 -- What is so of each field of some records is so with spaces behind the fields too, where it is so of short texts of printable ASCII.
 use Rattle.std.proofs.Common.{◌≡◌, ◌≤◌, ◌+◌, ◌-◌, ◌&&◌, ◌==◌, ℕ, zero, suc, Bool, true, false, List, [], ◌∷◌, ◌++◌, Option, Some, None, drop, fold, length, map, max, nat_le, take, refl, sym, ap, ap₂, ◌∙◌, subst, arith}
-use Rattle.std.specs.List.{All, list_all, position, prefix_len, suffix_len}
-use Rattle.std.specs.Prelude.{if◌then◌else◌, option_map}
+use Rattle.std.specs.List.{All, cons_option, list_all, position, prefix_len, suffix_len}
+use Rattle.std.specs.Prelude.{if◌then◌else◌, option_map, slice_index_or, unwrap_or}
 use Rattle.std.specs.Int.{is_in_range}
 use Rattle.std.specs.Str.{IsUtf8, chars, encode_utf8_all}
 use Rattle.std.proofs.lemmas.Bool.{and_parts, leb-true}
 use Rattle.std.proofs.lemmas.List.{length-append, length-drop, length-replicate, length-take}
-use Rattle.std.proofs.lemmas.List.Elements.{All-cons, All-head, All-nil, All-tail}
+use Rattle.std.proofs.lemmas.List.Elements.{All-cons, All-head, All-map, All-nil, All-tail}
 use Rattle.std.proofs.lemmas.List.Folds.{list_all-append}
-use Rattle.std.proofs.lemmas.Str.{IsUtf8-append, chars-IsAscii, encodes-IsAscii}
-use Rattle.comfy_parts.proofs.CallerLemmas.{IsUtf8-printable, ascii-printable}
+use Rattle.std.proofs.lemmas.Str.{IsUtf8-append, IsUtf8-nil, chars-IsAscii, encodes-IsAscii}
+use Rattle.comfy_parts.proofs.CallerLemmas.{All-every, IsUtf8-printable, ascii-printable}
 use Rattle.comfy_parts.specs.Text.{Text, is_printable_ascii, spaces}
-use Rattle.csv.specs.Records.{AllText, field_at}
+use Rattle.csv.specs.Records.{field_at}
 use Rattle.csv_records.specs.Cleaning.{visible_of}
-use Rattle.csv_records.specs.Decimals.{byte_of, digits_in, fraction_len, has_mark, marks_of, points_of, spaces_behind, use_of}
+use Rattle.csv_records.specs.Decimals.{byte_of, digits_in, fraction_len, has_mark, is_plain, marks_of, points_of, spaces_behind, use_of}
 use Rattle.csv_records.specs.Number.{from_other, halves, is_neutral, is_outer, is_space, to_other, trimmed}
 use Rattle.csv_records.specs.declared.decimals.ColumnMarks.{ColumnMarks}
 use Rattle.csv_records.specs.declared.decimals.DecimalMark.{DecimalMark}
 use Rattle.csv_records.specs.declared.decimals.DecimalMark.TheVariants.{Comma, Point}
 use Rattle.csv_records.specs.declared.decimals.Points.{Points}
-use Rattle.csv_tables.proofs.BuiltLemmas.{EachOf}
+use Rattle.csv_tables.proofs.BuiltLemmas.{EachOf, EachShown, each_field, plain_shown}
 use Rattle.csv_tables.proofs.FieldLemmas.{IsShortPrintable}
-use Rattle.csv_tables.specs.Cells.{field_or_blank}
-use Rattle.csv_tables.specs.Columns.{seen}
-use Rattle.csv_tables.specs.Decimals.{is_narrow, is_right_at, mark_at, mark_of_column, spaced, spaced_fields, spaced_from}
-use Rattle.csv_tables.specs.Summaries.{column_fields}
-use Rattle.csv_tables.specs.Drawn.{ContentValue, aligned_content, fitting_content, has_room_for, marks_for}
+use Rattle.csv_tables.proofs.SpacedLemmas.{spaced-blank}
+use Rattle.csv_tables.specs.Cells.{text_in}
+use Rattle.csv_tables.specs.Columns.{ColumnsValue, column_at, drawn_columns, seen}
+use Rattle.csv_tables.specs.Decimals.{is_narrow, narrow_marks, points_in, spaced}
+use Rattle.csv_tables.specs.Drawn.{SelectedValue, selected_of, drawn_rows}
+use Rattle.csv_tables.specs.Fields.{field_or_blank}
+use Rattle.csv_tables.specs.Markdown.{is_right}
+use Rattle.csv_tables.specs.Summaries.{column_fields, summary_of}
 use Rattle.csv_tables.specs.declared.options.DrawnColumn.{DrawnColumn}
+use Rattle.csv_tables.specs.declared.options.Layout.{Layout}
 use Rattle.csv_tables.specs.declared.options.Look.{Look}
 
 -- ---- how long a fraction is
@@ -157,27 +161,32 @@ spaced-short points field least narrow = (
         by_neutral true = omega arith
         by_neutral false = omega (arith, least)
 
--- ---- a record
+-- ---- columns with a mark
 
--- each field of a record stands so in its column, which has a mark
-abbrev Marked : (ℕ → Option Points) → ℕ → List Text → Type 0
-Marked marks position fields = (i : ℕ) (points : Points) → marks (position + i) ≡ Some points → (points.longest ≤ 26) × Narrow (field_or_blank fields i)
+-- a column that has a mark has narrow fields
+abbrev pub IsPointed : List (List Text) → DrawnColumn → Type 0
+IsPointed rows column = (points : Points) → column.points ≡ Some points → (points.longest ≤ 26) × All Narrow (column_fields rows column.position)
 
-module _ (R : Text → Type 0) (gives : (text : Text) → IsShortPrintable 64 text → R text) where
-  field_each : (mark : Option Points) (field : Text) → ((points : Points) → mark ≡ Some points → (points.longest ≤ 26) × Narrow field) → R field → R (spaced false mark field)
-  field_each None field known own = own
-  field_each (Some points) field known own = let is = known points refl in gives _ (spaced-short points field is.0 is.1)
+by_marks : (fields : List Text) (points : Points) (narrow plain : Bool) → list_all is_narrow fields ≡ narrow → points_in (if narrow && plain then Some (marks_of fields) else None) ≡ Some points → (points.longest ≤ 26) × All Narrow fields
+by_marks fields points true true all is = let narrow = each_narrow fields all in (points-few fields points narrow is, narrow)
+by_marks fields points true false all is = absurd (cc is)
+by_marks fields points false plain all is = absurd (cc is)
 
-  fields_each : (marks : ℕ → Option Points) (position : ℕ) (fields : List Text) → Marked marks position fields → All R fields → All R (spaced_from false marks position fields)
-  unfolding field_at
-  fields_each marks position [] known each = All-nil R
-  fields_each marks position (field ∷ fields) known each =
-      All-cons R (spaced false (marks position) field) (spaced_from false marks (position + 1) fields)
-      (field_each (marks position) field (λ points is. known 0 points (ap marks (omega arith) ∙ is)) (All-head R field fields each))
-      (fields_each marks (position + 1) fields (λ i points is. known (suc i) points (ap marks (omega arith) ∙ is)) (All-tail R field fields each))
+by_side : (fields : List Text) (points : Points) (right : Bool) → (if right then points_in (narrow_marks fields) else None) ≡ Some points → (points.longest ≤ 26) × All Narrow fields
+by_side fields points true is = by_marks fields points (list_all is_narrow fields) (list_all is_plain fields) refl is
+by_side fields points false is = absurd (cc is)
 
--- ---- records
+module _ (columns : ColumnsValue) (rows : List (List Text)) where
+  abbrev made : ℕ → DrawnColumn
+  made p = column_at columns (summary_of (column_fields rows p)) p
 
+  pointed : (p : ℕ) → IsPointed rows (made p)
+  pointed p points is = by_side (column_fields rows p) points (is_right (made p).alignment) is
+
+  columns_pointed : All (IsPointed rows) (drawn_columns columns rows)
+  columns_pointed = All-map (IsPointed rows) made columns.drawn (All-every (λ (p : ℕ). IsPointed rows (made p)) columns.drawn pointed)
+
+-- as they are seen where no sequences are kept
 seen_so : (fields : List Text) → seen false fields ≡ fields
 seen_so [] = refl
 seen_so (field ∷ fields) = ap (λ (rest : List Text). field ∷ rest) (seen_so fields)
@@ -186,87 +195,66 @@ seen_rows : (rows : List (List Text)) → map (seen false) rows ≡ rows
 seen_rows [] = refl
 seen_rows (fields ∷ rows) = ap₂ (λ (x : List Text) (xs : List (List Text)). x ∷ xs) (seen_so fields) (seen_rows rows)
 
--- by the rows of a column with a mark
-column_marked : (rows : List (List Text)) (position : ℕ) (points : Points) → mark_of_column rows position ≡ Some points → (points.longest ≤ 26) × All Narrow (column_fields rows position)
-column_marked rows position points is = by_test (list_all is_narrow (column_fields rows position)) refl is
+-- so are the columns of records
+pub content_pointed : (counted : Option ℕ) (layout : Layout) (records : List (List Text)) (content : SelectedValue) → selected_of counted layout records ≡ content → layout.look.has_sequences ≡ false → All (IsPointed content.rows) content.columns
+content_pointed counted layout records content is plain =
+    subst (λ (c : SelectedValue). All (IsPointed c.rows) c.columns) is
+    (subst (λ (rows : List (List Text)). All (IsPointed (drawn_rows layout.selection records)) (drawn_columns layout.columns rows)) (sym same) (columns_pointed layout.columns (drawn_rows layout.selection records)))
   where
-    by_test : (b : Bool) → list_all is_narrow (column_fields rows position) ≡ b → (if b then points_of (column_fields rows position) else None) ≡ Some points → (points.longest ≤ 26) × All Narrow (column_fields rows position)
-    by_test true all is = let narrow = each_narrow (column_fields rows position) all in (points-few (column_fields rows position) points narrow is, narrow)
-    by_test false all is = absurd (cc is)
+    same : map (seen layout.look.has_sequences) (drawn_rows layout.selection records) ≡ drawn_rows layout.selection records
+    same = ap (λ (b : Bool). map (seen b) (drawn_rows layout.selection records)) plain ∙ seen_rows (drawn_rows layout.selection records)
 
-at_marked : (columns : List DrawnColumn) (rows : List (List Text)) (position : ℕ) (points : Points) → mark_at columns rows position ≡ Some points → mark_of_column rows position ≡ Some points
-at_marked columns rows position points is = by_test (is_right_at columns position) is
-  where
-    by_test : (b : Bool) → (if b then mark_of_column rows position else None) ≡ Some points → mark_of_column rows position ≡ Some points
-    by_test true is = is
-    by_test false is = absurd (cc is)
+-- ---- what columns show
 
-for_marked : (look : Look) (content : ContentValue) → look.has_sequences ≡ false → (position : ℕ) (points : Points) → marks_for look content position ≡ Some points → (points.longest ≤ 26) × All Narrow (column_fields content.rows position)
-for_marked look content plain position points is = by_test look.aligns_decimals is
-  where
-    same : map (seen look.has_sequences) content.rows ≡ content.rows
-    same = ap (λ (b : Bool). map (seen b) content.rows) plain ∙ seen_rows content.rows
+-- a record's field of a column is narrow, where all of the column are
+module _ (position : ℕ) where
+  abbrev HasNarrow : List Text → Type 0
+  HasNarrow fields = (field : Text) → field_at fields position ≡ Some field → Narrow field
 
-    by_test : (b : Bool) → (if b then mark_at content.columns (map (seen look.has_sequences) content.rows) position else None) ≡ Some points → (points.longest ≤ 26) × All Narrow (column_fields content.rows position)
-    by_test true is =
-        let own = at_marked content.columns (map (seen look.has_sequences) content.rows) position points is in
-        column_marked content.rows position points (sym (ap (λ (rows : List (List Text)). mark_of_column rows position) same) ∙ own)
-    by_test false is = absurd (cc is)
+  narrow_there : (rows : List (List Text)) → All Narrow (column_fields rows position) → All HasNarrow rows
+  narrow_there [] narrow = All-nil HasNarrow
+  narrow_there (fields ∷ rows) narrow = by_field (narrow_there rows) (field_at fields position) refl narrow
+    where
+      by_field : (All Narrow (column_fields rows position) → All HasNarrow rows) → (o : Option Text) → field_at fields position ≡ o → All Narrow (cons_option o (column_fields rows position)) → All HasNarrow (fields ∷ rows)
+      by_field more None is narrow = All-cons HasNarrow fields rows (λ field found. absurd (let gone : ◌≡◌ {A = Option Text} None (Some field) = sym is ∙ found in cc gone)) (more narrow)
+      by_field more (Some own) is narrow =
+          All-cons HasNarrow fields rows (λ field found. let same : own ≡ field = (let both : Some own ≡ Some field = sym is ∙ found in cc both) in subst Narrow same (All-head Narrow own (column_fields rows position) narrow))
+          (more (All-tail Narrow own (column_fields rows position) narrow))
 
-module _ (R : Text → Type 0) (gives : (text : Text) → IsShortPrintable 64 text → R text) (marks : ℕ → Option Points) where
-  rows_each : (rows : List (List Text)) → ((position : ℕ) (points : Points) → marks position ≡ Some points → (points.longest ≤ 26) × All Narrow (column_fields rows position)) → All (All R) rows → All (All R) (map (spaced_fields false marks) rows)
-  rows_each [] known each = All-nil (All R)
-  rows_each (fields ∷ rows) known each =
-      All-cons (All R) (spaced_fields false marks fields) (map (spaced_fields false marks) rows)
-      (fields_each R gives marks 0 fields (λ i points is. let own = known i points (ap marks (omega arith) ∙ is) in (own.0, All-head Narrow (field_or_blank fields i) (column_fields rows i) own.1)) (All-head (All R) fields rows each))
-      (rows_each rows (λ i points is. let own = known i points is in (own.0, All-tail Narrow (field_or_blank fields i) (column_fields rows i) own.1)) (All-tail (All R) fields rows each))
+module _ (R : Text → Type 0) (empty : R []) (gives : (text : Text) → IsShortPrintable 64 text → R text) (look : Look) (plain : look.has_sequences ≡ false) where
+  text_each : (column : DrawnColumn) (fields : List Text) → ((points : Points) → column.points ≡ Some points → (points.longest ≤ 26) × ((field : Text) → field_at fields column.position ≡ Some field → Narrow field))
+      → R (field_or_blank fields column.position) → R (text_in look true column fields)
+  text_each column fields known own = subst (λ (b : Bool). R (spaced b column.points (field_or_blank fields column.position))) (sym plain) (by_points column.points refl)
+    where
+      by_points : (o : Option Points) → column.points ≡ o → R (spaced false o (field_or_blank fields column.position))
+      by_points None is = own
+      by_points (Some points) is = by_field (field_at fields column.position) refl
+        where
+          by_field : (o : Option Text) → field_at fields column.position ≡ o → R (spaced false (Some points) (unwrap_or o []))
+          by_field None none = subst R (sym (spaced-blank false (Some points))) empty
+          by_field (Some field) some = let is_known = known points is in gives _ (spaced-short points field is_known.0 (is_known.1 field some))
 
--- ---- contents
-
--- what is drawn of a content: its fields as they are where records are expanded, else with the spaces for which there is room
-abbrev pub drawn_content : Bool → Look → ContentValue → ContentValue
-drawn_content true look content = content
-drawn_content false look content = fitting_content look content
-
--- what holds of a content and of the same one with spaces holds of the one that is drawn
-pub of_drawn : (P : ContentValue → Type 0) (look : Look) (content : ContentValue) → P content → P (aligned_content look content) → (is_expanded : Bool) → P (drawn_content is_expanded look content)
-of_drawn P look content own aligned true = own
-of_drawn P look content own aligned false = by_room (has_room_for look content (aligned_content look content))
-  where
-    by_room : (b : Bool) → P (if b then aligned_content look content else content)
-    by_room true = aligned
-    by_room false = own
-
-pub each_drawn : (R : Text → Type 0) → ((text : Text) → IsShortPrintable 64 text → R text) → (look : Look) → look.has_sequences ≡ false → (content : ContentValue) → EachOf (All R) content → (is_expanded : Bool) → EachOf (All R) (drawn_content is_expanded look content)
-each_drawn R gives look plain content each is_expanded = of_drawn (EachOf (All R)) look content each aligned is_expanded
-  where
-    aligned : EachOf (All R) (aligned_content look content)
-    aligned =
-        record {
-          names = each.names;
-          rows =
-              subst (λ (b : Bool). All (All R) (map (spaced_fields b (marks_for look content)) content.rows)) (sym plain)
-              (rows_each R gives (marks_for look content) content.rows (for_marked look content plain) each.rows);
-        }
+  -- what holds of fields, and of short texts of printable ASCII, holds of what columns show
+  pub each_drawn : (content : SelectedValue) → All (IsPointed content.rows) content.columns → EachOf (All R) content → (is_aligned : Bool) → EachShown R look is_aligned content
+  each_drawn content pointed each false = plain_shown R empty look content each
+  each_drawn content pointed each true =
+      record {
+        fields = each;
+        shown = λ j other inside k default below.
+            let column = slice_index_or content.columns k default in
+            let fields = slice_index_or content.rows j other in
+            text_each column fields (λ points is. let known = pointed k default below points is in (known.0, narrow_there column.position content.rows known.1 j other inside))
+            (each_field R empty fields column.position (each.rows j other inside));
+      }
 
 -- ---- texts
 
+-- a text with spaces behind it is whole characters
 text_field : (keeps : Bool) (mark : Option Points) (field : Text) → IsUtf8 field → IsUtf8 (spaced keeps mark field)
 text_field keeps None field own = own
 text_field keeps (Some points) field own =
     let n = spaces_behind points (visible_of keeps field) in
     IsUtf8-append field (spaces n) own (IsUtf8-printable (spaces n) (spaces_printable n))
 
-text_from : (keeps : Bool) (marks : ℕ → Option Points) (position : ℕ) (fields : List Text) → AllText fields → AllText (spaced_from keeps marks position fields)
-unfolding AllText
-text_from keeps marks position [] text = tt
-text_from keeps marks position (field ∷ fields) text = (text_field keeps (marks position) field text.0, text_from keeps marks (position + 1) fields text.1)
-
-text_rows : (keeps : Bool) (marks : ℕ → Option Points) (rows : List (List Text)) → All AllText rows → All AllText (map (spaced_fields keeps marks) rows)
-text_rows keeps marks [] text = All-nil AllText
-text_rows keeps marks (fields ∷ rows) text =
-    All-cons AllText (spaced_fields keeps marks fields) (map (spaced_fields keeps marks) rows) (text_from keeps marks 0 fields (All-head AllText fields rows text)) (text_rows keeps marks rows (All-tail AllText fields rows text))
-
-pub text_drawn : (look : Look) (content : ContentValue) → EachOf AllText content → (is_expanded : Bool) → EachOf AllText (drawn_content is_expanded look content)
-text_drawn look content text is_expanded =
-    of_drawn (EachOf AllText) look content text (record { names = text.names; rows = text_rows look.has_sequences (marks_for look content) content.rows text.rows }) is_expanded
+pub text_drawn : (look : Look) (is_aligned : Bool) (column : DrawnColumn) (fields : List Text) → All IsUtf8 fields → IsUtf8 (text_in look is_aligned column fields)
+text_drawn look is_aligned column fields own = text_field look.has_sequences (if is_aligned then column.points else None) (field_or_blank fields column.position) (each_field IsUtf8 IsUtf8-nil fields column.position own)

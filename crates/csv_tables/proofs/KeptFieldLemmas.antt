@@ -33,7 +33,7 @@ use Rattle.csv_tables.proofs.SeparatorLemmas.{separated}
 use Rattle.csv_tables.proofs.UnbrokenLemmas.{framed_pair}
 use Rattle.csv_tables.proofs.WholeColumnLemmas.{HasTwo, all_shown, both_shown, exactly_two, pairs_are_two}
 use Rattle.csv_tables.proofs.WholeTableLemmas.{IsDrawn, drawn-is, fewer_borders, field_separated}
-use Rattle.csv_tables.specs.Drawn.{ContentValue, arrangement_for, empty_table, is_expanded_for, output_table, pairs_in, pairs_table, separated_table}
+use Rattle.csv_tables.specs.Drawn.{SelectedValue, arrangement_for, empty_table, is_expanded_for, output_table, pairs_in, pairs_table, separated_table}
 use Rattle.csv_tables.specs.Laws.{ExpandedKeepsWhole, StandsWhole}
 use Rattle.csv_tables.specs.Unbroken.{cell_unbroken_width, field_width, framed_width, is_unbroken, kept_unbroken_fields, may_break, needed_content, room_beside, room_for_two, unbroken_width, with_content, with_field_width}
 use Rattle.csv_tables.specs.declared.options.Look.{Look}
@@ -260,7 +260,7 @@ all_cells look [] two P gives = by_custom look.has_sequences
     by_custom false = All-nil P
 all_cells look (row ∷ rows) two P gives = gives (exactly_two row rows (empty_table look) two (omega arith))
 
-module _ (w : ℕ) (look : Look) (content : ContentValue) (small : w ≤ 65535) (wide : look.width ≡ Some w) (expanded : is_expanded_for look content ≡ true) (has : Bool) (table : TableValue)
+module _ (w : ℕ) (look : Look) (content : SelectedValue) (small : w ≤ 65535) (wide : look.width ≡ Some w) (expanded : is_expanded_for look content ≡ true) (has : Bool) (table : TableValue)
     (made : table ≡ separated_table has (output_table (is_expanded_for look content) look content)) (widths : List ℕ) (arranged : IsArranged table widths) where
   abbrev pairs : TableValue
   pairs = pairs_table look content
@@ -295,14 +295,14 @@ module _ (w : ℕ) (look : Look) (content : ContentValue) (small : w ≤ 65535) 
   known_width = ap table_width looks ∙ rw wide_look refl
 
   style_is : pairs.style ≡ look.style
-  style_is = ap (λ (t : TableValue). t.style) (any_built true look content).is
+  style_is = ap (λ (t : TableValue). t.style) (any_built true false look content).is
 
   module _ (a b : ColumnValue) (are : pairs.columns ≡ a ∷ b ∷ []) where
     abbrev base : TableValue
     base = separated_table has pairs
 
     new : AllByRecursion IsNewColumn (a ∷ b ∷ [])
-    new = subst (AllByRecursion IsNewColumn) are (recursion_from_All IsNewColumn pairs.columns (any_built true look content).columns)
+    new = subst (AllByRecursion IsNewColumn) are (recursion_from_All IsNewColumn pairs.columns (any_built true false look content).columns)
 
     is_pair : base ≡ record base { columns = a ∷ b ∷ [] }
     is_pair = by_lines has
@@ -415,5 +415,5 @@ module _ (w : ℕ) (look : Look) (content : ContentValue) (small : w ≤ 65535) 
       with_both (a ∷ b ∷ []) are two = fields_are_whole a b are
       with_both (a ∷ b ∷ c ∷ more) are two = absurd (omega (arith, two))
 
-pub expanded_keeps_whole : (w : ℕ) (look : Look) (content : ContentValue) → ExpandedKeepsWhole w look content
+pub expanded_keeps_whole : (w : ℕ) (look : Look) (content : SelectedValue) → ExpandedKeepsWhole w look content
 expanded_keeps_whole w look content small wide expanded table widths (has, made) arranged = whole_cells w look content small wide expanded has table made widths arranged

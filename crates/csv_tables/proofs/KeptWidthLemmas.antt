@@ -1,5 +1,5 @@
 -- Columns that are as wide as their contents are drawn no narrower.
-use Rattle.std.proofs.Common.{◌≡◌, ◌==◌, ◌≤◌, ◌<◌, ◌&&◌, ◌||◌, ℕ, zero, suc, ◌+◌, Bool, true, false, not, cond, List, [], ◌∷◌, ◌++◌, Option, Some, None, eqb-true, find, length, map, max, option_map, slice_index, unwrap_or, refl, sym, ap, ◌∙◌, subst, arith}
+use Rattle.std.proofs.Common.{◌≡◌, ◌==◌, ◌≤◌, ◌<◌, ◌&&◌, ◌||◌, ℕ, zero, suc, ◌+◌, Bool, true, false, not, cond, List, [], ◌∷◌, ◌++◌, Option, Some, None, find, length, map, max, option_map, slice_index, unwrap_or, refl, sym, ap, ◌∙◌, subst, arith}
 use Rattle.std.specs.List.{All, AllByRecursion, cons_option, enumerate_from, slice_get}
 use Rattle.std.specs.Prelude.{if◌then◌else◌}
 use Rattle.std.proofs.lemmas.Bool.{eq-eqb, le-leb, ne_eqb}
@@ -22,9 +22,9 @@ use Rattle.csv_tables.proofs.SeparatorLemmas.{restyled, separated}
 use Rattle.csv_tables.proofs.UnbrokenLemmas.{kept-test}
 use Rattle.csv_tables.proofs.WholeColumnLemmas.{all_shown}
 use Rattle.csv_tables.proofs.WholeTableLemmas.{drawn-is, whole_separated}
-use Rattle.csv_tables.specs.Drawn.{ContentValue, arrangement_for, empty_table, is_expanded_for, is_expanded_in, fitting_content, is_table_expanded, output_table, rows_table, separated_table, unbroken_in}
+use Rattle.csv_tables.specs.Drawn.{SelectedValue, arrangement_for, empty_table, is_expanded_for, is_expanded_in, is_table_expanded, output_table, rows_table, separated_table, unbroken_in, is_aligned_in}
 use Rattle.csv_tables.specs.Laws.{AutoKeepsWhole, IsWholeColumn, NeverKeepsWhole, UnbrokenColumnsAreWhole}
-use Rattle.csv_tables.specs.Unbroken.{has_room, kept_unbroken, constrained_columns, unbroken_columns, with_constrained}
+use Rattle.csv_tables.specs.Unbroken.{has_room, kept_unbroken, constrained_columns, with_constrained}
 use Rattle.csv_tables.specs.declared.options.DrawnColumn.{DrawnColumn}
 use Rattle.csv_tables.specs.declared.options.Expansion.TheVariants.{Auto}
 use Rattle.csv_tables.specs.declared.options.Look.{Look}
@@ -156,17 +156,17 @@ stands_whole table i width content =
         (All-from_recursion (λ (line : Text). measure line ≤ greatest (map measure cell.text_lines)) cell.text_lines (every-le-greatest measure cell.text_lines))
 
 -- where there is room for them, they are whole
-room_keeps_whole : (w : ℕ) (look : Look) (content : ContentValue) → look.width ≡ Some w → has_room (Some w) (unbroken_in look content) (rows_table look (fitting_content look content)) ≡ true → is_expanded_for look content ≡ false → UnbrokenColumnsAreWhole look content
+room_keeps_whole : (w : ℕ) (look : Look) (content : SelectedValue) → look.width ≡ Some w → has_room (Some w) (unbroken_in content) (rows_table look (is_aligned_in look content) content) ≡ true → is_expanded_for look content ≡ false → UnbrokenColumnsAreWhole look content
 room_keeps_whole w look content wide room none table widths i is_drawn arranged below is = stands_whole table i (slice_index widths i) (subst (λ (t : TableValue). column_content_width t i ≤ slice_index widths i) (sym same) kept)
   where
     has : Bool
     has = is_drawn.0
 
     rows : TableValue
-    rows = rows_table look (fitting_content look content)
+    rows = rows_table look (is_aligned_in look content) content
 
     whole : List Bool
-    whole = unbroken_in look content
+    whole = unbroken_in content
 
     drawn : TableValue
     drawn = separated_table has (output_table false look content)
@@ -190,7 +190,7 @@ room_keeps_whole w look content wide room none table widths i is_drawn arranged 
     known = ap table_width looks ∙ rw wide_look refl
 
     new : AllByRecursion IsNewColumn (separated_table has rows).columns
-    new = subst (λ (t : TableValue). AllByRecursion IsNewColumn t.columns) (restyled look (fitting_content look content) false has) (recursion_from_All IsNewColumn _ (any_built false (separated has look) (fitting_content look content)).columns)
+    new = subst (λ (t : TableValue). AllByRecursion IsNewColumn t.columns) (restyled look content false (is_aligned_in look content) has) (recursion_from_All IsNewColumn _ (any_built false (is_aligned_in look content) (separated has look) content).columns)
 
     with : drawn ≡ with_constrained whole (separated_table has rows)
     with = sym own ∙ same
@@ -208,26 +208,26 @@ held true is = refl
 held false is = absurd (cc is)
 
 -- without records no column has numbers and dates alone
-none_in : (keeps : Bool) (columns : List DrawnColumn) (i : ℕ) → slice_get (unbroken_columns keeps columns []) i ≡ Some true → ⊥
-none_in keeps [] i is = cc is
-none_in keeps (column ∷ columns) zero is = cc is
-none_in keeps (column ∷ columns) (suc i) is = none_in keeps columns i is
+none_in : (is_numbered : Bool) (columns : List DrawnColumn) (i : ℕ) → slice_get ((if is_numbered then false ∷ [] else []) ++ map (λ (column : DrawnColumn). false && column.is_unbroken) columns) i ≡ Some true → ⊥
+none_in true columns zero is = cc is
+none_in true columns (suc i) is = none_in false columns i is
+none_in false [] i is = cc is
+none_in false (column ∷ columns) zero is = cc is
+none_in false (column ∷ columns) (suc i) is = none_in false columns i is
 
-none_without : (look : Look) (content : ContentValue) → (length content.rows == 0) ≡ true → UnbrokenColumnsAreWhole look content
-none_without look content empty table widths i is_drawn arranged below is = absurd (by_rows content.rows (eqb-true (length content.rows) 0 empty) is)
-  where
-    by_rows : (rows : List (List Text)) → length rows ≡ 0 → slice_get (unbroken_columns look.has_sequences content.columns rows) i ≡ Some true → ⊥
-    by_rows [] none is = none_in look.has_sequences content.columns i is
-    by_rows (fields ∷ rows) none is = absurd (omega (arith, none))
+none_without : (look : Look) (content : SelectedValue) → (length content.rows == 0) ≡ true → UnbrokenColumnsAreWhole look content
+none_without look content empty table widths i is_drawn arranged below is =
+    absurd (none_in content.is_numbered content.columns i
+    (subst (λ (b : Bool). slice_get ((if content.is_numbered then not b ∷ [] else []) ++ map (λ (column : DrawnColumn). not b && column.is_unbroken) content.columns) i ≡ Some true) empty is))
 
-pub auto_keeps_whole : (w : ℕ) (look : Look) (content : ContentValue) → AutoKeepsWhole w look content
+pub auto_keeps_whole : (w : ℕ) (look : Look) (content : SelectedValue) → AutoKeepsWhole w look content
 auto_keeps_whole w look content table wide auto none = by_rows (length content.rows == 0) refl
   where
     rows : TableValue
-    rows = rows_table look (fitting_content look content)
+    rows = rows_table look (is_aligned_in look content) content
 
     whole : List Bool
-    whole = unbroken_in look content
+    whole = unbroken_in content
 
     test : is_expanded_for look content ≡ not ((length content.rows == 0) || has_room (Some w) whole rows)
     test = ap (λ m. not m && is_table_expanded look content) table ∙ ap (λ e. is_expanded_in e ((length content.rows == 0) || has_room look.width whole rows)) auto ∙ ap (λ o. not ((length content.rows == 0) || has_room o whole rows)) wide
@@ -236,14 +236,14 @@ auto_keeps_whole w look content table wide auto none = by_rows (length content.r
     by_rows true empty = none_without look content empty
     by_rows false some = room_keeps_whole w look content wide (held (has_room (Some w) whole rows) (ap (λ b. not (b || has_room (Some w) whole rows)) (sym some) ∙ sym test ∙ none)) none
 
-pub never_keeps_whole : (w : ℕ) (look : Look) (content : ContentValue) → NeverKeepsWhole w look content
+pub never_keeps_whole : (w : ℕ) (look : Look) (content : SelectedValue) → NeverKeepsWhole w look content
 never_keeps_whole w look content table wide never none = by_rows (length content.rows == 0) refl
   where
     rows : TableValue
-    rows = rows_table look (fitting_content look content)
+    rows = rows_table look (is_aligned_in look content) content
 
     whole : List Bool
-    whole = unbroken_in look content
+    whole = unbroken_in content
 
     test : is_expanded_for (record look { expansion = Auto }) content ≡ not ((length content.rows == 0) || has_room (Some w) whole rows)
     test = ap (λ m. not m && is_expanded_in Auto ((length content.rows == 0) || has_room look.width whole rows)) table ∙ ap (λ o. not ((length content.rows == 0) || has_room o whole rows)) wide

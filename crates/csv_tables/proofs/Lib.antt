@@ -1,19 +1,15 @@
-pub mod BesideLemmas
-pub mod BlankFieldLemmas
 pub mod BlankLemmas
 pub mod BuiltLemmas
 pub mod CleanCharacterLemmas
 pub mod ColumnLemmas
 pub mod CountLemmas
 pub mod DecimalLawLemmas
-pub mod DecimalLemmas
 mod ExpandedLemmas
 pub mod FieldControlLemmas
 pub mod FieldLemmas
 pub mod FittingLemmas
 pub mod KeptFieldLemmas
 pub mod KeptWidthLemmas
-mod KindLemmas
 pub mod LineLemmas
 pub mod MarkdownDrawingLemmas
 pub mod MarkdownLineLemmas
@@ -21,7 +17,6 @@ pub mod MarkdownPartLemmas
 pub mod MarkdownRowLemmas
 pub mod MarkdownWidthLemmas
 pub mod MarkedLemmas
-pub mod NumberedLemmas
 pub mod OneOutputLemmas
 pub mod OutputControlLemmas
 pub mod OutputLemmas

@@ -20,11 +20,10 @@ use Rattle.comfy_table.specs.TableLaws.{shown_contents, wider_total}
 use Rattle.comfy_table.specs.TableValue.{TableValue, table_width}
 use Rattle.comfy_table.specs.Widths.{shown_count}
 use Rattle.csv_tables.proofs.BuiltLemmas.{Built, built, plain_table}
-use Rattle.csv_tables.proofs.FittingLemmas.{drawn_content}
 use Rattle.csv_tables.proofs.SeparatorLemmas.{condensed-all, separated}
 use Rattle.csv_tables.proofs.WholeTableLemmas.{HasRoom, IsDrawn, drawn-is, drawn_table-is, least-fits, unconstrained-drawn, wider-fits}
-use Rattle.csv_tables.specs.Cells.{row_for}
-use Rattle.csv_tables.specs.Drawn.{ContentValue, RendersRecords, RendersAsTable, RendersContent, condensed_style, drawn_fields, empty_table, is_expanded_for, is_table_expanded, output_table, pairs_in, separated_table, some_lines, table_text}
+use Rattle.csv_tables.specs.Cells.{counted_from, row_for}
+use Rattle.csv_tables.specs.Drawn.{SelectedValue, RendersRecords, RendersAsTable, RendersContent, condensed_style, drawn_fields, empty_table, is_aligned_in, is_expanded_for, is_table_expanded, output_table, pairs_in, separated_table, some_lines, table_text}
 use Rattle.csv_tables.specs.Laws.{HasLines, IsOutputWith}
 use Rattle.csv_tables.specs.declared.options.Look.{Look}
 use Rattle.csv_tables.specs.declared.options.Layout.{Layout}
@@ -33,14 +32,14 @@ abbrev pub Any : RowValue → Type 0
 Any row = Unit {0}
 
 -- a table of records, whatever its rows
-pub any_built : (is_expanded : Bool) (look : Look) (content : ContentValue) → Built look Any content (plain_table is_expanded look content)
-any_built is_expanded look content =
-    built look Any content is_expanded (λ n is. tt) (All-every (λ fields. Any (row_for look content.columns fields)) content.rows (λ fields. tt))
+pub any_built : (is_expanded is_aligned : Bool) (look : Look) (content : SelectedValue) → Built look Any content (plain_table is_expanded is_aligned look content)
+any_built is_expanded is_aligned look content =
+    built look Any content is_expanded is_aligned (λ n is. tt) (All-every (λ row. Any (row_for look is_aligned content.is_numbered content.columns row)) (counted_from 1 content.rows) (λ row. tt))
     (All-every (λ fields. All Any (pairs_in look content fields)) content.rows (λ fields. All-every Any (pairs_in look content fields) (λ row. tt)))
 
 -- the drawn table is so built
-pub any_drawn : (look : Look) (content : ContentValue) (is_expanded has : Bool) → IsDrawn (separated has look) Any content (separated_table has (output_table is_expanded look content))
-any_drawn look content is_expanded has = drawn_table-is look Any content is_expanded has (any_built is_expanded (separated has look) (drawn_content is_expanded look content))
+pub any_drawn : (look : Look) (content : SelectedValue) (is_expanded has : Bool) → IsDrawn (separated has look) Any content (separated_table has (output_table is_expanded look content))
+any_drawn look content is_expanded has = drawn_table-is look Any content is_expanded has (any_built is_expanded (is_aligned_in look content) (separated has look) content)
 
 -- no line of it holds a line feed, where none is in the style
 unbroken_style : (has : Bool) (look : Look) → IsStyleWithout 0x0A look.style → IsStyleWithout 0x0A (separated has look).style
@@ -52,7 +51,7 @@ unbroken_style false look none =
     is_break : Option ℕ → Bool
     is_break c = unwrap_or c 0x20 == 0x0A
 
-pub unbroken_lines : (look : Look) (content : ContentValue) (is_expanded has : Bool) (lines : List Text) → IsStyleWithout 0x0A look.style
+pub unbroken_lines : (look : Look) (content : SelectedValue) (is_expanded has : Bool) (lines : List Text) → IsStyleWithout 0x0A look.style
     → IsTableDrawing (separated_table has (output_table is_expanded look content)) lines → All HasNoBreak lines
 unbroken_lines look content is_expanded has lines none drawing =
     let looks = drawn-is (separated has look) Any content (separated_table has (output_table is_expanded look content)) (any_drawn look content is_expanded has) in
@@ -71,7 +70,7 @@ one_place_more f n =
     ∙ flat_map-append f (map (λ x. x) (range_with_len 0 n)) (n ∷ []) ∙ ap₂ (λ a b. a ++ b) (flat_map-map f (λ x. x) (range_with_len 0 n)) (append-nil (f n))
 
 -- the lines of the whole table are those of its text
-pub drawn_lines : (is_expanded : Bool) (content : ContentValue) (arranged : ArrangedValue) → All HasNoBreak (drawing_of_infos arranged.table arranged.infos)
+pub drawn_lines : (is_expanded : Bool) (content : SelectedValue) (arranged : ArrangedValue) → All HasNoBreak (drawing_of_infos arranged.table arranged.infos)
     → HasLines is_expanded content (drawing_of_infos arranged.table arranged.infos) (table_text is_expanded content arranged)
 drawn_lines false content arranged unbroken =
     record {
@@ -94,7 +93,7 @@ pub is_table_text : (counted : Option ℕ) (layout : Layout) (records : List (Li
 is_table_text counted layout records output made none = subst (λ b. RendersContent b layout.look made.content made.text) none made.is_text
 
 -- records for Markdown are never expanded
-pub never_expanded : (look : Look) (content : ContentValue) → look.is_markdown ≡ true → false ≡ is_expanded_for look content
+pub never_expanded : (look : Look) (content : SelectedValue) → look.is_markdown ≡ true → false ≡ is_expanded_for look content
 never_expanded look content is = ap (λ b. not b && is_table_expanded look content) (sym is)
 
 module _ (counted : Option ℕ) (layout : Layout) (records : List (List Text)) (output : Text) (made : RendersRecords counted layout records output) (text : RendersAsTable layout.look made.content made.text) (none : layout.look.is_markdown ≡ false) where
@@ -146,7 +145,7 @@ weaker_counts P R table widths gives counts =
 abbrev pub IsKept : ℕ → Bool → TableValue → ℕ → Type 0
 IsKept w is_filled table n = 0 < shown_count table → (n ≤ max w (least_total table)) × (is_filled ≡ true → n ≡ max w (least_total table))
 
-module _ (w : ℕ) (look : Look) (content : ContentValue) (table : TableValue) (known : IsDrawn look Any content table) (lines : List Text) (drawn : IsTableDrawing table lines) (wide : look.width ≡ Some w) where
+module _ (w : ℕ) (look : Look) (content : SelectedValue) (table : TableValue) (known : IsDrawn look Any content table) (lines : List Text) (drawn : IsTableDrawing table lines) (wide : look.width ≡ Some w) where
   looks : table ≡ record (empty_table look) { columns = table.columns; header = table.header; rows = table.rows }
   looks = drawn-is look Any content table known
 

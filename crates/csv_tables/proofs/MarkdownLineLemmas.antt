@@ -1,17 +1,17 @@
 -- A line of an output for Markdown gives back the fields that it is made of.
 use Rattle.std.proofs.Common.{◌≡◌, ◌==◌, ℕ, zero, suc, Bool, true, false, List, [], ◌∷◌, ◌++◌, Option, Some, None, arith, chars, cond, codes, encode_utf8_all, flat_map, length, map, ◌<◌, refl, ap, ap₂, sym, ◌∙◌, subst, append_assoc}
-use Rattle.std.specs.List.{AllZip}
+use Rattle.std.specs.List.{All, AllZip}
 use Rattle.std.specs.Str.{IsUtf8, all_scalars}
 use Rattle.std.proofs.Math.Utf8.{scalar as scalar_of}
 use Rattle.std.proofs.lemmas.Bool.{and_parts}
+use Rattle.std.proofs.lemmas.List.Elements.{All-head, All-tail}
 use Rattle.std.proofs.lemmas.Str.{chars_from_encodes, encode_ascii, encodes-append, scalars-chars}
 use lib.Utf8.{encode}
 use Rattle.comfy_parts.specs.Text.{Text, spaces}
 use Rattle.comfy_table.specs.Frame.{content_line}
-use Rattle.csv_tables.specs.Cells.{field_or_blank, field_text, marked}
+use Rattle.csv_tables.specs.Cells.{Shown, field_text, marked}
 use Rattle.csv_records.specs.Cleaning.{cleaned}
 use Rattle.csv_tables.specs.Markdown.{escaped, escaped_after, escaped_character, is_marked_at, is_special}
-use Rattle.csv_tables.specs.declared.options.DrawnColumn.{DrawnColumn}
 use Rattle.csv_tables.specs.declared.options.Look.{Look}
 use Rattle.csv_records.proofs.ControlLemmas.{cleaned_whole}
 use Rattle.csv_tables.proofs.MarkdownPartLemmas.{part_and_bar, spaced, spaced-read}
@@ -74,29 +74,33 @@ chars_of cs text own = sym (chars_from_encodes cs text (cs, (own.scalar, own.spe
 -- ---- a line of pieces
 
 -- a piece of a line is a field as it is drawn between spaces
-abbrev pub IsPiece : Look → List Text → DrawnColumn → Text → Type 0
-IsPiece look fields column piece = (a : ℕ) × (b : ℕ) × (piece ≡ spaces a ++ (field_text (markdown_look look) (field_or_blank fields column.position) ++ spaces b))
+abbrev pub IsPiece : Look → Shown → Text → Type 0
+IsPiece look shown piece = (a : ℕ) × (b : ℕ) × (piece ≡ spaces a ++ (field_text (markdown_look look) shown.text ++ spaces b))
 
-module _ (look : Look) (fields : List Text) (whole : (position : ℕ) → IsUtf8 (field_or_blank fields position)) where
-  -- the fields of columns
-  abbrev read_columns : List DrawnColumn → List (List ℕ)
-  read_columns columns = map (λ (column : DrawnColumn). read_field (field_or_blank fields column.position)) columns
+-- it is whole characters
+abbrev pub IsWhole : Shown → Type 0
+IsWhole shown = IsUtf8 shown.text
+
+module _ (look : Look) where
+  -- the texts that are shown
+  abbrev read_columns : List Shown → List (List ℕ)
+  read_columns columns = map (λ (shown : Shown). read_field shown.text) columns
 
   -- pieces with a bar after each of them, as characters
-  record AreRead (columns : List DrawnColumn) (text : Text) : Type 0 where
+  record AreRead (columns : List Shown) (text : Text) : Type 0 where
     cs : List ℕ
     spells : Spells cs text
     reads : map read_part (parts_between_bars cs) ≡ read_columns columns ++ [] ∷ []
 
-  pieces_read : (columns : List DrawnColumn) (pieces : List Text) → AllZip (IsPiece look fields) columns pieces → AreRead columns (flat_map (λ (piece : Text). piece ++ 0x7C ∷ []) pieces)
-  pieces_read [] [] each = record { cs = []; spells = Spells-nil; reads = refl }
-  pieces_read [] (piece ∷ pieces) each = absurd each
-  pieces_read (column ∷ columns) [] each = absurd each
-  pieces_read (column ∷ columns) (piece ∷ pieces) ((a, b, is), each) =
-      let more = pieces_read columns pieces each in
-      let field = field_or_blank fields column.position in
+  pieces_read : (columns : List Shown) (pieces : List Text) → All IsWhole columns → AllZip (IsPiece look) columns pieces → AreRead columns (flat_map (λ (piece : Text). piece ++ 0x7C ∷ []) pieces)
+  pieces_read [] [] whole each = record { cs = []; spells = Spells-nil; reads = refl }
+  pieces_read [] (piece ∷ pieces) whole each = absurd each
+  pieces_read (column ∷ columns) [] whole each = absurd each
+  pieces_read (column ∷ columns) (piece ∷ pieces) whole ((a, b, is), each) =
+      let more = pieces_read columns pieces (All-tail IsWhole column columns whole) each in
+      let field = column.text in
       let text = cleaned false field in
-      let own : Spells (spaced a (chars text) b) piece = subst (Spells (spaced a (chars text) b)) (sym is) (Spells-spaced a text b (cleaned_whole false field (whole column.position))) in
+      let own : Spells (spaced a (chars text) b) piece = subst (Spells (spaced a (chars text) b)) (sym is) (Spells-spaced a text b (cleaned_whole false field (All-head IsWhole column columns whole))) in
       let part = spaced a (chars text) b in
       let rest = flat_map (λ (piece : Text). piece ++ 0x7C ∷ []) pieces in
       record {
@@ -118,11 +122,11 @@ module _ (look : Look) (fields : List Text) (whole : (position : ℕ) → IsUtf8
   bar = encode_ascii 0x7C (omega arith)
 
   -- so a line with bars gives back the fields
-  pub gives_back : (columns : List DrawnColumn) (pieces : List Text) → 0 < length columns → AllZip (IsPiece look fields) columns pieces → GivesBack columns fields (content_line markdown_style markdown_style.content_lines pieces)
-  gives_back [] pieces some each = absurd (omega (arith, some))
-  gives_back (column ∷ columns) [] some each = absurd each
-  gives_back (column ∷ columns) (piece ∷ pieces) some each =
-      let read = pieces_read (column ∷ columns) (piece ∷ pieces) each in
+  pub gives_back : (columns : List Shown) (pieces : List Text) → 0 < length columns → All IsWhole columns → AllZip (IsPiece look) columns pieces → GivesBack columns (content_line markdown_style markdown_style.content_lines pieces)
+  gives_back [] pieces some whole each = absurd (omega (arith, some))
+  gives_back (column ∷ columns) [] some whole each = absurd each
+  gives_back (column ∷ columns) (piece ∷ pieces) some whole each =
+      let read = pieces_read (column ∷ columns) (piece ∷ pieces) whole each in
       let line : content_line markdown_style markdown_style.content_lines (piece ∷ pieces) ≡ 0x7C ∷ flat_map (λ (p : Text). p ++ 0x7C ∷ []) (piece ∷ pieces) =
       ap (λ (b : Text). b ++ ((piece ++ flat_map (λ (p : Text). b ++ p) pieces) ++ b)) bar ∙ ap (λ (t : Text). 0x7C ∷ t) (bars_after piece pieces) in
       let spells : Spells (0x7C ∷ read.cs) (content_line markdown_style markdown_style.content_lines (piece ∷ pieces)) =

@@ -18,9 +18,8 @@ use Rattle.comfy_table.specs.Lines.{as_measured, cell_delimiter, cell_lines}
 use Rattle.comfy_table.specs.Pieces.{blank_piece, cell_pieces, padded, piece, pieces_at, pieces_of_optional, row_cell_lines, shown_infos, cell_alignment, free_before, free_places}
 use Rattle.comfy_table.specs.Styling.{styled}
 use Rattle.comfy_table.specs.TableValue.{TableValue, cell_content_width, should_style}
-use Rattle.csv_tables.specs.Cells.{cell_for, cells_for, field_or_blank, field_text, marked}
+use Rattle.csv_tables.specs.Cells.{Shown, cell_for, cells_for, field_text, marked}
 use Rattle.csv_tables.specs.Markdown.{escaped_after, is_marked_at, is_special}
-use Rattle.csv_tables.specs.declared.options.DrawnColumn.{DrawnColumn}
 use Rattle.csv_tables.specs.declared.options.Look.{Look}
 use Rattle.csv_tables.proofs.MarkdownLineLemmas.{IsPiece}
 use Rattle.csv_tables.specs.Drawn.{markdown_look}
@@ -128,36 +127,40 @@ all_fit (row ∷ rows) = All-cons (FitsAmong (row ∷ rows)) row rows own (All-w
 
 -- ---- one row
 
--- the row of some fields in these columns
-abbrev pub markdown_row : Look → List DrawnColumn → List Text → RowValue
-markdown_row look columns fields = cells_for (markdown_look look) false columns fields
+-- the row that shows these texts
+abbrev pub markdown_row : Look → List Shown → RowValue
+markdown_row look shown = cells_for (markdown_look look) false shown
 
-module _ (table : TableValue) (look : Look) (columns : List DrawnColumn) (fields : List Text) where
+module _ (table : TableValue) (look : Look) (shown : List Shown) where
   abbrev row : RowValue
-  row = markdown_row look columns fields
+  row = markdown_row look shown
 
-  abbrev pub text_at : DrawnColumn → Text
-  text_at column = field_text (markdown_look look) (field_or_blank fields column.position)
+  abbrev pub text_at : Shown → Text
+  text_at column = field_text (markdown_look look) column.text
 
-  abbrev cell_at : DrawnColumn → CellValue
-  cell_at column = cell_for (markdown_look look) column.alignment (field_or_blank fields column.position)
+  abbrev cell_at : Shown → CellValue
+  cell_at column = cell_for (markdown_look look) column.alignment column.text
 
-  -- the cell of a column is that of its field, or the field is blank
-  abbrev pub IsCellAt : DrawnColumn → Option CellValue → Type 0
-  IsCellAt column None = field_or_blank fields column.position ≡ []
+  -- the cell of a column is that of its text, or the text is blank
+  abbrev pub IsCellAt : Shown → Option CellValue → Type 0
+  IsCellAt column None = column.text ≡ []
   IsCellAt column (Some cell) = cell ≡ cell_at column
 
+  -- a text is short as it is drawn
+  abbrev pub IsShortAt : Shown → Type 0
+  IsShortAt column = measure (text_at column) ≤ 65535
+
   -- a column's only piece
-  pub record IsOnly (column : DrawnColumn) (p : ℕ × ColumnInfo) : Type 0 where
+  pub record IsOnly (column : Shown) (p : ℕ × ColumnInfo) : Type 0 where
     pub only : Text
     pub is_only : pieces_at table row p ≡ only ∷ []
-    pub is_piece : IsPiece look fields column only
+    pub is_piece : IsPiece look column only
 
-  module _ (rows : List RowValue) (plain : table.custom_styling ≡ false) (unstyled : should_style table ≡ false) (fits : FitsAmong rows row) (short : (column : DrawnColumn) → measure (text_at column) ≤ 65535) where
+  module _ (rows : List RowValue) (plain : table.custom_styling ≡ false) (unstyled : should_style table ≡ false) (fits : FitsAmong rows row) where
     abbrev pub content : ℕ → ℕ
     content i = max 1 (greatest (map cell_content_width (filter_map (λ (r : RowValue). slice_get r.cells i) rows)))
 
-    no_piece : (i : ℕ) (column : ColumnValue) (drawn : DrawnColumn) → slice_get row.cells i ≡ None → field_or_blank fields drawn.position ≡ [] → IsOnly drawn (placed content (i, column))
+    no_piece : (i : ℕ) (column : ColumnValue) (drawn : Shown) → slice_get row.cells i ≡ None → drawn.text ≡ [] → IsOnly drawn (placed content (i, column))
     no_piece i column drawn none blank =
         let info = info_of column (content i) in
         let empty : text_at drawn ≡ [] = ap (field_text (markdown_look look)) blank ∙ blank_drawn (markdown_look look) in
@@ -167,14 +170,14 @@ module _ (table : TableValue) (look : Look) (columns : List DrawnColumn) (fields
           is_piece = (info_width info, 0, sym (append-nil (spaces (info_width info))) ∙ ap (λ (text : Text). spaces (info_width info) ++ (text ++ spaces 0)) (sym empty));
         }
 
-    found_piece : (i : ℕ) (column : ColumnValue) (drawn : DrawnColumn) → slice_get row.cells i ≡ Some (cell_at drawn) → IsOnly drawn (placed content (i, column))
-    found_piece i column drawn found =
+    found_piece : (i : ℕ) (column : ColumnValue) (drawn : Shown) → IsShortAt drawn → slice_get row.cells i ≡ Some (cell_at drawn) → IsOnly drawn (placed content (i, column))
+    found_piece i column drawn short found =
         let info = info_of column (content i) in
         let text = text_at drawn in
         let single : (cell_at drawn).text_lines ≡ text ∷ [] = one_text_line _ in
         let width : cell_content_width (cell_at drawn) ≡ max 1 (min 65535 (greatest (measure text ∷ []))) = ap (λ (ts : List Text). max 1 (min 65535 (greatest (map measure ts)))) single in
         let below = fits i (cell_at drawn) found in
-        let room : measure text ≤ info.content_width = omega (arith, width, below, short drawn) in
+        let room : measure text ≤ info.content_width = omega (arith, width, below, short) in
         let spaced = padded_is (cell_at drawn) info (measure text) text in
         record {
           only = padded (cell_at drawn) info (measure text) text;
@@ -182,17 +185,17 @@ module _ (table : TableValue) (look : Look) (columns : List DrawnColumn) (fields
           is_piece = spaced;
         }
 
-    only_piece : (i : ℕ) (column : ColumnValue) (drawn : DrawnColumn) (cell : Option CellValue) → slice_get row.cells i ≡ cell → IsCellAt drawn cell → IsOnly drawn (placed content (i, column))
-    only_piece i column drawn None at blank = no_piece i column drawn at blank
-    only_piece i column drawn (Some cell) at is = found_piece i column drawn (at ∙ ap (λ c. Some c) is)
+    only_piece : (i : ℕ) (column : ColumnValue) (drawn : Shown) → IsShortAt drawn → (cell : Option CellValue) → slice_get row.cells i ≡ cell → IsCellAt drawn cell → IsOnly drawn (placed content (i, column))
+    only_piece i column drawn short None at blank = no_piece i column drawn at blank
+    only_piece i column drawn short (Some cell) at is = found_piece i column drawn short (at ∙ ap (λ c. Some c) is)
 
-    pub only_pieces : (n : ℕ) (drawn : List DrawnColumn) (columns : List ColumnValue) → length columns ≡ length drawn → ((k : ℕ) (d : DrawnColumn) → slice_get drawn k ≡ Some d → IsCellAt d (slice_get row.cells (n + k))) → AllZip IsOnly drawn (map (placed content) (enumerate_from n columns))
-    only_pieces n [] [] same at = tt
-    only_pieces n [] (column ∷ columns) same at = absurd (omega (arith, same))
-    only_pieces n (d ∷ drawn) [] same at = absurd (omega (arith, same))
-    only_pieces n (d ∷ drawn) (column ∷ columns) same at = (
-      only_piece n column d (slice_get row.cells (n + 0)) (let moved : n ≡ n + 0 = omega arith in ap (slice_get row.cells) moved) (at 0 d refl),
-      only_pieces (n + 1) drawn columns (omega (arith, same)) (λ k e found. let moved : n + suc k ≡ n + 1 + k = omega arith in subst (λ (i : ℕ). IsCellAt e (slice_get row.cells i)) moved (at (suc k) e found)),
+    pub only_pieces : (n : ℕ) (drawn : List Shown) (columns : List ColumnValue) → All IsShortAt drawn → length columns ≡ length drawn → ((k : ℕ) (d : Shown) → slice_get drawn k ≡ Some d → IsCellAt d (slice_get row.cells (n + k))) → AllZip IsOnly drawn (map (placed content) (enumerate_from n columns))
+    only_pieces n [] [] short same at = tt
+    only_pieces n [] (column ∷ columns) short same at = absurd (omega (arith, same))
+    only_pieces n (d ∷ drawn) [] short same at = absurd (omega (arith, same))
+    only_pieces n (d ∷ drawn) (column ∷ columns) short same at = (
+      only_piece n column d (All-head IsShortAt d drawn short) (slice_get row.cells (n + 0)) (let moved : n ≡ n + 0 = omega arith in ap (slice_get row.cells) moved) (at 0 d refl),
+      only_pieces (n + 1) drawn columns (All-tail IsShortAt d drawn short) (omega (arith, same)) (λ k e found. let moved : n + suc k ≡ n + 1 + k = omega arith in subst (λ (i : ℕ). IsCellAt e (slice_get row.cells i)) moved (at (suc k) e found)),
     )
 
   -- ---- columns with one piece each
@@ -203,7 +206,7 @@ module _ (table : TableValue) (look : Look) (columns : List DrawnColumn) (fields
   abbrev pub first_line : List (ℕ × ColumnInfo) → List Text
   first_line ps = map (λ (p : ℕ × ColumnInfo). slice_index_or (pieces_at table row p) 0 (blank_piece p.1)) ps
 
-  at_most_one : (drawn : List DrawnColumn) (ps : List (ℕ × ColumnInfo)) → AllZip IsOnly drawn ps → height_of ps ≤ 1
+  at_most_one : (drawn : List Shown) (ps : List (ℕ × ColumnInfo)) → AllZip IsOnly drawn ps → height_of ps ≤ 1
   at_most_one [] [] each = omega arith
   at_most_one [] (p ∷ ps) each = absurd each
   at_most_one (d ∷ drawn) [] each = absurd each
@@ -211,15 +214,15 @@ module _ (table : TableValue) (look : Look) (columns : List DrawnColumn) (fields
       let one : length (pieces_at table row p) ≡ 1 = ap (λ (ts : List Text). length ts) own.is_only in
       omega (arith, one, at_most_one drawn ps each)
 
-  pub one_high : (drawn : List DrawnColumn) (ps : List (ℕ × ColumnInfo)) → 0 < length drawn → AllZip IsOnly drawn ps → height_of ps ≡ 1
+  pub one_high : (drawn : List Shown) (ps : List (ℕ × ColumnInfo)) → 0 < length drawn → AllZip IsOnly drawn ps → height_of ps ≡ 1
   one_high [] ps some each = absurd (omega (arith, some))
   one_high (d ∷ drawn) [] some each = absurd each
   one_high (d ∷ drawn) (p ∷ ps) some each =
       let one : length (pieces_at table row p) ≡ 1 = ap (λ (ts : List Text). length ts) each.0.is_only in
       omega (arith, one, at_most_one (d ∷ drawn) (p ∷ ps) each)
 
-  pub pieces_of : (drawn : List DrawnColumn) (ps : List (ℕ × ColumnInfo)) → AllZip IsOnly drawn ps → AllZip (IsPiece look fields) drawn (first_line ps)
+  pub pieces_of : (drawn : List Shown) (ps : List (ℕ × ColumnInfo)) → AllZip IsOnly drawn ps → AllZip (IsPiece look) drawn (first_line ps)
   pieces_of [] [] each = tt
   pieces_of [] (p ∷ ps) each = absurd each
   pieces_of (d ∷ drawn) [] each = absurd each
-  pieces_of (d ∷ drawn) (p ∷ ps) (own, each) = (subst (λ (ts : List Text). IsPiece look fields d (slice_index_or ts 0 (blank_piece p.1))) (sym own.is_only) own.is_piece, pieces_of drawn ps each)
+  pieces_of (d ∷ drawn) (p ∷ ps) (own, each) = (subst (λ (ts : List Text). IsPiece look d (slice_index_or ts 0 (blank_piece p.1))) (sym own.is_only) own.is_piece, pieces_of drawn ps each)

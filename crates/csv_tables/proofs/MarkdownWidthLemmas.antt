@@ -29,20 +29,21 @@ use Rattle.comfy_table.specs.Straight.{IsStraightTable}
 use Rattle.comfy_table.specs.TableValue.{TableValue, cell_content_width, column_content_width, header_and_rows, max_content_widths, measured_rows, should_style, shown_columns, table_width, with_row, with_rows}
 use Rattle.comfy_table.specs.Widths.{capped_content, disabled_width, fixed_by_constraint, shown_count, shown_needs, upper_boundary}
 use Rattle.csv.specs.Records.{AllText}
-use Rattle.csv_tables.specs.Cells.{cell_for, field_or_blank, header_for, marked, reached, row_for, unless_blank}
+use Rattle.csv_tables.specs.Cells.{Shown, cell_for, counted_from, header_for, marked, columns_within, row_for, shown_in, shown_names, unless_blank}
 use Rattle.csv_records.specs.Cleaning.{cleaned, visible_of}
 use Rattle.csv_tables.specs.Markdown.{is_right, rule_line, rule_part}
+use Rattle.comfy_parts.specs.declared.style.cell.CellAlignment.{CellAlignment}
+use Rattle.comfy_parts.specs.declared.style.cell.CellAlignment.TheVariants.{Right}
 use Rattle.csv_tables.specs.declared.options.DrawnColumn.{DrawnColumn}
 use Rattle.csv_tables.specs.declared.options.Look.{Look}
 use Rattle.csv_tables.specs.declared.options.Layout.{Layout}
-use Rattle.csv_tables.proofs.BuiltLemmas.{Built, EachOf, each_content}
+use Rattle.csv_tables.proofs.BuiltLemmas.{Built, EachOf, each_content, names-length, row-length, plain_shown}
 use Rattle.csv_tables.proofs.OutputControlLemmas.{each_below_first, free_markdown, markdown_lines_of, printable_is_seen, rule_is_clear, rule_is_printable}
 use Rattle.csv_tables.proofs.LineLemmas.{Any, any_built, never_expanded}
 use Rattle.csv_tables.proofs.StraightLemmas.{IsSeenTable, IsShort, empty_is_short, rows_are_straight, short_printable, short_rows}
-use Rattle.csv_tables.proofs.NumberedLemmas.{lines_beside, text_beside}
-use Rattle.csv_tables.proofs.TextTableLemmas.{EachLine, rows_of_texts}
+use Rattle.csv_tables.proofs.TextTableLemmas.{EachLine, rows_of_texts, short_drawn, blank}
 use Rattle.csv_tables.specs.Laws.{AreSeen, EachText, IsStraightOutput, MarkdownOutputIsStraight, WholeOutputIsStraight, seen_lines}
-use Rattle.csv_tables.specs.Drawn.{ContentValue, RendersAsMarkdown, RendersRecords, RendersContent, content_of, below_first, headed_table, empty_table, markdown_content, markdown_look, markdown_style, markdown_table}
+use Rattle.csv_tables.specs.Drawn.{SelectedValue, RendersAsMarkdown, RendersRecords, RendersContent, selected_of, below_first, headed_table, empty_table, markdown_content, markdown_look, markdown_style, markdown_table, sides}
 use Rattle.csv_tables.proofs.ReachedLemmas.{reached-length}
 
 -- ---- a header with a cell for each column
@@ -99,10 +100,10 @@ paddings n (column ∷ columns) each =
     omega (arith, own, more, sum_by-cons (λ (p : ℕ × ColumnValue). column_padding p.1) (n, column) (enumerate_from (n + 1) columns))
 
 -- a column's part of the line below the header has three characters beside its width
-part_length : (column : DrawnColumn) (width : ℕ) → length (rule_part (column, width)) ≡ width + 3
-part_length column width =
-    let all = length-append (repeat (width + 1) (codes "-")) (if is_right column.alignment then codes ":|" else codes "-|") in
-    omega (arith, all, dashes (width + 1), by_side (is_right column.alignment))
+part_length : (side : Option CellAlignment) (width : ℕ) → length (rule_part (side, width)) ≡ width + 3
+part_length side width =
+    let all = length-append (repeat (width + 1) (codes "-")) (if is_right side then codes ":|" else codes "-|") in
+    omega (arith, all, dashes (width + 1), by_side (is_right side))
   where
     dashes : (n : ℕ) → length (repeat n (codes "-")) ≡ n
     dashes zero = refl
@@ -113,7 +114,7 @@ part_length column width =
     by_side false = refl
 
 -- so all parts have three for each column beside the widths, where f gives them and none is 0
-parts_length : (f : ℕ → ℕ) (n : ℕ) (drawn : List DrawnColumn) (columns : List ColumnValue) → length columns ≡ length drawn → ((i : ℕ) → i < length columns → 1 ≤ f (n + i))
+parts_length : (f : ℕ → ℕ) (n : ℕ) (drawn : List (Option CellAlignment)) (columns : List ColumnValue) → length columns ≡ length drawn → ((i : ℕ) → i < length columns → 1 ≤ f (n + i))
     → length (flat_map rule_part (zip drawn (map f (range_with_len n (length columns))))) ≡ 3 * length columns + sum (map (λ (p : ℕ × ColumnValue). max 1 (f p.0)) (enumerate_from n columns))
 parts_length f n [] [] same some = refl
 parts_length f n [] (column ∷ columns) same some = absurd (omega (arith, same))
@@ -155,27 +156,42 @@ module _ (table : TableValue) (own : table.style ≡ markdown_style) where
 
 -- ---- the table for Markdown
 
-module _ (look : Look) (content : ContentValue) where
+pub sides-length : (content : SelectedValue) → length (sides content) ≡ (if content.is_numbered then 1 else 0) + length content.columns
+sides-length content = by_numbers content.is_numbered
+  where
+    by_numbers : (b : Bool) → length ((if b then Some Right ∷ [] else []) ++ map (λ (column : DrawnColumn). column.alignment) content.columns) ≡ (if b then 1 else 0) + length content.columns
+    by_numbers true = let own : length (map (λ (column : DrawnColumn). column.alignment) content.columns) ≡ length content.columns = length-map content.columns _ in omega (arith, own)
+    by_numbers false = let own : length (map (λ (column : DrawnColumn). column.alignment) content.columns) ≡ length content.columns = length-map content.columns _ in omega (arith, own)
+
+module _ (look : Look) (content : SelectedValue) where
   abbrev pub table : TableValue
   table = markdown_table look content
 
   abbrev pub header : RowValue
-  header = header_for (markdown_look look) content.columns (unwrap_or content.names [])
+  header = header_for (markdown_look look) content.is_numbered content.columns (unwrap_or content.names [])
 
   pub known : Built (markdown_look look) Any (markdown_content content) table
-  known = any_built false (markdown_look look) (markdown_content content)
+  known = any_built false false (markdown_look look) (markdown_content content)
 
-  pub headed : IsHeaded (length content.columns) header table
+  -- a cell for each column
+  cells_count : length header.cells ≡ length (sides content)
+  cells_count = length-map (shown_names (markdown_look look) content.is_numbered content.columns (unwrap_or content.names [])) _ ∙ names-length (markdown_look look) content.is_numbered content.columns (unwrap_or content.names []) ∙ sym (sides-length content)
+
+  pub headed : IsHeaded (length (sides content)) header table
   headed =
       let grown = no_fewer_columns (length header.cells) [] in
-      let cells : length header.cells ≡ length content.columns = length-map content.columns _ in
-      rows_keep (length content.columns) header (map (row_for (markdown_look look) content.columns) content.rows) (headed_table (markdown_look look) content.columns (Some (unwrap_or content.names [])))
-      (All-map (HasCells (length content.columns)) (row_for (markdown_look look) content.columns) content.rows
-      (All-every (λ fields. HasCells (length content.columns) (row_for (markdown_look look) content.columns fields)) content.rows (λ fields. few_cells fields)))
-      (record { has_header = refl; count = omega (arith, grown, cells) })
+      let row = row_for (markdown_look look) false content.is_numbered content.columns in
+      rows_keep (length (sides content)) header (map row (counted_from 1 content.rows)) (headed_table (markdown_look look) content.is_numbered content.columns (Some (unwrap_or content.names [])))
+      (All-map (HasCells (length (sides content))) row (counted_from 1 content.rows)
+      (All-every (λ r. HasCells (length (sides content)) (row r)) (counted_from 1 content.rows) few_cells))
+      (record { has_header = refl; count = omega (arith, grown, cells_count) })
     where
-      few_cells : (fields : List Text) → HasCells (length content.columns) (row_for (markdown_look look) content.columns fields)
-      few_cells fields = let few = reached-length fields content.columns in let cells = length-map (reached fields content.columns) (λ (column : DrawnColumn). cell_for (markdown_look look) column.alignment (field_or_blank fields column.position)) in omega (arith, few, cells)
+      few_cells : (r : ℕ × List Text) → HasCells (length (sides content)) (row_for (markdown_look look) false content.is_numbered content.columns r)
+      few_cells r =
+          let few = reached-length r.1 content.columns in
+          let shown = shown_in (markdown_look look) false content.is_numbered (columns_within r.1 content.columns) r in
+          let cells = length-map shown (λ (s : Shown). cell_for (markdown_look look) s.alignment s.text) in
+          omega (arith, few, cells, row-length (markdown_look look) false content.is_numbered (columns_within r.1 content.columns) r, sides-length content)
 
   -- its rows as they are measured
   pub rows_measured : measured_rows table ≡ header ∷ map (row_measured false) table.rows
@@ -185,7 +201,7 @@ module _ (look : Look) (content : ContentValue) where
 
   some_content : (i : ℕ) → i < length table.columns → 1 ≤ column_content_width table i
   some_content i below =
-      let cells : length header.cells ≡ length content.columns = length-map content.columns _ in
+      let cells = cells_count in
       subst (λ (rows : List RowValue). 1 ≤ greatest (map cell_content_width (filter_map (λ (r : RowValue). slice_get r.cells i) rows))) (sym rows_measured) (counted i header (map (row_measured false) table.rows) (omega (arith, below, cells, headed.count)))
 
   no_width : width_kept table.arrangement (table_width table) ≡ None
@@ -218,7 +234,7 @@ module _ (look : Look) (content : ContentValue) where
         ∙ ap (map (disabled_width table)) all_columns ∙ contents 0 table.columns known.columns
 
     -- the line below the header is as wide as the others
-    rule_is_as_wide : 0 < length content.columns → measure (rule_line content.columns (max_content_widths table)) ≡ line_total table widths
+    rule_is_as_wide : 0 < length (sides content) → measure (rule_line (sides content) (max_content_widths table)) ≡ line_total table widths
     rule_is_as_wide some =
         let whole = sum-outer_widths table widths arranged.one_for_each (subst (AllByRecursion (λ (w : ℕ). 1 ≤ w)) (sym by_contents) (each_some (enumerate_from 0 table.columns))) in
         let sums : sum (widths_at widths (shown_columns table)) ≡ sum (map content_at (enumerate_from 0 table.columns)) = ap sum by_contents in
@@ -226,20 +242,20 @@ module _ (look : Look) (content : ContentValue) where
         ap (sum_by (λ (p : ℕ × ColumnValue). column_padding p.1)) all_columns ∙ paddings 0 table.columns known.columns in
         let count : shown_count table ≡ length table.columns = ap (λ (ps : List (ℕ × ColumnValue)). length ps) all_columns ∙ length-enumerate_from 0 table.columns in
         let borders : border_count table.style (shown_count table) ≡ 2 + (shown_count table - 1) = ap (λ (t : TableValue). border_count t.style (shown_count table)) known.is in
-        let parts : length (flat_map rule_part (zip content.columns (max_content_widths table))) ≡ 3 * length table.columns + sum (map content_at (enumerate_from 0 table.columns)) =
-        parts_length (column_content_width table) 0 content.columns table.columns headed.count (λ i below. let moved : i ≡ 0 + i = omega arith in subst (λ (j : ℕ). 1 ≤ column_content_width table j) moved (some_content i below)) in
-        let printable : measure (rule_line content.columns (max_content_widths table)) ≡ length (rule_line content.columns (max_content_widths table)) = measure-printable _ (rule_is_printable content.columns (max_content_widths table)) in
-        let bar : length (rule_line content.columns (max_content_widths table)) ≡ 1 + length (flat_map rule_part (zip content.columns (max_content_widths table))) = omega arith in
+        let parts : length (flat_map rule_part (zip (sides content) (max_content_widths table))) ≡ 3 * length table.columns + sum (map content_at (enumerate_from 0 table.columns)) =
+        parts_length (column_content_width table) 0 (sides content) table.columns headed.count (λ i below. let moved : i ≡ 0 + i = omega arith in subst (λ (j : ℕ). 1 ≤ column_content_width table j) moved (some_content i below)) in
+        let printable : measure (rule_line (sides content) (max_content_widths table)) ≡ length (rule_line (sides content) (max_content_widths table)) = measure-printable _ (rule_is_printable (sides content) (max_content_widths table)) in
+        let bar : length (rule_line (sides content) (max_content_widths table)) ≡ 1 + length (flat_map rule_part (zip (sides content) (max_content_widths table))) = omega arith in
         omega (arith, whole, sums, two_each, count, borders, parts, printable, bar, headed.count, some)
 
   -- so are all lines as they are seen
   pub markdown_lines_are_straight : EachOf (All (EachLine IsShort (markdown_look look))) (markdown_content content) → (visible : Bool) → IsSeenTable visible (markdown_look look) table → (lines : List Text) → IsTableDrawing table lines
-      → AreEquallyWide (seen_lines visible (below_first (rule_line content.columns (max_content_widths table)) lines))
+      → AreEquallyWide (seen_lines visible (below_first (rule_line (sides content) (max_content_widths table)) lines))
   markdown_lines_are_straight each visible seen lines drawing =
       (line_total table drawing.widths, All-map (λ line. measure line ≡ line_total table drawing.widths) (visible_of visible) (below_first rule lines) (with_rule lines refl (by_kind visible seen)))
     where
       rule : Text
-      rule = rule_line content.columns (max_content_widths table)
+      rule = rule_line (sides content) (max_content_widths table)
 
       Is : Bool → Text → Type 0
       Is kind line = measure (visible_of kind line) ≡ line_total table drawing.widths
@@ -247,7 +263,7 @@ module _ (look : Look) (content : ContentValue) where
       straight : IsStraightTable table drawing.widths
       straight =
           built_is_straight (empty_table (markdown_look look)) refl table drawing.widths
-          (rows_of_texts IsShort empty_is_short (markdown_look look) IsShortRow (short_rows (markdown_look look) refl) (markdown_content content) each) (one_column_characters markdown_style refl) no_width
+          (rows_of_texts IsShort empty_is_short (markdown_look look) (short_drawn IsShort short_printable (markdown_look look)) IsShortRow (short_rows (markdown_look look) refl) (markdown_content content) false (plain_shown (EachLine IsShort (markdown_look look)) (blank IsShort empty_is_short (markdown_look look)) (markdown_look look) (markdown_content content) each)) (one_column_characters markdown_style refl) no_width
 
       by_kind : (kind : Bool) → IsSeenTable kind (markdown_look look) table → All (Is kind) lines
       by_kind true free = drawing.sequences.straight_without_sequences (free_of_escapes table free) straight
@@ -255,12 +271,12 @@ module _ (look : Look) (content : ContentValue) where
           subst (All (Is false)) (sym (drawing.edges.unstyled_lines (ap should_style known.is) (ap (λ (t : TableValue). t.custom_styling) known.is))) (drawing.edges.straight straight)
 
       seen_rule : (kind : Bool) → measure (visible_of kind rule) ≡ measure rule
-      seen_rule true = ap measure (printable_is_seen rule (rule_is_printable content.columns (max_content_widths table)))
+      seen_rule true = ap measure (printable_is_seen rule (rule_is_printable (sides content) (max_content_widths table)))
       seen_rule false = refl
 
-      some_columns : (first : Text) (rest : List Text) → first ∷ rest ≡ lines → (columns : List DrawnColumn) → content.columns ≡ columns → 0 < length content.columns
+      some_columns : (first : Text) (rest : List Text) → first ∷ rest ≡ lines → (columns : List (Option CellAlignment)) → sides content ≡ columns → 0 < length (sides content)
       some_columns first rest are [] none =
-          let no_columns : length table.columns ≡ 0 = headed.count ∙ ap (λ (cs : List DrawnColumn). length cs) none in
+          let no_columns : length table.columns ≡ 0 = headed.count ∙ ap (λ (cs : List (Option CellAlignment)). length cs) none in
           absurd (let empty : first ∷ rest ≡ [] = are ∙ drawing.drawn ∙ none_drawn table (ap (λ (t : TableValue). t.style) known.is) drawing.widths (nil_from_length table.columns no_columns) in cc empty)
       some_columns first rest are (column ∷ columns) some = rw some (omega arith)
 
@@ -268,15 +284,15 @@ module _ (look : Look) (content : ContentValue) where
       with_rule [] are all = All-nil (Is visible)
       with_rule (first ∷ rest) are all =
           All-cons (Is visible) first (rule ∷ rest) (All-head (Is visible) first rest all)
-          (All-cons (Is visible) rule rest (seen_rule visible ∙ rule_is_as_wide drawing.widths drawing.arranged (some_columns first rest are content.columns refl)) (All-tail (Is visible) first rest all))
+          (All-cons (Is visible) rule rest (seen_rule visible ∙ rule_is_as_wide drawing.widths drawing.arranged (some_columns first rest are (sides content) refl)) (All-tail (Is visible) first rest all))
 
 -- no control character is visible of them
-clear_markdown : (visible : Bool) (look : Look) (content : ContentValue) (lines : List Text) → IsTableDrawing (markdown_table look content) lines → IsSeenTable visible (markdown_look look) (markdown_table look content)
-    → visible ≡ true → All HasNoControl (seen_lines visible (below_first (rule_line content.columns (max_content_widths (markdown_table look content))) lines))
+clear_markdown : (visible : Bool) (look : Look) (content : SelectedValue) (lines : List Text) → IsTableDrawing (markdown_table look content) lines → IsSeenTable visible (markdown_look look) (markdown_table look content)
+    → visible ≡ true → All HasNoControl (seen_lines visible (below_first (rule_line (sides content) (max_content_widths (markdown_table look content))) lines))
 clear_markdown false look content lines drawing plain is = absurd (cc is)
 clear_markdown true look content lines drawing free is =
-    let rule = rule_line content.columns (max_content_widths (markdown_table look content)) in
-    All-map HasNoControl visible_text (below_first rule lines) (each_below_first (λ (line : Text). HasNoControl (visible_text line)) rule lines (rule_is_clear content.columns _) (drawing.controls.without_controls free))
+    let rule = rule_line (sides content) (max_content_widths (markdown_table look content)) in
+    All-map HasNoControl visible_text (below_first rule lines) (each_below_first (λ (line : Text). HasNoControl (visible_text line)) rule lines (rule_is_clear (sides content) _) (drawing.controls.without_controls free))
 
 -- ---- outputs
 
@@ -286,7 +302,7 @@ drawn_for_markdown look is field own =
     subst (λ (b : Bool). All IsShort (plain_cell (if b then marked (cleaned false field) else unless_blank (cleaned look.has_sequences field))).text_lines) is own
 
 -- there are names, none in a header that is blank
-pub with_names : (P : List Text → Type 0) → P [] → (content : ContentValue) → EachOf P content → EachOf P (markdown_content content)
+pub with_names : (P : List Text → Type 0) → P [] → (content : SelectedValue) → EachOf P content → EachOf P (markdown_content content)
 with_names P none content own = record { names = λ names is. by_names content.names own.names names is; rows = own.rows }
   where
     by_names : (names : Option (List Text)) → ((n : List Text) → names ≡ Some n → P n) → (n : List Text) → Some (unwrap_or names []) ≡ Some n → P n
@@ -298,9 +314,9 @@ abbrev AreSeenInMarkdown : Bool → List (List Text) → Type 0
 AreSeenInMarkdown false records = Unit {0}
 AreSeenInMarkdown true records = All AllText records
 
-seen_markdown : (visible : Bool) (counted : Option ℕ) (layout : Layout) (records : List (List Text)) (content : ContentValue) → content_of counted layout records ≡ content → AreSeenInMarkdown visible records → IsSeenTable visible (markdown_look layout.look) (markdown_table layout.look content)
+seen_markdown : (visible : Bool) (counted : Option ℕ) (layout : Layout) (records : List (List Text)) (content : SelectedValue) → selected_of counted layout records ≡ content → AreSeenInMarkdown visible records → IsSeenTable visible (markdown_look layout.look) (markdown_table layout.look content)
 seen_markdown false counted layout records content is any = refl
-seen_markdown true counted layout records content is text = free_markdown layout.look content (each_content AllText text_beside counted layout records content is text)
+seen_markdown true counted layout records content is text = free_markdown layout.look content (each_content AllText counted layout records content is text)
 
 markdown_straight : (visible : Bool) (counted : Option ℕ) (layout : Layout) (records : List (List Text)) (output : Text) → AreSeenInMarkdown visible records → layout.look.is_markdown ≡ true
     → EachText IsShort layout.look records → RendersRecords counted layout records output → IsStraightOutput visible counted layout records output
@@ -309,9 +325,9 @@ markdown_straight visible counted layout records output own is short made =
     let Short = All (EachLine IsShort (markdown_look look)) in
     let text : RendersAsMarkdown look made.content made.text = subst (λ b. RendersContent b look made.content made.text) is made.is_text in
     let fields : All Short records = All-weaker (All (EachLine IsShort look)) Short (λ fields. All-weaker (EachLine IsShort look) (EachLine IsShort (markdown_look look)) (drawn_for_markdown look is) fields) records short in
-    let each = with_names Short (All-nil (EachLine IsShort (markdown_look look))) made.content (each_content Short (lines_beside IsShort short_printable (markdown_look look)) counted layout records made.content made.is_content fields) in
+    let each = with_names Short (All-nil (EachLine IsShort (markdown_look look))) made.content (each_content Short counted layout records made.content made.is_content fields) in
     let seen = seen_markdown visible counted layout records made.content made.is_content own in
-    let rule = rule_line made.content.columns (max_content_widths (markdown_table look made.content)) in
+    let rule = rule_line (sides made.content) (max_content_widths (markdown_table look made.content)) in
     record {
       lines = below_first rule text.lines;
       is_output = record { content = made.content; is_content = made.is_content; is_expanded = false; expansion = never_expanded look made.content is; text = made.text; has_lines = markdown_lines_of look made.content made.text text; joined = made.joined };

@@ -14,7 +14,7 @@ use Rattle.csv_tables.specs.declared.options.Layout.{Layout}
 use Rattle.csv_tables.specs.declared.options.Look.{Look}
 use Rattle.csv_tables.specs.declared.options.RowSeparators.{RowSeparators}
 use Rattle.csv_tables.specs.declared.options.RowSeparators.TheVariants.{Styled, Needed, Never}
-use Rattle.csv_tables.specs.Drawn.{ContentValue, HasSeparators, RendersAsMarkdown, RendersContent, RendersTable, below_first, markdown_table, note_for, output_table, separated_table, separators_in, table_text}
+use Rattle.csv_tables.specs.Drawn.{SelectedValue, HasSeparators, RendersAsMarkdown, RendersContent, RendersTable, below_first, markdown_table, note_for, output_table, separated_table, separators_in, table_text, sides}
 use Rattle.csv_tables.specs.Laws.{OutputIsOne}
 
 -- ---- tables
@@ -33,7 +33,7 @@ one_arranged table arranged other first second =
     made : TableValue → List ColumnInfo → ArrangedValue
     made t infos = record { table = t; infos = infos }
 
-module _ (look : Look) (content : ContentValue) (text other : Text) where
+module _ (look : Look) (content : SelectedValue) (text other : Text) where
   one_table : (is_expanded : Bool) → RendersTable is_expanded look content text → RendersTable is_expanded look content other → text ≡ other
   one_table is_expanded first second =
       let table = output_table is_expanded look content in
@@ -45,7 +45,7 @@ module _ (look : Look) (content : ContentValue) (text other : Text) where
   one_markdown first second =
       let table = markdown_table look content in
       let lines = drawing_is_one table first.lines second.lines (first.drawing.widths, first.drawing.arranged, first.drawing.drawn) (second.drawing.widths, second.drawing.arranged, second.drawing.drawn) in
-      first.is ∙ ap (λ (ls : List Text). terminated_text_of (below_first (rule_line content.columns (max_content_widths table)) ls)) lines ∙ sym second.is
+      first.is ∙ ap (λ (ls : List Text). terminated_text_of (below_first (rule_line (sides content) (max_content_widths table)) ls)) lines ∙ sym second.is
 
   one_text : (is_markdown : Bool) → RendersContent is_markdown look content text → RendersContent is_markdown look content other → text ≡ other
   one_text true first second = one_markdown first second
@@ -57,6 +57,6 @@ module _ (look : Look) (content : ContentValue) (text other : Text) where
 pub output_is_one : (counted : Option ℕ) (layout : Layout) (records : List (List Text)) (output other : Text) → OutputIsOne counted layout records output other
 output_is_one counted layout records output other first second =
     let same : first.content ≡ second.content = sym first.is_content ∙ second.is_content in
-    let own = subst (λ (c : ContentValue). RendersContent layout.look.is_markdown layout.look c second.text) (sym same) second.is_text in
+    let own = subst (λ (c : SelectedValue). RendersContent layout.look.is_markdown layout.look c second.text) (sym same) second.is_text in
     let text = one_text layout.look first.content first.text second.text layout.look.is_markdown first.is_text own in
-    first.joined ∙ ap₂ (λ (t : Text) (c : ContentValue). t ++ note_for layout.look.is_markdown layout.selection.limit c.count) text same ∙ sym second.joined
+    first.joined ∙ ap₂ (λ (t : Text) (c : SelectedValue). t ++ note_for layout.look.is_markdown layout.selection.limit c.count) text same ∙ sym second.joined

@@ -10,7 +10,7 @@ use Rattle.std.specs.List.{All, list_any, range_with_len, repeat}
 use Rattle.std.specs.Prelude.{if◌then◌else◌}
 use Rattle.std.specs.Str.{IsUtf8, NonePass}
 use lib.Utf8.{encode}
-use Rattle.comfy_parts.proofs.CallerLemmas.{IsUtf8-printable, Shows-byte, Shows-visible, none_by_characters, unlike}
+use Rattle.comfy_parts.proofs.CallerLemmas.{IsUtf8-printable, Shows-byte, Shows-visible, none_by_characters, unlike, All-every}
 use Rattle.comfy_parts.specs.CellValue.{CellValue, RowValue}
 use Rattle.comfy_parts.specs.Columns.{style_characters}
 use Rattle.comfy_parts.specs.Text.{Text, is_printable_ascii}
@@ -22,25 +22,25 @@ use Rattle.comfy_table.specs.Drawing.{terminated_text_of}
 use Rattle.comfy_table.specs.Laws.{AreLinesOf, HasNoBreak, HasNoControl, IsFreeOfControls, IsStyleWithout}
 use Rattle.comfy_table.specs.TableValue.{TableValue, ellipsis, max_content_widths, visible_cell}
 use Rattle.csv.specs.Records.{AllText}
+use Rattle.csv_tables.specs.declared.options.DrawnColumn.{DrawnColumn}
 use Rattle.csv_tables.proofs.FieldControlLemmas.{field-harmless}
 use Rattle.csv_tables.proofs.TextLineLemmas.{lines_without_controls}
-use Rattle.csv_tables.specs.Cells.{field_text, reached}
+use Rattle.csv_tables.specs.Cells.{field_text, text_in}
 use Rattle.csv_records.specs.Cleaning.{visible_of}
 use Rattle.csv_tables.specs.Controls.{HasNoStrayControl, IsStyleWithoutControls, is_stray_control}
 use Rattle.csv_tables.specs.Markdown.{is_right, rule_line, rule_part}
-use Rattle.csv_tables.specs.declared.options.DrawnColumn.{DrawnColumn}
+use Rattle.comfy_parts.specs.declared.style.cell.CellAlignment.{CellAlignment}
 use Rattle.csv_tables.specs.declared.options.Look.{Look}
 use Rattle.csv_tables.specs.declared.options.Layout.{Layout}
-use Rattle.csv_tables.proofs.BuiltLemmas.{Built, EachOf, each_content, plain_table}
-use Rattle.csv_tables.proofs.FieldLemmas.{number_is_printable, printable_unbroken}
-use Rattle.csv_tables.proofs.NumberedLemmas.{text_beside}
-use Rattle.csv_tables.proofs.FittingLemmas.{drawn_content, text_drawn}
+use Rattle.csv_tables.proofs.BuiltLemmas.{Built, EachColumn, EachOf, EachShown, each_content, plain_table}
+use Rattle.csv_tables.proofs.FieldLemmas.{IsShortPrintable, number_is_printable, printable_unbroken}
+use Rattle.csv_tables.proofs.FittingLemmas.{text_drawn}
 use Rattle.csv_tables.proofs.LineLemmas.{drawn, never_expanded, with_lines}
 use Rattle.csv_tables.proofs.OutputLemmas.{markdown_unbroken}
 use Rattle.csv_tables.proofs.SeparatorLemmas.{condensed-all, separated}
 use Rattle.csv_tables.proofs.TextTableLemmas.{EachLine, MakesRows, cells_each, pair_each, rows_of_texts, table_of_texts}
 use Rattle.csv_tables.proofs.WholeTableLemmas.{IsDrawn, drawn-is, drawn_plain, drawn_table-is, measured-drawn}
-use Rattle.csv_tables.specs.Drawn.{ContentValue, RendersAsMarkdown, RendersRecords, RendersAsTable, RendersContent, are_more, below_first, condensed_style, count_text, markdown_content, markdown_look, markdown_table, note_for, output_table, record_line, rows_table, separated_table}
+use Rattle.csv_tables.specs.Drawn.{SelectedValue, RendersAsMarkdown, RendersRecords, RendersAsTable, RendersContent, are_more, below_first, condensed_style, count_text, markdown_content, markdown_look, markdown_table, note_for, output_table, record_line, rows_table, separated_table, sides, is_aligned_in}
 use Rattle.csv_tables.specs.Laws.{HasLines, IsOutputWith, OutputHoldsNoControls}
 
 -- ---- rows
@@ -66,8 +66,8 @@ clear_rows : (look : Look) → MakesRows (IsClearLine look.has_sequences) (empty
 clear_rows look =
     let keeps = look.has_sequences in
     record {
-      header = λ columns fields each. cells_each (IsClearLine keeps) (empty_line keeps) look look.has_bold_header columns fields each;
-      row = λ columns fields each. cells_each (IsClearLine keeps) (empty_line keeps) look false (reached fields columns) fields each;
+      header = λ shown each. cells_each (IsClearLine keeps) (empty_line keeps) look look.has_bold_header shown each;
+      row = λ shown each. cells_each (IsClearLine keeps) (empty_line keeps) look false shown each;
       pair = λ name field own other. pair_each (IsClearLine keeps) (empty_line keeps) look name field own other;
     }
 
@@ -113,7 +113,7 @@ separated_without : (has : Bool) (look : Look) → IsStyleWithoutControls look.s
 separated_without true look is = is
 separated_without false look is = condensed_without look.style is
 
-module _ (look : Look) (is : IsStyleWithoutControls look.style) (content : ContentValue) (text : EachOf AllText content) where
+module _ (look : Look) (is : IsStyleWithoutControls look.style) (content : SelectedValue) (text : EachOf AllText content) where
   free_of_controls : (table : TableValue) → IsDrawn look (IsClearRow look.has_sequences) content table → IsFreeOfControls table
   free_of_controls table known =
       record {
@@ -122,27 +122,35 @@ module _ (look : Look) (is : IsStyleWithoutControls look.style) (content : Conte
         characters = subst IsStyleWithoutControls (sym (ap (λ (t : TableValue). t.style) (drawn-is look (IsClearRow look.has_sequences) content table known))) is;
       }
 
-  each : EachOf (All (EachLine (IsClearLine look.has_sequences) look)) content
-  each =
+  each : (is_aligned : Bool) → EachShown (EachLine (IsClearLine look.has_sequences) look) look is_aligned content
+  each is_aligned =
       record {
-        names = λ names at. clear_fields look names (text.names names at);
-        rows = All-weaker AllText (All (EachLine (IsClearLine look.has_sequences) look)) (clear_fields look) content.rows text.rows;
+        fields =
+            record {
+              names = λ names at. clear_fields look names (text.names names at);
+              rows = All-weaker AllText (All (EachLine (IsClearLine look.has_sequences) look)) (clear_fields look) content.rows text.rows;
+            };
+        shown =
+            All-weaker AllText (EachColumn (EachLine (IsClearLine look.has_sequences) look) look is_aligned content.columns)
+            (λ fields own. All-every (λ (column : DrawnColumn). EachLine (IsClearLine look.has_sequences) look (text_in look is_aligned column fields)) content.columns
+            (λ column. clear_field look (text_in look is_aligned column fields) (text_drawn look is_aligned column fields (text_fields fields own)))) content.rows text.rows;
       }
 
-  pub free_rows : IsFreeOfControls (rows_table look content)
-  free_rows = free_of_controls (rows_table look content) (drawn_plain look (IsClearRow look.has_sequences) content (rows_table look content) (rows_of_texts (IsClearLine look.has_sequences) (empty_line look.has_sequences) look (IsClearRow look.has_sequences) (clear_rows look) content each))
+  clear_short : (text : Text) → IsShortPrintable 64 text → EachLine (IsClearLine look.has_sequences) look text
+  clear_short text short = clear_field look text (IsUtf8-printable text short.0)
 
-  built_output : (is_expanded : Bool) → Built look (IsClearRow look.has_sequences) content (plain_table is_expanded look content)
-  built_output is_expanded =
-      table_of_texts (IsClearLine look.has_sequences) (empty_line look.has_sequences) look (IsClearRow look.has_sequences) (clear_rows look) content each
-      (λ number. clear_field look (decimal number) (IsUtf8-printable (decimal number) (number_is_printable number))) is_expanded
+  pub free_rows : IsFreeOfControls (rows_table look false content)
+  free_rows = free_of_controls (rows_table look false content) (drawn_plain look (IsClearRow look.has_sequences) content (rows_table look false content) (rows_of_texts (IsClearLine look.has_sequences) (empty_line look.has_sequences) look clear_short (IsClearRow look.has_sequences) (clear_rows look) content false (each false)))
 
-pub free_output : (look : Look) → IsStyleWithoutControls look.style → (content : ContentValue) → EachOf AllText content → (is_expanded has : Bool) → IsFreeOfControls (separated_table has (output_table is_expanded look content))
+  built_output : (is_expanded is_aligned : Bool) → Built look (IsClearRow look.has_sequences) content (plain_table is_expanded is_aligned look content)
+  built_output is_expanded is_aligned =
+      table_of_texts (IsClearLine look.has_sequences) (empty_line look.has_sequences) look clear_short (IsClearRow look.has_sequences) (clear_rows look) content is_aligned (each is_aligned) is_expanded
+
+pub free_output : (look : Look) → IsStyleWithoutControls look.style → (content : SelectedValue) → EachOf AllText content → (is_expanded has : Bool) → IsFreeOfControls (separated_table has (output_table is_expanded look content))
 free_output look is content text is_expanded has =
     let own = separated has look in
     let clear = separated_without has look is in
-    let drawn = drawn_content is_expanded look content in
-    let known = drawn_table-is look (IsClearRow own.has_sequences) content is_expanded has (built_output own clear drawn (text_drawn look content text is_expanded) is_expanded) in
+    let known = drawn_table-is look (IsClearRow own.has_sequences) content is_expanded has (built_output own clear content text is_expanded (is_aligned_in look content)) in
     free_of_controls own clear content text (separated_table has (output_table is_expanded look content)) known
 
 -- ---- lines and the last line
@@ -245,7 +253,7 @@ abbrev IsClear : Text → Type 0
 IsClear line = HasNoControl (visible_text line)
 
 -- a text of such lines, and what follows
-after_text : (is_expanded : Bool) (content : ContentValue) (lines : List Text) (text rest : Text) → HasLines is_expanded content lines text → All IsClear lines → HasNoStrayControl (visible_text rest) → HasNoStrayControl (visible_text (text ++ rest))
+after_text : (is_expanded : Bool) (content : SelectedValue) (lines : List Text) (text rest : Text) → HasLines is_expanded content lines text → All IsClear lines → HasNoStrayControl (visible_text rest) → HasNoStrayControl (visible_text (text ++ rest))
 after_text false content lines text rest are none more = subst (λ (t : Text). HasNoStrayControl (visible_text (t ++ rest))) (sym are.joined) (after_lines lines rest none more)
 after_text true content lines text rest (parts, within, unbroken, is) none more =
     subst (λ (t : Text). HasNoStrayControl (visible_text (t ++ rest))) (sym is) (records (range_with_len 0 (length content.rows)))
@@ -269,8 +277,8 @@ output_of_clear counted layout records output lines made none =
     (after_text made.is_expanded made.content lines made.text _ made.has_lines none (note_is_seen layout.look.is_markdown layout.selection.limit made.content.count))
 
 -- the line below a header for Markdown is clear
-part_is_printable : (column : DrawnColumn) (width : ℕ) → is_printable_ascii (rule_part (column, width)) ≡ true
-part_is_printable column width = both_printable (repeat (width + 1) (codes "-")) _ (dashes (width + 1)) (by_side (is_right column.alignment))
+part_is_printable : (column : Option CellAlignment) (width : ℕ) → is_printable_ascii (rule_part (column, width)) ≡ true
+part_is_printable column width = both_printable (repeat (width + 1) (codes "-")) _ (dashes (width + 1)) (by_side (is_right column))
   where
     dashes : (n : ℕ) → is_printable_ascii (repeat n (codes "-")) ≡ true
     dashes zero = refl
@@ -280,16 +288,16 @@ part_is_printable column width = both_printable (repeat (width + 1) (codes "-"))
     by_side true = refl
     by_side false = refl
 
-pub rule_is_printable : (columns : List DrawnColumn) (widths : List ℕ) → is_printable_ascii (rule_line columns widths) ≡ true
+pub rule_is_printable : (columns : List (Option CellAlignment)) (widths : List ℕ) → is_printable_ascii (rule_line columns widths) ≡ true
 rule_is_printable columns widths = parts columns widths
   where
-    parts : (columns : List DrawnColumn) (widths : List ℕ) → is_printable_ascii (flat_map rule_part (zip columns widths)) ≡ true
+    parts : (columns : List (Option CellAlignment)) (widths : List ℕ) → is_printable_ascii (flat_map rule_part (zip columns widths)) ≡ true
     parts [] widths = refl
     parts (column ∷ columns) [] = refl
     parts (column ∷ columns) (width ∷ widths) = both_printable (rule_part (column, width)) (flat_map rule_part (zip columns widths)) (part_is_printable column width) (parts columns widths)
 
 -- no control character is visible of that line
-pub rule_is_clear : (columns : List DrawnColumn) (widths : List ℕ) → HasNoControl (visible_text (rule_line columns widths))
+pub rule_is_clear : (columns : List (Option CellAlignment)) (widths : List ℕ) → HasNoControl (visible_text (rule_line columns widths))
 rule_is_clear columns widths =
     let printable = rule_is_printable columns widths in
     subst HasNoControl (sym (printable_is_seen (rule_line columns widths) printable)) (printable_is_clear (rule_line columns widths) printable)
@@ -299,17 +307,17 @@ each_below_first P line [] own each = each
 each_below_first P line (first ∷ rest) own each = All-cons P first (line ∷ rest) (All-head P first rest each) (All-cons P line rest own (All-tail P first rest each))
 
 -- the lines of a text for Markdown
-pub markdown_lines_of : (look : Look) (content : ContentValue) (text : Text) (drawn : RendersAsMarkdown look content text)
-    → AreLinesOf text (below_first (rule_line content.columns (max_content_widths (markdown_table look content))) drawn.lines)
+pub markdown_lines_of : (look : Look) (content : SelectedValue) (text : Text) (drawn : RendersAsMarkdown look content text)
+    → AreLinesOf text (below_first (rule_line (sides content) (max_content_widths (markdown_table look content))) drawn.lines)
 markdown_lines_of look content text drawn =
-    let rule = rule_line content.columns (max_content_widths (markdown_table look content)) in
+    let rule = rule_line (sides content) (max_content_widths (markdown_table look content)) in
     record {
       joined = drawn.is;
-      unbroken = each_below_first HasNoBreak rule drawn.lines (printable_unbroken rule (rule_is_printable content.columns _)) (drawn.drawing.controls.without_breaks (markdown_unbroken look content));
+      unbroken = each_below_first HasNoBreak rule drawn.lines (printable_unbroken rule (rule_is_printable (sides content) _)) (drawn.drawing.controls.without_breaks (markdown_unbroken look content));
     }
 
 -- it has names, be they blank
-pub titled : (content : ContentValue) → EachOf AllText content → EachOf AllText (markdown_content content)
+pub titled : (content : SelectedValue) → EachOf AllText content → EachOf AllText (markdown_content content)
 unfolding AllText
 titled content own = record { names = λ names is. by_names content.names own.names names is; rows = own.rows }
   where
@@ -318,21 +326,21 @@ titled content own = record { names = λ names is. by_names content.names own.na
     by_names (Some n) own names is = let same : n ≡ names = cc is in subst AllText same (own n refl)
 
 -- and no control character
-pub free_markdown : (look : Look) (content : ContentValue) → EachOf AllText content → IsFreeOfControls (markdown_table look content)
+pub free_markdown : (look : Look) (content : SelectedValue) → EachOf AllText content → IsFreeOfControls (markdown_table look content)
 free_markdown look content text = free_rows (markdown_look look) refl (markdown_content content) (titled content text)
 
 markdown_is_clear : (counted : Option ℕ) (layout : Layout) (records : List (List Text)) (output : Text) → IsStyleWithoutControls layout.look.style → All AllText records → (made : RendersRecords counted layout records output) → RendersAsMarkdown layout.look made.content made.text → layout.look.is_markdown ≡ true → HasNoStrayControl (visible_text output)
 markdown_is_clear counted layout records output look text made drawn is =
-    let rule = rule_line made.content.columns (max_content_widths (markdown_table layout.look made.content)) in
-    let own = each_content AllText text_beside counted layout records made.content made.is_content text in
+    let rule = rule_line (sides made.content) (max_content_widths (markdown_table layout.look made.content)) in
+    let own = each_content AllText counted layout records made.content made.is_content text in
     output_of_clear counted layout records output (below_first rule drawn.lines) (record { content = made.content; is_content = made.is_content; is_expanded = false; expansion = never_expanded layout.look made.content is; text = made.text; has_lines = markdown_lines_of layout.look made.content made.text drawn; joined = made.joined })
-    (each_below_first IsClear rule drawn.lines (rule_is_clear made.content.columns _)
+    (each_below_first IsClear rule drawn.lines (rule_is_clear (sides made.content) _)
     (drawn.drawing.controls.without_controls (free_markdown layout.look made.content own)))
 
 table_is_clear : (counted : Option ℕ) (layout : Layout) (records : List (List Text)) (output : Text) → IsStyleWithoutControls layout.look.style → All AllText records → (made : RendersRecords counted layout records output) → RendersAsTable layout.look made.content made.text → layout.look.is_markdown ≡ false → HasNoStrayControl (visible_text output)
 table_is_clear counted layout records output look text made drawn_text none =
     let has = drawn_text.drawn.has_separators in
-    let own = each_content AllText text_beside counted layout records made.content made.is_content text in
+    let own = each_content AllText counted layout records made.content made.is_content text in
     output_of_clear counted layout records output (drawn counted layout records output made drawn_text none) (with_lines counted layout records output made drawn_text none (unbroken_without layout.look.style look))
     (drawn_text.drawn.is_arranged.headline.controls.without_controls (free_output layout.look look made.content own drawn_text.is_expanded has))
 

@@ -17,7 +17,7 @@ use Rattle.comfy_table.specs.TableValue.{TableValue, max_content_widths}
 use Rattle.csv_tables.specs.declared.options.Look.{Look}
 use Rattle.csv_tables.specs.Markdown.{rule_line}
 use Rattle.csv_tables.proofs.LineLemmas.{any_built}
-use Rattle.csv_tables.specs.Drawn.{ContentValue, RendersAsMarkdown, RendersTable, below_first, markdown_content, markdown_look, markdown_table, output_table, separators_in, table_text}
+use Rattle.csv_tables.specs.Drawn.{SelectedValue, RendersAsMarkdown, RendersTable, below_first, markdown_content, markdown_look, markdown_table, output_table, separators_in, table_text, sides}
 use Rattle.csv_tables.specs.Separators.{AreRowsSeparated}
 
 -- ---- a line below the first one
@@ -67,13 +67,13 @@ with_line_below line lines drawing r is none split = by_lines lines is none r (s
             ∙ sym (append_assoc first (0x0A ∷ []) ((line ++ 0x0A ∷ []) ++ terminated_text_of rest) ∙ ap (λ (t : Text). first ++ 0x0A ∷ t) (append_assoc line (0x0A ∷ []) (terminated_text_of rest)))
 
 -- no line of a table for Markdown holds a line feed
-pub markdown_unbroken : (look : Look) (content : ContentValue) → HasUnbrokenStyle (markdown_table look content)
-markdown_unbroken look content = let known = any_built false (markdown_look look) (markdown_content content) in subst HasUnbrokenStyle (sym known.is) (record { indicator = refl; characters = refl })
+pub markdown_unbroken : (look : Look) (content : SelectedValue) → HasUnbrokenStyle (markdown_table look content)
+markdown_unbroken look content = let known = any_built false false (markdown_look look) (markdown_content content) in subst HasUnbrokenStyle (sym known.is) (record { indicator = refl; characters = refl })
 
 -- the text of such a table, by what stands at the two sides of the first line feed of its drawing
-pub markdown_lines : (look : Look) (content : ContentValue) (table : TableValue) (drawing : Text) → table ≡ markdown_table look content → TerminatesLines table drawing → (widths : List ℕ) → widths ≡ max_content_widths table
+pub markdown_lines : (look : Look) (content : SelectedValue) (table : TableValue) (drawing : Text) → table ≡ markdown_table look content → TerminatesLines table drawing → (widths : List ℕ) → widths ≡ max_content_widths table
     → (r : Option (Bor Text × Bor Text)) → IsSplitOnceResult 0x0A drawing r
-    → MatchOption r (RendersAsMarkdown look content []) (λ x. RendersAsMarkdown look content (x.0.now ++ 0x0A ∷ (rule_line content.columns widths ++ 0x0A ∷ x.1.now)))
+    → MatchOption r (RendersAsMarkdown look content []) (λ x. RendersAsMarkdown look content (x.0.now ++ 0x0A ∷ (rule_line (sides content) widths ++ 0x0A ∷ x.1.now)))
 markdown_lines look content table drawing is drawn widths are r split = by_result r (with_line_below rule lines drawing r own.2 (own.1.controls.without_breaks (markdown_unbroken look content)) split)
   where
     own : TerminatesLines (markdown_table look content) drawing
@@ -83,10 +83,10 @@ markdown_lines look content table drawing is drawn widths are r split = by_resul
     lines = own.0
 
     rule : Text
-    rule = rule_line content.columns widths
+    rule = rule_line (sides content) widths
 
-    same : rule ≡ rule_line content.columns (max_content_widths (markdown_table look content))
-    same = ap (rule_line content.columns) (are ∙ ap max_content_widths is)
+    same : rule ≡ rule_line (sides content) (max_content_widths (markdown_table look content))
+    same = ap (rule_line (sides content)) (are ∙ ap max_content_widths is)
 
     made : (text : Text) → text ≡ terminated_text_of (below_first rule lines) → RendersAsMarkdown look content text
     made text whole = record { lines = lines; drawing = own.1; is = whole ∙ ap (λ (t : Text). terminated_text_of (below_first t lines)) same }
@@ -98,7 +98,7 @@ markdown_lines look content table drawing is drawn widths are r split = by_resul
 
 -- ---- texts of tables
 
-module _ (look : Look) (content : ContentValue) (is_expanded : Bool) where
+module _ (look : Look) (content : SelectedValue) (is_expanded : Bool) where
   abbrev table : TableValue
   table = output_table is_expanded look content
 

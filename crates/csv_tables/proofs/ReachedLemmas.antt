@@ -1,13 +1,31 @@
 -- The columns that records reach.
-use Rattle.std.proofs.Common.{◌≡◌, ◌<◌, ◌≤◌, ℕ, Bool, true, false, ◌||◌, zero, suc, ◌^◌, List, [], ◌∷◌, ◌++◌, ◌⊎◌, inl, inr, Some, None, drop, length, map, min, nat_lt, take, arith, refl, sym, ap, ◌∙◌}
+use Rattle.std.proofs.Common.{◌≡◌, ◌<◌, ◌≤◌, ℕ, Bool, true, false, ◌||◌, zero, suc, ◌^◌, List, [], ◌∷◌, ◌++◌, ◌⊎◌, inl, inr, Option, Some, None, drop, length, map, min, nat_lt, take, arith, refl, sym, ap, ◌∙◌}
 use Rattle.std.specs.List.{list_any, slice_get, slice_index_or}
 use Rattle.std.specs.Prelude.{if◌then◌else◌, option_map}
 use Rattle.std.proofs.lemmas.Bool.{or_parts}
 use Rattle.comfy_parts.specs.Text.{Text}
 use Rattle.csv.specs.Records.{field_at}
-use Rattle.csv_tables.specs.Cells.{field_or_blank, has_field, held, reached}
+use Rattle.csv_tables.specs.Cells.{has_field, held, columns_within, Shown, shown_fields, shown_in, text_in}
+use Rattle.csv_tables.specs.Fields.{field_or_blank}
+use Rattle.std.specs.List.{All}
+use Rattle.std.proofs.lemmas.List.Elements.{All-cons, All-head, All-nil, All-tail}
+use Rattle.csv_tables.proofs.SpacedLemmas.{blank_text}
+use Rattle.csv_tables.specs.declared.options.Look.{Look}
 use Rattle.csv_tables.specs.Leasts.{least_position, least_positions}
 use Rattle.csv_tables.specs.declared.options.DrawnColumn.{DrawnColumn}
+
+-- a column where none is
+abbrev pub no_column : DrawnColumn
+no_column = record { position = 0; alignment = None; points = None; is_unbroken = false }
+
+-- what holds of columns holds of those that are reached
+pub All-reached : (P : DrawnColumn → Type 0) (fields : List Text) (columns : List DrawnColumn) → All P columns → All P (columns_within fields columns)
+All-reached P fields [] each = each
+All-reached P fields (column ∷ columns) each = by_any (list_any (has_field fields) (column ∷ columns)) refl (All-reached P fields columns (All-tail P column columns each))
+  where
+    by_any : (b : Bool) → list_any (has_field fields) (column ∷ columns) ≡ b → All P (columns_within fields columns) → All P (columns_within fields (column ∷ columns))
+    by_any true is rest = rw is (All-cons P column (columns_within fields columns) (All-head P column columns each) rest)
+    by_any false is rest = rw is (All-nil P)
 
 module _ (fields : List Text) where
   -- none of the columns is held
@@ -18,20 +36,20 @@ module _ (fields : List Text) where
       rw parts.0 (none-held columns parts.1)
 
   -- behind those that are reached none is held
-  pub held-reached : (columns : List DrawnColumn) → held fields (reached fields columns) ≡ held fields columns
+  pub held-reached : (columns : List DrawnColumn) → held fields (columns_within fields columns) ≡ held fields columns
   held-reached [] = refl
   held-reached (column ∷ columns) = by_any (list_any (has_field fields) (column ∷ columns)) refl (held-reached columns)
     where
-      by_any : (b : Bool) → list_any (has_field fields) (column ∷ columns) ≡ b → held fields (reached fields columns) ≡ held fields columns → held fields (reached fields (column ∷ columns)) ≡ held fields (column ∷ columns)
+      by_any : (b : Bool) → list_any (has_field fields) (column ∷ columns) ≡ b → held fields (columns_within fields columns) ≡ held fields columns → held fields (columns_within fields (column ∷ columns)) ≡ held fields (column ∷ columns)
       by_any true is rest = rw is (ap (λ rest. if has_field fields column then column ∷ rest else rest) rest)
       by_any false is rest = rw is (sym (none-held (column ∷ columns) is))
 
   -- no more than all
-  pub reached-length : (columns : List DrawnColumn) → length (reached fields columns) ≤ length columns
+  pub reached-length : (columns : List DrawnColumn) → length (columns_within fields columns) ≤ length columns
   reached-length [] = omega arith
   reached-length (column ∷ columns) = by_any (list_any (has_field fields) (column ∷ columns)) refl (reached-length columns)
     where
-      by_any : (b : Bool) → list_any (has_field fields) (column ∷ columns) ≡ b → length (reached fields columns) ≤ length columns → length (reached fields (column ∷ columns)) ≤ length (column ∷ columns)
+      by_any : (b : Bool) → list_any (has_field fields) (column ∷ columns) ≡ b → length (columns_within fields columns) ≤ length columns → length (columns_within fields (column ∷ columns)) ≤ length (column ∷ columns)
       by_any true is rest = rw is (omega (arith, rest))
       by_any false is rest = rw is (omega arith)
 
@@ -56,24 +74,13 @@ leasts-length (column ∷ columns) = ap suc (leasts-length columns)
 
 module _ (fields : List Text) where
   -- where none is held, none is reached
-  pub none-reached : (columns : List DrawnColumn) → list_any (has_field fields) columns ≡ false → reached fields columns ≡ []
+  pub none-reached : (columns : List DrawnColumn) → list_any (has_field fields) columns ≡ false → columns_within fields columns ≡ []
   none-reached [] none = refl
   none-reached (column ∷ columns) none = rw none refl
 
-  -- without the first column, those behind it are reached as before
-  pub reached-behind : (columns : List DrawnColumn) → drop 1 (reached fields columns) ≡ reached fields (drop 1 columns)
-  reached-behind [] = refl
-  reached-behind (column ∷ columns) = by_any (list_any (has_field fields) (column ∷ columns)) refl
-    where
-      by_any : (b : Bool) → list_any (has_field fields) (column ∷ columns) ≡ b → drop 1 (reached fields (column ∷ columns)) ≡ reached fields columns
-      by_any true is = rw is refl
-      by_any false is =
-          let parts = or_parts (has_field fields column) (list_any (has_field fields) columns) is in
-          rw is (sym (none-reached columns parts.1))
-
   -- where one is held from a column on, that column is reached
   pub reached-more : (columns : List DrawnColumn) (k : ℕ) → k < length columns → list_any (has_field fields) (drop k columns) ≡ true
-      → take k columns ++ reached fields (drop k columns) ≡ take (suc k) columns ++ reached fields (drop (suc k) columns)
+      → take k columns ++ columns_within fields (drop k columns) ≡ take (suc k) columns ++ columns_within fields (drop (suc k) columns)
   reached-more [] k below some = absurd (omega arith)
   reached-more (column ∷ columns) zero below some = rw some refl
   reached-more (column ∷ columns) (suc k) below some = ap (λ rest. column ∷ rest) (reached-more columns k (omega arith) some)
@@ -99,12 +106,12 @@ no_field (field ∷ fields) (suc position) none = no_field fields position (grin
 
 -- a column is reached, or its field is blank
 pub reached-at : (fields : List Text) (columns : List DrawnColumn) (k : ℕ) (d : DrawnColumn) → slice_get columns k ≡ Some d
-    → (slice_get (reached fields columns) k ≡ Some d) ⊎ ((slice_get (reached fields columns) k ≡ None) × (field_or_blank fields d.position ≡ []))
+    → (slice_get (columns_within fields columns) k ≡ Some d) ⊎ ((slice_get (columns_within fields columns) k ≡ None) × (field_or_blank fields d.position ≡ []))
 reached-at fields [] k d found = absurd (cc found)
 reached-at fields (column ∷ columns) zero d found = by_any (list_any (has_field fields) (column ∷ columns)) refl
   where
     by_any : (b : Bool) → list_any (has_field fields) (column ∷ columns) ≡ b
-        → (slice_get (reached fields (column ∷ columns)) 0 ≡ Some d) ⊎ ((slice_get (reached fields (column ∷ columns)) 0 ≡ None) × (field_or_blank fields d.position ≡ []))
+        → (slice_get (columns_within fields (column ∷ columns)) 0 ≡ Some d) ⊎ ((slice_get (columns_within fields (column ∷ columns)) 0 ≡ None) × (field_or_blank fields d.position ≡ []))
     by_any true is = rw is (inl found)
     by_any false is =
         let parts = or_parts (has_field fields column) (list_any (has_field fields) columns) is in
@@ -122,10 +129,37 @@ reached-at fields (column ∷ columns) (suc k) d found = by_any (list_any (has_f
         let parts = or_parts (has_field fields column) (list_any (has_field fields) columns) none in behind columns k found parts.1
 
     by_any : (b : Bool) → list_any (has_field fields) (column ∷ columns) ≡ b
-        → (slice_get (reached fields columns) k ≡ Some d) ⊎ ((slice_get (reached fields columns) k ≡ None) × (field_or_blank fields d.position ≡ []))
+        → (slice_get (columns_within fields columns) k ≡ Some d) ⊎ ((slice_get (columns_within fields columns) k ≡ None) × (field_or_blank fields d.position ≡ []))
         → (list_any (has_field fields) columns ≡ false → has_field fields d ≡ false)
-        → (slice_get (reached fields (column ∷ columns)) (suc k) ≡ Some d) ⊎ ((slice_get (reached fields (column ∷ columns)) (suc k) ≡ None) × (field_or_blank fields d.position ≡ []))
+        → (slice_get (columns_within fields (column ∷ columns)) (suc k) ≡ Some d) ⊎ ((slice_get (columns_within fields (column ∷ columns)) (suc k) ≡ None) × (field_or_blank fields d.position ≡ []))
     by_any true is rest none = rw is rest
     by_any false is rest none =
         let parts = or_parts (has_field fields column) (list_any (has_field fields) columns) is in
         rw is (inr (refl, no_field fields d.position (none parts.1)))
+
+-- what a column shows of a record
+abbrev show : Look → Bool → List Text → DrawnColumn → Shown
+show look is_aligned fields column = record { alignment = column.alignment; text = text_in look is_aligned column fields }
+
+-- a text at a place of some, or a blank one past their end
+abbrev pub IsAt : List Shown → ℕ → Shown → Type 0
+IsAt shown k d = (slice_get shown k ≡ Some d) ⊎ ((slice_get shown k ≡ None) × (d.text ≡ []))
+
+-- a text that a row shows has a cell, or it is blank
+pub shown-at : (look : Look) (is_aligned is_numbered : Bool) (columns : List DrawnColumn) (row : ℕ × List Text) (k : ℕ) (d : Shown) → slice_get (shown_in look is_aligned is_numbered columns row) k ≡ Some d
+    → IsAt (shown_in look is_aligned is_numbered (columns_within row.1 columns) row) k d
+shown-at look is_aligned true columns row zero d found = inl found
+shown-at look is_aligned true columns row (suc k) d found = shown-at look is_aligned false columns row k d found
+shown-at look is_aligned false columns row k d found = by_column (slice_get columns k) refl
+  where
+    by_reached : (column : DrawnColumn) → show look is_aligned row.1 column ≡ d → (slice_get (columns_within row.1 columns) k ≡ Some column) ⊎ ((slice_get (columns_within row.1 columns) k ≡ None) × (field_or_blank row.1 column.position ≡ []))
+        → IsAt (shown_fields look is_aligned (columns_within row.1 columns) row.1) k d
+    by_reached column same (inl some) = inl (mapped_at (show look is_aligned row.1) (columns_within row.1 columns) k column some ∙ ap (λ (s : Shown). Some s) same)
+    by_reached column same (inr (none, blank)) = inr (unmapped_at (show look is_aligned row.1) (columns_within row.1 columns) k none, ap (λ (s : Shown). s.text) (sym same) ∙ blank_text look is_aligned column row.1 blank)
+
+    by_column : (o : Option DrawnColumn) → slice_get columns k ≡ o → IsAt (shown_fields look is_aligned (columns_within row.1 columns) row.1) k d
+    by_column None none = absurd (let gone : ◌≡◌ {A = Option Shown} None (Some d) = sym (unmapped_at (show look is_aligned row.1) columns k none) ∙ found in cc gone)
+    by_column (Some column) some =
+        let both : Some (show look is_aligned row.1 column) ≡ Some d = sym (mapped_at (show look is_aligned row.1) columns k column some) ∙ found in
+        let same : show look is_aligned row.1 column ≡ d = cc both in
+        by_reached column same (reached-at row.1 columns k column some)

@@ -8,11 +8,10 @@ use Rattle.comfy_parts.specs.Columns.{IsOneColumn, IsOneColumnStyle, style_chara
 use Rattle.comfy_parts.specs.Text.{Text}
 use Rattle.comfy_parts.specs.declared.style.table_style.TableStyle.{TableStyle}
 use Rattle.comfy_table.specs.TableValue.{TableValue, with_row, with_rows}
-use Rattle.csv_tables.specs.Cells.{row_for}
-use Rattle.csv_tables.specs.declared.options.DrawnColumn.{DrawnColumn}
+use Rattle.csv_tables.specs.Cells.{counted_from, row_for}
 use Rattle.csv_tables.specs.declared.options.Look.{Look}
 use Rattle.csv_tables.proofs.BuiltLemmas.{plain_table}
-use Rattle.csv_tables.specs.Drawn.{ContentValue, condensed_style, empty_table, headed_table, pairs_in, separated_table}
+use Rattle.csv_tables.specs.Drawn.{SelectedValue, condensed_style, empty_table, headed_table, pairs_in, separated_table}
 
 -- a look with these lines, or without them
 abbrev pub separated : Bool → Look → Look
@@ -43,15 +42,15 @@ condensed-rows : (rows : List RowValue) (table : TableValue) → separated_table
 condensed-rows [] table = refl
 condensed-rows (row ∷ rows) table = condensed-rows rows (with_row row table)
 
-module _ (look : Look) (content : ContentValue) where
-  condensed-headed : (columns : List DrawnColumn) (names : Option (List Text)) → separated_table false (headed_table look columns names) ≡ headed_table (separated false look) columns names
-  condensed-headed columns None = refl
-  condensed-headed columns (Some names) = refl
+module _ (look : Look) (content : SelectedValue) where
+  condensed-headed : (names : Option (List Text)) → separated_table false (headed_table look content.is_numbered content.columns names) ≡ headed_table (separated false look) content.is_numbered content.columns names
+  condensed-headed None = refl
+  condensed-headed (Some names) = refl
 
   -- the table of some records, with the lines or without them, is that of the look for it
-  pub restyled : (is_expanded has : Bool) → plain_table is_expanded (separated has look) content ≡ separated_table has (plain_table is_expanded look content)
-  restyled is_expanded true = refl
-  restyled true false = sym (condensed-rows (flat_map (pairs_in look content) content.rows) (empty_table look))
-  restyled false false =
-      let rows = map (row_for look content.columns) content.rows in
-      sym (condensed-rows rows (headed_table look content.columns content.names) ∙ ap (with_rows rows) (condensed-headed content.columns content.names))
+  pub restyled : (is_expanded is_aligned has : Bool) → plain_table is_expanded is_aligned (separated has look) content ≡ separated_table has (plain_table is_expanded is_aligned look content)
+  restyled is_expanded is_aligned true = refl
+  restyled true is_aligned false = sym (condensed-rows (flat_map (pairs_in look content) content.rows) (empty_table look))
+  restyled false is_aligned false =
+      let rows = map (row_for look is_aligned content.is_numbered content.columns) (counted_from 1 content.rows) in
+      sym (condensed-rows rows (headed_table look content.is_numbered content.columns content.names) ∙ ap (with_rows rows) (condensed-headed content.names))

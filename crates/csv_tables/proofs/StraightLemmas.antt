@@ -1,5 +1,5 @@
 -- What is visible of the lines of an output is equally wide.
-use Rattle.std.proofs.Common.{◌≡◌, ℕ, ◌≤◌, ◌⊎◌, Bool, true, false, List, [], ◌∷◌, Option, Some, None, All, arith, decimal, inl, inr, map, max, option_map, slice_index_or, unwrap_or, ap, refl, subst, sym, ◌∙◌}
+use Rattle.std.proofs.Common.{◌≡◌, ℕ, ◌≤◌, ◌⊎◌, Bool, true, false, List, [], ◌∷◌, Option, Some, None, All, arith, inl, inr, max, option_map, slice_index_or, unwrap_or, ap, refl, subst, sym, ◌∙◌}
 use Rattle.std.proofs.lemmas.List.Elements.{All-cons, All-map, All-nil, All-weaker}
 use Rattle.std.proofs.lemmas.Str.{chars-nil}
 use Rattle.cluster_width.specs.ClusterSums.{selectors_agree}
@@ -22,23 +22,22 @@ use Rattle.comfy_table.specs.NewTables.{AreEquallyWide, IsShortRow}
 use Rattle.comfy_table.specs.Pieces.{shown_infos}
 use Rattle.comfy_table.specs.Straight.{EachCell, IsStraightTable, TextsFit}
 use Rattle.comfy_table.specs.TableValue.{TableValue, measured_rows, should_style, table_width}
-use Rattle.csv_tables.proofs.BuiltLemmas.{EachOf, each_content}
-use Rattle.csv_tables.proofs.FittingLemmas.{drawn_content, each_drawn}
-use Rattle.csv_tables.proofs.NumberedLemmas.{HoldsOfShort, lines_beside, number_drawn, short_drawn, text_beside}
+use Rattle.csv_tables.specs.declared.options.DrawnColumn.{DrawnColumn}
+use Rattle.csv_tables.proofs.BuiltLemmas.{EachColumn, EachShown, each_content}
+use Rattle.csv_tables.proofs.FittingLemmas.{content_pointed, each_drawn}
 use Rattle.csv_tables.proofs.LineLemmas.{drawn, drawn_table, expansion, is_table_text, kept_setting, with_lines}
 use Rattle.csv_tables.proofs.OutputControlLemmas.{free_output}
 use Rattle.csv_tables.proofs.SeenLemmas.{ellipsis_is_apart, fitting_agree, printable_fits, wider_column}
 use Rattle.csv_tables.proofs.SeparatorLemmas.{separated_is_one_column, separated}
-use Rattle.csv_tables.proofs.TextTableLemmas.{EachLine, MakesRows, cells_each, pair_each, table_of_texts}
+use Rattle.csv_tables.proofs.TextTableLemmas.{EachLine, MakesRows, cells_each, pair_each, table_of_texts, HoldsOfShort, short_drawn, blank}
 use Rattle.csv_tables.proofs.WholeColumnLemmas.{IsPaddedColumn}
 use Rattle.csv_tables.proofs.WholeTableLemmas.{IsDrawn, columns-drawn, drawn-is, drawn_table-is, padded-drawn, rows-drawn, unconstrained-drawn}
-use Rattle.csv_tables.specs.Cells.{cell_for, field_or_blank, field_text, reached, with_weight}
+use Rattle.csv_tables.specs.Cells.{cell_for, field_text, with_weight, Shown, shown_cells, text_in}
 use Rattle.csv_records.specs.Cleaning.{visible_of}
-use Rattle.csv_tables.specs.Drawn.{ContentValue, RendersRecords, RendersAsTable, content_of, output_table, separated_table}
+use Rattle.csv_tables.specs.Drawn.{SelectedValue, RendersRecords, RendersAsTable, selected_of, output_table, separated_table, is_aligned_in}
 use Rattle.csv_tables.specs.Laws.{ArePlainLines, AreSeen, CanBeCut, EachText, FittingOutputIsStraight, IsStraightOutput, NarrowOutputIsStraight, WholeOutputIsStraight, seen_lines}
 use Rattle.csv_tables.specs.declared.options.Look.{Look}
 use Rattle.csv_tables.specs.declared.options.Layout.{Layout}
-use Rattle.csv_tables.specs.declared.options.DrawnColumn.{DrawnColumn}
 use Rattle.csv.specs.Records.{AllText}
 
 -- ---- texts
@@ -63,9 +62,9 @@ IsAny text = Unit {0}
 pub any_line : (look : Look) (field : Text) → EachLine IsAny look field
 any_line look field = All-every IsAny (plain_cell (field_text look field)).text_lines (λ line. tt)
 
-any_content : (look : Look) (content : ContentValue) → EachOf (All (EachLine IsAny look)) content
-any_content look content =
-    record { names = λ names is. All-every (EachLine IsAny look) names (any_line look); rows = All-every (All (EachLine IsAny look)) content.rows (λ fields. All-every (EachLine IsAny look) fields (any_line look)) }
+any_content : (look : Look) (is_aligned : Bool) (content : SelectedValue) → EachShown (EachLine IsAny look) look is_aligned content
+any_content look is_aligned content =
+    record { fields = record { names = λ names is. All-every (EachLine IsAny look) names (any_line look); rows = All-every (All (EachLine IsAny look)) content.rows (λ fields. All-every (EachLine IsAny look) fields (any_line look)) }; shown = All-every (EachColumn (EachLine IsAny look) look is_aligned content.columns) content.rows (λ fields. All-every (λ (column : DrawnColumn). EachLine IsAny look (text_in look is_aligned column fields)) content.columns (λ column. any_line look (text_in look is_aligned column fields))) }
 
 pub short_printable : HoldsOfShort IsShort
 short_printable text printable few = rw (measure-printable text printable) (omega (arith, few))
@@ -78,8 +77,8 @@ whole_printable limit text printable few = (short_printable text printable few, 
 pub short_rows : (look : Look) → look.max_height ≡ None → MakesRows IsShort empty_is_short look IsShortRow
 short_rows look uncut =
     record {
-      header = λ columns fields each. record { uncut = refl; short = cells_each IsShort empty_is_short look look.has_bold_header columns fields each };
-      row = λ columns fields each. record { uncut = rw uncut refl; short = cells_each IsShort empty_is_short look false (reached fields columns) fields each };
+      header = λ shown each. record { uncut = refl; short = cells_each IsShort empty_is_short look look.has_bold_header shown each };
+      row = λ shown each. record { uncut = rw uncut refl; short = cells_each IsShort empty_is_short look false shown each };
       pair = λ name field own other. record { uncut = rw uncut refl; short = pair_each IsShort empty_is_short look name field own other };
     }
 
@@ -99,8 +98,8 @@ whole_rows limit look same =
     let Whole = IsWholeText limit in
     let empty = empty_is_whole limit in
     record {
-      header = λ columns fields each. made _ (cells_each Whole empty look look.has_bold_header columns fields each) (λ h tall. absurd (cc tall));
-      row = λ columns fields each. made _ (cells_each Whole empty look false (reached fields columns) fields each) limited;
+      header = λ shown each. made _ (cells_each Whole empty look look.has_bold_header shown each) (λ h tall. absurd (cc tall));
+      row = λ shown each. made _ (cells_each Whole empty look false shown each) limited;
       pair = λ name field own other. made _ (pair_each Whole empty look name field own other) limited;
     }
   where
@@ -124,18 +123,16 @@ weighted : (is_bold : Bool) (cell : CellValue) → cell.delimiter ≡ None → (
 weighted true cell none = none
 weighted false cell none = none
 
-undelimited : (is_bold : Bool) (look : Look) (columns : List DrawnColumn) (fields : List Text)
-    → All (λ (cell : CellValue). cell.delimiter ≡ None) (map (λ (column : DrawnColumn). with_weight is_bold (cell_for look column.alignment (field_or_blank fields column.position))) columns)
-undelimited is_bold look columns fields =
-    All-map (λ (cell : CellValue). cell.delimiter ≡ None) (λ (column : DrawnColumn). with_weight is_bold (cell_for look column.alignment (field_or_blank fields column.position))) columns
-    (All-every (λ (column : DrawnColumn). (with_weight is_bold (cell_for look column.alignment (field_or_blank fields column.position))).delimiter ≡ None) columns
-    (λ column. weighted is_bold (cell_for look column.alignment (field_or_blank fields column.position)) refl))
+undelimited : (is_bold : Bool) (look : Look) (shown : List Shown) → All (λ (cell : CellValue). cell.delimiter ≡ None) (shown_cells look is_bold shown)
+undelimited is_bold look shown =
+    All-map (λ (cell : CellValue). cell.delimiter ≡ None) (λ (s : Shown). with_weight is_bold (cell_for look s.alignment s.text)) shown
+    (All-every (λ (s : Shown). (with_weight is_bold (cell_for look s.alignment s.text)).delimiter ≡ None) shown (λ s. weighted is_bold (cell_for look s.alignment s.text) refl))
 
 pub default_rows : (look : Look) → MakesRows IsAny tt look IsDefaultRow
 default_rows look =
     record {
-      header = λ columns fields each. undelimited look.has_bold_header look columns fields;
-      row = λ columns fields each. undelimited false look (reached fields columns) fields;
+      header = λ shown each. undelimited look.has_bold_header look shown;
+      row = λ shown each. undelimited false look shown;
       pair = λ name field own other. both name field;
     }
   where
@@ -152,10 +149,9 @@ pub record IsDefaultRowOf (P : Text → Type 0) (row : RowValue) : Type 0 where
 pub default_rows_of : (P : Text → Type 0) (empty : P []) (look : Look) → MakesRows P empty look (IsDefaultRowOf P)
 default_rows_of P empty look =
     let default = default_rows look in
-    let any = λ (fields : List Text). All-every (EachLine IsAny look) fields (any_line look) in
     record {
-      header = λ columns fields each. record { no_delimiters = default.header columns fields (any fields); each = cells_each P empty look look.has_bold_header columns fields each };
-      row = λ columns fields each. record { no_delimiters = default.row columns fields (any fields); each = cells_each P empty look false (reached fields columns) fields each };
+      header = λ shown each. record { no_delimiters = undelimited look.has_bold_header look shown; each = cells_each P empty look look.has_bold_header shown each };
+      row = λ shown each. record { no_delimiters = undelimited false look shown; each = cells_each P empty look false shown each };
       pair = λ name field own other. record { no_delimiters = default.pair name field (any_line look name) (any_line look field); each = pair_each P empty look name field own other };
     }
 
@@ -171,7 +167,7 @@ pub clear_lines : (visible : Bool) (look : Look) (table : TableValue) (lines : L
 clear_lines true look table lines drawing free is = All-map HasNoControl visible_text lines (drawing.controls.without_controls free)
 clear_lines false look table lines drawing plain is = absurd (cc is)
 
-module _ (look : Look) (no_sequences : look.has_sequences ≡ false) (content : ContentValue) (table : TableValue) (lines : List Text) (drawing : IsTableDrawing table lines) where
+module _ (look : Look) (no_sequences : look.has_sequences ≡ false) (content : SelectedValue) (table : TableValue) (lines : List Text) (drawing : IsTableDrawing table lines) where
   -- what holds of the lines without styling holds of the lines as they are seen
   pub seen_all : (Q : RowValue → Type 0) → IsDrawn look Q content table → (visible : Bool) → IsSeenTable visible look table → (R : Text → Type 0) → All R (drawn_over (unstyled table) drawing.widths) → All R (seen_lines visible lines)
   seen_all Q known true free R each = subst (All R) (sym (drawing.sequences.without_sequences (free_of_escapes table free))) each
@@ -180,7 +176,7 @@ module _ (look : Look) (no_sequences : look.has_sequences ≡ false) (content : 
       All-map R (visible_of false) lines
       (subst (All R) (sym (drawing.edges.unstyled_lines (ap should_style looks ∙ rw plain refl) (ap (λ (t : TableValue). t.custom_styling) looks ∙ no_sequences))) each)
 
-module _ (look : Look) (no_sequences : look.has_sequences ≡ false) (characters : IsOneColumnStyle look.style) (content : ContentValue) (table : TableValue) (lines : List Text) (drawing : IsTableDrawing table lines) where
+module _ (look : Look) (no_sequences : look.has_sequences ≡ false) (characters : IsOneColumnStyle look.style) (content : SelectedValue) (table : TableValue) (lines : List Text) (drawing : IsTableDrawing table lines) where
   -- they are equally wide where the table is straight
   equally_wide : (Q : RowValue → Type 0) → IsDrawn look Q content table → (visible : Bool) → IsSeenTable visible look table → IsStraightTable table drawing.widths → AreEquallyWide (seen_lines visible lines)
   equally_wide Q known visible seen is = (line_total table drawing.widths, seen_all look no_sequences content table lines drawing Q known visible seen (λ line. measure line ≡ line_total table drawing.widths) (drawing.edges.straight is))
@@ -257,16 +253,16 @@ module _ (look : Look) (no_sequences : look.has_sequences ≡ false) (characters
 -- ---- outputs
 
 -- texts of one kind make contents of that kind, with lines between rows or without
-each_separated : (P : Text → Type 0) (look : Look) (has : Bool) (content : ContentValue) → EachOf (All (EachLine P look)) content → EachOf (All (EachLine P (separated has look))) content
-each_separated P look true content each = each
-each_separated P look false content each = each
+each_separated : (P : Text → Type 0) (look : Look) (has is_aligned : Bool) (content : SelectedValue) → EachShown (EachLine P look) look is_aligned content → EachShown (EachLine P (separated has look)) (separated has look) is_aligned content
+each_separated P look true is_aligned content each = each
+each_separated P look false is_aligned content each = record { fields = each.fields; shown = each.shown }
 
 -- the drawn table is seen as its lines are
-pub seen_table : (counted : Option ℕ) (layout : Layout) (records : List (List Text)) (content : ContentValue) → content_of counted layout records ≡ content → (is_expanded has visible : Bool) → AreSeen visible layout.look records
+pub seen_table : (counted : Option ℕ) (layout : Layout) (records : List (List Text)) (content : SelectedValue) → selected_of counted layout records ≡ content → (is_expanded has visible : Bool) → AreSeen visible layout.look records
     → IsSeenTable visible (separated has layout.look) (separated_table has (output_table is_expanded layout.look content))
 seen_table counted layout records content is is_expanded true false plain = plain
 seen_table counted layout records content is is_expanded false false plain = plain
-seen_table counted layout records content is is_expanded has true (clear, text) = free_output layout.look clear content (each_content AllText text_beside counted layout records content is text) is_expanded has
+seen_table counted layout records content is is_expanded has true (clear, text) = free_output layout.look clear content (each_content AllText counted layout records content is text) is_expanded has
 
 -- short texts, whose selectors agree where texts are cut
 whole_texts : (look : Look) (records : List (List Text)) → EachText IsShort look records → CanBeCut look records → EachText (IsWholeText look.max_height) look records
@@ -304,11 +300,12 @@ module _ (visible : Bool) (counted : Option ℕ) (layout : Layout) (records : Li
   -- the drawn table, of rows of which Q holds
   of_texts : (P : Text → Type 0) (empty : P []) (Q : RowValue → Type 0) → MakesRows P empty own Q → EachText P look records → HoldsOfShort P → IsDrawn own Q made.content table
   of_texts P empty Q makes each gives =
-      let fields = each_content (All (EachLine P look)) (lines_beside P gives look) counted layout records made.content made.is_content each in
-      let fitting = each_drawn (EachLine P look) (short_drawn P gives look) look plain.no_sequences made.content fields text.is_expanded in
-      let drawn = drawn_content text.is_expanded look made.content in
+      let fields = each_content (All (EachLine P look)) counted layout records made.content made.is_content each in
+      let pointed = content_pointed counted layout records made.content made.is_content plain.no_sequences in
+      let is_aligned = is_aligned_in look made.content in
+      let shown = each_drawn (EachLine P look) (blank P empty look) (short_drawn P gives look) look plain.no_sequences made.content pointed fields is_aligned in
       drawn_table-is look Q made.content text.is_expanded has
-      (table_of_texts P empty own Q makes drawn (each_separated P look has drawn fitting) (number_drawn P gives own) text.is_expanded)
+      (table_of_texts P empty own (short_drawn P gives own) Q makes made.content is_aligned (each_separated P look has is_aligned made.content shown) text.is_expanded)
 
   -- no control character is visible of its lines
   pub clear : visible ≡ true → All HasNoControl (seen_lines visible lines)
@@ -362,7 +359,7 @@ fitting_is_straight visible counted layout records output none characters plain 
     let text = is_table_text counted layout records output made none in
     let known =
     drawn_table-is layout.look IsDefaultRow made.content text.is_expanded separators
-    (table_of_texts IsAny tt own IsDefaultRow (default_rows own) (drawn_content text.is_expanded layout.look made.content) (any_content own (drawn_content text.is_expanded layout.look made.content)) (λ number. any_line own (decimal number)) text.is_expanded) in
+    (table_of_texts IsAny tt own (λ field short. any_line own field) IsDefaultRow (default_rows own) made.content (is_aligned_in layout.look made.content) (any_content own (is_aligned_in layout.look made.content) made.content) text.is_expanded) in
     straight visible counted layout records output none characters plain made IsDefaultRow known
     (fitting own (unkept visible counted layout records output none characters plain made) (separated_is_one_column separators layout.look characters) made.content _ _ drawing IsDefaultRow known (λ row is. is)
     (fits made.content (drawn_table counted layout records output made text none) drawing.widths made.is_content (separators, ap (λ e. separated_table separators (output_table e layout.look made.content)) (expansion counted layout records output made text none)) drawing.arranged))

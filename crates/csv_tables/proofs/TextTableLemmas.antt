@@ -1,21 +1,32 @@
 -- Tables of records whose texts are of one kind.
-use Rattle.std.proofs.Common.{◌≡◌, ℕ, Bool, true, false, List, [], ◌∷◌, Option, Some, None, ◌+◌, decimal, refl, sym, subst}
+use Rattle.std.proofs.Common.{◌≡◌, ℕ, Bool, true, false, List, [], ◌∷◌, Option, Some, None, ◌+◌, ◌≤◌, length, refl, sym, subst}
 use Rattle.std.specs.List.{All}
 use Rattle.std.specs.Prelude.{unwrap_or}
 use Rattle.std.proofs.lemmas.List.Elements.{All-cons, All-map, All-nil, All-weaker}
 use Rattle.comfy_parts.proofs.CallerLemmas.{All-every}
 use Rattle.comfy_parts.specs.CellValue.{CellValue, RowValue, plain_cell}
-use Rattle.comfy_parts.specs.Text.{Text}
-use Rattle.csv_tables.proofs.BuiltLemmas.{Built, EachOf, blank_drawn, built, built_rows, each_field, each_name, plain_table}
-use Rattle.csv_tables.specs.Cells.{cell_for, cells_for, field_text, field_or_blank, header_for, held, pair_for, row_for, with_weight}
-use Rattle.csv_tables.specs.Columns.{name_from}
-use Rattle.csv_tables.specs.Drawn.{ContentValue, first_number, pair_columns, pairs_in, rows_table}
+use Rattle.comfy_parts.specs.Text.{Text, is_printable_ascii}
+use Rattle.csv_tables.proofs.BuiltLemmas.{Built, EachColumn, EachShown, MakesHeader, MakesRow, blank_drawn, built, built_rows, each_counted, each_field, each_name, names_each, number_each, plain_table, row_each}
+use Rattle.csv_tables.proofs.FieldLemmas.{IsShortPrintable, short_lines}
+use Rattle.csv_tables.specs.Cells.{Shown, text_in, cell_for, cells_for, counted_from, cut, field_text, held, pair_for, columns_within, shown_cells, with_weight}
+use Rattle.csv_tables.specs.Fields.{field_or_blank}
+use Rattle.csv_tables.specs.Columns.{name_at}
+use Rattle.csv_tables.proofs.ReachedLemmas.{All-reached}
+use Rattle.csv_tables.specs.Drawn.{SelectedValue, pairs_in, rows_table}
 use Rattle.csv_tables.specs.declared.options.Look.{Look}
 use Rattle.csv_tables.specs.declared.options.DrawnColumn.{DrawnColumn}
 
 -- P holds of each text line of a field as it is drawn
 abbrev pub EachLine : (Text → Type 0) → Look → Text → Type 0
 EachLine P look field = All P (plain_cell (field_text look field)).text_lines
+
+-- P holds of each short text of printable ASCII
+abbrev pub HoldsOfShort : (Text → Type 0) → Type 0
+HoldsOfShort P = (text : Text) → is_printable_ascii text ≡ true → length text ≤ 128 → P text
+
+-- so it does of those of a short field
+pub short_drawn : (P : Text → Type 0) → HoldsOfShort P → (look : Look) (field : Text) → IsShortPrintable 64 field → EachLine P look field
+short_drawn P gives look field short = All-weaker (IsShortPrintable 128) P (λ text is. gives text is.0 is.1) (plain_cell (field_text look field)).text_lines (short_lines look field short)
 
 module _ (P : Text → Type 0) (empty : P []) (look : Look) where
   -- a cell's weight changes no text line
@@ -26,12 +37,15 @@ module _ (P : Text → Type 0) (empty : P []) (look : Look) where
   pub blank : EachLine P look []
   blank = subst (λ (text : Text). All P (plain_cell text).text_lines) (sym (blank_drawn look)) (All-cons P [] [] empty (All-nil P))
 
-  -- so P does of each cell of a row
-  pub cells_each : (is_bold : Bool) (columns : List DrawnColumn) (fields : List Text) → All (EachLine P look) fields → All (λ (cell : CellValue). All P cell.text_lines) (cells_for look is_bold columns fields).cells
-  cells_each is_bold columns fields each =
-      All-map (λ (cell : CellValue). All P cell.text_lines) (λ (column : DrawnColumn). with_weight is_bold (cell_for look column.alignment (field_or_blank fields column.position))) columns
-      (All-every (λ (column : DrawnColumn). All P (with_weight is_bold (cell_for look column.alignment (field_or_blank fields column.position))).text_lines) columns
-      (λ column. weighted is_bold (cell_for look column.alignment (field_or_blank fields column.position)) (each_field (EachLine P look) blank fields column.position each)))
+  -- P holds of each text line of what is shown
+  abbrev pub Shows : Shown → Type 0
+  Shows shown = EachLine P look shown.text
+
+  -- so it does of each cell of a row
+  pub cells_each : (is_bold : Bool) (shown : List Shown) → All Shows shown → All (λ (cell : CellValue). All P cell.text_lines) (shown_cells look is_bold shown)
+  cells_each is_bold shown each =
+      All-map (λ (cell : CellValue). All P cell.text_lines) (λ (s : Shown). with_weight is_bold (cell_for look s.alignment s.text)) shown
+      (All-weaker Shows (λ (s : Shown). All P (with_weight is_bold (cell_for look s.alignment s.text)).text_lines) (λ s own. weighted is_bold (cell_for look s.alignment s.text) own) shown each)
 
   -- and of those of a pair
   pub pair_each : (name field : Text) → EachLine P look name → EachLine P look field → All (λ (cell : CellValue). All P cell.text_lines) (pair_for look name field).cells
@@ -41,32 +55,39 @@ module _ (P : Text → Type 0) (empty : P []) (look : Look) where
 
   -- Q holds of what is made of such texts
   pub record MakesRows (Q : RowValue → Type 0) : Type 0 where
-    pub header : (columns : List DrawnColumn) (fields : List Text) → All (EachLine P look) fields → Q (header_for look columns fields)
-    pub row : (columns : List DrawnColumn) (fields : List Text) → All (EachLine P look) fields → Q (row_for look columns fields)
+    pub header : (shown : List Shown) → All Shows shown → Q (cells_for look look.has_bold_header shown)
+    pub row : (shown : List Shown) → All Shows shown → Q (cut look (cells_for look false shown))
     pub pair : (name field : Text) → EachLine P look name → EachLine P look field → Q (pair_for look name field)
 
-  module _ (Q : RowValue → Type 0) (makes : MakesRows Q) (content : ContentValue) (each : EachOf (All (EachLine P look)) content) where
-    rows : All (λ fields. Q (row_for look content.columns fields)) content.rows
-    rows = All-weaker (All (EachLine P look)) (λ fields. Q (row_for look content.columns fields)) (λ fields own. makes.row content.columns fields own) content.rows each.rows
+  -- P holds of short texts of printable ASCII, so of numbers and of what stands above them
+  module _ (short : (text : Text) → IsShortPrintable 64 text → EachLine P look text) where
+    module _ (Q : RowValue → Type 0) (makes : MakesRows Q) (content : SelectedValue) (is_aligned : Bool) (each : EachShown (EachLine P look) look is_aligned content) where
+      header : MakesHeader look Q content
+      header names is = makes.header _ (names_each (EachLine P look) blank short look content.is_numbered content.columns names (each.fields.names names is))
 
-    -- so it does of the table of their rows
-    pub rows_of_texts : Built look Q content (rows_table look content)
-    rows_of_texts = built_rows look Q content (λ n is. makes.header content.columns n (each.names n is)) rows
+      rows : All (MakesRow look Q content is_aligned) (counted_from 1 content.rows)
+      rows =
+          All-weaker (λ (row : ℕ × List Text). EachColumn (EachLine P look) look is_aligned content.columns row.1) (MakesRow look Q content is_aligned)
+          (λ row own. makes.row _ (row_each (EachLine P look) blank short look is_aligned content.is_numbered (columns_within row.1 content.columns) row (All-reached (λ (column : DrawnColumn). EachLine P look (text_in look is_aligned column row.1)) row.1 content.columns own)))
+          (counted_from 1 content.rows) (each_counted (EachColumn (EachLine P look) look is_aligned content.columns) 1 content.rows each.shown)
 
-    named : (names : Option (List Text)) → ((n : List Text) → names ≡ Some n → All (EachLine P look) n) → ((number : ℕ) → EachLine P look (decimal number)) → (first at : ℕ) → EachLine P look (name_from first (unwrap_or names []) at)
-    named None own numbers first at = each_name (EachLine P look) first [] at (numbers (at + first)) (All-nil (EachLine P look))
-    named (Some n) own numbers first at = each_name (EachLine P look) first n at (numbers (at + first)) (own n refl)
+      -- so it does of the table of their rows
+      pub rows_of_texts : Built look Q content (rows_table look is_aligned content)
+      rows_of_texts = built_rows look Q content is_aligned header rows
 
-    pairs : ((number : ℕ) → EachLine P look (decimal number)) → (fields : List Text) → All (EachLine P look) fields → All Q (pairs_in look content fields)
-    pairs numbers fields own =
-        let names = unwrap_or content.names [] in
-        let first = first_number content in
-        All-map Q (λ (column : DrawnColumn). pair_for look (name_from first names column.position) (field_or_blank fields column.position)) (held fields (pair_columns content))
-        (All-every (λ (column : DrawnColumn). Q (pair_for look (name_from first names column.position) (field_or_blank fields column.position))) (held fields (pair_columns content))
-        (λ column. makes.pair (name_from first names column.position) (field_or_blank fields column.position) (named content.names each.names numbers first column.position) (each_field (EachLine P look) blank fields column.position own)))
+      named : (names : Option (List Text)) → ((n : List Text) → names ≡ Some n → All (EachLine P look) n) → (at : ℕ) → EachLine P look (name_at (unwrap_or names []) at)
+      named None own at = each_name (EachLine P look) [] at (number_each (EachLine P look) blank short (at + 1)) (All-nil (EachLine P look))
+      named (Some n) own at = each_name (EachLine P look) n at (number_each (EachLine P look) blank short (at + 1)) (own n refl)
 
-    -- and of expanded records, where P holds of the numbers that stand for missing names
-    pub table_of_texts : ((number : ℕ) → EachLine P look (decimal number)) → (is_expanded : Bool) → Built look Q content (plain_table is_expanded look content)
-    table_of_texts numbers is_expanded =
-        built look Q content is_expanded (λ n is. makes.header content.columns n (each.names n is)) rows
-        (All-weaker (All (EachLine P look)) (λ fields. All Q (pairs_in look content fields)) (pairs numbers) content.rows each.rows)
+      pairs : (fields : List Text) → All (EachLine P look) fields → All Q (pairs_in look content fields)
+      pairs fields own =
+          let names = unwrap_or content.names [] in
+          All-map Q (λ (column : DrawnColumn). pair_for look (name_at names column.position) (field_or_blank fields column.position)) (held fields content.columns)
+          (All-every (λ (column : DrawnColumn). Q (pair_for look (name_at names column.position) (field_or_blank fields column.position))) (held fields content.columns)
+          (λ column. makes.pair (name_at names column.position) (field_or_blank fields column.position) (named content.names each.fields.names column.position) (each_field (EachLine P look) blank fields column.position own)))
+
+      -- and of expanded records
+      pub table_of_texts : (is_expanded : Bool) → Built look Q content (plain_table is_expanded is_aligned look content)
+      table_of_texts is_expanded =
+          built look Q content is_expanded is_aligned header rows
+          (All-weaker (All (EachLine P look)) (λ fields. All Q (pairs_in look content fields)) pairs content.rows each.fields.rows)

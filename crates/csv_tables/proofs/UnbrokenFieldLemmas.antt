@@ -1,18 +1,19 @@
 -- Fields that aren't broken, as they are seen.
-use Rattle.std.proofs.Common.{◌≡◌, ◌&&◌, ◌||◌, ◌==◌, ℕ, Bool, true, false, List, [], ap, length, not, refl}
-use Rattle.std.specs.List.{list_all}
-use Rattle.std.proofs.lemmas.Str.{chars-nil}
+use Rattle.std.proofs.Common.{◌≡◌, ◌&&◌, ◌||◌, Bool, true, false, refl, ◌≤◌, ◌+◌, ◌-◌, ◌*◌, ℕ, zero, suc, [], ◌∷◌, arith, length}
+use Rattle.std.specs.Str.{chars, chars_after, continuation_len, lead_bits}
 use Rattle.comfy_parts.specs.Text.{Text}
-use Rattle.csv_tables.proofs.BlankFieldLemmas.{all_there}
-use Rattle.csv_tables.specs.Summaries.{fields_there}
-use Rattle.csv_tables.specs.Unbroken.{is_unbroken, is_unbroken_column}
 
--- a blank field is unbroken, and so missing ones don't count
-blank : is_unbroken [] ≡ true
-blank = rw chars-nil refl
+-- a text has no more characters than bytes
+few_after : (n c : ℕ) (bs : Text) → length (chars_after n c bs) ≤ 1 + length bs
+few_after zero c [] = omega arith
+few_after zero c (b ∷ bs) = let more = few_after (continuation_len b) (lead_bits b) bs in omega (arith, more)
+few_after (suc n) c [] = omega arith
+few_after (suc n) c (b ∷ bs) = let more = few_after n (c * 64 + (b - 128)) bs in omega (arith, more)
 
-pub unbroken_there : (rows : List (List Text)) (position : ℕ) → (not (length rows == 0) && list_all is_unbroken (fields_there rows position)) ≡ is_unbroken_column rows position
-unbroken_there rows position = ap (λ b. not (length rows == 0) && b) (all_there is_unbroken blank rows position)
+pub few-chars : (text : Text) → length (chars text) ≤ length text
+unfolding chars
+few-chars [] = omega arith
+few-chars (b ∷ bs) = let more = few_after (continuation_len b) (lead_bits b) bs in omega (arith, more)
 
 -- what three tests say together
 pub first-two : (a b c : Bool) → a ≡ true → b ≡ true → true ≡ a && (b || c)

@@ -14,9 +14,10 @@ use Rattle.comfy_table.proofs.TakingLemmas.{next_taken-where}
 use Rattle.comfy_table.specs.Dynamic.{IsTakenAfter, Positioned, Claim, average, content_room, fixed_claims, lower_of_boundary, lower_offer, places_of, total, undecided}
 use Rattle.comfy_table.specs.TableValue.{TableValue, column_cells, column_content_width, with_row, with_rows}
 use Rattle.comfy_table.specs.Widths.{ColumnNeeds, fixed_by_constraint, lower_boundary, needs_of, shown_count}
-use Rattle.csv_tables.specs.Cells.{field_or_blank, held, pair_for}
-use Rattle.csv_tables.specs.Columns.{name_from}
-use Rattle.csv_tables.specs.Drawn.{ContentValue, empty_table, first_number, pair_columns, pairs_in, pairs_table}
+use Rattle.csv_tables.specs.Cells.{held, pair_for}
+use Rattle.csv_tables.specs.Fields.{field_or_blank}
+use Rattle.csv_tables.specs.Columns.{name_at}
+use Rattle.csv_tables.specs.Drawn.{SelectedValue, empty_table, pairs_in, pairs_table}
 use Rattle.csv_tables.specs.Unbroken.{cell_unbroken_width, constrained_column, constrained_columns, field_width, is_unbroken, needed_content, needed_contents, unbroken_width, with_content, with_second}
 use Rattle.csv_tables.specs.declared.options.DrawnColumn.{DrawnColumn}
 use Rattle.csv_tables.specs.declared.options.Look.{Look}
@@ -190,17 +191,15 @@ exactly_two row rows table two below =
     let grown = no_fewer_columns (length row.cells) table.columns in
     two_stay rows (with_row row table) (All-tail HasTwo row rows two) (omega (arith, own, grown, below))
 
-pub pairs_are_two : (look : Look) (content : ContentValue) → All HasTwo (flat_map (pairs_in look content) content.rows)
+pub pairs_are_two : (look : Look) (content : SelectedValue) → All HasTwo (flat_map (pairs_in look content) content.rows)
 pairs_are_two look content =
     let names = unwrap_or content.names [] in
-    let first = first_number content in
-    let columns = pair_columns content in
     All-flat_map HasTwo (pairs_in look content) content.rows
     (All-every (λ (fields : List Text). All HasTwo (pairs_in look content fields)) content.rows
-    (λ fields. All-map HasTwo (λ (column : DrawnColumn). pair_for look (name_from first names column.position) (field_or_blank fields column.position)) (held fields columns)
-    (All-every (λ (column : DrawnColumn). HasTwo (pair_for look (name_from first names column.position) (field_or_blank fields column.position))) (held fields columns) (λ column. refl))))
+    (λ fields. All-map HasTwo (λ (column : DrawnColumn). pair_for look (name_at names column.position) (field_or_blank fields column.position)) (held fields content.columns)
+    (All-every (λ (column : DrawnColumn). HasTwo (pair_for look (name_at names column.position) (field_or_blank fields column.position))) (held fields content.columns) (λ column. refl))))
 
-pub pairs_have_two : (look : Look) (content : ContentValue) → length (pairs_table look content).columns ≤ 2
+pub pairs_have_two : (look : Look) (content : SelectedValue) → length (pairs_table look content).columns ≤ 2
 pairs_have_two look content = two_at_most (flat_map (pairs_in look content) content.rows) (empty_table look) (pairs_are_two look content) (omega arith)
 
 -- fields of a width, beside new names

@@ -20,10 +20,9 @@ use Rattle.comfy_table.specs.TableValue.{TableValue, max_content_widths, measure
 use Rattle.comfy_table.specs.Widths.{ColumnNeeds, needs_of, shown_count, shown_needs}
 use Rattle.csv_tables.proofs.BuiltLemmas.{Built, plain_table}
 use Rattle.csv_tables.proofs.SeparatorLemmas.{restyled, separated}
-use Rattle.csv_tables.proofs.FittingLemmas.{drawn_content}
 use Rattle.csv_tables.proofs.UnbrokenLemmas.{framed_pair}
 use Rattle.csv_tables.proofs.WholeColumnLemmas.{AreNeeds, IsPaddedColumn, all_shown, are_fixed, field_width-within, fixed_or_one, lower-none, needs, padded_columns, padded_second, pairs_have_two, second_needs}
-use Rattle.csv_tables.specs.Drawn.{ContentValue, condensed_style, empty_table, fitting_content, output_table, pairs_table, rows_table, separated_table, unbroken_in}
+use Rattle.csv_tables.specs.Drawn.{SelectedValue, condensed_style, empty_table, is_aligned_in, output_table, pairs_table, rows_table, separated_table, unbroken_in}
 use Rattle.csv_tables.specs.Unbroken.{constrained_columns, field_width, framed_width, has_room, kept_unbroken, kept_unbroken_fields, may_break, needed_content, needed_contents, room_beside, room_for_two, with_constrained, with_field_width, with_second}
 use Rattle.csv_tables.specs.declared.options.Look.{Look}
 
@@ -126,7 +125,7 @@ second_room w field names table new as_many fits = by_columns table.columns refl
 
 -- ---- tables that are drawn
 
-module _ (look : Look) (Q : RowValue → Type 0) (content : ContentValue) where
+module _ (look : Look) (Q : RowValue → Type 0) (content : SelectedValue) where
   -- a table that is built of rows that Q holds of, some of whose columns have a width of their own, where there is room
   pub record IsDrawn (table : TableValue) : Type 0 where
     pub plain : TableValue
@@ -174,7 +173,7 @@ module _ (look : Look) (Q : RowValue → Type 0) (content : ContentValue) where
         subst NoConstraints (sym (drawn.is_plain ∙ ap (λ (columns : List ColumnValue). record drawn.plain { columns = columns }) none)) (unconstrained (empty_table look) Q drawn.plain drawn.known)
 
 -- the table that is drawn of some records
-pub drawn_table-is : (look : Look) (Q : RowValue → Type 0) (content : ContentValue) (is_expanded has : Bool) → Built (separated has look) Q content (plain_table is_expanded (separated has look) (drawn_content is_expanded look content))
+pub drawn_table-is : (look : Look) (Q : RowValue → Type 0) (content : SelectedValue) (is_expanded has : Bool) → Built (separated has look) Q content (plain_table is_expanded (is_aligned_in look content) (separated has look) content)
     → IsDrawn (separated has look) Q content (separated_table has (output_table is_expanded look content))
 drawn_table-is look Q content true has known = by_width look.width refl
   where
@@ -185,7 +184,7 @@ drawn_table-is look Q content true has known = by_width look.width refl
     plain = pairs_table (separated has look) content
 
     same : plain ≡ separated_table has pairs
-    same = restyled look content true has
+    same = restyled look content true (is_aligned_in look content) has
 
     own : IsDrawn (separated has look) Q content (separated_table has pairs)
     own = subst (IsDrawn (separated has look) Q content) same (drawn_plain (separated has look) Q content plain known)
@@ -240,16 +239,16 @@ drawn_table-is look Q content true has known = by_width look.width refl
 drawn_table-is look Q content false has known = by_width look.width refl
   where
     rows : TableValue
-    rows = rows_table look (fitting_content look content)
+    rows = rows_table look (is_aligned_in look content) content
 
     plain : TableValue
-    plain = rows_table (separated has look) (fitting_content look content)
+    plain = rows_table (separated has look) (is_aligned_in look content) content
 
     whole : List Bool
-    whole = unbroken_in look content
+    whole = unbroken_in content
 
     same : plain ≡ separated_table has rows
-    same = restyled look (fitting_content look content) false has
+    same = restyled look content false (is_aligned_in look content) has
 
     own : IsDrawn (separated has look) Q content (separated_table has rows)
     own = subst (IsDrawn (separated has look) Q content) same (drawn_plain (separated has look) Q content plain known)

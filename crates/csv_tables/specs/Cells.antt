@@ -1,21 +1,19 @@
 -- The cells and rows of records.
 -- Source: this library's own.
-use Rattle.std.specs.Prelude.{ℕ, Bool, ◌==◌, ◌||◌, false, List, [], ◌∷◌, ◌++◌, Option, None, chars, filter, length, map, nat_lt, option_map, unwrap_or, max, if◌then◌else◌}
+use Rattle.std.specs.Prelude.{ℕ, Bool, ◌==◌, ◌||◌, ◌+◌, false, List, [], ◌∷◌, ◌++◌, Option, None, Some, chars, codes, decimal, filter, length, map, nat_lt, option_map, max, if◌then◌else◌}
 use Rattle.std.specs.List.{list_all, list_any}
 use Rattle.std.specs.Str.{encode_utf8_all}
 use Rattle.comfy_parts.specs.CellValue.{CellValue, RowValue, plain_cell, plain_row}
 use Rattle.comfy_parts.specs.Text.{Text}
 use Rattle.comfy_parts.specs.declared.style.attribute.Attribute.TheVariants.{Bold}
 use Rattle.comfy_parts.specs.declared.style.cell.CellAlignment.{CellAlignment}
-use Rattle.csv.specs.Records.{field_at}
+use Rattle.comfy_parts.specs.declared.style.cell.CellAlignment.TheVariants.{Right}
+use Rattle.csv_tables.specs.Decimals.{spaced}
+use Rattle.csv_tables.specs.Fields.{field_or_blank}
 use Rattle.csv_records.specs.Cleaning.{cleaned}
 use Rattle.csv_tables.specs.Markdown.{escaped}
 use Rattle.csv_tables.specs.declared.options.Look.{Look}
 use Rattle.csv_tables.specs.declared.options.DrawnColumn.{DrawnColumn}
-
--- a field of a record, empty where it is missing
-abbrev pub field_or_blank : List Text → ℕ → Text
-field_or_blank fields position = unwrap_or (field_at fields position) []
 
 -- a text for a Markdown table
 abbrev pub marked : Text → Text
@@ -57,32 +55,84 @@ abbrev pub held : List Text → List DrawnColumn → List DrawnColumn
 held fields columns = filter (has_field fields) columns
 
 -- the columns up to the last one of these
-abbrev pub reached : List Text → List DrawnColumn → List DrawnColumn
-reached fields [] = []
-reached fields (column ∷ columns) =
+abbrev pub columns_within : List Text → List DrawnColumn → List DrawnColumn
+columns_within fields [] = []
+columns_within fields (column ∷ columns) =
     if list_any (has_field fields) (column ∷ columns)
-    then column ∷ reached fields columns
+    then column ∷ columns_within fields columns
     else []
 
--- a cell for each column
-abbrev pub cells_for : Look → Bool → List DrawnColumn → List Text → RowValue
-cells_for look is_bold columns fields =
-    plain_row
-    (map (λ (column : DrawnColumn).
-    with_weight is_bold (cell_for look column.alignment
-    (field_or_blank fields column.position))) columns)
+-- what a row shows at a place: a text, and the side at which it stands
+pub record Shown : Type 0 where
+  pub alignment : Option CellAlignment
+  pub text : Text
+
+-- the field of a column, with what it needs where decimal marks stand below each other
+abbrev pub text_in : Look → Bool → DrawnColumn → List Text → Text
+text_in look is_aligned column fields =
+    spaced look.has_sequences (if is_aligned then column.points else None)
+    (field_or_blank fields column.position)
+
+-- those of columns
+abbrev pub shown_fields : Look → Bool → List DrawnColumn → List Text → List Shown
+shown_fields look is_aligned columns fields =
+    map (λ (column : DrawnColumn). record {
+      alignment = column.alignment;
+      text = text_in look is_aligned column fields;
+    }) columns
+
+-- a record's number, at the right, or what stands above the numbers; nothing where there are none
+abbrev pub shown_number : Option Text → List Shown
+shown_number None = []
+shown_number (Some text) = record { alignment = Some Right; text = text } ∷ []
+
+-- a cell for each
+abbrev pub shown_cells : Look → Bool → List Shown → List CellValue
+shown_cells look is_bold shown =
+    map (λ (s : Shown). with_weight is_bold (cell_for look s.alignment s.text)) shown
+
+abbrev pub cells_for : Look → Bool → List Shown → RowValue
+cells_for look is_bold shown = plain_row (shown_cells look is_bold shown)
+
+-- the number of a row, where rows are numbered
+abbrev pub number_of : Bool → ℕ → Option Text
+number_of is_numbered number = if is_numbered then Some (decimal number) else None
+
+-- what stands above the numbers: `#`, or nothing in a header without names
+abbrev pub number_name : List Text → Text
+number_name [] = []
+number_name (name ∷ names) = codes "#"
+
+-- what the header shows
+abbrev pub shown_names : Look → Bool → List DrawnColumn → List Text → List Shown
+shown_names look is_numbered columns names =
+    shown_number (if is_numbered then Some (number_name names) else None)
+    ++ shown_fields look false columns names
 
 -- the header's row
-abbrev pub header_for : Look → List DrawnColumn → List Text → RowValue
-header_for look columns fields = cells_for look look.has_bold_header columns fields
+abbrev pub header_for : Look → Bool → List DrawnColumn → List Text → RowValue
+header_for look is_numbered columns names =
+    cells_for look look.has_bold_header (shown_names look is_numbered columns names)
 
 -- a row with the greatest height that is wanted
 abbrev pub cut : Look → RowValue → RowValue
 cut look row = record row { max_height = option_map (max 1) look.max_height }
 
+-- records with their numbers, from that of the first one on
+abbrev pub counted_from : ℕ → List (List Text) → List (ℕ × List Text)
+counted_from number [] = []
+counted_from number (fields ∷ rows) = (number, fields) ∷ counted_from (number + 1) rows
+
+-- what the row of such a record shows
+abbrev pub shown_in : Look → Bool → Bool → List DrawnColumn → ℕ × List Text → List Shown
+shown_in look is_aligned is_numbered columns row =
+    shown_number (number_of is_numbered row.0) ++ shown_fields look is_aligned columns row.1
+
 -- a record's row: it has cells up to the last of its fields
-abbrev pub row_for : Look → List DrawnColumn → List Text → RowValue
-row_for look columns fields = cut look (cells_for look false (reached fields columns) fields)
+abbrev pub row_for : Look → Bool → Bool → List DrawnColumn → ℕ × List Text → RowValue
+row_for look is_aligned is_numbered columns row =
+    cut look
+    (cells_for look false (shown_in look is_aligned is_numbered (columns_within row.1 columns) row))
 
 -- the row of one field of an expanded record: the name of its column, as bold as a header, and the
 -- field

@@ -1,10 +1,11 @@
 -- What is drawn of some records, and what is written of it.
 -- Source: this library's own.
-use Rattle.std.specs.Prelude.{ℕ, zero, suc, ◌+◌, ◌==◌, Bool, true, false, not, ◌&&◌, ◌||◌, ◌≡◌, nat_lt, List, [], ◌∷◌, ◌++◌, Option, Some, None, codes, decimal, drop, flat_map, length, map, option_map, slice_get, slice_index_or, sum_by, take, unwrap_or, if◌then◌else◌}
+use Rattle.std.specs.Prelude.{ℕ, zero, suc, ◌+◌, ◌==◌, Bool, true, false, not, ◌&&◌, ◌||◌, ◌≡◌, nat_lt, List, [], ◌∷◌, ◌++◌, Option, Some, None, codes, decimal, drop, flat_map, length, map, slice_get, slice_index_or, sum_by, take, unwrap_or, if◌then◌else◌}
 use Rattle.std.specs.List.{list_any, range_with_len}
 use Rattle.comfy_parts.specs.CellValue.{RowValue}
 use Rattle.comfy_parts.specs.Presets.{ascii_markdown}
 use Rattle.comfy_parts.specs.Text.{Text}
+use Rattle.comfy_parts.specs.declared.style.cell.CellAlignment.{CellAlignment}
 use Rattle.comfy_parts.specs.declared.style.cell.CellAlignment.TheVariants.{Right}
 use Rattle.comfy_parts.specs.declared.style.table.ContentArrangement.{ContentArrangement}
 use Rattle.comfy_parts.specs.declared.style.table.ContentArrangement.TheVariants.{Disabled, Dynamic, DynamicFullWidth}
@@ -15,11 +16,9 @@ use Rattle.comfy_table.specs.Headline.{IsTableDrawing}
 use Rattle.comfy_table.specs.Parts.{ArrangedValue, IsArrangedTable, part_lines, part_text}
 use Rattle.comfy_table.specs.Pieces.{row_height}
 use Rattle.comfy_table.specs.TableValue.{TableValue, max_content_widths, new_table, with_header, with_rows}
-use Rattle.csv_tables.specs.Cells.{field_or_blank, header_for, held, pair_for, row_for}
-use Rattle.csv_tables.specs.Columns.{count_of, drawn_columns, name_from, seen}
-use Rattle.csv_tables.specs.Decimals.{mark_at, spaced_fields}
-use Rattle.csv_records.specs.Numbered.{behind_mark, numbered_from}
-use Rattle.csv_records.specs.declared.decimals.Points.{Points}
+use Rattle.csv_tables.specs.Cells.{counted_from, header_for, held, pair_for, row_for}
+use Rattle.csv_tables.specs.Fields.{field_or_blank}
+use Rattle.csv_tables.specs.Columns.{count_of, drawn_columns, name_at, seen}
 use Rattle.csv_tables.specs.Markdown.{rule_line}
 use Rattle.csv_tables.specs.declared.options.Expansion.{Expansion}
 use Rattle.csv_tables.specs.declared.options.Expansion.TheVariants.{Always, Auto, Never as NeverExpanded}
@@ -29,7 +28,7 @@ use Rattle.csv_tables.specs.declared.options.RowSeparators.{RowSeparators}
 use Rattle.csv_tables.specs.declared.options.RowSeparators.TheVariants.{Styled, Needed, Never}
 use Rattle.csv_tables.specs.declared.options.DrawnColumn.{DrawnColumn}
 use Rattle.csv_tables.specs.declared.selection.Selection.{Selection}
-use Rattle.csv_tables.specs.Unbroken.{has_room, kept_unbroken, kept_unbroken_fields, unbroken_columns}
+use Rattle.csv_tables.specs.Unbroken.{has_room, kept_unbroken, kept_unbroken_fields}
 
 -- ---- records
 
@@ -60,53 +59,31 @@ abbrev pub column_count : Selection → List (List Text) → ℕ
 column_count selection records =
     count_of (names_or_none selection records) (drawn_rows selection records)
 
--- ---- numbers
-
--- names behind that of the column of numbers, where that is drawn
-abbrev pub names_beside : Bool → Option (List Text) → Option (List Text)
-names_beside is_numbered names = if is_numbered then option_map behind_mark names else names
-
--- rows behind their numbers, where these are drawn
-abbrev pub rows_beside : Bool → List (List Text) → List (List Text)
-rows_beside is_numbered rows = if is_numbered then numbered_from 1 rows else rows
-
--- columns beside that of numbers, which stands at the right, where it is drawn
-abbrev pub columns_beside : Bool → List DrawnColumn → List DrawnColumn
-columns_beside is_numbered columns =
-    if is_numbered
-    then record { position = 0; alignment = Some Right }
-    ∷ map (λ (column : DrawnColumn). record column { position = column.position + 1 }) columns
-    else columns
-
 -- ---- contents
 
 -- what is drawn of some records: names, where there are any, rows, and columns of them; how many
--- records stand below the header, where that is known; and whether the first column is that of
--- numbers
-pub record ContentValue : Type 0 where
+-- records stand below the header, where that is known; and whether a column of numbers stands
+-- before the columns
+pub record SelectedValue : Type 0 where
   pub names : Option (List Text)
   pub rows : List (List Text)
   pub columns : List DrawnColumn
   pub count : Option ℕ
   pub is_numbered : Bool
 
--- the columns that are drawn of some records, each with its alignment
+-- the columns that are drawn of some records
 abbrev pub columns_of : Layout → List (List Text) → List DrawnColumn
 columns_of layout records =
-    drawn_columns layout.columns.right layout.columns.left
+    drawn_columns layout.columns
     (map (seen layout.look.has_sequences) (drawn_rows layout.selection records))
-    layout.columns.drawn
 
--- what is drawn of some records, of which so many stand below the header, where that is known. The
--- columns are aligned before numbers stand beside them
-abbrev pub content_of : Option ℕ → Layout → List (List Text) → ContentValue
-content_of counted layout records =
+-- what is drawn of some records, of which so many stand below the header, where that is known
+abbrev pub selected_of : Option ℕ → Layout → List (List Text) → SelectedValue
+selected_of counted layout records =
     record {
-      names =
-          names_beside layout.selection.is_numbered
-          (names_of layout.selection.has_header records);
-      rows = rows_beside layout.selection.is_numbered (drawn_rows layout.selection records);
-      columns = columns_beside layout.selection.is_numbered (columns_of layout records);
+      names = names_of layout.selection.has_header records;
+      rows = drawn_rows layout.selection records;
+      columns = columns_of layout records;
       count = counted;
       is_numbered = layout.selection.is_numbered;
     }
@@ -129,84 +106,61 @@ empty_table look =
     }
 
 -- a table with a header of these names, where there are any
-abbrev pub headed_table : Look → List DrawnColumn → Option (List Text) → TableValue
-headed_table look columns None = empty_table look
-headed_table look columns (Some names) =
-    with_header (header_for look columns names) (empty_table look)
+abbrev pub headed_table : Look → Bool → List DrawnColumn → Option (List Text) → TableValue
+headed_table look is_numbered columns None = empty_table look
+headed_table look is_numbered columns (Some names) =
+    with_header (header_for look is_numbered columns names) (empty_table look)
 
--- the table of records: a row for each
-abbrev pub rows_table : Look → ContentValue → TableValue
-rows_table look content =
-    with_rows (map (row_for look content.columns) content.rows)
-    (headed_table look content.columns content.names)
+-- the table of records: a row for each, with decimal marks below each other or not
+abbrev pub rows_table : Look → Bool → SelectedValue → TableValue
+rows_table look is_aligned content =
+    with_rows
+    (map (row_for look is_aligned content.is_numbered content.columns)
+    (counted_from 1 content.rows))
+    (headed_table look content.is_numbered content.columns content.names)
 
 -- the table of some records, as many as are drawn
 abbrev pub table_for : Layout → List (List Text) → TableValue
-table_for layout records = rows_table layout.look (content_of None layout records)
+table_for layout records = rows_table layout.look false (selected_of None layout records)
 
--- the fields of one record, each below the one before, beside the names of their columns, of which
--- the first has this number where there is no header
-abbrev pub pairs_of : Look → ℕ → List DrawnColumn → List Text → List Text → List RowValue
-pairs_of look first columns names fields =
-    map (λ (column : DrawnColumn). pair_for look (name_from first names column.position)
+-- the fields of one record, each below the one before, beside the names of their columns
+abbrev pub pairs_of : Look → List DrawnColumn → List Text → List Text → List RowValue
+pairs_of look columns names fields =
+    map (λ (column : DrawnColumn). pair_for look (name_at names column.position)
     (field_or_blank fields column.position)) (held fields columns)
 
--- the columns of expanded records: their numbers stand above them
-abbrev pub pair_columns : ContentValue → List DrawnColumn
-pair_columns content = if content.is_numbered then drop 1 content.columns else content.columns
-
--- the number of the first column, where that of numbers isn't counted
-abbrev pub first_number : ContentValue → ℕ
-first_number content = if content.is_numbered then 0 else 1
-
--- the pairs of a record
-abbrev pub pairs_in : Look → ContentValue → List Text → List RowValue
-pairs_in look content fields =
-    pairs_of look (first_number content) (pair_columns content) (unwrap_or content.names []) fields
+-- the pairs of a record, whose number stands above them
+abbrev pub pairs_in : Look → SelectedValue → List Text → List RowValue
+pairs_in look content fields = pairs_of look content.columns (unwrap_or content.names []) fields
 
 -- the table of expanded records: so many rows for each
-abbrev pub pairs_table : Look → ContentValue → TableValue
+abbrev pub pairs_table : Look → SelectedValue → TableValue
 pairs_table look content =
     with_rows (flat_map (pairs_in look content) content.rows) (empty_table look)
 
--- its columns of numbers and dates
-abbrev pub unbroken_in : Look → ContentValue → List Bool
-unbroken_in look content = unbroken_columns look.has_sequences content.columns content.rows
+-- which columns of it hold numbers and dates alone, as that of numbers does; none without rows
+abbrev pub unbroken_in : SelectedValue → List Bool
+unbroken_in content =
+    (if content.is_numbered then not (length content.rows == 0) ∷ [] else [])
+    ++ map (λ (column : DrawnColumn). not (length content.rows == 0) && column.is_unbroken)
+    content.columns
 
 -- whether a width that is kept has room for the table of rows
-abbrev pub has_room_for : Look → ContentValue → ContentValue → Bool
-has_room_for look content drawn =
-    has_room look.width (unbroken_in look content) (rows_table look drawn)
+abbrev pub has_room_for : Look → SelectedValue → Bool → Bool
+has_room_for look content is_aligned =
+    has_room look.width (unbroken_in content) (rows_table look is_aligned content)
 
--- the same with spaces behind fields, by the decimal marks of their columns
-abbrev pub spaced_content : Look → (ℕ → Option Points) → ContentValue → ContentValue
-spaced_content look marks content =
-    record content { rows = map (spaced_fields look.has_sequences marks) content.rows }
-
--- the decimal marks that are to stand below each other
-abbrev pub marks_for : Look → ContentValue → ℕ → Option Points
-marks_for look content position =
-    if look.aligns_decimals
-    then mark_at content.columns (map (seen look.has_sequences) content.rows) position
-    else None
-
-abbrev pub aligned_content : Look → ContentValue → ContentValue
-aligned_content look content = spaced_content look (marks_for look content) content
-
--- they do where there is room for the table with the spaces
-abbrev pub fitting_content : Look → ContentValue → ContentValue
-fitting_content look content =
-    if has_room_for look content (aligned_content look content)
-    then aligned_content look content
-    else content
+-- whether decimal marks stand below each other: where there is room for the spaces
+abbrev pub is_aligned_in : Look → SelectedValue → Bool
+is_aligned_in look content = look.aligns_decimals && has_room_for look content true
 
 -- the table that is drawn, with all lines of its style: of expanded records, or of rows. Its
 -- numbers and dates aren't broken where there is room
-abbrev pub output_table : Bool → Look → ContentValue → TableValue
+abbrev pub output_table : Bool → Look → SelectedValue → TableValue
 output_table true look content = kept_unbroken_fields look.width (pairs_table look content)
 output_table false look content =
-    kept_unbroken look.width (unbroken_in look content)
-    (rows_table look (fitting_content look content))
+    kept_unbroken look.width (unbroken_in content)
+    (rows_table look (is_aligned_in look content) content)
 
 -- ---- lines between rows
 
@@ -256,13 +210,13 @@ is_expanded_in NeverExpanded has_room = false
 is_expanded_in Auto has_room = not has_room
 
 -- whether those of a table are; where there is none, the header always has room
-abbrev pub is_table_expanded : Look → ContentValue → Bool
+abbrev pub is_table_expanded : Look → SelectedValue → Bool
 is_table_expanded look content =
     is_expanded_in look.expansion
-    ((length content.rows == 0) || has_room_for look content (fitting_content look content))
+    ((length content.rows == 0) || has_room_for look content (is_aligned_in look content))
 
 -- whether those of an output are: none for Markdown
-abbrev pub is_expanded_for : Look → ContentValue → Bool
+abbrev pub is_expanded_for : Look → SelectedValue → Bool
 is_expanded_for look content = not look.is_markdown && is_table_expanded look content
 
 -- how many records there are, in words: `more` where that isn't known
@@ -276,8 +230,8 @@ record_line number count =
     (((codes "record " ++ decimal number) ++ codes " of ") ++ count_text count) ++ codes "\n"
 
 -- how many fields of an expanded record are drawn
-abbrev pub drawn_fields : ContentValue → List Text → ℕ
-drawn_fields content fields = length (held fields (pair_columns content))
+abbrev pub drawn_fields : SelectedValue → List Text → ℕ
+drawn_fields content fields = length (held fields content.columns)
 
 -- the lines of a part of a table, where it has a row
 abbrev pub some_lines : ArrangedValue → ℕ → ℕ → List Text
@@ -285,7 +239,7 @@ some_lines arranged first zero = []
 some_lines arranged first (suc count) = part_lines arranged first (suc count)
 
 -- an expanded record: its line, and its part of the table, behind those of the records before
-abbrev pub record_text : ContentValue → ArrangedValue → ℕ → Text
+abbrev pub record_text : SelectedValue → ArrangedValue → ℕ → Text
 record_text content arranged at =
     record_line (at + 1) content.count
     ++ terminated_text_of (some_lines arranged
@@ -295,13 +249,13 @@ record_text content arranged at =
 -- ---- outputs
 
 -- what is written of a table: record for record, or all rows together
-abbrev pub table_text : Bool → ContentValue → ArrangedValue → Text
+abbrev pub table_text : Bool → SelectedValue → ArrangedValue → Text
 table_text true content arranged =
     flat_map (record_text content arranged) (range_with_len 0 (length content.rows))
 table_text false content arranged = part_text arranged 0 (length arranged.table.rows)
 
 -- the text of such a table, with lines between rows or without
-pub record RendersTable (is_expanded : Bool) (look : Look) (content : ContentValue)
+pub record RendersTable (is_expanded : Bool) (look : Look) (content : SelectedValue)
     (text : Text) : Type 0 where
   pub has_separators : Bool
   pub separators :
@@ -321,7 +275,7 @@ markdown_style =
     }
 
 -- the text of a table of rows, or of expanded records
-pub record RendersAsTable (look : Look) (content : ContentValue) (text : Text) : Type 0 where
+pub record RendersAsTable (look : Look) (content : SelectedValue) (text : Text) : Type 0 where
   pub is_expanded : Bool
   pub expansion : is_expanded ≡ is_table_expanded look content
   pub drawn : RendersTable is_expanded look content text
@@ -340,11 +294,17 @@ markdown_look look =
     }
 
 -- and there is a header, with blank cells where no record is one
-abbrev pub markdown_content : ContentValue → ContentValue
+abbrev pub markdown_content : SelectedValue → SelectedValue
 markdown_content content = record content { names = Some (unwrap_or content.names []) }
 
-abbrev pub markdown_table : Look → ContentValue → TableValue
-markdown_table look content = rows_table (markdown_look look) (markdown_content content)
+abbrev pub markdown_table : Look → SelectedValue → TableValue
+markdown_table look content = rows_table (markdown_look look) false (markdown_content content)
+
+-- the alignment of each column, that of numbers too
+abbrev pub sides : SelectedValue → List (Option CellAlignment)
+sides content =
+    (if content.is_numbered then Some Right ∷ [] else [])
+    ++ map (λ (column : DrawnColumn). column.alignment) content.columns
 
 -- lines with another one below the first
 abbrev pub below_first : Text → List Text → List Text
@@ -352,14 +312,14 @@ below_first line [] = []
 below_first line (first ∷ rest) = first ∷ line ∷ rest
 
 -- the text of a table for Markdown: the line below the header says which columns stand at the right
-pub record RendersAsMarkdown (look : Look) (content : ContentValue) (text : Text) : Type 0 where
+pub record RendersAsMarkdown (look : Look) (content : SelectedValue) (text : Text) : Type 0 where
   pub lines : List Text
   pub drawing : IsTableDrawing (markdown_table look content) lines
   pub is :
-      text ≡ terminated_text_of (below_first
-      (rule_line content.columns (max_content_widths (markdown_table look content))) lines)
+      text ≡ terminated_text_of (below_first (rule_line (sides content)
+      (max_content_widths (markdown_table look content))) lines)
 
-abbrev pub RendersContent : Bool → Look → ContentValue → Text → Type 0
+abbrev pub RendersContent : Bool → Look → SelectedValue → Text → Type 0
 RendersContent true look content text = RendersAsMarkdown look content text
 RendersContent false look content text = RendersAsTable look content text
 
@@ -381,8 +341,8 @@ note_for is_markdown (Some limit) count =
 -- text of what is drawn, and the line on records that aren't
 pub record RendersRecords (counted : Option ℕ) (layout : Layout) (records : List (List Text))
     (output : Text) : Type 0 where
-  pub content : ContentValue
-  pub is_content : content_of counted layout records ≡ content
+  pub content : SelectedValue
+  pub is_content : selected_of counted layout records ≡ content
   pub text : Text
   pub is_text : RendersContent layout.look.is_markdown layout.look content text
   pub joined :

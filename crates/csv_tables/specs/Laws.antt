@@ -1,7 +1,7 @@
 -- What is so of every output.
 -- Source: this library's own.
 use Rattle.std.specs.Prelude.{◌≡◌, ◌⊎◌, ℕ, ◌+◌, ◌<◌, ◌≤◌, Bool, true, false, List, [], ◌∷◌, ◌++◌, Option, Some, None, All, Contains, flat_map, length, map, slice_get, slice_index}
-use Rattle.std.specs.List.{AllZip, range_with_len}
+use Rattle.std.specs.List.{range_with_len}
 use Rattle.comfy_parts.specs.CellValue.{CellValue, plain_cell}
 use Rattle.comfy_parts.specs.Columns.{CharactersFit, IsOneColumnStyle, SelectorsAgree}
 use Rattle.comfy_parts.specs.Text.{Text, measure, spaces}
@@ -14,14 +14,16 @@ use Rattle.comfy_table.specs.Laws.{AreLinesOf, HasNoBreak, HasNoControl, IsStyle
 use Rattle.comfy_table.specs.NewTables.{AreEquallyWide}
 use Rattle.comfy_table.specs.Straight.{EachCell}
 use Rattle.comfy_table.specs.TableValue.{TableValue, column_cells, column_content_width}
-use Rattle.csv_tables.specs.Cells.{field_text}
+use Rattle.csv_tables.specs.Cells.{field_text, text_in}
+use Rattle.csv_tables.specs.Fields.{field_or_blank}
+use Rattle.csv_tables.specs.declared.options.DrawnColumn.{DrawnColumn}
 use Rattle.csv_records.specs.Cleaning.{visible_of}
 use Rattle.csv_records.specs.Decimals.{byte_of, digits_in, fraction_len, points_of, spaces_behind}
 use Rattle.csv_records.specs.Number.{halves, is_neutral}
 use Rattle.csv_records.specs.declared.decimals.Points.{Points}
 use Rattle.csv_tables.specs.Controls.{HasNoStrayControl, IsStyleWithoutControls}
-use Rattle.csv_tables.specs.Drawn.{ContentValue, RendersRecords, content_of, fitting_content, is_expanded_for, note_for, output_table, record_line, separated_table}
-use Rattle.csv_tables.specs.Unbroken.{framed_width, is_unbroken, needed_content, unbroken_columns}
+use Rattle.csv_tables.specs.Drawn.{SelectedValue, RendersRecords, selected_of, is_expanded_for, note_for, output_table, record_line, separated_table, unbroken_in}
+use Rattle.csv_tables.specs.Unbroken.{framed_width, is_unbroken, needed_content}
 use Rattle.csv.specs.Records.{AllText}
 use Rattle.csv_tables.specs.declared.options.Expansion.TheVariants.{Auto, Never}
 use Rattle.csv_tables.specs.declared.options.Look.{Look}
@@ -33,10 +35,10 @@ use Rattle.csv_tables.specs.declared.options.Layout.{Layout}
 abbrev pub HasSpacesBehind : Text → Text → Type 0
 HasSpacesBehind text drawn = (n : ℕ) × (drawn ≡ text ++ spaces n)
 
--- the table of rows has the fields of its records, with nothing but spaces behind them
-abbrev pub SpacesAloneAreAdded : Look → ContentValue → Type 0
-SpacesAloneAreAdded look content =
-    AllZip (AllZip HasSpacesBehind) content.rows (fitting_content look content).rows
+-- a column shows the field of a record, with nothing but spaces behind it
+abbrev pub SpacesAloneAreAdded : Look → Bool → DrawnColumn → List Text → Type 0
+SpacesAloneAreAdded look is_aligned column fields =
+    HasSpacesBehind (field_or_blank fields column.position) (text_in look is_aligned column fields)
 
 -- in a column with a decimal mark the fraction of each field and the spaces behind it are as long
 -- as the longest fraction; a field that says nothing has neither
@@ -54,7 +56,7 @@ abbrev pub numbered_lines : Option ℕ → (ℕ → List Text) → ℕ → Text
 numbered_lines count parts at = record_line (at + 1) count ++ terminated_text_of (parts at)
 
 -- lines are those of a text; or, expanded, such lines alone stand below each record's own line
-abbrev pub HasLines : Bool → ContentValue → List Text → Text → Type 0
+abbrev pub HasLines : Bool → SelectedValue → List Text → Text → Type 0
 HasLines false content lines text = AreLinesOf text lines
 HasLines true content lines text =
     (parts : ℕ → List Text) × ((at : ℕ) → All (Contains lines) (parts at)) × All HasNoBreak lines
@@ -64,8 +66,8 @@ HasLines true content lines text =
 -- an output has these lines, before the line on records that aren't drawn
 pub record IsOutputWith (counted : Option ℕ) (layout : Layout) (records : List (List Text))
     (output : Text) (lines : List Text) : Type 0 where
-  pub content : ContentValue
-  pub is_content : content_of counted layout records ≡ content
+  pub content : SelectedValue
+  pub is_content : selected_of counted layout records ≡ content
   pub is_expanded : Bool
   pub expansion : is_expanded ≡ is_expanded_for layout.look content
   pub text : Text
@@ -75,7 +77,7 @@ pub record IsOutputWith (counted : Option ℕ) (layout : Layout) (records : List
 
 -- the table that is drawn of some records: of their rows or of their fields, with lines between
 -- rows or without
-abbrev pub IsDrawnTable : Look → ContentValue → TableValue → Type 0
+abbrev pub IsDrawnTable : Look → SelectedValue → TableValue → Type 0
 IsDrawnTable look content table =
     (has_separators : Bool) × (table
     ≡ separated_table has_separators (output_table (is_expanded_for look content) look content))
@@ -110,21 +112,21 @@ pub record IsWholeColumn (table : TableValue) (i width : ℕ) : Type 0 where
       (column_cells table i)
 
 -- so are the columns of numbers and dates of the table that is drawn
-abbrev pub UnbrokenColumnsAreWhole : Look → ContentValue → Type 0
+abbrev pub UnbrokenColumnsAreWhole : Look → SelectedValue → Type 0
 UnbrokenColumnsAreWhole look content =
     (table : TableValue) (widths : List ℕ) (i : ℕ) → IsDrawnTable look content table
     → IsArranged table widths → i < length table.columns
-    → slice_get (unbroken_columns look.has_sequences content.columns content.rows) i ≡ Some true
+    → slice_get (unbroken_in content) i ≡ Some true
     → IsWholeColumn table i (slice_index widths i)
 
 -- under `auto` they are where records aren't expanded
-abbrev pub AutoKeepsWhole : ℕ → Look → ContentValue → Type 0
+abbrev pub AutoKeepsWhole : ℕ → Look → SelectedValue → Type 0
 AutoKeepsWhole w look content =
     look.is_markdown ≡ false → look.width ≡ Some w → look.expansion ≡ Auto
     → is_expanded_for look content ≡ false → UnbrokenColumnsAreWhole look content
 
 -- under `never` they are where there is room, so where `auto` wouldn't expand them
-abbrev pub NeverKeepsWhole : ℕ → Look → ContentValue → Type 0
+abbrev pub NeverKeepsWhole : ℕ → Look → SelectedValue → Type 0
 NeverKeepsWhole w look content =
     look.is_markdown ≡ false → look.width ≡ Some w → look.expansion ≡ Never
     → is_expanded_for (record look { expansion = Auto }) content ≡ false
@@ -137,7 +139,7 @@ StandsWhole width line =
 
 -- so does each text line of the fields of expanded records, as it is measured, that is a number or
 -- a date and fits the width beside what the names need
-abbrev pub UnbrokenFieldsAreWhole : ℕ → Look → ContentValue → Type 0
+abbrev pub UnbrokenFieldsAreWhole : ℕ → Look → SelectedValue → Type 0
 UnbrokenFieldsAreWhole w look content =
     (table : TableValue) (widths : List ℕ) → IsDrawnTable look content table
     → IsArranged table widths
@@ -147,7 +149,7 @@ UnbrokenFieldsAreWhole w look content =
     → StandsWhole (slice_index widths 1) line) cell.text_lines) (column_cells table 1)
 
 -- under each width that can be set
-abbrev pub ExpandedKeepsWhole : ℕ → Look → ContentValue → Type 0
+abbrev pub ExpandedKeepsWhole : ℕ → Look → SelectedValue → Type 0
 ExpandedKeepsWhole w look content =
     w ≤ 65535 → look.width ≡ Some w → is_expanded_for look content ≡ true
     → UnbrokenFieldsAreWhole w look content
@@ -200,8 +202,8 @@ NarrowOutputIsStraight visible counted layout records output =
 -- each character of each text fits its column, for all widths that are arranged for the table
 abbrev pub CharactersFitEachWidth : Option ℕ → Layout → List (List Text) → Type 0
 CharactersFitEachWidth counted layout records =
-    (content : ContentValue) (table : TableValue) (widths : List ℕ)
-    → content_of counted layout records ≡ content → IsDrawnTable layout.look content table
+    (content : SelectedValue) (table : TableValue) (widths : List ℕ)
+    → selected_of counted layout records ≡ content → IsDrawnTable layout.look content table
     → IsArranged table widths → EachCell CharactersFitColumn table widths
 
 -- and under every width, where each character of each text fits its column

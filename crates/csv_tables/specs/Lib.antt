@@ -4,6 +4,8 @@ pub mod ConstrainedAt
 pub mod Controls
 pub mod Decimals
 pub mod Drawn
+pub mod Fields
+pub mod Kinds
 pub mod Laws
 pub mod Leasts
 pub mod Markdown

@@ -9,7 +9,7 @@ use Rattle.comfy_parts.specs.Text.{Text}
 use Rattle.comfy_parts.specs.declared.style.cell.CellAlignment.{CellAlignment}
 use Rattle.comfy_parts.specs.declared.style.cell.CellAlignment.TheVariants.{Right}
 use Rattle.csv_tables.specs.References.{begins_reference}
-use Rattle.csv_tables.specs.declared.options.DrawnColumn.{DrawnColumn}
+use Rattle.comfy_parts.specs.declared.style.cell.CellAlignment.{CellAlignment}
 
 -- a character that could begin or end markup wherever it stands
 abbrev pub is_mark : ℕ → Bool
@@ -91,13 +91,12 @@ is_right _ = false
 
 -- a column of this width: a dash for each terminal column, of which the last one is a colon at the
 -- right, and a bar
-abbrev pub rule_part : DrawnColumn × ℕ → Text
-rule_part p =
-    repeat (p.1 + 1) (codes "-") ++ (if is_right p.0.alignment then codes ":|" else codes "-|")
+abbrev pub rule_part : Option CellAlignment × ℕ → Text
+rule_part p = repeat (p.1 + 1) (codes "-") ++ (if is_right p.0 then codes ":|" else codes "-|")
 
--- the line below the header, for columns of these widths without their two paddings
-abbrev pub rule_line : List DrawnColumn → List ℕ → Text
-rule_line columns widths = codes "|" ++ flat_map rule_part (zip columns widths)
+-- the line below the header, for columns of these alignments, and widths without their two paddings
+abbrev pub rule_line : List (Option CellAlignment) → List ℕ → Text
+rule_line sides widths = codes "|" ++ flat_map rule_part (zip sides widths)
 
 -- ---- what is read
 

@@ -7,12 +7,11 @@ use Rattle.comfy_table.specs.Drawing.{terminated_text_of}
 use Rattle.comfy_table.specs.Laws.{HasNoBreak}
 use Rattle.comfy_table.specs.TableValue.{max_content_widths}
 use Rattle.csv.specs.Records.{AllText}
-use Rattle.csv_tables.specs.Cells.{field_or_blank}
+use Rattle.csv_tables.specs.Cells.{Shown, counted_from, shown_in, shown_names}
 use Rattle.csv_records.specs.Cleaning.{cleaned}
 use Rattle.csv_tables.specs.Markdown.{rule_line, unescaped}
-use Rattle.csv_tables.specs.declared.options.DrawnColumn.{DrawnColumn}
 use Rattle.csv_tables.specs.declared.options.Layout.{Layout}
-use Rattle.csv_tables.specs.Drawn.{ContentValue, RendersRecords, content_of, markdown_table, note_for}
+use Rattle.csv_tables.specs.Drawn.{SelectedValue, RendersRecords, selected_of, markdown_table, note_for, sides}
 use Rattle.csv_tables.specs.Laws.{EachText}
 
 -- ---- a line
@@ -57,12 +56,11 @@ read_part part = without_outer_spaces (unescaped part)
 abbrev pub read_field : Text → List ℕ
 read_field field = without_outer_spaces (chars (cleaned false field))
 
--- between its outer bars a line has a part for each column, which gives back the record's field
-abbrev pub GivesBack : List DrawnColumn → List Text → Text → Type 0
-GivesBack columns fields line =
+-- between its outer bars a line has a part for each text that is shown, and gives it back
+abbrev pub GivesBack : List Shown → Text → Type 0
+GivesBack shown line =
     map read_part (parts_between_bars (chars line))
-    ≡ [] ∷ (map (λ (column : DrawnColumn).
-    read_field (field_or_blank fields column.position)) columns ++ [] ∷ [])
+    ≡ [] ∷ (map (λ (s : Shown). read_field s.text) shown ++ [] ∷ [])
 
 -- ---- an output
 
@@ -70,22 +68,28 @@ GivesBack columns fields line =
 -- in one line
 pub record GivesRecordsBack (counted : Option ℕ) (layout : Layout) (records : List (List Text))
     (output : Text) : Type 0 where
-  pub content : ContentValue
-  pub is_content : content_of counted layout records ≡ content
+  pub content : SelectedValue
+  pub is_content : selected_of counted layout records ≡ content
   pub header : Text
   pub lines : List Text
   pub is :
       output ≡ terminated_text_of (header
-      ∷ rule_line content.columns (max_content_widths (markdown_table layout.look content))
+      ∷ rule_line (sides content)
+      (max_content_widths (markdown_table layout.look content))
       ∷ lines) ++ note_for true layout.selection.limit content.count
   pub unbroken : All HasNoBreak (header ∷ lines)
-  pub names : GivesBack content.columns (unwrap_or content.names []) header
-  pub rows : AllZip (GivesBack content.columns) content.rows lines
+  pub names :
+      GivesBack (shown_names layout.look content.is_numbered content.columns
+      (unwrap_or content.names [])) header
+  pub rows :
+      AllZip (λ row line. GivesBack
+      (shown_in layout.look false content.is_numbered content.columns row) line)
+      (counted_from 1 content.rows) lines
 
 -- so it does where a column is drawn, for fields of every script up to 65535 terminal columns
 abbrev pub MarkdownGivesRecordsBack : Option ℕ → Layout → List (List Text) → Text → Type 0
 MarkdownGivesRecordsBack counted layout records output =
     layout.look.is_markdown ≡ true → EachText (λ text. measure text ≤ 65535) layout.look records
     → All AllText records → (made : RendersRecords counted layout records output)
-    → 0 < length made.content.columns
+    → 0 < length (sides made.content)
     → GivesRecordsBack counted layout records output

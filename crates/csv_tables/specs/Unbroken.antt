@@ -1,7 +1,7 @@
 -- Columns and fields that aren't broken over lines: which they are, and where a width has room for
 -- them.
 -- Source: this library's own.
-use Rattle.std.specs.Prelude.{ℕ, ◌+◌, ◌-◌, Bool, ◌==◌, ◌&&◌, ◌||◌, true, false, List, [], ◌∷◌, Option, Some, None, chars, codes, length, map, max, min, nat_le, nat_lt, not, slice_index, sum_by, if◌then◌else◌}
+use Rattle.std.specs.Prelude.{ℕ, ◌+◌, ◌-◌, Bool, ◌==◌, ◌&&◌, ◌||◌, true, false, List, [], ◌∷◌, Option, Some, None, chars, codes, length, map, max, min, nat_le, nat_lt, slice_index, sum_by, if◌then◌else◌}
 use Rattle.std.specs.Char.{is_ascii_digit}
 use Rattle.std.specs.List.{list_all, list_any}
 use Rattle.comfy_parts.specs.CellValue.{CellValue, ColumnValue}
@@ -12,9 +12,6 @@ use Rattle.comfy_parts.specs.declared.style.table_style.TableStyle.{TableStyle}
 use Rattle.comfy_table.specs.Frame.{border_count}
 use Rattle.comfy_table.specs.TableValue.{TableValue, column_cells, max_content_widths}
 use Rattle.csv_records.specs.Number.{is_neutral, is_number}
-use Rattle.csv_tables.specs.Columns.{seen}
-use Rattle.csv_tables.specs.Summaries.{column_fields}
-use Rattle.csv_tables.specs.declared.options.DrawnColumn.{DrawnColumn}
 
 -- ---- which columns
 
@@ -28,23 +25,12 @@ is_unbroken field =
     nat_le (length (chars field)) 25
     && (list_all is_of_dates field || (is_number field || is_neutral field))
 
--- so is each field of a column, and there is one
-abbrev pub is_unbroken_column : List (List Text) → ℕ → Bool
-is_unbroken_column rows position =
-    not (length rows == 0) && list_all is_unbroken (column_fields rows position)
-
 -- ---- how wide they are
 
 -- the width of a line over columns of these contents: borders, contents and paddings
 abbrev pub framed_width : TableStyle → List ℕ → ℕ
 framed_width style contents =
     border_count style (length contents) + sum_by (λ content. 2 + content) contents
-
--- of each drawn column, whether all fields of the rows, as they are seen, are numbers or dates
-abbrev pub unbroken_columns : Bool → List DrawnColumn → List (List Text) → List Bool
-unbroken_columns keeps_sequences columns rows =
-    map (λ (column : DrawnColumn). is_unbroken_column
-    (map (seen keeps_sequences) rows) column.position) columns
 
 -- what a column needs of its content: all, or at most four terminal columns where it may be
 -- broken; at least one

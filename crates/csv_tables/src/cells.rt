@@ -1,45 +1,68 @@
 //! The cells and rows of records.
 
-ghost use Rattle.std.specs.Prelude.{◌≡◌, IfOk, false, max, option_map, string_bytes};
+ghost use Rattle.std.specs.Prelude.{◌≡◌, ◌++◌, IfOk, OnOk, Some, decimal, false, max, option_map, string_bytes};
 ghost use Rattle.std.specs.Cow.{cow_str_bytes};
 ghost use Rattle.std.specs.Option.{option_or};
-ghost use Rattle.csv_tables.specs.Decimals.{mark_in, spaced_fields};
-ghost use Rattle.csv_tables.specs.Cells.{cell_for, cells_for, cut, field_or_blank, field_text, header_for, is_blank, pair_for, unless_blank, with_weight};
+ghost use Rattle.csv_tables.specs.Cells.{cell_for, cells_for, cut, field_text, header_for, is_blank, number_name, pair_for, shown_cells, shown_fields, shown_number, text_in, unless_blank, with_weight};
 
-use crate::decimals::{mark_in, spaced};
+use crate::decimals::spaced;
 use crate::markdown::escaped;
 use crate::options::{DrawnColumn, Look};
 use comfy_parts::style::{Attribute, CellAlignment};
 use comfy_parts::{Cell, Cells, IntoRow, Result, Row};
-use csv_records::{Points, Record, cleaned};
+use csv_records::{Record, cleaned};
 use std::alloc::Global;
 use std::borrow::CowStr;
 
-/// The row of a record: a cell for each of these columns, blank where the record has no such field.
-/// The decimal marks are those that stand below each other, by position.
+/// The row of a record: its number, where it has one, and a cell for each of these columns, blank
+/// where the record has no such field. Decimal marks stand below each other, or not.
 pub fn row_of(
     alloc: Global,
+    number: Option<u128>,
     fields: &Record<'_>,
     columns: &[DrawnColumn],
-    marks: &[Option<Points>],
+    is_aligned: bool,
     look: &Look,
 ) -> Result<Row>
-    ensures { IfOk result (λ row. row ≡ cut look.now (cells_for look.now false columns.now
-        (spaced_fields look.now.has_sequences (mark_in marks.now) fields.now))) }
+    ensures { IfOk result (λ row. row ≡ cut look.now (cells_for look.now false
+        (shown_number (option_map decimal number)
+        ++ shown_fields look.now is_aligned columns.now fields.now))) }
 {
-    Ok(cut(cells_of(alloc, fields, columns, marks, look, false)?, look))
+    let capacity = columns.len() + usize::from(number.is_some());
+    let mut row = Cells(Vec::with_capacity(alloc, capacity)?).into_row(alloc)?;
+    if let Some(number) = number {
+        let number = format!(in alloc; "{number}")?;
+        add_number(alloc, &mut row, number.as_str(), look, false)?;
+    }
+    add_fields(alloc, &mut row, fields, columns, is_aligned, look, false)?;
+    Ok(cut(row, look))
 }
 
-/// The row of the header.
+/// The row of the header: what stands above the numbers, where there are any, and the names.
 pub fn header_of(
     alloc: Global,
-    fields: &Record<'_>,
+    is_numbered: bool,
+    names: &Record<'_>,
     columns: &[DrawnColumn],
     look: &Look,
 ) -> Result<Row>
-    ensures { IfOk result (λ row. row ≡ header_for look.now columns.now fields.now) }
+    ensures { IfOk result (λ row. row
+        ≡ header_for look.now is_numbered columns.now names.now) }
 {
-    cells_of(alloc, fields, columns, &[], look, look.has_bold_header)
+    let capacity = columns.len() + usize::from(is_numbered);
+    let mut row = Cells(Vec::with_capacity(alloc, capacity)?).into_row(alloc)?;
+    if is_numbered {
+        add_number(
+            alloc,
+            &mut row,
+            number_name(names),
+            look,
+            look.has_bold_header,
+        )?;
+    }
+    let is_bold = look.has_bold_header;
+    add_fields(alloc, &mut row, names, columns, false, look, is_bold)?;
+    Ok(row)
 }
 
 /// The row of one field of a record that is drawn as a table of its own: the name of the field's
@@ -65,39 +88,60 @@ fn cut(mut row: Row, look: &Look) -> Row
     row
 }
 
-// The row of a record, with bold cells or without.
-fn cells_of(
-    alloc: Global,
-    fields: &Record<'_>,
-    columns: &[DrawnColumn],
-    marks: &[Option<Points>],
-    look: &Look,
-    is_bold: bool,
-) -> Result<Row>
-    ensures { IfOk result (λ row. row ≡ cells_for look.now is_bold columns.now
-        (spaced_fields look.now.has_sequences (mark_in marks.now) fields.now)) }
+// What stands above the numbers.
+fn number_name(names: &Record<'_>) -> &'static str
+    ensures { result.now ≡ number_name names.now }
 {
-    let mut row = Cells(Vec::with_capacity(alloc, columns.len())?).into_row(alloc)?;
-    for column in columns {
-        let field = spaced_field(alloc, fields, column.position, marks, look.has_sequences)?;
-        row.try_add_cell(cell_of(alloc, field.as_str(), column.alignment, look, is_bold)?)?;
-    }
-    Ok(row)
+    if names.len() == 0 { "" } else { "#" }
 }
 
-// The field at a position, with the spaces that it needs by the mark of its column.
-fn spaced_field<'a>(
+// Appends the cell of a number, or of `#` above the numbers.
+fn add_number(alloc: Global, row: &mut Row, text: &str, look: &Look, is_bold: bool) -> Result<()>
+    ensures { OnOk result (row.new ≡ record row.old {
+      cells = row.old.cells ++ shown_cells look.now is_bold (shown_number (Some text.now));
+    }) }
+{
+    let alignment = Some(CellAlignment::Right);
+    row.try_add_cell(cell_of(alloc, text, alignment, look, is_bold)?)?;
+    Ok(())
+}
+
+// Appends the cells of fields, in bold or not.
+fn add_fields(
+    alloc: Global,
+    row: &mut Row,
+    fields: &Record<'_>,
+    columns: &[DrawnColumn],
+    is_aligned: bool,
+    look: &Look,
+    is_bold: bool,
+) -> Result<()>
+    ensures { OnOk result (row.new ≡ record row.old {
+      cells = row.old.cells ++ shown_cells look.now is_bold
+          (shown_fields look.now is_aligned columns.now fields.now);
+    }) }
+{
+    for column in columns {
+        let field = text_in(alloc, fields, column, is_aligned, look)?;
+        row.try_add_cell(cell_of(alloc, field.as_str(), column.alignment, look, is_bold)?)?;
+    }
+    Ok(())
+}
+
+// The field of a column, with the spaces that it needs where marks stand below each other.
+fn text_in<'a>(
     alloc: Global,
     fields: &Record<'a>,
-    position: usize,
-    marks: &[Option<Points>],
-    has_sequences: bool,
+    column: &DrawnColumn,
+    is_aligned: bool,
+    look: &Look,
 ) -> Result<CowStr<'a>>
-    ensures { IfOk result (λ field. cow_str_bytes field ≡ field_or_blank
-        (spaced_fields has_sequences (mark_in marks.now) fields.now) position) }
+    ensures { IfOk result (λ text. cow_str_bytes text
+        ≡ text_in look.now is_aligned column.now fields.now) }
 {
-    let field = fields.get(position).unwrap_or("");
-    Ok(spaced(alloc, field, mark_in(marks, position), has_sequences)?)
+    let field = fields.get(column.position).unwrap_or("");
+    let points = if is_aligned { column.points } else { None };
+    Ok(spaced(alloc, field, points, look.has_sequences)?)
 }
 
 // The cell of a field, in bold or not.

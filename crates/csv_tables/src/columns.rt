@@ -4,54 +4,70 @@ ghost use Rattle.std.specs.Prelude.{◌≡◌, IfOk, map, string_bytes};
 ghost use Rattle.std.specs.Cow.{cow_str_bytes};
 ghost use Rattle.comfy_parts.specs.VisibleText.{visible_text};
 ghost use Rattle.csv_records.specs.Cleaning.{visible_of};
-ghost use Rattle.csv_tables.specs.Cells.{field_or_blank};
-ghost use Rattle.csv_tables.specs.Columns.{alignment_for, column_kind, drawn_columns, joined_kind, kind_of, name_from, seen};
+ghost use Rattle.csv_tables.specs.Fields.{field_or_blank};
+ghost use Rattle.csv_tables.specs.Columns.{alignment_for, column_at, drawn_columns, name_at, points_at, seen};
 
+use crate::markdown::is_right;
 use crate::options::DrawnColumn;
-use crate::summary::{Summary, summaries_of, summary_at};
+use crate::selection::Columns;
+use crate::summary::{ColumnSummary, FieldKind, summaries_of, summary_at};
 use comfy_parts::content_split::visible_text;
 use comfy_parts::style::CellAlignment;
-use csv_records::{Record, Rows, is_neutral, is_number};
+use csv_records::{ColumnMarks, Points, Record, Rows};
 use std::alloc::{AllocError, Global};
 use std::borrow::CowStr;
 
-/// The columns at these positions, each with its alignment.
+/// The columns at these positions, each with what its fields say of it.
 pub(crate) fn drawn_columns(
     alloc: Global,
-    positions: &[usize],
-    right: &[usize],
-    left: &[usize],
+    columns: &Columns,
     rows: &Rows<'_>,
     has_sequences: bool,
 ) -> Result<Vec<DrawnColumn>, AllocError>
-    ensures { IfOk result (λ columns. columns.items
-        ≡ drawn_columns right.now left.now (map (seen has_sequences) rows.now) positions.now) }
+    ensures { IfOk result (λ drawn. drawn.items
+        ≡ drawn_columns columns.now (map (seen has_sequences) rows.now)) }
 {
-    let kinds = summaries_of::<FieldKind>(alloc, rows, has_sequences)?;
-    let mut columns = Vec::with_capacity(alloc, positions.len())?;
-    for position in positions {
-        let has_numbers = matches!(summary_at(kinds.as_slice(), *position), FieldKind::Number);
-        columns.push(DrawnColumn {
-            position: *position,
-            alignment: alignment_of(*position, right, left, has_numbers),
-        })?;
+    let summaries = summaries_of(alloc, rows, has_sequences)?;
+    let mut drawn = Vec::with_capacity(alloc, columns.drawn().len())?;
+    for position in columns.drawn() {
+        let summary = summary_at(summaries.as_slice(), *position);
+        drawn.push(drawn_column(*position, columns, summary))?;
     }
-    Ok(columns)
+    Ok(drawn)
 }
 
-/// The name of the column at a position, or its number where there is no header and the first
-/// column has this one.
-pub fn name_from(
-    alloc: Global,
-    first: usize,
-    names: &Record<'_>,
-    position: usize,
-) -> Result<String, AllocError>
-    ensures { IfOk result (λ name. string_bytes name ≡ name_from first names.now position) }
+// The column at a position.
+fn drawn_column(position: usize, columns: &Columns, summary: ColumnSummary) -> DrawnColumn
+    ensures { result ≡ column_at columns.now summary position }
+{
+    let has_numbers = matches!(summary.kind, FieldKind::Number);
+    let alignment = alignment_of(position, columns.right(), columns.left(), has_numbers);
+    DrawnColumn {
+        position,
+        alignment,
+        points: points_at(alignment, summary.marks),
+        is_unbroken: summary.are_unbroken,
+    }
+}
+
+// The decimal mark of a column of this alignment.
+fn points_at(alignment: Option<CellAlignment>, marks: Option<ColumnMarks>) -> Option<Points>
+    ensures { result ≡ points_at alignment marks }
+{
+    if is_right(alignment) {
+        marks?.points()
+    } else {
+        None
+    }
+}
+
+/// The name of the column at a position, or its number, counted from 1, where it has none.
+pub fn name_at(alloc: Global, names: &Record<'_>, position: usize) -> Result<String, AllocError>
+    ensures { IfOk result (λ name. string_bytes name ≡ name_at names.now position) }
 {
     match names.get(position) {
         Some(name) => String::from_str(alloc, name),
-        None => format!(in alloc; "{}", position as u128 + first as u128),
+        None => format!(in alloc; "{}", position as u128 + 1),
     }
 }
 
@@ -72,42 +88,6 @@ fn alignment_of(
         Some(CellAlignment::Right)
     } else {
         None
-    }
-}
-
-// What two fields say of one column.
-fn joined_kind(one: FieldKind, other: FieldKind) -> FieldKind
-    ensures { result ≡ joined_kind one other }
-{
-    match (one, other) {
-        (FieldKind::Other, _) | (_, FieldKind::Other) => FieldKind::Other,
-        (FieldKind::Number, _) | (_, FieldKind::Number) => FieldKind::Number,
-        _ => FieldKind::Neutral,
-    }
-}
-
-// What a field says of its column.
-#[derive(Clone, Copy)]
-enum FieldKind {
-    Number,
-    // nothing, or a word for a missing value
-    Neutral,
-    Other,
-}
-
-impl Summary for FieldKind {
-    ghost summary_of = { column_kind };
-
-    fn new() -> FieldKind {
-        FieldKind::Neutral
-    }
-
-    fn with(self, field: &str) -> FieldKind {
-        joined_kind(self, kind_of(field))
-    }
-
-    fn is_settled(self) -> bool {
-        matches!(self, FieldKind::Other)
     }
 }
 
@@ -146,20 +126,5 @@ fn without_sequences(alloc: Global, field: &str) -> Result<String, AllocError>
     match visible_text(alloc, field) {
         Ok(text) => Ok(text),
         Err(_) => Err(AllocError),
-    }
-}
-
-fn kind_of(field: &str) -> FieldKind
-    ensures { result ≡ kind_of field.now }
-{
-    // Many fields are empty, and are seen to be neutral faster so.
-    if field.is_empty() {
-        FieldKind::Neutral
-    } else if is_number(field) {
-        FieldKind::Number
-    } else if is_neutral(field) {
-        FieldKind::Neutral
-    } else {
-        FieldKind::Other
     }
 }

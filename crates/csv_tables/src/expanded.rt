@@ -4,9 +4,9 @@ ghost use Rattle.std.specs.Prelude.{◌≡◌, ◌+◌, ◌++◌, IfOk, OnOk, st
 ghost use Rattle.comfy_table.specs.Drawing.{terminated_text_of};
 ghost use Rattle.csv_tables.specs.Drawn.{is_expanded_in, record_line, separators_in, some_lines, table_text};
 
-use crate::content::Content;
 use crate::options::{Expansion, RowSeparators};
 use crate::output::push_count;
+use crate::selected::SelectedRecords;
 use comfy_table::{ArrangedTable, Result, TableError};
 use std::fmt::Write;
 
@@ -33,14 +33,17 @@ pub(crate) fn between_fields(separators: RowSeparators) -> RowSeparators
 }
 
 /// The expanded records of an arranged table, each below a line that numbers it.
-pub(crate) fn records_text(content: &Content, arranged: &ArrangedTable<'_>) -> Result<String>
-    ensures { IfOk result (λ text. string_bytes text ≡ table_text true content.now arranged.now) }
+pub(crate) fn records_text(
+    selected: &SelectedRecords,
+    arranged: &ArrangedTable<'_>,
+) -> Result<String>
+    ensures { IfOk result (λ text. string_bytes text ≡ table_text true selected.now arranged.now) }
 {
-    let mut text = String::new(content.alloc);
+    let mut text = String::new(selected.alloc);
     let mut first = 0usize;
-    for (at, row) in content.rows().enumerate() {
-        let count = content.drawn_fields(&row);
-        push_record_line(&mut text, at, content.count())?;
+    for (at, row) in selected.rows().enumerate() {
+        let count = selected.drawn_fields(&row);
+        push_record_line(&mut text, at, selected.count())?;
         push_record_rows(&mut text, arranged, first, count)?;
         first = place_behind(first, count)?;
     }

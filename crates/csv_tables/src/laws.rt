@@ -3,18 +3,21 @@
 
 ghost use Rattle.std.specs.Prelude.{Bool, List, Option, ℕ};
 ghost use Rattle.comfy_parts.specs.Text.{Text};
-ghost use Rattle.csv_tables.specs.Drawn.{ContentValue};
+ghost use Rattle.csv_tables.specs.Drawn.{SelectedValue};
 ghost use Rattle.csv_tables.specs.Laws.{AutoKeepsWhole, ExpandedKeepsWhole, FittingOutputIsStraight, MarkdownOutputIsStraight, MarksStandBelow, NarrowOutputIsStraight, NeverKeepsWhole, OutputHoldsNoControls, OutputIsOne, SpacesAloneAreAdded, WholeOutputIsStraight};
 ghost use Rattle.csv_tables.specs.Markdown.{IsReadBack};
 ghost use Rattle.csv_tables.specs.MarkdownLines.{MarkdownGivesRecordsBack};
 ghost use Rattle.csv_tables.specs.declared.options.Look.{Look};
 ghost use Rattle.csv_tables.specs.declared.options.Layout.{Layout};
+ghost use Rattle.csv_tables.specs.declared.options.DrawnColumn.{DrawnColumn};
 
-/// Decimal marks stand below each other, by spaces alone. The table of rows has the fields of its
-/// records with nothing but spaces behind them. In a column with a decimal mark the fraction of
-/// each field is as long with its spaces, so all marks are as far from the right side.
+/// Decimal marks stand below each other, by spaces alone. A column shows the fields of records with
+/// nothing but spaces behind them. In a column with a decimal mark the fraction of each field is as
+/// long with its spaces, so all marks are as far from the right side.
 pub fn decimal_marks_stand_below_each_other()
-    ensures spaces { (look : Look) (content : ContentValue) → SpacesAloneAreAdded look content }
+    ensures spaces { (look : Look) (is_aligned : Bool) (column : DrawnColumn)
+        (fields : List Text)
+        → SpacesAloneAreAdded look is_aligned column fields }
     ensures marks { (fields : List Text) → MarksStandBelow fields }
 {}
 
@@ -26,10 +29,10 @@ pub fn decimal_marks_stand_below_each_other()
 /// Where records are expanded, a number or a date in a field is broken only where it is wider than
 /// the width leaves beside borders, paddings and at most four terminal columns of the names.
 pub fn auto_keeps_numbers_and_dates_whole()
-    ensures auto { (w : ℕ) (look : Look) (content : ContentValue) → AutoKeepsWhole w look content }
-    ensures never { (w : ℕ) (look : Look) (content : ContentValue)
+    ensures auto { (w : ℕ) (look : Look) (content : SelectedValue) → AutoKeepsWhole w look content }
+    ensures never { (w : ℕ) (look : Look) (content : SelectedValue)
         → NeverKeepsWhole w look content }
-    ensures expanded { (w : ℕ) (look : Look) (content : ContentValue)
+    ensures expanded { (w : ℕ) (look : Look) (content : SelectedValue)
         → ExpandedKeepsWhole w look content }
 {}
 

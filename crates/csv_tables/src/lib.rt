@@ -4,7 +4,6 @@
 
 mod cells;
 mod columns;
-mod content;
 mod decimals;
 mod expanded;
 pub mod laws;
@@ -12,13 +11,14 @@ mod markdown;
 mod options;
 mod output;
 mod references;
+mod selected;
 mod selection;
 mod separators;
 mod summary;
 mod table;
 mod unbroken;
 
-pub use columns::name_from;
+pub use columns::name_at;
 pub use markdown::escaped;
 pub use options::{DrawnColumn, Expansion, Layout, Look, RowSeparators};
 pub use output::{output_of_records, text_of_records};

@@ -5,7 +5,6 @@ ghost use Rattle.std.specs.List.{list_any};
 ghost use Rattle.std.specs.Str.{encode_utf8_all};
 ghost use Rattle.csv_tables.specs.Markdown.{begins_markup, ends_word, escaped, escaped_character, is_in_address, is_in_word, is_mark, is_marked_at, is_paired, is_right, is_space, is_special, is_word_marked, rule_line, rule_part};
 
-use crate::options::DrawnColumn;
 use crate::references::begins_reference;
 use comfy_parts::style::CellAlignment;
 use csv_records::split_first;
@@ -38,32 +37,32 @@ pub fn escaped(alloc: Global, text: &str) -> Result<String, AllocError>
 /// columns.
 pub fn push_rule(
     text: &mut String,
-    columns: &[DrawnColumn],
+    sides: &[Option<CellAlignment>],
     widths: &[u16],
 ) -> Result<(), AllocError>
     ensures { OnOk result (string_bytes text.new
-        ≡ string_bytes text.old ++ (rule_line columns.now widths.now ++ 0x0A ∷ [])) }
+        ≡ string_bytes text.old ++ (rule_line sides.now widths.now ++ 0x0A ∷ [])) }
 {
     text.push('|')?;
-    for (column, width) in columns.iter().zip(widths) {
-        push_rule_segment(text, column, *width)?;
+    for (side, width) in sides.iter().zip(widths) {
+        push_rule_segment(text, *side, *width)?;
     }
     text.push('\n')
 }
 
-// What a column of this width adds to the line.
-fn push_rule_segment(text: &mut String, column: &DrawnColumn, width: u16) -> Result<(), AllocError>
+// What a column of this alignment and width adds to the line.
+fn push_rule_segment(
+    text: &mut String,
+    side: Option<CellAlignment>,
+    width: u16,
+) -> Result<(), AllocError>
     ensures { OnOk result (string_bytes text.new
-        ≡ string_bytes text.old ++ rule_part (column.now, width)) }
+        ≡ string_bytes text.old ++ rule_part (side, width)) }
 {
     for _ in 0..usize::from(width) + 1 {
         text.push('-')?;
     }
-    text.push_str(if is_right(column.alignment) {
-        ":|"
-    } else {
-        "-|"
-    })
+    text.push_str(if is_right(side) { ":|" } else { "-|" })
 }
 
 /// Whether cells of this alignment stand at the right.

@@ -2,6 +2,7 @@
 
 use crate::selection::{Columns, Selection};
 use comfy_parts::style::{CellAlignment, TableStyle};
+use csv_records::Points;
 
 /// Which records and columns are drawn, and how.
 #[derive(Debug)]
@@ -82,4 +83,8 @@ pub struct DrawnColumn {
     pub position: usize,
     /// The alignment of its cells, where it isn't that of the table.
     pub alignment: Option<CellAlignment>,
+    /// The decimal mark of its fields, where these stand at the right and have one.
+    pub points: Option<Points>,
+    /// Whether its fields are numbers and dates alone, which aren't broken.
+    pub is_unbroken: bool,
 }

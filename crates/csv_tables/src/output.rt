@@ -1,15 +1,15 @@
 //! The text that is written for some records.
 
-ghost use Rattle.std.specs.Prelude.{◌≡◌, ◌∷◌, ◌++◌, IfOk, OnOk, false, map, string_bytes, true};
+ghost use Rattle.std.specs.Prelude.{◌≡◌, ◌∷◌, ◌++◌, IfOk, OnOk, false, string_bytes, true};
 ghost use Rattle.csv_tables.specs.Markdown.{rule_line};
-ghost use Rattle.csv_tables.specs.Drawn.{RendersAnyRecords, RendersAsMarkdown, RendersAsTable, RendersContent, RendersRecords, RendersTable, are_more, count_text, fitting_content, has_room_for, note_for, output_table, rows_table, unbroken_in};
+ghost use Rattle.csv_tables.specs.Drawn.{RendersAnyRecords, RendersAsMarkdown, RendersAsTable, RendersContent, RendersRecords, RendersTable, are_more, count_text, has_room_for, is_aligned_in, note_for, output_table, rows_table, sides, unbroken_in};
 ghost use Rattle.csv_tables.specs.Unbroken.{kept_unbroken};
 
-use crate::content::Content;
-use crate::decimals::{has_marks, marks_of};
+use crate::decimals::has_points;
 use crate::expanded::{between_fields, is_expanded, records_text};
 use crate::markdown::push_rule;
 use crate::options::{Expansion, Layout, Look};
+use crate::selected::SelectedRecords;
 use crate::separators::separate_rows;
 use crate::unbroken::{keep_unbroken, keep_unbroken_fields};
 use comfy_table::{Result, Table};
@@ -28,8 +28,8 @@ pub fn text_of_records(
     ensures { IfOk result (λ output.
         RendersRecords count layout.now records (string_bytes output)) }
 {
-    let content = Content::new(alloc, records, count, layout)?;
-    let mut output = drawn_text(content, &layout.look)?;
+    let selected = SelectedRecords::new(alloc, records, count, layout)?;
+    let mut output = drawn_text(selected, &layout.look)?;
     push_note(
         &mut output,
         layout.look.is_markdown,
@@ -52,109 +52,113 @@ pub fn output_of_records(alloc: Global, records: Records, layout: &Layout) -> Re
     text_of_records(alloc, records, Some(below), layout)
 }
 
-fn drawn_text(content: Content, look: &Look) -> Result<String>
-    ensures { IfOk result (λ text. RendersContent look.now.is_markdown look.now content
+fn drawn_text(selected: SelectedRecords, look: &Look) -> Result<String>
+    ensures { IfOk result (λ text. RendersContent look.now.is_markdown look.now selected
         (string_bytes text)) }
 {
     if look.is_markdown {
-        markdown_text(content, look)
+        markdown_text(selected, look)
     } else {
-        table_text(content, look)
+        table_text(selected, look)
     }
 }
 
 // The text of a table of rows, or of expanded records.
-fn table_text(content: Content, look: &Look) -> Result<String>
-    ensures { IfOk result (λ text. RendersAsTable look.now content (string_bytes text)) }
+fn table_text(selected: SelectedRecords, look: &Look) -> Result<String>
+    ensures { IfOk result (λ text. RendersAsTable look.now selected (string_bytes text)) }
 {
     // The table of rows isn't needed to see this.
     if look.expansion == Expansion::Always {
-        return expanded_text(content, look);
+        return expanded_text(selected, look);
     }
-    let (table, has_room) = fitting_table(&content, look)?;
-    if is_expanded(look.expansion, content.rows().is_empty() || has_room) {
+    let (table, has_room) = fitting_table(&selected, look)?;
+    if is_expanded(look.expansion, selected.rows().is_empty() || has_room) {
         drop(table);
-        return expanded_text(content, look);
+        return expanded_text(selected, look);
     }
-    rows_text(content, table, look)
+    rows_text(selected, table, look)
 }
 
 // The table of rows, with decimal points below each other where there is room for that, and whether
 // there is room for the table.
-fn fitting_table(content: &Content, look: &Look) -> Result<(Table, bool)>
-    ensures table { IfOk result (λ x. x.0 ≡ output_table false look.now content.now) }
+fn fitting_table(selected: &SelectedRecords, look: &Look) -> Result<(Table, bool)>
+    ensures table { IfOk result (λ x. x.0 ≡ output_table false look.now selected.now) }
     ensures has_room { IfOk result (λ x. x.1
-        ≡ has_room_for look.now content.now (fitting_content look.now content.now)) }
+        ≡ has_room_for look.now selected.now (is_aligned_in look.now selected.now)) }
 {
-    let marks = marks_of(content, look)?;
-    let marks = marks.as_slice();
-    let mut table = content.spaced_table(marks, look)?;
-    let has_room = keep_unbroken(&mut table, content, look)?;
-    if has_room || !has_marks(marks) {
-        return Ok((table, has_room));
+    if look.aligns_decimals && has_points(selected.columns.as_slice()) {
+        let (table, has_room) = unbroken_table(selected, true, look)?;
+        if has_room {
+            return Ok((table, true));
+        }
+        drop(table);
     }
-    drop(table);
-    plain_table(content, look)
+    unbroken_table(selected, false, look)
 }
 
-// The table of rows without spaces for decimal points, and whether there is room for it.
-fn plain_table(content: &Content, look: &Look) -> Result<(Table, bool)>
+// The table of rows, with decimal points below each other or not, and whether there is room for it.
+fn unbroken_table(
+    selected: &SelectedRecords,
+    is_aligned: bool,
+    look: &Look,
+) -> Result<(Table, bool)>
     ensures table { IfOk result (λ x. x.0 ≡ kept_unbroken look.now.width
-        (unbroken_in look.now content.now) (rows_table look.now content.now)) }
-    ensures has_room { IfOk result (λ x. x.1 ≡ has_room_for look.now content.now content.now) }
+        (unbroken_in selected.now) (rows_table look.now is_aligned selected.now)) }
+    ensures has_room { IfOk result (λ x. x.1 ≡ has_room_for look.now selected.now is_aligned) }
 {
-    let mut table = content.rows_table(look)?;
-    let has_room = keep_unbroken(&mut table, content, look)?;
+    let mut table = selected.rows_table(is_aligned, look)?;
+    let has_room = keep_unbroken(&mut table, selected, look)?;
     Ok((table, has_room))
 }
 
 // The text of this table of rows.
-fn rows_text(content: Content, mut table: Table, look: &Look) -> Result<String>
-    requires { table ≡ output_table false look.now content }
-    ensures { IfOk result (λ text. RendersTable false look.now content (string_bytes text)) }
+fn rows_text(selected: SelectedRecords, mut table: Table, look: &Look) -> Result<String>
+    requires { table ≡ output_table false look.now selected }
+    ensures { IfOk result (λ text. RendersTable false look.now selected (string_bytes text)) }
 {
     separate_rows(&mut table, look.separators)?;
-    let mut text = String::new(content.alloc);
+    let mut text = String::new(selected.alloc);
     // The table has all that is drawn, and the text needs as much memory as the records gave.
-    drop(content);
+    drop(selected);
     let arranged = table.arranged()?;
     arranged.push_rows(&mut text, 0, table.row_count())?;
     Ok(text)
 }
 
 // The text of expanded records.
-fn expanded_text(content: Content, look: &Look) -> Result<String>
-    ensures { IfOk result (λ text. RendersTable true look.now content (string_bytes text)) }
+fn expanded_text(selected: SelectedRecords, look: &Look) -> Result<String>
+    ensures { IfOk result (λ text. RendersTable true look.now selected (string_bytes text)) }
 {
-    let mut table = content.pairs_table(look)?;
+    let mut table = selected.pairs_table(look)?;
     keep_unbroken_fields(&mut table, look.width)?;
     separate_rows(&mut table, between_fields(look.separators))?;
     let arranged = table.arranged()?;
-    Ok(records_text(&content, &arranged)?)
+    Ok(records_text(&selected, &arranged)?)
 }
 
 // The text of a table for Markdown.
-fn markdown_text(content: Content, look: &Look) -> Result<String>
-    ensures { IfOk result (λ text. RendersAsMarkdown look.now content (string_bytes text)) }
+fn markdown_text(selected: SelectedRecords, look: &Look) -> Result<String>
+    ensures { IfOk result (λ text. RendersAsMarkdown look.now selected (string_bytes text)) }
 {
-    let table = content.markdown_table(look)?;
+    let table = selected.markdown_table(look)?;
     let widths = table.column_max_content_widths()?;
     let drawing = table.to_terminated_text()?;
     match drawing.split_once('\n') {
-        Some((header, rows)) => Ok(with_rule(&content, header, widths.as_slice(), rows)?),
-        None => Ok(String::new(content.alloc)),
+        Some((header, rows)) => Ok(with_rule(&selected, header, widths.as_slice(), rows)?),
+        None => Ok(String::new(selected.alloc)),
     }
 }
 
 // The header's line, the line below it for columns of these widths, and the lines of the rows.
-fn with_rule(content: &Content, header: &str, widths: &[u16], rows: &str) -> Result<String>
+fn with_rule(selected: &SelectedRecords, header: &str, widths: &[u16], rows: &str) -> Result<String>
     ensures { IfOk result (λ text. string_bytes text
-        ≡ header.now ++ 0x0A ∷ (rule_line content.now.columns widths.now ++ 0x0A ∷ rows.now)) }
+        ≡ header.now ++ 0x0A ∷ (rule_line (sides selected.now) widths.now ++ 0x0A ∷ rows.now)) }
 {
-    let mut text = String::new(content.alloc);
+    let mut text = String::new(selected.alloc);
     text.push_str(header)?;
     text.push('\n')?;
-    push_rule(&mut text, content.columns.as_slice(), widths)?;
+    let sides = selected.sides()?;
+    push_rule(&mut text, sides.as_slice(), widths)?;
     text.push_str(rows)?;
     Ok(text)
 }

@@ -3,41 +3,81 @@
 ghost use Rattle.std.specs.Prelude.{◌≡◌, ◌<◌, ◌==◌, ◌++◌, ◌∷◌, ℕ, List, [], IfOk, OnOk, if◌then◌else◌, length, map, true};
 ghost use Rattle.std.specs.List.{slice_index_or};
 ghost use Rattle.csv_tables.specs.Columns.{seen};
-ghost use Rattle.csv_tables.specs.Summaries.{AreSummaries};
+ghost use Rattle.csv_tables.specs.Kinds.{is_other_kind, joined_kind, kind_of};
+ghost use Rattle.csv_tables.specs.Unbroken.{is_unbroken};
+ghost use Rattle.csv_tables.specs.declared.summary.FieldKind.TheVariants.{Other};
+ghost use Rattle.csv_tables.specs.Decimals.{narrow_marks};
+ghost use Rattle.csv_tables.specs.Summaries.{AreSummaries, summary_of};
 
 use crate::columns::seen_field;
-use csv_records::{Record, Rows};
+use crate::decimals::is_narrow;
+use crate::unbroken::{is_short, is_unbroken};
+use csv_records::{ColumnMarks, Record, Rows, is_neutral, is_number};
 use std::alloc::{AllocError, Global};
 
 /// What fields of one column say together.
-pub(crate) trait Summary: Copy {
-    // what these fields say
-    ghost summary_of: { List (List ℕ) → Self };
+#[derive(Clone, Copy)]
+pub(crate) struct ColumnSummary {
+    /// Whether they are numbers.
+    pub(crate) kind: FieldKind,
+    /// Their decimal marks, where each of them is narrow, and a number or neutral.
+    pub(crate) marks: Option<ColumnMarks>,
+    /// Whether each of them is a number or a date, which isn't broken.
+    pub(crate) are_unbroken: bool,
+}
 
-    /// What no field says.
-    fn new() -> Self
-        ensures { result ≡ summary_of [] };
+/// What a field says of its column.
+#[derive(Clone, Copy)]
+pub(crate) enum FieldKind {
+    Number,
+    // nothing, or a word for a missing value
+    Neutral,
+    Other,
+}
 
-    /// What they say with one field more.
-    fn with(self, field: &str) -> Self
+impl ColumnSummary {
+    // What no field says.
+    fn new() -> ColumnSummary
+        ensures { result ≡ summary_of [] }
+    {
+        ColumnSummary {
+            kind: FieldKind::Neutral,
+            marks: Some(ColumnMarks::new()),
+            are_unbroken: true,
+        }
+    }
+
+    // What they say with one field more.
+    fn with(self, field: &str) -> ColumnSummary
         ensures { (fields : List (List ℕ)) → self ≡ summary_of fields
-            → result ≡ summary_of (fields ++ field.now ∷ []) };
+            → result ≡ summary_of (fields ++ field.now ∷ []) }
+    {
+        let kind = kind_beside(self.kind, field);
+        ColumnSummary {
+            kind: joined_kind(self.kind, kind),
+            marks: marks_with(self.marks, field),
+            are_unbroken: self.are_unbroken && is_unbroken_of(kind, field),
+        }
+    }
 
-    /// Whether no further field changes that.
+    // Whether no further field changes that.
     fn is_settled(self) -> bool
         ensures { result ≡ true → (fields : List (List ℕ)) → self ≡ summary_of fields
-            → (field : List ℕ) → self ≡ summary_of (fields ++ field ∷ []) };
+            → (field : List ℕ) → self ≡ summary_of (fields ++ field ∷ []) }
+    {
+        matches!(self.kind, FieldKind::Other) && self.marks.is_none() && !self.are_unbroken
+    }
 }
 
 /// What the fields of each column say as they are seen, by its position. Each record is looked at
 /// up to its last field, since most may have few of the columns.
-pub(crate) fn summaries_of<S: Summary>(
+pub(crate) fn summaries_of(
     alloc: Global,
     rows: &Rows<'_>,
     has_sequences: bool,
-) -> Result<Vec<S>, AllocError>
+) -> Result<Vec<ColumnSummary>, AllocError>
     ensures { IfOk result (λ summaries.
-        AreSummaries S.summary_of (map (seen has_sequences) rows.now) summaries.items) }
+        AreSummaries (map (seen has_sequences) rows.now) summaries.items) }
 {
     let mut summaries = Vec::new(alloc);
     for row in rows.iter() {
@@ -47,62 +87,123 @@ pub(crate) fn summaries_of<S: Summary>(
 }
 
 // Adds what the fields of a record say of their columns.
-fn add_record<S: Summary>(
+fn add_record(
     alloc: Global,
-    summaries: &mut Vec<S>,
+    summaries: &mut Vec<ColumnSummary>,
     row: &Record<'_>,
     has_sequences: bool,
 ) -> Result<(), AllocError>
     ensures { OnOk result ((rows : List (List (List ℕ)))
-        → AreSummaries S.summary_of rows summaries.old.items
-        → AreSummaries S.summary_of (rows ++ seen has_sequences row.now ∷ [])
-        summaries.new.items) }
+        → AreSummaries rows summaries.old.items
+        → AreSummaries (rows ++ seen has_sequences row.now ∷ []) summaries.new.items) }
 {
     for position in 0..row.len() {
         let known = summary_at(summaries.as_slice(), position);
         if !known.is_settled() {
             let field = seen_field(alloc, position, row, has_sequences)?;
-            put_at(summaries, position, known.with(field.as_str()), S::new())?;
+            put_at(summaries, position, known.with(field.as_str()))?;
         }
     }
     Ok(())
 }
 
 /// What the fields of the column at a position say.
-pub(crate) fn summary_at<S: Summary>(summaries: &[S], position: usize) -> S
-    ensures { result ≡ slice_index_or summaries.now position (S.summary_of []) }
+pub(crate) fn summary_at(summaries: &[ColumnSummary], position: usize) -> ColumnSummary
+    ensures { result ≡ slice_index_or summaries.now position (summary_of []) }
 {
     match summaries.get(position) {
         Some(summary) => *summary,
-        None => S::new(),
+        None => ColumnSummary::new(),
     }
 }
 
-/// Puts an item at a position of a list, which has this other item at each position behind its end.
-pub(crate) fn put_at<T: Copy>(
-    list: &mut Vec<T>,
+// Puts a summary at a position of a list, whose positions behind its end have that of no field.
+fn put_at(
+    summaries: &mut Vec<ColumnSummary>,
     position: usize,
-    item: T,
-    other: T,
+    summary: ColumnSummary,
 ) -> Result<(), AllocError>
-    ensures { OnOk result ((at : ℕ) → slice_index_or list.new.items at other
-        ≡ if position == at then item else slice_index_or list.old.items at other) }
+    ensures { OnOk result ((at : ℕ) → slice_index_or summaries.new.items at (summary_of [])
+        ≡ if position == at then summary
+        else slice_index_or summaries.old.items at (summary_of [])) }
 {
-    widen(list, position, other)?;
-    if let Some(place) = list.get_mut(position) {
-        *place = item;
+    widen(summaries, position)?;
+    if let Some(place) = summaries.get_mut(position) {
+        *place = summary;
     }
     Ok(())
 }
 
-// Lets a list have an item at a position.
-fn widen<T: Copy>(list: &mut Vec<T>, position: usize, other: T) -> Result<(), AllocError>
-    ensures long { OnOk result (position < length list.new.items) }
-    ensures same { OnOk result ((at : ℕ) → slice_index_or list.new.items at other
-        ≡ slice_index_or list.old.items at other) }
+// Lets a list have a summary at a position.
+fn widen(summaries: &mut Vec<ColumnSummary>, position: usize) -> Result<(), AllocError>
+    ensures long { OnOk result (position < length summaries.new.items) }
+    ensures same { OnOk result ((at : ℕ) → slice_index_or summaries.new.items at (summary_of [])
+        ≡ slice_index_or summaries.old.items at (summary_of [])) }
 {
-    while list.len() <= position {
-        list.push(other)?;
+    while summaries.len() <= position {
+        summaries.push(ColumnSummary::new())?;
     }
     Ok(())
+}
+
+// ---- one field more
+
+// What a field says of its column, where it may change what fields before it say.
+fn kind_beside(kind: FieldKind, field: &str) -> FieldKind
+    ensures { result ≡ if is_other_kind kind then Other else kind_of field.now }
+{
+    match kind {
+        FieldKind::Other => FieldKind::Other,
+        _ => kind_of(field),
+    }
+}
+
+// Whether a field isn't broken, where a number or a neutral one is known to be that.
+fn is_unbroken_of(kind: FieldKind, field: &str) -> bool
+    ensures other { is_other_kind kind ≡ true → result ≡ is_unbroken field.now }
+    ensures known { kind ≡ kind_of field.now → result ≡ is_unbroken field.now }
+{
+    match kind {
+        FieldKind::Other => is_unbroken(field),
+        _ => is_short(field),
+    }
+}
+
+// What two fields say of one column.
+fn joined_kind(one: FieldKind, other: FieldKind) -> FieldKind
+    ensures { result ≡ joined_kind one other }
+{
+    match (one, other) {
+        (FieldKind::Other, _) | (_, FieldKind::Other) => FieldKind::Other,
+        (FieldKind::Number, _) | (_, FieldKind::Number) => FieldKind::Number,
+        _ => FieldKind::Neutral,
+    }
+}
+
+fn kind_of(field: &str) -> FieldKind
+    ensures { result ≡ kind_of field.now }
+{
+    // Many fields are empty, and are seen to be neutral faster so.
+    if field.is_empty() {
+        FieldKind::Neutral
+    } else if is_number(field) {
+        FieldKind::Number
+    } else if is_neutral(field) {
+        FieldKind::Neutral
+    } else {
+        FieldKind::Other
+    }
+}
+
+// The decimal marks of narrow fields that are numbers or neutral, with one more.
+fn marks_with(marks: Option<ColumnMarks>, field: &str) -> Option<ColumnMarks>
+    ensures { (fields : List (List ℕ)) → marks ≡ narrow_marks fields
+        → result ≡ narrow_marks (fields ++ field.now ∷ []) }
+{
+    let marks = marks?.with(field);
+    if marks.are_plain && is_narrow(field) {
+        Some(marks)
+    } else {
+        None
+    }
 }

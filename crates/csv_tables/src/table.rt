@@ -1,17 +1,17 @@
 //! The tables of some records.
 
-ghost use Rattle.std.specs.Prelude.{◌≡◌, IfOk, OnOk, map, option_map, unwrap_or};
-ghost use Rattle.csv_tables.specs.Drawn.{arrangement_for, empty_table, first_number, headed_table, markdown_look, markdown_style, markdown_table, pair_columns, pairs_of, pairs_table, rows_table, spaced_content, table_for};
-ghost use Rattle.csv_tables.specs.Decimals.{mark_in};
+ghost use Rattle.std.specs.Prelude.{◌≡◌, ◌+◌, IfOk, OnOk, decimal, option_map};
+ghost use Rattle.csv_tables.specs.Cells.{number_of};
+ghost use Rattle.csv_tables.specs.Drawn.{arrangement_for, empty_table, headed_table, markdown_look, markdown_style, markdown_table, pairs_of, pairs_table, rows_table, table_for};
 ghost use Rattle.comfy_table.specs.TableValue.{with_rows};
 
 use crate::cells::{header_of, pair_of, row_of};
-use crate::columns::name_from;
-use crate::content::Content;
+use crate::columns::name_at;
 use crate::options::{Layout, Look};
+use crate::selected::SelectedRecords;
 use comfy_table::presets::ASCII_MARKDOWN;
 use comfy_table::{ContentArrangement, LineStyle, Result, Table, TableStyle};
-use csv_records::{Points, Record, Records};
+use csv_records::{Record, Records};
 use std::alloc::Global;
 
 /// The table of these records, with the columns, rows and looks that are wanted, and all lines of
@@ -21,24 +21,17 @@ use std::alloc::Global;
 pub fn table_of(alloc: Global, records: Records, layout: &Layout) -> Result<Table>
     ensures { IfOk result (λ table. table ≡ table_for layout.now records) }
 {
-    let content = Content::new(alloc, records, None, layout)?;
-    content.rows_table(&layout.look)
+    let selected = SelectedRecords::new(alloc, records, None, layout)?;
+    selected.rows_table(false, &layout.look)
 }
 
-impl Content {
-    /// The table of records, a row for each, with all lines of the style.
-    pub fn rows_table(&self, look: &Look) -> Result<Table>
-        ensures { IfOk result (λ table. table ≡ rows_table look.now self.now) }
+impl SelectedRecords {
+    /// The table of records, a row for each, with all lines of the style. Decimal marks stand below
+    /// each other, or not.
+    pub fn rows_table(&self, is_aligned: bool, look: &Look) -> Result<Table>
+        ensures { IfOk result (λ table. table ≡ rows_table look.now is_aligned self.now) }
     {
-        self.rows_table_under(self.names(), &[], look)
-    }
-
-    /// The same with spaces behind fields, by these decimal marks of their columns.
-    pub fn spaced_table(&self, marks: &[Option<Points>], look: &Look) -> Result<Table>
-        ensures { IfOk result (λ table. table
-            ≡ rows_table look.now (spaced_content look.now (mark_in marks.now) self.now)) }
-    {
-        self.rows_table_under(self.names(), marks, look)
+        self.rows_table_under(self.names(), is_aligned, look)
     }
 
     /// The table of expanded records: for each field a row, with the name of its column.
@@ -58,34 +51,48 @@ impl Content {
         ensures { IfOk result (λ table. table ≡ markdown_table look.now self.now) }
     {
         let names = self.names_or_blank();
-        self.rows_table_under(Some(names), &[], &markdown_look(*look))
+        self.rows_table_under(Some(names), false, &markdown_look(*look))
     }
 
     fn rows_table_under(
         &self,
         names: Option<Record<'_>>,
-        marks: &[Option<Points>],
+        is_aligned: bool,
         look: &Look,
     ) -> Result<Table>
-        ensures { IfOk result (λ table. table ≡ rows_table look.now (spaced_content look.now
-            (mark_in marks.now) (record self.now { names = names.entry }))) }
+        ensures { IfOk result (λ table. table
+            ≡ rows_table look.now is_aligned (record self.now { names = names.entry })) }
     {
         let mut table = self.headed_table(names, look)?;
-        for row in self.rows() {
-            let reached = self.reached(&row);
-            table.try_add_row(row_of(self.alloc, &row, reached, marks, look)?)?;
+        for (at, row) in self.rows().enumerate() {
+            let columns = self.columns_within(&row);
+            let number = self.number_at(at);
+            table.try_add_row(row_of(self.alloc, number, &row, columns, is_aligned, look)?)?;
         }
         Ok(table)
+    }
+
+    // The number of the row at a place, where rows are numbered.
+    fn number_at(&self, at: usize) -> Option<u128>
+        ensures { option_map decimal result ≡ number_of self.now.is_numbered (at + 1) }
+    {
+        if self.is_numbered {
+            Some(at as u128 + 1)
+        } else {
+            None
+        }
     }
 
     // A table with a header of these names, where there are any.
     fn headed_table(&self, names: Option<Record<'_>>, look: &Look) -> Result<Table>
         ensures { IfOk result (λ table. table
-            ≡ headed_table look.now self.now.columns names.entry) }
+            ≡ headed_table look.now self.now.is_numbered self.now.columns names.entry) }
     {
         let mut table = empty_table(self.alloc, look);
         if let Some(names) = &names {
-            table.try_set_header(header_of(self.alloc, names, self.columns.as_slice(), look)?)?;
+            let columns = self.columns.as_slice();
+            let header = header_of(self.alloc, self.is_numbered, names, columns, look)?;
+            table.try_set_header(header)?;
         }
         Ok(table)
     }
@@ -99,13 +106,11 @@ impl Content {
         look: &Look,
     ) -> Result<()>
         ensures { OnOk result (table.new
-            ≡ with_rows (pairs_of look.now (first_number self.now) (pair_columns self.now)
-            names.now row.now) table.old) }
+            ≡ with_rows (pairs_of look.now self.now.columns names.now row.now) table.old) }
     {
-        let first = self.first_number();
-        for column in self.reached_pairs(row) {
+        for column in self.columns_within(row) {
             if let Some(field) = row.get(column.position) {
-                let name = name_from(self.alloc, first, names, column.position)?;
+                let name = name_at(self.alloc, names, column.position)?;
                 table.try_add_row(pair_of(self.alloc, name.as_str(), field, look)?)?;
             }
         }

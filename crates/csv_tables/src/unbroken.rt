@@ -1,15 +1,15 @@
 //! Numbers and dates, which aren't broken over lines where there is room.
 
-ghost use Rattle.std.specs.Prelude.{◌≡◌, ◌||◌, ◌-◌, ◌≤◌, ◌^◌, IfOk, OnOk, Some, chars, false, length, map, min, nat_le, slice_get, slice_index, true, unwrap_or};
+ghost use Rattle.std.specs.Prelude.{◌≡◌, ◌||◌, ◌-◌, ◌≤◌, ◌^◌, IfOk, OnOk, Some, chars, false, length, min, nat_le, slice_get, slice_index, true, unwrap_or};
 ghost use Rattle.std.specs.List.{list_all};
 ghost use Rattle.csv_records.specs.Number.{is_neutral, is_number};
 ghost use Rattle.comfy_table.specs.TableValue.{max_content_widths, measured_cell};
-ghost use Rattle.csv_tables.specs.Unbroken.{cell_unbroken_width, constrained_column, field_width, framed_width, has_room, is_of_dates, is_unbroken, kept_unbroken, kept_unbroken_fields, may_break, needed_content, needed_contents, room_beside, room_for_two, unbroken_columns, unbroken_width, with_constrained, with_content, with_field_width};
+ghost use Rattle.csv_tables.specs.Unbroken.{cell_unbroken_width, constrained_column, field_width, framed_width, has_room, is_of_dates, is_unbroken, kept_unbroken, kept_unbroken_fields, may_break, needed_content, needed_contents, room_beside, room_for_two, unbroken_width, with_constrained, with_content, with_field_width};
 ghost use Rattle.csv_tables.specs.ConstrainedAt.{constrained_at};
+ghost use Rattle.csv_tables.specs.Drawn.{unbroken_in};
 
-use crate::content::Content;
 use crate::options::Look;
-use crate::summary::{Summary, summaries_of, summary_at};
+use crate::selected::SelectedRecords;
 use comfy_parts::content_split::measure_text_width;
 use comfy_parts::for_tables::measured_lines;
 use comfy_table::utils::arrangement::helper::count_border_columns;
@@ -26,65 +26,40 @@ const NEEDED_CONTENT: u16 = 4;
 /// Lets the columns of numbers and dates be as wide as their contents, where a width is kept that
 /// has room for all of them and for what the other columns need. Returns whether there is room, as
 /// there is where no width is kept.
-pub(crate) fn keep_unbroken(table: &mut Table, content: &Content, look: &Look) -> Result<bool>
+pub(crate) fn keep_unbroken(
+    table: &mut Table,
+    selected: &SelectedRecords,
+    look: &Look,
+) -> Result<bool>
     ensures table { OnOk result (table.new
-        ≡ kept_unbroken look.now.width
-        (unbroken_columns look.now.has_sequences content.now.columns content.now.rows) table.old) }
+        ≡ kept_unbroken look.now.width (unbroken_in selected.now) table.old) }
     ensures has_room { IfOk result (λ has. has
-        ≡ has_room look.now.width
-        (unbroken_columns look.now.has_sequences content.now.columns content.now.rows) table.old) }
+        ≡ has_room look.now.width (unbroken_in selected.now) table.old) }
 {
     let Some(width) = look.width else {
         return Ok(true);
     };
-    let unbroken = unbroken_columns(content, look.has_sequences)?;
-    let has_room = has_room(content.alloc, table, unbroken.as_slice(), width)?;
+    let unbroken = unbroken_columns(selected)?;
+    let has_room = has_room(selected.alloc, table, unbroken.as_slice(), width)?;
     if has_room {
         constrain_columns(table, unbroken.as_slice());
     }
     Ok(has_room)
 }
 
-// Of each drawn column, whether it holds numbers and dates alone.
-fn unbroken_columns(
-    content: &Content,
-    has_sequences: bool,
-) -> std::result::Result<Vec<bool>, AllocError>
-    ensures { IfOk result (λ unbroken. unbroken.items
-        ≡ unbroken_columns has_sequences content.now.columns content.now.rows) }
+// Of each drawn column, whether it holds numbers and dates alone: none does without rows.
+fn unbroken_columns(selected: &SelectedRecords) -> std::result::Result<Vec<bool>, AllocError>
+    ensures { IfOk result (λ unbroken. unbroken.items ≡ unbroken_in selected.now) }
 {
-    let rows = content.rows();
-    let fields = summaries_of::<Unbroken>(content.alloc, &rows, has_sequences)?;
-    let mut unbroken = Vec::with_capacity(content.alloc, content.columns.len())?;
-    for column in &content.columns {
-        let are_all = summary_at(fields.as_slice(), column.position).are_all;
-        unbroken.push(!rows.is_empty() && are_all)?;
+    let has_rows = !selected.rows().is_empty();
+    let mut unbroken = Vec::with_capacity(selected.alloc, selected.columns.len())?;
+    if selected.is_numbered {
+        unbroken.push(has_rows)?;
+    }
+    for column in &selected.columns {
+        unbroken.push(has_rows && column.is_unbroken)?;
     }
     Ok(unbroken)
-}
-
-// Whether the fields of a column are numbers and dates alone, which aren't broken.
-#[derive(Clone, Copy)]
-struct Unbroken {
-    are_all: bool,
-}
-
-impl Summary for Unbroken {
-    ghost summary_of = { λ fields. record { are_all = list_all is_unbroken fields } };
-
-    fn new() -> Unbroken {
-        Unbroken { are_all: true }
-    }
-
-    fn with(self, field: &str) -> Unbroken {
-        Unbroken {
-            are_all: self.are_all && is_unbroken(field),
-        }
-    }
-
-    fn is_settled(self) -> bool {
-        !self.are_all
-    }
 }
 
 // Whether a width has room for a table of rows, whose columns these are.
@@ -277,9 +252,9 @@ fn set_content(column: &mut Column, content: u16)
     column.set_constraint(ColumnConstraint::Absolute(Width::Fixed(content + 2)));
 }
 
-// Whether a field is short, and a number, one that says nothing, or of the characters of dates
-// and times.
-fn is_unbroken(field: &str) -> bool
+/// Whether a field is short, and a number, one that says nothing, or of the characters of dates and
+/// times.
+pub(crate) fn is_unbroken(field: &str) -> bool
     ensures { result ≡ is_unbroken field.now }
 {
     is_short(field) && (are_of_dates(field.as_bytes()) || is_numeric(field))
@@ -292,10 +267,11 @@ fn is_numeric(field: &str) -> bool
     is_number(field) || is_neutral(field)
 }
 
-fn is_short(field: &str) -> bool
+/// Whether a field has at most 25 characters.
+pub(crate) fn is_short(field: &str) -> bool
     ensures { result ≡ nat_le (length (chars field.now)) 25 }
 {
-    field.chars().count() <= LONGEST
+    field.len() <= LONGEST || field.chars().count() <= LONGEST
 }
 
 fn are_of_dates(bytes: &[u8]) -> bool

@@ -4,11 +4,19 @@ use Prim.Native.String.{String}
 use Rattle.std.specs.Fmt.{digits}
 use Rattle.comfy_parts.specs.Text.{Text}
 use Rattle.csv.specs.Records.{field_at}
+use Rattle.comfy_parts.specs.Presets.{ascii_full}
+use Rattle.ucd_category.proofs.Computing.{ucd_category}
+use Rattle.std.specs.Str.{chars}
+use Rattle.csv_records.specs.Number.{is_neutral, is_number}
+use Rattle.csv_records.specs.declared.decimals.DecimalMark.TheVariants.{Point}
+use Rattle.csv_tables.specs.declared.options.RowSeparators.TheVariants.{Styled}
+use Rattle.csv_tables.specs.declared.options.Look.{Look}
+use Rattle.csv_tables.specs.declared.options.Expansion.TheVariants.{Never}
+use Rattle.csv_tables.specs.declared.options.DrawnColumn.{DrawnColumn}
+use Rattle.csv_tables.specs.Cells.{counted_from, shown_in, shown_names}
 use Rattle.csv_command.specs.Columns.{less, positions_of_word}
 use Rattle.csv_command.specs.Columns.ColumnFault.{missing, none_left}
 use Rattle.comfy_parts.specs.declared.style.cell.CellAlignment.TheVariants.{Right}
-use Rattle.csv_records.specs.Numbered.{numbered}
-use Rattle.csv_tables.specs.Drawn.{columns_beside}
 use Rattle.csv_command.specs.Hints.{hint_for}
 
 abbrev texts : List String → List Text
@@ -73,15 +81,33 @@ none_are_left = refl
 chosen_before_left_out : less (Err (missing (codes "a") [])) (Err (missing (codes "b") [])) ≡ Err (missing (codes "a") [])
 chosen_before_left_out = refl
 
--- records behind their numbers, below a header and without one
-numbered_below_a_header : numbered true (texts ("a" ∷ "b" ∷ []) ∷ texts ("x" ∷ []) ∷ [] ∷ []) ≡ texts ("#" ∷ "a" ∷ "b" ∷ []) ∷ texts ("1" ∷ "x" ∷ []) ∷ texts ("2" ∷ []) ∷ []
-unfolding digits
-numbered_below_a_header = refl
+-- ---- what rows show
 
-numbered_without_a_header : numbered false (texts ("a" ∷ []) ∷ texts ("b" ∷ []) ∷ []) ≡ texts ("1" ∷ "a" ∷ []) ∷ texts ("2" ∷ "b" ∷ []) ∷ []
-unfolding digits
-numbered_without_a_header = refl
+-- the look of a table with fields as they are
+abbrev look : Look
+look = record { style = ascii_full; separators = Styled; expansion = Never; width = None; fills_width = false; max_height = None; has_bold_header = false; aligns_decimals = true; has_sequences = false; is_markdown = false }
 
--- columns beside that of numbers, and without it
-beside_numbers : map (λ is_numbered. columns_beside is_numbered (record { position = 2; alignment = None } ∷ [])) (true ∷ false ∷ []) ≡ (record { position = 0; alignment = Some Right } ∷ record { position = 3; alignment = None } ∷ []) ∷ (record { position = 2; alignment = None } ∷ []) ∷ []
-beside_numbers = refl
+-- the second field of each record, which has a decimal mark
+abbrev prices : List DrawnColumn
+prices = record { position = 1; alignment = Some Right; points = Some (record { mark = Point; longest = 3 }); is_unbroken = true } ∷ []
+
+-- behind the record's number or not, with decimal marks below each other or not
+numbered : map (λ is_numbered. shown_in look false is_numbered prices (7, texts ("oats" ∷ "3.5" ∷ []))) (true ∷ false ∷ [])
+    ≡ (record { alignment = Some Right; text = codes "7" } ∷ record { alignment = Some Right; text = codes "3.5" } ∷ []) ∷ (record { alignment = Some Right; text = codes "3.5" } ∷ []) ∷ []
+unfolding digits field_at
+numbered = refl
+
+aligned : map (λ is_aligned. shown_in look is_aligned false prices (7, texts ("oats" ∷ "3.5" ∷ []))) (true ∷ false ∷ [])
+    ≡ (record { alignment = Some Right; text = codes "3.5 " } ∷ []) ∷ (record { alignment = Some Right; text = codes "3.5" } ∷ []) ∷ []
+unfolding chars lib.Utf8.encode ucd_category field_at is_neutral is_number
+aligned = refl
+
+-- the header, with what stands above the numbers
+names : map (λ is_numbered. shown_names look is_numbered prices (texts ("name" ∷ "price" ∷ []))) (true ∷ false ∷ [])
+    ≡ (record { alignment = Some Right; text = codes "#" } ∷ record { alignment = Some Right; text = codes "price" } ∷ []) ∷ (record { alignment = Some Right; text = codes "price" } ∷ []) ∷ []
+unfolding field_at
+names = refl
+
+-- records are counted from 1
+counted : counted_from 1 (texts ("a" ∷ []) ∷ [] ∷ []) ≡ (1, texts ("a" ∷ [])) ∷ (2, []) ∷ []
+counted = refl

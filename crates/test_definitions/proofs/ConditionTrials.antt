@@ -41,7 +41,7 @@ unfolding wrapping encode
 clashing_line each = widening_behind_a_selector (each 0 [] (omega arith))
 
 -- false: promises::laws::numbers_are_printable
-half : ¬ (is_printable_ascii (utf8 "½") ≡ true)
+half : ¬ (is_printable_ascii (utf8 "1½") ≡ true)
 unfolding wrapping
 half is = let wrong : false ≡ true = is in cc wrong
 
@@ -114,6 +114,14 @@ other_width is = let same : Some 9 ≡ None = ap (λ (t : TableValue). t.set_wid
 
 constrained_column : ¬ (IsTable row (row ∷ []) (with_column (record (new_column 0) { constraint = Some Hidden })))
 constrained_column is = cc (is.columns 0 (new_column 0) (omega arith)).no_constraint
+
+unpadded_column : ¬ (IsTable row (row ∷ []) (with_column (record (new_column 0) { padding = (0, 1) })))
+unpadded_column is =
+    let same : 0 ≡ 1 = ap (λ (padding : ℕ × ℕ). padding.0) (is.columns 0 (new_column 0) (omega arith)).padding in
+    absurd (omega (arith, same))
+
+delimited_column : ¬ (IsTable row (row ∷ []) (with_column (record (new_column 0) { delimiter = Some 0x2D })))
+delimited_column is = cc (is.columns 0 (new_column 0) (omega arith)).no_delimiter
 
 cell_without_a_column : ¬ (IsTable row (row ∷ []) (record table { columns = [] }))
 cell_without_a_column is = let fits : 1 ≤ 0 = is.room 0 row (omega arith) in absurd (omega (arith, fits))

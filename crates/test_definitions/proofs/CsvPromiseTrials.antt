@@ -1,34 +1,37 @@
 -- Lines that the promises on files refuse, and records for which one is made.
-use Rattle.std.proofs.Common.{◌≡◌, ◌==◌, ◌&&◌, ◌||◌, not, ◌⊎◌, inl, inr, ◌+◌, ◌≤◌, ℕ, Bool, List, [], None, Some, Option, ◌∷◌, ◌++◌, arith, codes, append-nil, decimal, length, length-append, drop, map, refl, slice_index_or, sym, ap, ◌∙◌, subst, true, false}
-use Rattle.std.specs.Char.{is_control}
+use Rattle.std.proofs.Common.{◌≡◌, ◌==◌, ◌⊎◌, inl, inr, ◌+◌, ◌≤◌, ℕ, Bool, List, [], None, Some, Option, ◌∷◌, ◌++◌, arith, codes, append-nil, decimal, length, length-append, drop, map, refl, reverse, slice_index_or, sym, ap, ◌∙◌, subst, true, false}
 use Rattle.std.specs.Fmt.{digits}
-use Rattle.std.specs.List.{All, AllZip, concat}
-use Rattle.std.specs.Prelude.{MatchOption, ◌<◌}
-use Rattle.std.specs.Str.{chars}
-use Rattle.std.proofs.lemmas.Bool.{and_parts}
+use Rattle.std.specs.List.{All, AllZip, concat, list_any}
+use Rattle.std.specs.Prelude.{MatchOption, ◌<◌, encode_utf8_all}
+use Rattle.std.specs.Str.{NonePass, chars}
+use Rattle.std.proofs.lemmas.Bool.{and_parts, true≢false}
 use Rattle.std.proofs.lemmas.Bool.Decides.{nat_tests}
-use Rattle.std.proofs.lemmas.Str.{NoCharPasses-byte}
+use Rattle.std.proofs.lemmas.List.{append_cancel_right, reverse-append}
+use Rattle.std.proofs.lemmas.Str.{encodes_same}
 use Rattle.std.proofs.lemmas.List.Elements.{All-head, All-tail}
 use lib.Utf8.{encode}
 use Rattle.comfy_parts.proofs.Computing.{wrapping}
 use Rattle.comfy_parts.specs.Presets.{nothing, utf8_full}
 use Rattle.comfy_parts.specs.Text.{Text, measure}
 use Rattle.csv.specs.Records.{field_at}
-use Rattle.csv_tables.specs.declared.options.Expansion.TheVariants.{Always, Auto}
+use Rattle.csv_tables.specs.declared.options.Expansion.{Expansion}
+use Rattle.csv_tables.specs.declared.options.Expansion.TheVariants.{Always, Auto, Never}
 use Rattle.csv_tables.specs.declared.options.Look.{Look}
 use Rattle.csv_command.specs.declared.arguments.Options.{Options}
 use Rattle.csv_tables.specs.declared.options.RowSeparators.TheVariants.{Styled}
-use Rattle.promises.specs.Shown.{ShowsColumns}
-use Rattle.csv_tables.specs.Drawn.{count_text, record_line}
+use Rattle.promises.specs.Shown.{IsStyled, ShowsColumns}
+use Rattle.promises.specs.Tables.{HasCharactersWithin}
+use Rattle.csv_tables.specs.Drawn.{count_text, note_for, record_line}
 use Rattle.comfy_table.specs.Drawing.{terminated_text_of}
 use Rattle.comfy_table.specs.Laws.{AreLinesOf}
-use Rattle.csv_promises.specs.Fields.{AreFields, ShowsDrawn, ShowsExpanded, ShowsFields, ShowsRecords, ShowsRows, filled}
-use Rattle.csv_promises.specs.Messages.{IsTame}
-use Rattle.csv_records.specs.Cleaning.{cleaned, turns_direction}
+use Rattle.csv_promises.specs.Fields.{AreFields, MayExpand, ShowsDrawn, ShowsExpanded, ShowsFields, ShowsRecords, ShowsRows, StaysAsItIs, all_rows, fields_at, filled, positions_in}
+use Rattle.csv_promises.specs.Messages.{IsTameLine}
+use Rattle.csv_records.specs.Cleaning.{cleaned, is_replaced}
 use Rattle.promises.specs.Kept.{IsFrame, StandAmong}
-use Rattle.csv_promises.specs.Straight.{CountsRecords, IsStraight, counted}
-use Rattle.test_definitions.proofs.OutputLineTrials.{found, two_lines}
+use Rattle.csv_promises.specs.Straight.{CountsRecords, IsPlainField, IsStraight, counted}
+use Rattle.test_definitions.proofs.OutputLineTrials.{found, one_line, two_lines}
 use Rattle.test_definitions.proofs.PromiseTrials.{none_in_nothing, shows_itself, spaces_alone}
+use Rattle.test_definitions.proofs.TrialTables.{utf8}
 
 -- ---- straight edges
 
@@ -44,6 +47,13 @@ long_count before n m behind =
 pub no_count : (line : Text) → length line ≤ 10 → ¬ (CountsRecords line)
 no_count line short (n, m, inl is) = let same = ap length is in let long = long_count (codes "record ") n m [] in absurd (omega (arith, same, long, short))
 no_count line short (n, m, inr is) = let same = ap length is in let long = long_count [] n m (codes " records") in absurd (omega (arith, same, long, short))
+
+-- nor is a line that counts columns
+counted_columns : ¬ (CountsRecords (codes "2 of 7 columns"))
+counted_columns (n, m, inl is) = let letter : ◌≡◌ {A = ℕ} 0x32 0x72 = cc is in absurd (omega (arith, letter))
+counted_columns (n, m, inr is) =
+    let letter : 0x6E ≡ 0x64 = ap (λ (t : Text). slice_index_or t 1 0) (ap reverse is ∙ reverse-append (((decimal n) ++ codes " of ") ++ count_text m) (codes " records")) in
+    absurd (omega (arith, letter))
 
 pub one_column : measure (codes "a") ≡ 1
 unfolding wrapping encode
@@ -77,6 +87,15 @@ two_widths_are_not_straight is =
         sym second.2 ∙ ap measure (shows_itself second.1 refl) ∙ one_column in
         absurd (omega (arith, wide, narrow))
 
+-- fields that meet the conditions: an accent takes one column, Chinese is drawn as it is
+accent_is_narrow : HasCharactersWithin 1 (utf8 "é")
+unfolding wrapping encode
+accent_is_narrow = refl
+
+chinese_is_plain : IsPlainField (utf8 "京都")
+unfolding wrapping encode
+chinese_is_plain = record { plain = refl; short = omega arith }
+
 -- ---- fields
 
 -- the look of a table with a header in bold
@@ -105,15 +124,32 @@ some_piece rest (column ∷ others) fields short = by_column column fields.0 (Al
     by_column [] same few = absurd (cc same)
     by_column (piece ∷ more) same few = absurd (omega (arith, few))
 
--- nothing shows no field
-nothing_shows_no_field : (rest : List Text) → ¬ (ShowsRows unbold ((codes "a" ∷ rest) ∷ []) [])
-nothing_shows_no_field rest is =
-    by_blocks is.blocks (subst (StandAmong (All (IsFrame unbold.style)) is.blocks) (sym (is.unstyled refl) ∙ no_text_lines is.lines is.are) is.stand) is.show
+-- nothing shows no field, under a bold header neither
+nothing_shows_no_field : (look : Look) (rest : List Text) → ¬ (ShowsRows look ((codes "a" ∷ rest) ∷ []) [])
+nothing_shows_no_field look rest is = by_lines is.plain is.lines (no_text_lines is.lines is.are) is.styled is.stand
   where
-    by_blocks : (blocks : List (List Text)) → StandAmong (All (IsFrame unbold.style)) blocks [] → ¬ (AllZip (ShowsFields unbold.style) ((codes "a" ∷ rest) ∷ []) blocks)
+    by_blocks : (blocks : List (List Text)) → StandAmong (All (IsFrame look.style)) blocks [] → ¬ (AllZip (ShowsFields look.style) ((codes "a" ∷ rest) ∷ []) blocks)
     by_blocks [] stand show = show
     by_blocks ([] ∷ blocks) stand show = some_piece rest show.0.pieces show.0.are_fields show.0.enough_lines
     by_blocks ((line ∷ block) ∷ blocks) (before, behind, inside, around, rest) show = none_in_nothing before block behind line inside
+
+    by_lines : (plain lines : List Text) → lines ≡ [] → AllZip IsStyled plain lines → ¬ (StandAmong (All (IsFrame look.style)) is.blocks plain)
+    by_lines [] lines none styled stand = by_blocks is.blocks stand is.show
+    by_lines (line ∷ plain) [] none styled stand = styled
+    by_lines (line ∷ plain) (other ∷ lines) none styled stand = cc none
+
+-- where the header isn't bold, no line is
+bold_without_a_header : ¬ (ShowsRows unbold [] (codes "\u{1b}[1m\n"))
+bold_without_a_header is = by_blocks is.blocks is.show is.stand
+  where
+    plain : is.plain ≡ codes "\u{1b}[1m" ∷ []
+    plain = sym (is.unstyled refl) ∙ one_line (codes "\u{1b}[1m") is.lines (found (codes "\u{1b}[1m\n") is.lines is.are)
+
+    by_blocks : (blocks : List (List Text)) → AllZip (ShowsFields unbold.style) [] blocks → ¬ (StandAmong (All (IsFrame nothing)) blocks is.plain)
+    by_blocks (block ∷ blocks) show stand = show
+    by_blocks [] show stand =
+        let blank : false ≡ true = spaces_alone (codes "\u{1b}[1m") (All-head (IsFrame nothing) (codes "\u{1b}[1m") [] (subst (All (IsFrame nothing)) plain stand)) in
+        cc blank
 
 -- pieces that lack a letter aren't those of a field, those that lack a space are
 pub lost_space : AreFields (codes "a b" ∷ []) ((codes "a" ∷ codes "b" ∷ []) ∷ [])
@@ -168,6 +204,10 @@ lost_field are = cc are.1.0
 pub lost_blank : AreFields (codes "a" ∷ codes " " ∷ []) ((codes "a" ∷ []) ∷ [])
 lost_blank = (refl, (refl, tt))
 
+-- a column without a field holds no letter
+letter_without_a_field : ¬ (AreFields [] ((codes "a" ∷ []) ∷ []))
+letter_without_a_field are = cc are.0
+
 -- ---- expanded records
 
 -- one record of a field `a` below a name `a`
@@ -193,13 +233,76 @@ no_name (own, rest, is, shows, more) = by_own own (ap (drop 14) is) shows
   where
     by_own : (own : Text) → ◌≡◌ {A = Text} [] (own ++ rest) → ¬ (ShowsRows unbold ((cleaned false (codes "a") ∷ cleaned false (codes "a") ∷ []) ∷ []) own)
     by_own (b ∷ own) same shows = absurd (cc same)
-    by_own [] same shows = nothing_shows_no_field (cleaned false (codes "a") ∷ []) (subst (λ (name : Text). ShowsRows unbold ((name ∷ cleaned false (codes "a") ∷ []) ∷ []) []) a_stays shows)
+    by_own [] same shows = nothing_shows_no_field unbold (cleaned false (codes "a") ∷ []) (subst (λ (name : Text). ShowsRows unbold ((name ∷ cleaned false (codes "a") ∷ []) ∷ []) []) a_stays shows)
+
+-- nothing stands behind the last record
+text_behind : ¬ (ShowsExpanded unbold [] [] (Some 1) 2 [] (codes " a \n"))
+text_behind is = cc is
+
+-- records are expanded where that is asked for, and not where it is forbidden
+expanded_never : ¬ (MayExpand Never true)
+expanded_never is = cc is
+
+rows_always : ¬ (MayExpand Always false)
+rows_always is = cc is
 
 -- ---- records
 
--- without a header and a limit, with records expanded
+-- without a header, with records expanded or not, and a limit
+abbrev asked : Expansion → Option ℕ → Options → Options
+asked expansion limit options = record options { selection = record options.selection { has_header = false; limit = limit }; look = record unbold { expansion = expansion } }
+
 abbrev expanded : Options → Options
-expanded options = record options { selection = record options.selection { has_header = false; limit = None }; look = record unbold { expansion = Always } }
+expanded options = asked Always None options
+
+-- no record is lost, where all columns are drawn
+abbrev in_rows : Look
+in_rows = record unbold { expansion = Never }
+
+lost_record : (options : Options) → options.columns.chosen.items ≡ [] → options.columns.dropped.items ≡ [] → options.selection.is_numbered ≡ false → ¬ (ShowsRecords (asked Never None options) ((codes "a" ∷ []) ∷ []) [])
+unfolding field_at
+lost_record options chosen dropped unnumbered is =
+    nothing_shows_no_field in_rows [] (subst (λ (field : Text). ShowsRows in_rows ((field ∷ []) ∷ []) []) a_stays
+    (subst (ShowsRows in_rows ((cleaned false (codes "a") ∷ []) ∷ [])) (sym (is.joined ∙ append-nil is.drawn))
+    (subst (λ (positions : List ℕ). ShowsRows in_rows (all_rows false positions None ((codes "a" ∷ []) ∷ [])) is.drawn) first
+    (subst (λ (b : Bool). ShowsRows in_rows (all_rows b (positions_in (asked Never None options) [] ((codes "a" ∷ []) ∷ [])) None ((codes "a" ∷ []) ∷ [])) is.drawn) unnumbered
+    (subst (λ (b : Bool). ShowsDrawn b (asked Never None options) None ((codes "a" ∷ []) ∷ []) is.count is.drawn) is.expansion is.shows)))))
+  where
+    first : positions_in (asked Never None options) [] ((codes "a" ∷ []) ∷ []) ≡ 0 ∷ []
+    first = rw chosen (rw dropped refl)
+
+-- fields behind their numbers, and without
+rows_behind_numbers : map (λ is_numbered. all_rows is_numbered (1 ∷ []) (Some (codes "a" ∷ codes "b" ∷ [])) ((codes "x" ∷ codes "y" ∷ []) ∷ (codes "z" ∷ []) ∷ [])) (true ∷ false ∷ [])
+    ≡ ((codes "#" ∷ codes "b" ∷ []) ∷ (codes "1" ∷ codes "y" ∷ []) ∷ (codes "2" ∷ [] ∷ []) ∷ []) ∷ ((codes "b" ∷ []) ∷ (codes "y" ∷ []) ∷ ([] ∷ []) ∷ []) ∷ []
+unfolding chars digits field_at encode
+rows_behind_numbers = refl
+
+-- the line below the first of two records counts two, or says that there are more
+abbrev first_of_two : Options → Text → Type 0
+first_of_two options text = ShowsRecords (asked Never (Some 1) options) ((codes "a" ∷ []) ∷ (codes "b" ∷ []) ∷ []) text
+
+-- before its last nine characters stands `2`, or the end of `more`
+abbrev the_count : Text → ℕ
+the_count text = slice_index_or (reverse text) 9 0
+
+counts_two : (options : Options) (text : Text) → first_of_two options text → (the_count text ≡ 0x32) ⊎ (the_count text ≡ 0x65)
+unfolding digits
+counts_two options text is = by_count is.count is.is_count is.joined
+  where
+    by_count : (count : Option ℕ) → MatchOption count (1 < 2) (λ n. n ≡ 2) → text ≡ is.drawn ++ note_for false (Some 1) count → (the_count text ≡ 0x32) ⊎ (the_count text ≡ 0x65)
+    by_count None more made = inr (ap (λ (t : Text). slice_index_or t 9 0) (ap reverse made ∙ reverse-append is.drawn (note_for false (Some 1) None)))
+    by_count (Some n) two made = inl (ap (λ (t : Text). slice_index_or t 9 0) (ap reverse (made ∙ ap (λ (m : ℕ). is.drawn ++ note_for false (Some 1) (Some m)) two) ∙ reverse-append is.drawn (note_for false (Some 1) (Some 2))))
+
+neither : (n : ℕ) → ¬ (n ≡ 0x32) → ¬ (n ≡ 0x65) → ¬ ((n ≡ 0x32) ⊎ (n ≡ 0x65))
+neither n two more (inl is) = two is
+neither n two more (inr is) = more is
+
+-- so it doesn't count three, and isn't missing
+three_records : (options : Options) → ¬ (first_of_two options (codes " a \n1 of 3 records\n"))
+three_records options is = neither 0x33 (λ same. absurd (omega (arith, same))) (λ same. absurd (omega (arith, same))) (counts_two options (codes " a \n1 of 3 records\n") is)
+
+no_line_below : (options : Options) → ¬ (first_of_two options (codes " a \n"))
+no_line_below options is = neither 0 (λ same. absurd (omega (arith, same))) (λ same. absurd (omega (arith, same))) (counts_two options (codes " a \n") is)
 
 -- a record isn't one of two
 -- false: csv_promises::output_with_all_fields
@@ -216,14 +319,34 @@ another_count options is =
 
 -- ---- messages
 
+-- a line of which one character isn't tame
+wild : (cs : List ℕ) → list_any is_replaced cs ≡ true → ¬ (IsTameLine (encode_utf8_all cs ++ codes "\n"))
+wild cs some (line, made, none) = true≢false (sym some ∙ by_characters cs (subst (NonePass is_replaced) (encodes_same none.0 cs (none.1 ∙ sym (append_cancel_right (encode_utf8_all cs) line (codes "\n") made))) none.2))
+  where
+    by_characters : (cs : List ℕ) → NonePass is_replaced cs → list_any is_replaced cs ≡ false
+    by_characters [] none = refl
+    by_characters (c ∷ cs) none = rw none.0 (by_characters cs none.1)
+
 -- false: csv_promises::harmless_message
-bell_is_wild : ¬ (IsTame (0x07 ∷ []))
-bell_is_wild own =
-    let is : true ≡ false = NoCharPasses-byte (λ c. (is_control c && not (c == 0x0A)) || turns_direction c) (0x07 ∷ []) 0 own (omega arith) (omega arith) in
-    cc is
+bell_is_wild : ¬ (IsTameLine (codes "\u{7}\n"))
+unfolding encode
+bell_is_wild = wild (0x07 ∷ []) refl
+
+turn_is_wild : ¬ (IsTameLine (utf8 "\u{202e}" ++ codes "\n"))
+turn_is_wild = wild (0x202E ∷ []) refl
+
+two_lines_are_wild : ¬ (IsTameLine (codes "a\nb\n"))
+unfolding encode
+two_lines_are_wild = wild (codes "a\nb") refl
+
+-- ---- fields that stay
 
 -- false: csv_promises::plain_fields_stay
--- a control character is replaced
+-- an accent stays, a control character is replaced
+accent_stays : StaysAsItIs false (utf8 "é") → cleaned false (utf8 "é") ≡ utf8 "é"
+unfolding chars encode
+accent_stays stays = stays (0xE9 ∷ [], (refl, refl)) refl
+
 control_is_replaced : ¬ (cleaned false (0x07 ∷ []) ≡ 0x07 ∷ [])
 unfolding chars encode
 control_is_replaced same = cc same

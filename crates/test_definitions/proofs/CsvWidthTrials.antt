@@ -1,20 +1,21 @@
 -- Lines that the promise on a width refuses, lines that it allows, and the columns of frames.
-use Rattle.std.proofs.Common.{◌≡◌, ◌⊎◌, inl, inr, ◌≤◌, ◌+◌, ℕ, Bool, true, false, List, [], ◌∷◌, None, arith, codes, length, refl, sym, ap, ◌∙◌, subst}
+use Rattle.std.proofs.Common.{◌≡◌, ◌⊎◌, inl, inr, ◌≤◌, ◌+◌, ℕ, Bool, true, false, List, [], ◌∷◌, None, Some, arith, codes, length, refl, sym, ap, ◌∙◌, subst}
 use Rattle.std.specs.List.{All, slice_split}
 use Rattle.std.specs.Prelude.{◌==◌, String, string_bytes}
-use Rattle.std.proofs.lemmas.List.Elements.{All-head}
+use Rattle.std.proofs.lemmas.List.Elements.{All-from_recursion, All-head}
 use Rattle.comfy_parts.specs.Text.{Text, measure}
 use Rattle.csv_tables.specs.declared.options.Expansion.{Expansion}
 use Rattle.csv_tables.specs.declared.options.Expansion.TheVariants.{Always, Auto, Never}
 use Rattle.csv_command.specs.declared.arguments.Options.{Options}
 use Rattle.csv_tables.specs.Columns.{count_of}
 use Rattle.promises.specs.Shown.Shows.{byte, nothing}
+use Rattle.promises.specs.Tables.{HasCharactersWithin}
 use Rattle.csv_promises.specs.Fields.{positions_by, positions_in}
 use Rattle.csv_promises.specs.Straight.{CountsRecords}
-use Rattle.csv_promises.specs.Width.{KeepToWidth, KeepsTo, frame_room, framed_columns}
+use Rattle.csv_promises.specs.Width.{KeepToWidth, KeepsItsWidth, KeepsTo, frame_room, framed_columns}
 use Rattle.test_definitions.proofs.CsvPromiseTrials.{bold, no_count, one_column, two_columns}
 use Rattle.test_definitions.proofs.OutputLineTrials.{found, one_line, unended}
-use Rattle.test_definitions.proofs.PromiseTrials.{shows_itself}
+use Rattle.test_definitions.proofs.PromiseTrials.{shows_itself, ten}
 
 -- ---- lines
 
@@ -30,13 +31,13 @@ kept width frame is_filled text line cut short is =
     by_cases (inl counts) = absurd (no_count line short counts)
     by_cases (inr keeps) = keeps
 
--- two columns are more than a width of one and a frame of none
+-- ten columns are more than a width of eight, and more than nine, which a name and a field take
 -- false: csv_promises::output_within
-wide_line : ¬ (KeepToWidth 1 1 false (codes "ba\n"))
-wide_line is =
-    let own = kept 1 1 false (codes "ba\n") (codes "ba") refl (omega arith) is in
-    let two : own.columns ≡ 2 = sym own.shows.2 ∙ ap measure (shows_itself own.shows.1 refl) ∙ two_columns in
-    absurd (omega (arith, own.within, two))
+wide_line : (options : Options) → ¬ (KeepsItsWidth (record options { look = record bold { expansion = Always; width = Some 8 } }) [] (codes "0123456789\n"))
+wide_line options is =
+    let own = kept 8 9 false (codes "0123456789\n") (codes "0123456789") refl (omega arith) (is 8 refl (All-from_recursion (All (HasCharactersWithin 1)) [] tt)) in
+    let wide : own.columns ≡ 10 = sym own.shows.2 ∙ ap measure (shows_itself own.shows.1 refl) ∙ ten in
+    absurd (omega (arith, own.within, wide))
 
 -- where the width is filled, one column is less than two
 narrow_line : ¬ (KeepToWidth 2 1 true (codes "a\n"))

@@ -1,24 +1,30 @@
 -- Drawings that are near a headline, and none.
-use Rattle.std.proofs.Common.{◌≡◌, ◌==◌, ◌<◌, ◌≤◌, ℕ, suc, ◌+◌, Bool, true, false, List, [], ◌∷◌, ◌++◌, Option, Some, None, zero, codes, length, map, max, inl, refl, sym, ap, ap₂, ◌∙◌, subst, arith, append-nil, length-append, slice_index_or}
+use Rattle.std.proofs.Common.{◌≡◌, ◌==◌, ◌<◌, ◌≤◌, ℕ, suc, ◌+◌, Bool, true, false, List, [], ◌∷◌, ◌++◌, Option, Some, None, zero, codes, length, map, max, take, inl, refl, sym, ap, ap₂, ◌∙◌, subst, arith, append-nil, length-append, slice_index_or}
+use Rattle.std.specs.Int.{is_in_range}
 use Rattle.std.specs.Prelude.{slice_index}
-use Rattle.std.specs.List.{All, AllZip, flat_map, join_by}
+use Rattle.std.specs.List.{All, AllZip, flat_map, join_by, list_all, slice_get}
 use lib.Utf8.{encode}
 use Rattle.std.proofs.lemmas.Bool.{or_parts}
 use Rattle.std.proofs.lemmas.List.{length-replicate}
 use Rattle.std.proofs.lemmas.List.Elements.{All-from_recursion, All-head, All-tail}
+use Rattle.std.proofs.lemmas.Option.{same_Some}
+use Rattle.comfy_parts.proofs.CallerLemmas.{frame_adds}
 use Rattle.comfy_parts.proofs.Computing.{wrapping}
 use Rattle.comfy_parts.proofs.WrappingLemmas.{wrapped_is_one}
-use Rattle.comfy_parts.specs.CellValue.{CellValue, ColumnInfo, ColumnValue, RowValue, info_of, new_column, plain_cell}
+use Rattle.comfy_parts.specs.CellValue.{CellValue, ColumnInfo, ColumnValue, RowValue, info_of, new_column, plain_cell, plain_row}
+use Rattle.comfy_parts.specs.Columns.{CharactersFit}
 use Rattle.comfy_parts.specs.Presets.{ascii_full, nothing}
-use Rattle.comfy_parts.specs.Text.{HasNo, Text, greatest, measure, spaces}
+use Rattle.comfy_parts.specs.Text.{AddsOneColumnEach, HasNo, Text, greatest, is_printable_ascii, measure, spaces}
+use Rattle.comfy_parts.specs.VisibleText.{is_parameter}
 use Rattle.comfy_parts.specs.Wrapping.{wrapped}
 use Rattle.comfy_parts.specs.declared.style.table.ContentArrangement.{ContentArrangement}
 use Rattle.comfy_parts.specs.declared.style.table.ContentArrangement.TheVariants.{Disabled, Dynamic, DynamicFullWidth}
 use Rattle.comfy_table.proofs.CountLemmas.{frame_lines_count}
-use Rattle.comfy_table.specs.Laws.{NoConstraints, least_total}
-use Rattle.comfy_table.specs.Lines.{cut_text, cut_to_limit}
-use Rattle.comfy_table.specs.TableValue.{TableValue, ellipsis, measured_table, new_table, shown_columns, width_or_terminal, with_rows}
-use Rattle.promises.specs.Headline.{AreColumnsOf, AreContentLines, AreLinesOfRow, IsAround, AreLinesOfText, IsHeadline, IsPiece, IsPlainDrawing, lines_in}
+use Rattle.comfy_table.specs.Laws.{NoConstraints, count, least_total}
+use Rattle.comfy_table.specs.Lines.{cell_delimiter, cut_text, cut_to_limit, fitting_indicator}
+use Rattle.comfy_table.specs.Parts.{ArrangedValue, IsArrangedTable}
+use Rattle.comfy_table.specs.TableValue.{TableValue, ellipsis, header_and_rows, measured_table, new_table, shown_columns, width_or_terminal, with_header, with_rows}
+use Rattle.promises.specs.Headline.{AreColumnsOf, AreContentLines, AreLinesOfHeader, AreLinesOfRow, IsAround, AreLinesOfText, EachShownCell, IsHeadline, IsPiece, IsPlainDrawing, IsPrintable, lines_in}
 use Rattle.promises.specs.Promises.{KeepsPromises}
 use Rattle.promises.specs.Shown.{IsStyled}
 use Rattle.promises.specs.Straight.{AreStraightWhereCharactersFit}
@@ -58,6 +64,14 @@ pub record IsPadded (w : ℕ) (text line : Text) : Type 0 where
   pub padded : (1 ≤ left) × (1 ≤ right)
   pub wide : left + measure text + right ≡ 1 + max w (measure text) + 1
 
+-- so is the one piece of a line
+padded_of : (width : ℕ → ℕ) (text line : Text) (pieces : List Text) → AllZip (λ (p : ℕ × ColumnValue). IsPiece p.1 (width p.0) text) (place ∷ []) pieces → line ≡ join_by (λ (piece : Text). piece) [] pieces ++ [] → IsPadded (width 0) text line
+padded_of width text line [] zip is_line = absurd zip
+padded_of width text line (piece ∷ other ∷ pieces) zip is_line = absurd zip.1
+padded_of width text line (piece ∷ []) zip is_line =
+    let joined : line ≡ piece = is_line ∙ append-nil (piece ++ []) ∙ append-nil piece in
+    record { left = zip.0.left; right = zip.0.right; drawn = joined ∙ zip.0.drawn; padded = zip.0.padded; wide = zip.0.wide }
+
 -- lines, each of which is one of these texts, padded
 abbrev pub ArePadded : ℕ → List Text → List Text → Type 0
 ArePadded w texts lines = AllZip (IsPadded w) texts lines
@@ -87,16 +101,11 @@ module _ (enforce : Bool) (arrangement : ContentArrangement) (kept : Option ℕ)
   block_is : (block : List Text) → IsBlock block → (cut : List Text) → cut_lines ≡ cut → ArePadded (is.width 0) cut block
   block_is block own cut same = by_lines block cut (own.as_high ∙ ap (λ (ls : List Text). max (length ls) 0) same) (λ k below. at k below)
     where
-      one_piece : (k : ℕ) (line : Text) (pieces : List Text) → AllZip (λ (p : ℕ × ColumnValue). IsPiece p.1 (is.width p.0) (slice_index_or cut_lines k [])) (place ∷ []) pieces → line ≡ join_by (λ (piece : Text). piece) [] pieces ++ [] → IsPadded (is.width 0) (slice_index_or cut k []) line
-      one_piece k line [] zip is_line = absurd zip
-      one_piece k line (piece ∷ other ∷ pieces) zip is_line = absurd zip.1
-      one_piece k line (piece ∷ []) zip is_line =
-          let joined : line ≡ piece = is_line ∙ append-nil (piece ++ []) ∙ append-nil piece in
-          subst (λ (ls : List Text). IsPadded (is.width 0) (slice_index_or ls k []) line) same
-          (record { left = zip.0.left; right = zip.0.right; drawn = joined ∙ zip.0.drawn; padded = zip.0.padded; wide = zip.0.wide })
-
       at : (k : ℕ) → k < length block → IsPadded (is.width 0) (slice_index_or cut k []) (slice_index_or block k [])
-      at k below = let here = own.drawn k below in one_piece k (slice_index_or block k []) here.0 here.1 here.2
+      at k below =
+          let here = own.drawn k below in
+          subst (λ (ls : List Text). IsPadded (is.width 0) (slice_index_or ls k []) (slice_index_or block k [])) same
+          (padded_of is.width (slice_index_or cut_lines k []) (slice_index_or block k []) here.0 here.1 here.2)
 
       by_lines : (block cut : List Text) → length block ≡ max (length cut) 0 → ((k : ℕ) → k < length block → IsPadded (is.width 0) (slice_index_or cut k []) (slice_index_or block k [])) → ArePadded (is.width 0) cut block
       by_lines [] [] long each = tt
@@ -230,6 +239,24 @@ framed_line-differs same = cc same
 framed_line : ¬ (IsHeadline (free_cell None (codes "ab" ∷ [])) (codes "----" ∷ codes " ab " ∷ []))
 framed_line is = framed_line-differs (ab_headline None (λ cut. refl) (codes "----" ∷ codes " ab " ∷ []) is)
 
+-- nor is another header
+other_header : ¬ (AreLinesOfHeader (free_cell None []) (λ i. 2) (λ p cell. cell.text_lines) (Some (row_of None (codes "ab" ∷ []))) (codes " XY " ∷ []))
+other_header (block, own, made) =
+    let is : codes " XY " ∷ [] ≡ block = made ∙ append-nil block in
+    let long = ap length is in
+    let here = own.drawn 0 (omega (arith, long)) in
+    another_text-differs (ap (λ (t : Text). t ∷ []) (ab_padded (codes " XY ") (padded_of (λ i. 2) (codes "ab") (codes " XY ") here.0 here.1 (ap (λ (ls : List Text). slice_index_or ls 0 []) is ∙ here.2))))
+
+-- nor one without the line below it
+no_separator : ¬ (IsHeadline (with_header (plain_row []) (new_table ascii_full)) (codes "++" ∷ codes "++" ∷ []))
+no_separator is = let (block, own, made) = is.is_plain.is_header in too_few is.is_plain.header _ block _ _ _ (is.unstyled refl refl ∙ is.is_plain.drawn) made
+  where
+    too_few : (header rows block : List Text) (top separator bottom : Text) → codes "++" ∷ codes "++" ∷ [] ≡ top ∷ (header ++ (rows ++ bottom ∷ [])) → ¬ (header ≡ block ++ separator ∷ [])
+    too_few header rows block top separator bottom made is =
+        let two : 2 ≡ suc (length (header ++ (rows ++ bottom ∷ []))) = ap length made in
+        let some = ap length is in
+        omega (arith, two, some, length-append header (rows ++ bottom ∷ []), length-append rows (bottom ∷ []), length-append block (separator ∷ []))
+
 -- nor is `éa` drawn a character a line, blinking on red or not
 e_a : Text
 e_a = 0xC3 ∷ 0xA9 ∷ 0x61 ∷ []
@@ -260,6 +287,13 @@ crooked_lines columns is = crooked columns is.0
 -- false: promises::fitting_lines_within
 crooked_within : (columns : List ColumnInfo) → ¬ (KeepToWidthWhereCharactersFit (free_cell None (wide ∷ [])) columns (codes "abc" ∷ codes "a" ∷ []))
 crooked_within columns is = crooked columns is.0
+
+-- whatever the columns are, so they keep no promise
+crooked_keeps_nothing : (arranged : ArrangedValue) → IsArrangedTable (free_cell None (wide ∷ [])) arranged → ¬ (KeepsPromises (free_cell None (wide ∷ [])) (codes "abc" ∷ codes "a" ∷ []))
+crooked_keeps_nothing arranged is kept = crooked_lines arranged.infos (kept.straight_fitting arranged is)
+
+crooked_within_keeps_nothing : (arranged : ArrangedValue) → IsArrangedTable (free_cell None (wide ∷ [])) arranged → ¬ (KeepsPromises (free_cell None (wide ∷ [])) (codes "abc" ∷ codes "a" ∷ []))
+crooked_within_keeps_nothing arranged is kept = crooked_within arranged.infos (kept.fitting_within arranged is)
 
 -- ---- a row that is cut
 
@@ -345,6 +379,14 @@ no_line_for_nothing headline =
 
 -- ---- a text that is wider than its column
 
+-- no line of it is wider, where each character fits
+ab_fits : CharactersFit 1 (codes "ab")
+unfolding wrapping
+ab_fits = refl
+
+wide_line : ¬ (AreLinesOfText 1 0x20 (codes "ab") (codes "ab" ∷ []))
+wide_line own = let fits : measure (codes "ab") ≤ 1 = own.fit (frame_adds 0x20 refl) ab_fits 0 [] (omega arith) in omega (arith, fits, two)
+
 -- it is cut where texts wrap
 wrapped_is : (w : ℕ) (text : Text) (lines : List Text) → w < measure text → 1 ≤ w → IsHeadline (wide_cell (w + 2) (text ∷ [])) lines → ArePadded w (wrapped w 0x20 text) lines
 wrapped_is w text lines wide some headline =
@@ -402,6 +444,37 @@ torn_in_a_wide_table headline = by_lines.1
     by_lines : ArePadded (is.width 0) (codes "ab" ∷ []) (codes " a " ∷ codes " b " ∷ [])
     by_lines = lines_are false Dynamic (Some 80) ellipsis None (codes "ab" ∷ []) (codes " a " ∷ codes " b " ∷ []) is (codes "ab" ∷ []) (texts_stay false Dynamic (Some 80) ellipsis None (codes "ab" ∷ []) (codes " a " ∷ codes " b " ∷ []) is (All-from_recursion (λ text. measure text ≤ is.width 0) (codes "ab" ∷ []) (omega (arith, width, two), tt)))
 
+-- nor is one wider than the width that is kept, where that has room
+abbrev narrow_table : TableValue
+narrow_table = one_cell false Dynamic (Some 4) ellipsis None (codes "abcdef" ∷ [])
+
+-- P holds of its one cell
+of_its_cell : (P : RowValue → ℕ × ColumnValue → CellValue → Type 0) → P (row_of None (codes "abcdef" ∷ [])) place (cell_of (codes "abcdef" ∷ [])) → EachShownCell P narrow_table
+of_its_cell P own =
+    All-from_recursion (λ (row : RowValue). All (λ (p : ℕ × ColumnValue). (cell : CellValue) → slice_get row.cells p.0 ≡ Some cell → P row p cell) (shown_columns narrow_table)) (header_and_rows narrow_table) (
+      All-from_recursion (λ (p : ℕ × ColumnValue). (cell : CellValue) → slice_get (cell_of (codes "abcdef" ∷ []) ∷ []) p.0 ≡ Some cell → P (row_of None (codes "abcdef" ∷ [])) p cell) (shown_columns narrow_table)
+          ((λ cell found. subst (P (row_of None (codes "abcdef" ∷ [])) place) (same_Some (cell_of (codes "abcdef" ∷ [])) cell found) own), tt),
+      tt,
+    )
+
+eight : count (codes " abcdef ") ≡ 8
+unfolding wrapping
+eight = refl
+
+beyond_the_width : ¬ (IsHeadline narrow_table (codes " abcdef " ∷ []))
+beyond_the_width headline =
+    let is = plain_of Dynamic (Some 4) ellipsis None (codes "abcdef" ∷ []) (codes " abcdef " ∷ []) headline in
+    let few = is.keeps_to_width 4 refl (unconstrained false Dynamic (Some 4) ellipsis None (codes "abcdef" ∷ [])) refl in
+    let least : least_total narrow_table ≡ 3 = refl in
+    let counts : count (codes " abcdef ") ≡ is.total = is.plain_total printable
+    (of_its_cell (λ row p cell. (h : ℕ) → row.max_height ≡ Some h → h < length (is.cell_lines p cell) → AddsOneColumnEach (fitting_indicator (is.width p.0) narrow_table.indicator)) (λ h cut. absurd (cc cut))) 0 [] (omega arith) in
+    omega (arith, few, least, counts, eight)
+  where
+    printable : IsPrintable narrow_table
+    printable =
+        of_its_cell (λ row p cell. All (λ text. is_printable_ascii text ≡ true) cell.text_lines × (is_in_range 0x20 0x7E (cell_delimiter narrow_table p.1.delimiter cell) ≡ true))
+        (All-from_recursion (λ text. is_printable_ascii text ≡ true) (codes "abcdef" ∷ []) (refl, tt), refl)
+
 -- spaces alone have no line, not even a blank one
 three : measure (codes "   ") ≡ 3
 unfolding wrapping
@@ -421,6 +494,20 @@ pub unstyled_same : {line styled : Text} → IsStyled line styled → HasNo 0x1B
 unstyled_same no_byte none = refl
 unstyled_same (byte b line styled rest) none = ap (λ (t : Text). b ∷ t) (unstyled_same rest (or_parts (b == 0x1B) _ none).1)
 unstyled_same (sequence code line styled all rest) none = absurd (cc none)
+
+-- `2Jm` isn't parameters and `m`
+pub no_parameters : (code rest : Text) → list_all is_parameter code ≡ true → ¬ (code ++ (0x6D ∷ rest) ≡ codes "2Jm")
+no_parameters [] rest all is = let end : ◌≡◌ {A = ℕ} 0x6D 0x32 = cc is in absurd (omega (arith, end))
+no_parameters (x ∷ []) rest all is = let end : ◌≡◌ {A = ℕ} 0x6D 0x4A = cc is in absurd (omega (arith, end))
+no_parameters (x ∷ y ∷ code) rest all is =
+    let none : false ≡ true = subst (λ (t : Text). list_all is_parameter (t ++ code) ≡ true) (ap (take 2) is) all in
+    cc none
+
+-- so a line is styled by no sequence that clears the screen
+clears_more : {line styled : Text} → IsStyled line styled → line ≡ [] → ¬ (styled ≡ codes "\u{1b}[2Jm")
+clears_more no_byte none is = cc is
+clears_more (byte b line styled rest) none is = cc none
+clears_more (sequence code line styled all rest) none is = no_parameters code styled all (cc is)
 
 -- a text in bold, where sequences in texts are looked at
 abbrev bold : Text

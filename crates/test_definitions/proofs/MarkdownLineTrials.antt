@@ -6,6 +6,8 @@ use Rattle.std.proofs.lemmas.Bool.{true≢false}
 use Rattle.comfy_parts.proofs.Computing.{wrapping}
 use Rattle.comfy_parts.specs.Presets.{ascii_full}
 use Rattle.csv.specs.Records.{field_at}
+use Rattle.comfy_parts.specs.Text.{Text}
+use Rattle.csv_tables.specs.Cells.{Shown, shown_in}
 use Rattle.csv_tables.specs.declared.options.DrawnColumn.{DrawnColumn}
 use Rattle.csv_tables.specs.declared.options.Expansion.TheVariants.{Never}
 use Rattle.csv_tables.specs.declared.options.Look.{Look}
@@ -53,18 +55,22 @@ abbrev look : Look
 look = record { style = ascii_full; separators = Styled; expansion = Never; width = None; fills_width = false; max_height = None; has_bold_header = false; aligns_decimals = true; has_sequences = false; is_markdown = true }
 
 abbrev columns : List DrawnColumn
-columns = record { position = 1; alignment = None } ∷ record { position = 0; alignment = None } ∷ []
+columns = record { position = 1; alignment = None; points = None; is_unbroken = false } ∷ record { position = 0; alignment = None; points = None; is_unbroken = false } ∷ []
+
+-- what they show of fields
+abbrev shown : List Text → List Shown
+shown fields = shown_in look false false columns (1, fields)
 
 -- a record is given back by its line, a missing field as an empty one, and not by another
-record_is_given_back : GivesBack columns (codes " a\n" ∷ codes "b|c" ∷ []) (codes "| b\\|c | a<br> |")
+record_is_given_back : GivesBack (shown (codes " a\n" ∷ codes "b|c" ∷ [])) (codes "| b\\|c | a<br> |")
 unfolding wrapping lib.Utf8.encode chars field_at
 record_is_given_back = refl
 
-missing_field_is_given_back : GivesBack columns (codes "a" ∷ []) (codes "|  | a |")
+missing_field_is_given_back : GivesBack (shown (codes "a" ∷ [])) (codes "|  | a |")
 unfolding wrapping lib.Utf8.encode chars field_at
 missing_field_is_given_back = refl
 
 -- false: csv_tables::laws::markdown_lines_give_back_their_fields
-other_order_is_not : ¬ (GivesBack columns (codes "a" ∷ codes "b" ∷ []) (codes "| a | b |"))
+other_order_is_not : ¬ (GivesBack (shown (codes "a" ∷ codes "b" ∷ [])) (codes "| a | b |"))
 unfolding wrapping lib.Utf8.encode chars field_at
 other_order_is_not is = true≢false (ap (λ (parts : List (List ℕ)). slice_index (slice_index_or parts 1 []) 0 == 0x61) is)

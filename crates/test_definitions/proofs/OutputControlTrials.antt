@@ -93,12 +93,12 @@ marked_is_harmless = refl
 
 -- the first field of each record
 abbrev column : DrawnColumn
-column = record { position = 0; alignment = None }
+column = record { position = 0; alignment = None; points = None; is_unbroken = false }
 
 -- a header, and a record whose field clears the screen and then says so in one byte more
 abbrev table : Look → TableValue
 table look =
-    with_rows (row_for look (column ∷ []) (utf8 "\u{1b}[2J\u{9b}J" ∷ []) ∷ []) (with_header (header_for look (column ∷ []) (utf8 "a" ∷ [])) (empty_table look))
+    with_rows (row_for look false false (column ∷ []) (1, utf8 "\u{1b}[2J\u{9b}J" ∷ []) ∷ []) (with_header (header_for look false (column ∷ []) (utf8 "a" ∷ [])) (empty_table look))
 
 abbrev output : Look → Text
 output look = terminated_text_of (drawing (table look) (6 ∷ []))

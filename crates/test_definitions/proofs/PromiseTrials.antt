@@ -1,5 +1,5 @@
 -- Tables for which the premises of the promises hold, and texts that these promises refuse.
-use Rattle.std.proofs.Common.{◌≡◌, ◌==◌, ◌&&◌, ◌⊎◌, inl, inr, ◌≤◌, ◌<◌, ℕ, zero, suc, Bool, true, false, not, List, [], ◌∷◌, ◌++◌, ◌∙◌, length, length-append, max, flat_map, append-nil, Contains, Option, Some, None, codes, refl, sym, ap, subst, arith, slice_index_or}
+use Rattle.std.proofs.Common.{◌≡◌, ◌==◌, ◌&&◌, ◌⊎◌, inl, inr, ◌≤◌, ◌<◌, ℕ, zero, suc, Bool, true, false, not, List, [], ◌∷◌, ◌++◌, ◌∙◌, length, length-append, max, flat_map, append-nil, Contains, Option, Some, None, codes, refl, sym, ap, ap₂, subst, arith, slice_index_or}
 use Rattle.std.specs.List.{All, AllZip, list_all, slice_get}
 use Rattle.std.specs.Char.{is_control}
 use Rattle.std.specs.Prelude.{encode_utf8_all, replicate, slice_index}
@@ -9,6 +9,7 @@ use lib.Utf8.{encode}
 use Rattle.std.proofs.lemmas.Bool.{and_parts, or_parts}
 use Rattle.std.proofs.lemmas.Bool.Decides.{nat_tests}
 use Rattle.std.proofs.lemmas.List.Elements.{All-from_recursion, All-head}
+use Rattle.std.proofs.lemmas.List.Folds.{list_all-append}
 use Rattle.std.proofs.lemmas.Option.{same_Some}
 use Rattle.std.proofs.lemmas.Str.{NoCharPasses-byte}
 use Rattle.std.specs.Int.{is_in_range}
@@ -34,11 +35,11 @@ use Rattle.promises.specs.Kept.IsFrame.{nothing as no_frame, space as frame_spac
 use Rattle.promises.specs.Shown.{AreShownEquallyWide, HasNoControls, IsHarmless, IsStyled, Shows}
 use Rattle.promises.specs.Shown.Shows.{nothing, byte, sequence}
 use Rattle.promises.specs.Tables.{CharactersFitColumns, EachShownText, EachText, HasPlainFrame, IsPlain, IsShownWhole}
-use Rattle.promises.specs.Straight.{AreShownStraight, AreStraight, AreStraightWhole}
-use Rattle.promises.specs.Widths.{FillWidth, IsFree, IsNarrow, KeepToWidth, frame_room}
+use Rattle.promises.specs.Straight.{AreShownStraight, AreStraight, AreStraightWhereCharactersFit, AreStraightWhole}
+use Rattle.promises.specs.Widths.{FillWidth, IsFree, IsNarrow, KeepToWidth, KeepToWidthWhereCharactersFit, frame_room}
 use Rattle.test_definitions.proofs.StraightTrials.{ellipsis_is_apart}
 use Rattle.test_definitions.proofs.TrialTables as tables
-use Rattle.test_definitions.proofs.HeadlineTrials.{unstyled_same}
+use Rattle.test_definitions.proofs.HeadlineTrials.{no_parameters, unstyled_same}
 use Rattle.test_definitions.proofs.LawTrials.{shorter_line}
 use Rattle.test_definitions.proofs.TrialTables.{no_ab_inside, utf8}
 
@@ -256,17 +257,11 @@ lone_escape nothing is = cc is
 lone_escape (byte b text shown clear rest) is = let same : b ≡ 0x1B = cc is in cc (clear, ap (λ c. c == 0x1B) same)
 lone_escape (sequence code text shown all rest) is = cc is
 
--- nor is one that clears the screen: ESC, `[`, `2`, `J`
-clear_screen : {text shown : Text} → Shows text shown → ¬ (text ≡ 0x1B ∷ 0x5B ∷ 0x32 ∷ 0x4A ∷ [])
+-- nor is one that clears the screen, ESC, `[`, `2`, `J`, though `m` follows
+clear_screen : {text shown : Text} → Shows text shown → ¬ (text ≡ codes "\u{1b}[2Jm")
 clear_screen nothing is = cc is
 clear_screen (byte b text shown clear rest) is = let same : b ≡ 0x1B = cc is in cc (clear, ap (λ c. c == 0x1B) same)
-clear_screen (sequence code text shown all rest) is = no_end code (cc is)
-  where
-    no_end : (xs : Text) → ¬ (xs ++ (0x6D ∷ text) ≡ 0x32 ∷ 0x4A ∷ [])
-    no_end [] same = let end : ◌≡◌ {A = ℕ} 0x6D 0x32 = cc same in absurd (omega (arith, end))
-    no_end (x ∷ []) same = let end : ◌≡◌ {A = ℕ} 0x6D 0x4A = cc same in absurd (omega (arith, end))
-    no_end (x ∷ y ∷ []) same = cc same
-    no_end (x ∷ y ∷ z ∷ zs) same = cc same
+clear_screen (sequence code text shown all rest) is = no_parameters code text all (cc is)
 
 -- a text without ESC shows itself alone
 pub shows_itself : {text shown : Text} → Shows text shown → HasNo 0x1B text → shown ≡ text
@@ -296,7 +291,7 @@ return_is_harmful = control_is_harmful 0x0D (omega arith) refl refl
 escape_is_harmful : ¬ (IsHarmless (0x1B ∷ []))
 escape_is_harmful (shown, shows, none) = lone_escape shows refl
 
-clearing_is_harmful : ¬ (IsHarmless (0x1B ∷ 0x5B ∷ 0x32 ∷ 0x4A ∷ []))
+clearing_is_harmful : ¬ (IsHarmless (codes "\u{1b}[2Jm"))
 clearing_is_harmful (shown, shows, none) = clear_screen shows refl
 
 -- ---- texts among a frame
@@ -389,8 +384,13 @@ uneven_styled_lines : ¬ (AreShownStraight (table_of "é" "Отчёт") uneven)
 uneven_styled_lines is =
     uneven_is_not_shown_straight (is no_controls (has_plain_frame Disabled None "é" "Отчёт") e_fits)
 
+-- nor where each character has room in its column
+uneven_fitting_lines : ¬ (AreStraightWhereCharactersFit (table_of "17" "京都") (columns_of 1 2) uneven)
+uneven_fitting_lines (are, straight) =
+    shorter_line (straight (is_plain Disabled None "17" "京都") (has_plain_frame Disabled None "17" "京都") characters_fit_their_columns)
+
 -- a line of ten terminal columns, where the frame takes nine
-ten : measure (codes "0123456789") ≡ 10
+pub ten : measure (codes "0123456789") ≡ 10
 unfolding wrapping
 ten = refl
 
@@ -401,6 +401,11 @@ ten_wide = codes "0123456789" ∷ []
 wider_than_the_width : ¬ (KeepToWidth (kept_table Dynamic (Some 3) "3 mai é" "Отчёт") 3 ten_wide)
 wider_than_the_width is =
     let few : measure (codes "0123456789") ≤ 9 = is (is_narrow Dynamic (Some 3)) 0 [] (omega arith) in omega (arith, few, ten)
+
+wider_fitting_lines : ¬ (KeepToWidthWhereCharactersFit (kept_table Dynamic (Some 3) "17" "京都") (columns_of 1 2) ten_wide)
+wider_fitting_lines (are, keeps) =
+    let few : measure (codes "0123456789") ≤ 9 = keeps 3 refl refl (is_plain Dynamic (Some 3) "17" "京都") (has_plain_frame Dynamic (Some 3) "17" "京都") (is_free Dynamic (Some 3) "17" "京都") characters_fit_their_columns 0 [] (omega arith) in
+    omega (arith, few, ten)
 
 -- false: promises::lines_over
 narrower_than_the_width : ¬ (FillWidth (kept_table DynamicFullWidth (Some 11) "3 mai é" "Отчёт") 11 ten_wide)
@@ -570,6 +575,18 @@ word_with_more is = by_before stands.0 stands.2
     by_before (b ∷ c ∷ d ∷ e ∷ []) made = let letter : ◌≡◌ {A = ℕ} 0x20 0x61 = cc made in absurd (omega (arith, letter))
     by_before (b ∷ c ∷ d ∷ e ∷ f ∷ before) made = none_in_nothing before (codes "b") stands.1 0x61 (let rest : [] ≡ before ++ (codes "ab" ++ stands.1) = cc made in rest)
 
+-- nor does a text stand where the row has no cell
+text_without_a_cell : ¬ (ShowsRow (styled_word false) (plain_row []) (codes " x " ∷ []))
+text_without_a_cell row = blank stands.0 stands.1 stands.3 stands.4 stands.2
+  where
+    stands : StandAmong (IsFrame presets.nothing) ([] ∷ []) (codes " x ")
+    stands = subst (λ (slices : List Text). StandAmong (IsFrame presets.nothing) (slice_index_or slices 0 [] ∷ []) (codes " x ")) (row.are_slices refl 0 (0, new_column 0) (omega arith)) (row.stand.stand 0 (omega arith))
+
+    blank : (before behind : Text) → IsFrame presets.nothing before → IsFrame presets.nothing behind → ¬ (codes " x " ≡ before ++ behind)
+    blank before behind left right made =
+        let letter : false ≡ true = ap (list_all (λ b. b == 0x20)) made ∙ list_all-append (λ b. b == 0x20) before behind ∙ ap₂ (λ (a b : Bool). a && b) (spaces_alone before left) (spaces_alone behind right) in
+        cc letter
+
 -- and 1 isn't shown by 91.50
 other_whole_text : ¬ (AreShown (ShowsWholeRow (word_table (codes "1"))) (word_table (codes "1")) (codes " 91.50 " ∷ []))
 other_whole_text is = by_blocks is.blocks (subst (StandAmong (All (IsFrame presets.nothing)) is.blocks) (sym (is.unstyled refl)) is.stand) is.show
@@ -603,8 +620,8 @@ no_lines_lose_whole_texts is = by_blocks is.blocks (subst (StandAmong (All (IsFr
         let short : 1 ≤ length block = show.0.enough_lines 0 (0, new_column 0) first_column in
         absurd (omega (arith, short, none))
 
-one_line_more : ¬ (uneven ≡ codes "a" ∷ uneven)
-one_line_more is = cc is
+other_line : ¬ (uneven ≡ codes "ab" ∷ codes "b" ∷ [])
+other_line is = let letter : ◌≡◌ {A = ℕ} 0x61 0x62 = cc is in absurd (omega (arith, letter))
 
 changed_line : ¬ (Stay (codes "a" ∷ []) (codes "b" ∷ []))
 changed_line (above, last, added, short, before, after) = by_above above last added before after
@@ -739,8 +756,8 @@ other_texts : ¬ (ShowWholeTexts (word_table (codes "1")) (codes " 91.50 " ∷ [
 other_texts is = other_whole_text (is refl refl one_is_whole)
 
 -- false: promises::lines_of_both
-a_hidden_text_tells : ¬ (AreSameButForHidden (hiding "secret") (hiding "other") uneven (codes "a" ∷ uneven))
-a_hidden_text_tells is = one_line_more (is hidden_is_gone)
+a_hidden_text_tells : ¬ (AreSameButForHidden (hiding "secret") (hiding "other") uneven (codes "ab" ∷ codes "b" ∷ []))
+a_hidden_text_tells is = other_line (is hidden_is_gone)
 
 -- false: promises::lines_before_and_after
 a_line_changes : ¬ (StayWithRow (table_of "3 mai é" "Отчёт") (row_of "day" "text") (codes "a" ∷ []) (codes "b" ∷ []))

@@ -13,7 +13,9 @@ use Rattle.ucd_category.proofs.Computing.{ucd_category}
 use Rattle.csv.specs.Records.{field_at}
 use Rattle.csv_records.specs.Cleaning.{after_piece, pieces, start}
 use Rattle.csv_records.specs.Input.{line_breaks as line_breaks_of, line_number}
-use Rattle.csv_tables.specs.Columns.{alignment_for, seen, is_number_column}
+use Rattle.csv_tables.specs.Columns.{alignment_for, seen}
+use Rattle.csv_tables.specs.Kinds.{column_kind, is_number_kind}
+use Rattle.csv_tables.specs.Summaries.{column_fields}
 use Rattle.csv_command.specs.Columns.{columns_with, position_named, positions_of_word}
 use Rattle.csv_command.specs.Columns.ColumnFault.{missing, none_left, two_sided}
 use Rattle.csv_tables.specs.Drawn.{condensed_style, limited, note_for, record_line}
@@ -34,7 +36,7 @@ use Rattle.csv_command.specs.declared.arguments.OutputContext.{OutputContext}
 use Rattle.csv_tables.specs.declared.options.RowSeparators.TheVariants.{Styled, Needed, Never}
 use Rattle.comfy_parts.specs.Presets.{nothing, utf8_full, utf8_full_condensed}
 use Rattle.comfy_parts.specs.StyleModifiers.{with_rounded_corners}
-use Rattle.csv_tables.specs.Cells.{held, reached, unless_blank}
+use Rattle.csv_tables.specs.Cells.{held, columns_within, unless_blank}
 use Rattle.csv_tables.specs.declared.options.DrawnColumn.{DrawnColumn}
 
 abbrev texts : List String → List Text
@@ -260,7 +262,7 @@ abbrev rows : List (List Text)
 rows = texts ("x" ∷ "1" ∷ "2" ∷ "-" ∷ "0042" ∷ []) ∷ texts ("3" ∷ "n/a" ∷ []) ∷ texts ("3" ∷ "" ∷ "2" ∷ "" ∷ "42" ∷ []) ∷ []
 
 -- a column with a word, one with neutral fields, one with a missing field, one of neutral fields alone, one with a name, and one that has no field
-alignments : map (λ p. alignment_for [] [] (is_number_column rows p) p) (0 ∷ 1 ∷ 2 ∷ 3 ∷ 4 ∷ 5 ∷ []) ≡ None ∷ Some Right ∷ Some Right ∷ None ∷ None ∷ None ∷ []
+alignments : map (λ p. alignment_for [] [] (is_number_kind (column_kind (column_fields rows p))) p) (0 ∷ 1 ∷ 2 ∷ 3 ∷ 4 ∷ 5 ∷ []) ≡ None ∷ Some Right ∷ Some Right ∷ None ∷ None ∷ None ∷ []
 unfolding field_at chars lib.Utf8.encode ucd_category is_neutral is_number
 alignments = refl
 
@@ -268,12 +270,12 @@ alignments = refl
 abbrev in_red : Text
 in_red = 0x1B ∷ codes "[31m12" ++ 0x1B ∷ codes "[0m"
 
-coloured_alignments : map (λ keeps. alignment_for [] [] (is_number_column (map (seen keeps) ((in_red ∷ []) ∷ [])) 0) 0) (true ∷ false ∷ []) ≡ Some Right ∷ None ∷ []
+coloured_alignments : map (λ keeps. alignment_for [] [] (is_number_kind (column_kind (column_fields (map (seen keeps) ((in_red ∷ []) ∷ [])) 0))) 0) (true ∷ false ∷ []) ≡ Some Right ∷ None ∷ []
 unfolding field_at chars lib.Utf8.encode ucd_category is_neutral is_number
 coloured_alignments = refl
 
 -- the right wins over the left, and both over numbers
-chosen_alignments : map (λ p. alignment_for (0 ∷ []) (0 ∷ 1 ∷ []) (is_number_column rows p) p) (0 ∷ 1 ∷ []) ≡ Some Right ∷ Some Left ∷ []
+chosen_alignments : map (λ p. alignment_for (0 ∷ []) (0 ∷ 1 ∷ []) (is_number_kind (column_kind (column_fields rows p))) p) (0 ∷ 1 ∷ []) ≡ Some Right ∷ Some Left ∷ []
 unfolding field_at chars lib.Utf8.encode ucd_category is_neutral is_number
 chosen_alignments = refl
 
@@ -289,7 +291,7 @@ unfolding digits
 note_in_markdown = refl
 
 -- the line below a header for Markdown: the second column stands at the right
-rule : rule_line (record { position = 0; alignment = None } ∷ record { position = 1; alignment = Some Right } ∷ []) (3 ∷ 1 ∷ []) ≡ codes "|-----|--:|"
+rule : rule_line (None ∷ Some Right ∷ []) (3 ∷ 1 ∷ []) ≡ codes "|-----|--:|"
 rule = refl
 
 -- the line above a record
@@ -393,10 +395,10 @@ line_break_is_read same = let is : 0x0A ∷ [] ≡ codes "<br>" = same in cc is
 -- ---- cells
 
 abbrev placed_columns_at : List ℕ → List DrawnColumn
-placed_columns_at positions = map (λ (p : ℕ). record { position = p; alignment = None }) positions
+placed_columns_at positions = map (λ (p : ℕ). record { position = p; alignment = None; points = None; is_unbroken = false }) positions
 
 -- of three columns a record of one field reaches the first, or those up to where that one stands
-reaches : map (λ positions. length (reached (texts ("1" ∷ [])) (placed_columns_at positions))) ((0 ∷ 1 ∷ 2 ∷ []) ∷ (2 ∷ 0 ∷ 1 ∷ []) ∷ (2 ∷ 1 ∷ []) ∷ []) ≡ 1 ∷ 2 ∷ 0 ∷ []
+reaches : map (λ positions. length (columns_within (texts ("1" ∷ [])) (placed_columns_at positions))) ((0 ∷ 1 ∷ 2 ∷ []) ∷ (2 ∷ 0 ∷ 1 ∷ []) ∷ (2 ∷ 1 ∷ []) ∷ []) ≡ 1 ∷ 2 ∷ 0 ∷ []
 reaches = refl
 
 -- and it holds one of them

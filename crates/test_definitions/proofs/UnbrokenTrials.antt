@@ -12,12 +12,13 @@ use Rattle.comfy_parts.specs.Text.{Text}
 use Rattle.comfy_parts.specs.declared.style.column.ColumnConstraint.{ColumnConstraint}
 use Rattle.comfy_parts.specs.declared.style.column.ColumnConstraint.TheVariants.{Absolute, ContentWidth}
 use Rattle.comfy_parts.specs.declared.style.column.Width.TheVariants.{Fixed}
+use Rattle.csv_tables.specs.Summaries.{column_fields}
 use Rattle.csv_records.specs.Number.{is_neutral, is_number}
 use Rattle.comfy_table.specs.TableValue.{TableValue, new_table, with_rows}
 use Rattle.comfy_parts.specs.Wrapping.{lines_of_text}
 use Rattle.csv_tables.specs.Drawn.{is_expanded_in}
 use Rattle.csv_tables.specs.Laws.{IsWholeColumn, StandsWhole}
-use Rattle.csv_tables.specs.Unbroken.{framed_width, has_room, is_unbroken, is_unbroken_column, kept_unbroken, kept_unbroken_fields, least_width, may_break, needed_contents, room_beside, room_for_two, unbroken_width}
+use Rattle.csv_tables.specs.Unbroken.{framed_width, has_room, is_unbroken, kept_unbroken, kept_unbroken_fields, least_width, may_break, needed_contents, room_beside, room_for_two, unbroken_width}
 use Rattle.csv_tables.specs.declared.options.Expansion.TheVariants.{Always, Auto, Never}
 
 abbrev texts : List String → List Text
@@ -34,7 +35,7 @@ unfolding chars lib.Utf8.encode ucd_category is_neutral is_number
 broken = refl
 
 -- of two rows the second has one field
-columns : map (is_unbroken_column (texts ("1" ∷ "a" ∷ []) ∷ texts ("2" ∷ []) ∷ [])) (0 ∷ 1 ∷ 2 ∷ []) ≡ true ∷ false ∷ true ∷ []
+columns : map (λ position. list_all is_unbroken (column_fields (texts ("1" ∷ "a" ∷ []) ∷ texts ("2" ∷ []) ∷ []) position)) (0 ∷ 1 ∷ 2 ∷ []) ≡ true ∷ false ∷ true ∷ []
 unfolding chars lib.Utf8.encode ucd_category field_at is_neutral is_number
 columns = refl
 

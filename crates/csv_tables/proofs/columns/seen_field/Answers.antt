@@ -3,7 +3,7 @@ use Rattle.std.specs.Cow.{cow_str_bytes}
 use Rattle.std.specs.Result.{IfOk}
 use Rattle.comfy_parts.specs.Text.{Text}
 use Rattle.csv_records.specs.Cleaning.{visible_of}
-use Rattle.csv_tables.specs.Cells.{field_or_blank}
+use Rattle.csv_tables.specs.Fields.{field_or_blank}
 use Rattle.csv_tables.proofs.ColumnLemmas.{seen_at}
 use Rattle.csv_tables.proofs.columns.seen_field.Goals as goal
 

@@ -7,8 +7,8 @@ use Rattle.csv_tables.proofs.expanded.records_text.Given as goal
 
 abbrev pub invariant-loop-at : goal.invariant-loop-at
 invariant-loop-at l = record {
-  left : enumerate_source l.at-iterator ≡ drop (enumerate_count l.at-iterator) l.content.rows;
-  within : enumerate_count l.at-iterator ≤ length l.content.rows;
-  text : string_bytes l.text ≡ flat_map (record_text l.content l.arranged) (range_with_len 0 (enumerate_count l.at-iterator));
-  first : l.first ≡ sum_by (drawn_fields l.content) (take (enumerate_count l.at-iterator) l.content.rows);
+  left : enumerate_source l.at-iterator ≡ drop (enumerate_count l.at-iterator) l.selected.rows;
+  within : enumerate_count l.at-iterator ≤ length l.selected.rows;
+  text : string_bytes l.text ≡ flat_map (record_text l.selected l.arranged) (range_with_len 0 (enumerate_count l.at-iterator));
+  first : l.first ≡ sum_by (drawn_fields l.selected) (take (enumerate_count l.at-iterator) l.selected.rows);
 }

@@ -6,11 +6,11 @@ use Rattle.csv_tables.proofs.markdown.push_rule.Goals as goal
 
 pub returns : goal.returns
 returns c =
-    let all = YieldsList-from_zip {s = c.into_iter-column-iterator.result} (YieldsList-from_slice c.args.columns.now cc) (YieldsList-from_slice c.args.widths.now cc) in
-    let ended = YieldsList-end all c.loop-column.yielded _ c.loop-column.yielded_by _ c.next.new.self c.in-None.is c.next.ensures.steps in
+    let all = YieldsList-from_zip {s = c.into_iter-side-iterator.result} (YieldsList-from_slice c.args.sides.now cc) (YieldsList-from_slice c.args.widths.now cc) in
+    let ended = YieldsList-end all c.loop-side.yielded _ c.loop-side.yielded_by _ c.next.new.self c.in-None.is c.next.ensures.steps in
     let had = string_bytes c.args.text.now in
-    let parts = flat_map rule_part (zip c.args.columns.now c.args.widths.now) in
-    let so_far : string_bytes c.loop-column.text ≡ had ++ 124 ∷ parts =
-    c.loop-column.invariant ∙ ap₂ (λ a b. a ++ flat_map rule_part b) (c.in_ok-push.ensures.bytes ∙ ap (λ t. had ++ t) (c.in_ok-push.ensures.ascii (lit< tt))) ended.0 ∙ append_assoc had (124 ∷ []) parts in
+    let parts = flat_map rule_part (zip c.args.sides.now c.args.widths.now) in
+    let so_far : string_bytes c.loop-side.text ≡ had ++ 124 ∷ parts =
+    c.loop-side.invariant ∙ ap₂ (λ a b. a ++ flat_map rule_part b) (c.in_ok-push.ensures.bytes ∙ ap (λ t. had ++ t) (c.in_ok-push.ensures.ascii (lit< tt))) ended.0 ∙ append_assoc had (124 ∷ []) parts in
     let line : (had ++ 124 ∷ parts) ++ 10 ∷ [] ≡ had ++ 124 ∷ (parts ++ 10 ∷ []) = append_assoc had (124 ∷ parts) (10 ∷ []) in
     search rules

@@ -5,6 +5,6 @@ use Rattle.csv_tables.specs.Summaries.{AreSummaries}
 use Rattle.csv_tables.proofs.summary.add_record.Given as goal
 
 abbrev pub invariant-loop-position : goal.invariant-loop-position
-invariant-loop-position g l =
-    (rows : List (List Text)) → AreSummaries g.S.Summary.summary_of rows l.initial.summaries.items
-    → AreSummaries g.S.Summary.summary_of (rows ++ take l.position (seen l.has_sequences l.row) ∷ []) l.summaries.items
+invariant-loop-position l =
+    (rows : List (List Text)) → AreSummaries rows l.initial.summaries.items
+    → AreSummaries (rows ++ take l.position (seen l.has_sequences l.row) ∷ []) l.summaries.items

@@ -1,6 +1,7 @@
 use Rattle.std.proofs.Common.{◌≡◌, ◌∙◌, Some, ap, false, sym, true}
 use Rattle.csv_tables.proofs.UnbrokenLemmas.{kept-test}
-use Rattle.csv_tables.specs.Unbroken.{has_room, kept_unbroken, unbroken_columns, with_constrained}
+use Rattle.csv_tables.specs.Drawn.{unbroken_in}
+use Rattle.csv_tables.specs.Unbroken.{has_room, kept_unbroken, with_constrained}
 use Rattle.csv_tables.proofs.unbroken.keep_unbroken.Goals as goal
 use Rattle.csv_tables.proofs.unbroken.keep_unbroken.Goals.{then-has_room, else-has_room}
 
@@ -8,7 +9,7 @@ pub returns-clause-table : goal.returns-clause-table
 returns-clause-table c =
     let width = c.in-Some.width in
     let table = c.args.table.now in
-    let unbroken = unbroken_columns c.args.look.now.has_sequences c.args.content.now.columns c.args.content.now.rows in
+    let unbroken = unbroken_in c.args.selected.now in
     let room : c.in_ok-has_room.has_room ≡ has_room (Some width) unbroken table =
     c.in_ok-has_room.ensures ∙ ap (λ u. has_room (Some width) u table) (c.as_slice.ensures.value ∙ c.in_ok-unbroken.ensures) in
     let kept : c.if-has_room.table ≡ kept_unbroken (Some width) unbroken table =
@@ -23,5 +24,5 @@ pub returns-clause-has_room : goal.returns-clause-has_room
 returns-clause-has_room c =
     let width = c.in-Some.width in
     let table = c.args.table.now in
-    let unbroken = unbroken_columns c.args.look.now.has_sequences c.args.content.now.columns c.args.content.now.rows in
+    let unbroken = unbroken_in c.args.selected.now in
     c.in_ok-has_room.ensures ∙ ap (λ u. has_room (Some width) u table) (c.as_slice.ensures.value ∙ c.in_ok-unbroken.ensures) ∙ ap (λ w. has_room w unbroken table) (sym c.in-Some.is)

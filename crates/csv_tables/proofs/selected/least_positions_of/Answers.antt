@@ -1,0 +1,44 @@
+use Rattle.std.proofs.Common.{◌≡◌, ◌<◌, ◌+◌, ◌-◌, ◌∷◌, [], ℕ, List, ap, ap₂, arith, drop, length, min, reverse, sym, ◌∙◌}
+use Rattle.std.specs.List.{slice_index_or}
+use Rattle.std.proofs.lemmas.List.{drop_all, drop_more, reverse-append}
+use Rattle.csv_tables.specs.Leasts.{least_position, least_positions}
+use Rattle.csv_tables.specs.declared.options.DrawnColumn.{DrawnColumn}
+use Rattle.csv_tables.proofs.ReachedLemmas.{no_column}
+use Rattle.csv_tables.proofs.selected.least_positions_of.Goals as goal
+
+pub loop-behind-init : goal.loop-behind-init
+loop-behind-init c =
+    let columns : List DrawnColumn = c.args.columns.now in
+    let whole : length columns - 0 ≡ length columns = omega arith in
+    let none : drop (length columns - 0) columns ≡ [] = ap (λ (n : ℕ). drop n columns) whole ∙ drop_all (length columns) columns (omega arith) in
+    (ap reverse c.in_ok-leasts.ensures.items ∙ sym (ap least_positions none), sym (ap least_position none))
+
+pub loop-behind-preserved : goal.loop-behind-preserved
+loop-behind-preserved c =
+    let columns : List DrawnColumn = c.args.columns.now in
+    let n : ℕ = length columns in
+    let behind : ℕ = c.loop-behind.behind in
+    let at : ℕ = n - 1 - behind in
+    let test : behind < n = c.loop-behind-test.true in
+    let column : DrawnColumn = slice_index_or columns at no_column in
+    let below : at < n = omega (arith, test) in
+    let before : at + 1 ≡ n - behind = omega (arith, test) in
+    let here : n - (behind + 1) ≡ at = omega (arith, test) in
+    let rest : drop (n - (behind + 1)) columns ≡ column ∷ drop (n - behind) columns =
+    ap (λ (k : ℕ). drop k columns) here ∙ drop_more columns at no_column below ∙ ap (λ (k : ℕ). column ∷ drop k columns) before in
+    let ends = c.loop-behind.invariant in
+    let least : c.min-least.result ≡ least_position (column ∷ drop (n - behind) columns) =
+    c.min-least.ensures ∙ ap (λ (l : ℕ). min l column.position) ends.1 ∙ swapped (least_position (drop (n - behind) columns)) column.position in (
+      ap reverse c.in_ok-push.ensures.items ∙ reverse-append c.loop-behind.leasts.items (c.min-least.result ∷ []) ∙ ap₂ (λ (l : ℕ) (ls : List ℕ). l ∷ ls) least ends.0 ∙ sym (ap least_positions rest),
+      least ∙ sym (ap least_position rest),
+    )
+  where
+    swapped : (a b : ℕ) → min a b ≡ min b a
+    swapped a b = omega arith
+
+pub returns : goal.returns
+returns c =
+    let columns : List DrawnColumn = c.args.columns.now in
+    let end = c.loop-behind-test.false in
+    let none : length columns - c.loop-behind.behind ≡ 0 = omega (arith, end) in
+    c.reverse.ensures.items ∙ c.loop-behind.invariant.0 ∙ ap (λ (n : ℕ). least_positions (drop n columns)) none

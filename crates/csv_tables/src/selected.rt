@@ -1,0 +1,160 @@
+//! What is drawn of some records.
+
+ghost use Rattle.std.specs.Prelude.{◌≡◌, IfOk, [], unwrap_or};
+ghost use Rattle.csv_tables.specs.Cells.{columns_within};
+ghost use Rattle.csv_tables.specs.Drawn.{selected_of, drawn_fields, sides};
+ghost use Rattle.csv_tables.specs.Leasts.{least_positions};
+
+use crate::columns::drawn_columns;
+use crate::options::{DrawnColumn, Layout};
+use crate::selection::{limited, names_of, records_below};
+use comfy_parts::Result;
+use comfy_parts::style::CellAlignment;
+use csv_records::{Record, Records, Rows};
+use std::alloc::{AllocError, Global};
+use std::marker::Model;
+
+/// The names, the rows and the columns that are drawn of some records, with these records.
+#[derive(Drop)]
+pub struct SelectedRecords {
+    pub(crate) alloc: Global,
+    records: Records,
+    has_header: bool,
+    // how many rows are drawn
+    limit: Option<usize>,
+    // how many records stand below the header, where that is known
+    count: Option<usize>,
+    pub(crate) columns: Vec<DrawnColumn>,
+    // of each column, the least position of it and of those behind it
+    least_behind: Vec<usize>,
+    // whether a column of numbers stands before them
+    pub(crate) is_numbered: bool,
+}
+
+impl Model for SelectedRecords {
+    ghost use Rattle.std.specs.Prelude.{◌≡◌};
+    ghost use Rattle.csv_tables.specs.Drawn.{SelectedValue, limited, names_of, records_below};
+    ghost use Rattle.csv_tables.specs.Leasts.{least_positions};
+
+    ghost Value = { SelectedValue };
+
+    ghost invariant = { λ c. c.least_behind.items ≡ least_positions c.columns.items };
+
+    ghost view = { λ c. record {
+      names = names_of c.has_header c.records;
+      rows = limited c.limit (records_below c.has_header c.records);
+      columns = c.columns.items;
+      count = c.count;
+      is_numbered = c.is_numbered;
+    } };
+}
+
+impl SelectedRecords {
+    /// What is drawn of these records, of which so many stand below the header, where that is
+    /// known.
+    pub fn new(
+        alloc: Global,
+        records: Records,
+        count: Option<usize>,
+        layout: &Layout,
+    ) -> Result<SelectedRecords>
+        ensures { IfOk result (λ selected. selected ≡ selected_of count layout.now records) }
+    {
+        let rows = layout.selection.rows(&records.rows());
+        let columns = drawn_columns(alloc, &layout.columns, &rows, layout.look.has_sequences)?;
+        let least_behind = least_positions_of(alloc, columns.as_slice())?;
+        Ok(SelectedRecords {
+            alloc,
+            records,
+            has_header: layout.selection.has_header,
+            limit: layout.selection.limit,
+            count,
+            columns,
+            least_behind,
+            is_numbered: layout.selection.is_numbered,
+        })
+    }
+
+    /// The header, where there is one.
+    pub(crate) fn names(&self) -> Option<Record<'_>>
+        ensures { result ≡ self.now.names }
+    {
+        names_of(&self.records.rows(), self.has_header)
+    }
+
+    /// The header, or a record without fields.
+    pub(crate) fn names_or_blank(&self) -> Record<'_>
+        ensures { result ≡ unwrap_or self.now.names [] }
+    {
+        self.names().unwrap_or(self.records.rows().blank())
+    }
+
+    /// The rows that are drawn.
+    pub(crate) fn rows(&self) -> Rows<'_>
+        ensures { result ≡ self.now.rows }
+    {
+        let below = records_below(&self.records.rows(), self.has_header);
+        limited(&below, self.limit)
+    }
+
+    /// The columns up to the last one of which a record has the field. No others are looked at, so
+    /// that a record of few fields costs little however many columns there are.
+    pub(crate) fn columns_within(&self, row: &Record<'_>) -> &[DrawnColumn]
+        ensures { result.now ≡ columns_within row.now self.now.columns }
+    {
+        for (count, least) in self.least_behind.iter().enumerate() {
+            if row.len() <= *least {
+                return &self.columns[..count];
+            }
+        }
+        self.columns.as_slice()
+    }
+
+    /// How many fields of an expanded record are drawn.
+    pub(crate) fn drawn_fields(&self, row: &Record<'_>) -> usize
+        ensures { result ≡ drawn_fields self.now row.now }
+    {
+        let mut count = 0;
+        for column in self.columns_within(row) {
+            if column.position < row.len() {
+                count += 1;
+            }
+        }
+        count
+    }
+
+    /// The alignment of each column, that of numbers too.
+    pub(crate) fn sides(&self) -> Result<Vec<Option<CellAlignment>>, AllocError>
+        ensures { IfOk result (λ made. made.items ≡ sides self.now) }
+    {
+        let mut sides = Vec::with_capacity(self.alloc, self.columns.len())?;
+        if self.is_numbered {
+            sides.push(Some(CellAlignment::Right))?;
+        }
+        for column in &self.columns {
+            sides.push(column.alignment)?;
+        }
+        Ok(sides)
+    }
+
+    /// How many records there are below the header, drawn or not, where that is known.
+    pub(crate) fn count(&self) -> Option<usize>
+        ensures { result ≡ self.now.count }
+    {
+        self.count
+    }
+}
+
+// Of each column, the least position of it and of those behind it.
+fn least_positions_of(alloc: Global, columns: &[DrawnColumn]) -> Result<Vec<usize>, AllocError>
+    ensures { IfOk result (λ leasts. leasts.items ≡ least_positions columns.now) }
+{
+    let mut leasts = Vec::with_capacity(alloc, columns.len())?;
+    let mut least = usize::MAX;
+    for behind in 0..columns.len() {
+        least = least.min(columns[columns.len() - 1 - behind].position);
+        leasts.push(least)?;
+    }
+    leasts.reverse();
+    Ok(leasts)
+}
