@@ -4,7 +4,7 @@ use Rattle.comfy_parts.specs.Text.{Text, measure}
 use Rattle.csv_records.specs.Beginning.{whole_lines}
 use Rattle.csv_command.specs.declared.arguments.Options.{Options}
 use Rattle.csv_command.specs.Drawn.{RendersBeginning, RendersChosen, RendersInput, layout_with}
-use Rattle.csv_tables.specs.Drawn.{count_below}
+use Rattle.csv_tables.specs.Drawn.{count_below, sides}
 use Rattle.csv_tables.specs.Laws.{EachText}
 use Rattle.csv_tables.specs.MarkdownLines.{GivesRecordsBack}
 use Rattle.devices.specs.Outcome.{asked_front}
@@ -14,7 +14,7 @@ abbrev pub GivesBack : Option ℕ → Options → List (List Text) → Text → 
 GivesBack count options records output =
     (drawn : RendersChosen count options records output)
     → EachText (λ text. measure text ≤ 65535) options.look records
-    → 0 < length drawn.is_output.content.columns
+    → 0 < length (sides drawn.is_output.content)
     → GivesRecordsBack count (layout_with options drawn.columns) records output
 
 -- the records of an input, or of a beginning that is enough, are given back by what is written

@@ -92,6 +92,6 @@ fn chosen_and_expanded_fields_are_promised_too(rt: HostRuntime) {
     assert!(rt; is_promised(&rt, &["csvtable", "-x", "-w", "20"]));
     assert!(rt; is_promised(&rt, &["csvtable", "-c", "days", "--limit", "0"]));
     assert!(rt; is_promised(&rt, &["csvtable", "--drop", "1", "--expanded", "never"]));
-    assert!(rt; !is_promised(&rt, &["csvtable", "-l"]));
+    assert!(rt; is_promised(&rt, &["csvtable", "-l"]));
     assert!(rt; !is_promised(&rt, &["csvtable", "-m", "1"]));
 }
