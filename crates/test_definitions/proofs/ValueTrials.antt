@@ -3,7 +3,7 @@ use Rattle.std.proofs.Common.{◌≡◌, [], ◌∷◌, Some, true, false, refl}
 use Rattle.std.specs.Prelude.{codes}
 use Rattle.std.specs.Fmt.{digits}
 use Rattle.comfy_parts.proofs.Computing.{wrapping}
-use Rattle.comfy_parts.specs.CellValue.{number_cell, bool_cell, char_cell, plain_cell, plain_row, selected_of, with_cell, with_max_height, new_column, saturated_padding, shown_among}
+use Rattle.comfy_parts.specs.CellValue.{number_cell, bool_cell, char_cell, plain_cell, plain_row, content_of, with_cell, with_max_height, new_column, saturated_padding, shown_among}
 use Rattle.comfy_parts.specs.Comparisons.{ascends, attribute_cmp, color_cmp}
 use Rattle.comfy_parts.specs.declared.style.attribute.Attribute.TheVariants as attribute
 use Rattle.comfy_parts.specs.declared.style.color.Color.TheVariants as color
@@ -21,7 +21,7 @@ a_character : char_cell 0x2705 ≡ plain_cell (0xE2 ∷ 0x9C ∷ 0x85 ∷ [])
 unfolding wrapping
 a_character = refl
 
-a_content : selected_of (plain_cell (codes "a\n\nb")) ≡ codes "a\n\nb"
+a_content : content_of (plain_cell (codes "a\n\nb")) ≡ codes "a\n\nb"
 a_content = refl
 
 a_row : with_max_height 0 (with_cell (bool_cell true) (plain_row [])) ≡ record { cells = plain_cell (codes "true") ∷ []; max_height = Some 1 }
