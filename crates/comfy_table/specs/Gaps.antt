@@ -1,4 +1,4 @@
--- Private: the lines of a row as pieces between gaps.
+-- Private: the lines of a row as pieces between gaps, and the frame of the rows.
 -- Source: this library's own.
 use Rattle.std.specs.Prelude.{ℕ, Bool, List, [], ◌++◌, Option, Some, None, map, if◌then◌else◌}
 use Rattle.std.specs.List.{join_by}
@@ -6,7 +6,7 @@ use Rattle.comfy_parts.specs.CellValue.{CellValue, ColumnInfo, RowValue}
 use Rattle.comfy_parts.specs.Text.{Text, spaces}
 use Rattle.comfy_parts.specs.declared.style.table_style.ContentLineStyle.{ContentLineStyle}
 use Rattle.comfy_parts.specs.declared.style.table_style.TableStyle.{TableStyle}
-use Rattle.comfy_table.specs.Frame.{character, draws_left_border, draws_right_border, draws_vertical_lines}
+use Rattle.comfy_table.specs.Frame.{character, draws_left_border, draws_right_border, draws_vertical_lines, optional_frame_line}
 use Rattle.comfy_table.specs.Pieces.{row_lines}
 use Rattle.comfy_table.specs.Styling.{styled}
 use Rattle.comfy_table.specs.TableValue.{TableValue}
@@ -47,3 +47,21 @@ gap_line gaps pieces =
 -- the lines of a row
 abbrev pub row_between : RowGapsValue → TableValue → List ColumnInfo → RowValue → List Text
 row_between gaps table infos row = map (gap_line gaps) (row_lines table infos row)
+
+-- what each part of a table draws alike: the lines of the frame, where they are drawn, and the gaps
+-- in the lines of the rows
+pub record FrameValue : Type 0 where
+  pub top : List Text
+  pub separator : List Text
+  pub bottom : List Text
+  pub gaps : RowGapsValue
+
+-- the frame over columns of these whole widths
+abbrev pub frame_of : TableStyle → List ℕ → FrameValue
+frame_of style widths =
+    record {
+      top = optional_frame_line style style.top_border widths;
+      separator = optional_frame_line style style.row_separator widths;
+      bottom = optional_frame_line style style.bottom_border widths;
+      gaps = row_gaps style style.content_lines;
+    }

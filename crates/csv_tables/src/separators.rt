@@ -1,7 +1,6 @@
 //! Where lines between rows are drawn.
 
-ghost use Rattle.std.specs.Prelude.{◌≡◌, IfOk, OnOk, false, nat_lt};
-ghost use Rattle.std.specs.List.{list_any};
+ghost use Rattle.std.specs.Prelude.{◌≡◌, IfOk, OnOk, false};
 ghost use Rattle.csv_tables.specs.Drawn.{HasTallRow, condensed_style, separated_table};
 ghost use Rattle.csv_tables.specs.Separators.{AreRowsSeparated, AreTallRowsSeparated};
 
@@ -53,12 +52,5 @@ fn condensed_style(style: TableStyle) -> TableStyle
 fn has_tall_row(table: &Table) -> Result<bool>
     ensures { IfOk result (λ is_tall. HasTallRow table.now is_tall) }
 {
-    let heights = table.arranged()?.row_heights()?;
-    Ok(is_any_tall(heights.as_slice()))
-}
-
-fn is_any_tall(heights: &[usize]) -> bool
-    ensures { result ≡ list_any (λ height. nat_lt 1 height) heights.now }
-{
-    heights.iter().any(|height| *height > 1)
+    table.arranged()?.has_taller_row(1)
 }

@@ -20,7 +20,7 @@ fn silent_1(alloc: Global, table: &mut Table) -> Result<()> {
     table_set_header_example(table)?;
     table_add_row_example(table)?;
     table_column_mut_example(table);
-    arranged_table_row_heights_example(table)?;
+    arranged_table_has_taller_row_example(table)?;
     arranged_table_push_rows_example(alloc, table)?;
     column_cell_iter_example(table)?;
     lines_example(table)?;
@@ -93,8 +93,8 @@ fn arranged_table_example(
     Ok(())
 }
 
-fn arranged_table_row_heights_example(table: &mut Table) -> Result<()> {
-    let heights = table.arranged()?.row_heights()?;
+fn arranged_table_has_taller_row_example(table: &mut Table) -> Result<()> {
+    let has_tall_row = table.arranged()?.has_taller_row(1)?;
     Ok(())
 }
 

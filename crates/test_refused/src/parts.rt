@@ -13,7 +13,7 @@ pub fn outcome_of(alloc: Global, table: &mut Table, call: &str) -> Result<Outcom
 
 fn outcome_on(alloc: Global, arranged: &ArrangedTable, call: &str) -> Result<Outcome> {
     match call {
-        "row_heights" => Ok(Outcome::of(succeeded(arranged.row_heights()))),
+        "has_taller_row" => Ok(Outcome::of(succeeded(arranged.has_taller_row(2)))),
         "push_rows" => outcome_of_pushing(alloc, arranged),
         _ => Ok(Outcome::Unknown),
     }

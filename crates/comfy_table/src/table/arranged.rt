@@ -1,6 +1,7 @@
 //! A table whose widths are found, and its parts.
 
-ghost use Rattle.std.specs.Prelude.{◌≡◌, ◌++◌, IfOk, OnErr, OnOk, drop, string_bytes, take};
+ghost use Rattle.std.specs.Prelude.{◌≡◌, ◌++◌, IfOk, OnErr, OnOk, drop, nat_lt, string_bytes, take};
+ghost use Rattle.std.specs.List.{list_any};
 ghost use Rattle.comfy_table.specs.Drawing.{drawing_of_infos};
 ghost use Rattle.comfy_table.specs.Output.{BeginsWith, with_lines};
 ghost use Rattle.comfy_table.specs.Parts.{IsArrangedTable, part_text, row_heights};
@@ -8,7 +9,7 @@ ghost use Rattle.comfy_table.specs.TableValue.{with_other_rows};
 
 use crate::table::Table;
 use crate::utils::arrangement::arrange_content;
-use crate::utils::formatting::{Output, draw, row_heights};
+use crate::utils::formatting::{DrawnFrame, Output, draw, has_taller_row};
 use crate::utils::look_at_parts;
 use comfy_parts::content_split::ColumnDisplayInfo;
 use comfy_parts::{Result, Row};
@@ -42,12 +43,19 @@ use std::mem;
 pub struct ArrangedTable<'a> {
     table: &'a Table,
     infos: Vec<ColumnDisplayInfo>,
+    frame: DrawnFrame,
 }
 
 impl<'a> Model for ArrangedTable<'a> {
+    ghost use Rattle.std.specs.Prelude.{◌≡◌};
+    ghost use Rattle.comfy_table.specs.Drawing.{outer_widths};
+    ghost use Rattle.comfy_table.specs.Gaps.{frame_of};
     ghost use Rattle.comfy_table.specs.Parts.{ArrangedValue};
 
     ghost Value = { ArrangedValue };
+
+    ghost invariant = { λ a. a.frame
+        ≡ frame_of a.table.now.style (outer_widths a.infos.items) };
 
     ghost view = { λ a. record { table = a.table.now; infos = a.infos.items } };
 }
@@ -70,19 +78,23 @@ impl<'a> ArrangedTable<'a> {
         // Read for the proof: what was looked at is known to be UTF-8.
         let _ = &table.indicator;
         let infos = arrange_content(table)?;
-        Ok(ArrangedTable { table, infos })
+        let frame = DrawnFrame::new(table, infos.as_slice())?;
+        Ok(ArrangedTable {
+            table,
+            infos,
+            frame,
+        })
     }
 
-    /// How many lines each row is drawn in, in order; 0 where no column is shown. The header's
-    /// aren't among them.
+    /// Whether a row is drawn in more lines than these. The header doesn't count.
     ///
     /// ```
-    /// let heights = table.arranged()?.row_heights()?;
+    /// let has_tall_row = table.arranged()?.has_taller_row(1)?;
     /// ```
-    pub fn row_heights(&self) -> Result<Vec<usize>>
-        ensures { IfOk result (λ heights. heights.items ≡ row_heights self.now) }
+    pub fn has_taller_row(&self, lines: usize) -> Result<bool>
+        ensures { IfOk result (λ has. has ≡ list_any (nat_lt lines) (row_heights self.now)) }
     {
-        row_heights(self.table, self.infos.as_slice())
+        has_taller_row(self.table, self.infos.as_slice(), lines)
     }
 
     /// Appends a part: the drawing of the table with `count` of its rows alone, from the one at
@@ -119,7 +131,7 @@ impl<'a> ArrangedTable<'a> {
             output.old) }
         ensures err { OnErr result (BeginsWith output.new.text output.old.text) }
     {
-        draw(self.table, self.infos.as_slice(), rows, output)
+        draw(self.table, self.infos.as_slice(), &self.frame, rows, output)
     }
 }
 

@@ -5,6 +5,7 @@ mod cell_lines;
 pub mod content_format;
 mod drawing;
 mod drawn_cell;
+mod drawn_frame;
 mod gap;
 mod output;
 mod piece;
@@ -13,7 +14,8 @@ mod shown_column;
 mod styling;
 
 pub(crate) use drawing::draw;
-pub(crate) use drawn_cell::row_heights;
+pub(crate) use drawn_cell::has_taller_row;
+pub(crate) use drawn_frame::DrawnFrame;
 pub(crate) use output::{Output, OutputForm};
 
 /// How texts are measured, cut and wrapped.

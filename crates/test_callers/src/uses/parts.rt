@@ -1,10 +1,8 @@
 //! Callers that draw a table in parts.
 
-ghost use Rattle.std.specs.Prelude.{◌≡◌, ◌++◌, IfOk, OnOk, nat_lt, string_bytes};
-ghost use Rattle.std.specs.List.{list_any};
+ghost use Rattle.std.specs.Prelude.{◌≡◌, ◌++◌, OnOk, string_bytes};
 ghost use Rattle.comfy_parts.specs.Text.{Text};
 ghost use Rattle.comfy_table.specs.Headline.{TerminatesLines};
-ghost use Rattle.comfy_table.specs.Parts.{ArrangedValue, IsArrangedTable, row_heights};
 ghost use Rattle.test_callers.specs.Uses.{AppendsPageWithin};
 
 use comfy_table::laws::{lines_are_found_in_their_texts, parts_have_lines_of_the_table};
@@ -28,20 +26,4 @@ pub fn in_one_part(table: &Table, text: &mut String) -> Result<()>
 {
     parts_have_lines_of_the_table();
     table.arranged()?.push_rows(text, 0, table.row_count())
-}
-
-/// Whether a row is drawn in more than one line.
-pub fn has_tall_row(table: &Table) -> Result<bool>
-    ensures { IfOk result (λ is_tall. (arranged : ArrangedValue)
-        × IsArrangedTable table.now arranged
-        × (is_tall ≡ list_any (nat_lt 1) (row_heights arranged))) }
-{
-    let heights = table.arranged()?.row_heights()?;
-    Ok(has_more_than_one(heights.as_slice()))
-}
-
-fn has_more_than_one(heights: &[usize]) -> bool
-    ensures { result ≡ list_any (nat_lt 1) heights.now }
-{
-    heights.iter().any(|height| *height > 1)
 }

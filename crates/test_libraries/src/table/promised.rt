@@ -56,8 +56,8 @@ fn assert_drawn(rt: &impl Abort, lines: comfy_table::Result<Lines>, wanted: &str
 // The table is arranged in 17 terminal columns, so its row has two lines.
 fn assert_arranged(rt: &impl Abort, arranged: comfy_table::Result<(ArrangedTable<'_>, Lines)>) {
     let (arranged, lines) = arranged.expect(rt, "memory");
-    let heights = arranged.row_heights().expect(rt, "memory");
-    assert_eq!(rt; heights.as_slice(), [2].as_slice());
+    assert!(rt; arranged.has_taller_row(1).expect(rt, "memory"));
+    assert!(rt; !arranged.has_taller_row(2).expect(rt, "memory"));
     assert_lines(rt, lines, IN_17);
 }
 

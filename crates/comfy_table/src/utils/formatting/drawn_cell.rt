@@ -1,6 +1,7 @@
 //! The cells of a row as the shown columns draw them.
 
-ghost use Rattle.std.specs.Prelude.{◌≡◌, [], IfOk, OnOk, length, map};
+ghost use Rattle.std.specs.Prelude.{◌≡◌, [], IfOk, OnOk, length, map, nat_lt};
+ghost use Rattle.std.specs.List.{list_any};
 ghost use Rattle.comfy_parts.specs.CellValue.{info_width};
 ghost use Rattle.comfy_table.specs.DrawnCells.{drawn_cell, greatest_height, piece_at, styles_of};
 ghost use Rattle.comfy_table.specs.Pieces.{row_height};
@@ -145,21 +146,23 @@ pub fn greatest_height(cells: &[DrawnCell]) -> usize
     height
 }
 
-/// How many lines each row of a table is drawn in.
-pub fn row_heights(table: &Table, infos: &[ColumnDisplayInfo]) -> Result<Vec<usize>>
-    ensures { IfOk result (λ heights. heights.items
-        ≡ map (row_height table.now infos.now) table.now.rows) }
+/// Whether a row of a table is drawn in more lines than these. No row behind the first such one is
+/// looked at.
+pub fn has_taller_row(table: &Table, infos: &[ColumnDisplayInfo], lines: usize) -> Result<bool>
+    ensures { IfOk result (λ has. has
+        ≡ list_any (nat_lt lines) (map (row_height table.now infos.now) table.now.rows)) }
 {
     let alloc = *table.columns.allocator();
     let columns = shown_infos(alloc, infos)?;
     let mut drawn = DrawnRow::new(alloc);
     let rows = table.rows.as_slice();
-    let mut heights = Vec::with_capacity(alloc, rows.len())?;
     for row in rows {
         drawn.set(row, columns.as_slice(), table)?;
-        heights.push(greatest_height(drawn.cells()))?;
+        if greatest_height(drawn.cells()) > lines {
+            return Ok(true);
+        }
     }
-    Ok(heights)
+    Ok(false)
 }
 
 // A shown column with the cell that stands at its position in a row. Its lines may stand in a spare

@@ -18,7 +18,7 @@ returns-clause-ok c =
     let table = c.self.inside.table.now in
     let own : WriterValue = record { table = with_other_rows rows table; infos = c.self.inside.infos.now; output = c.self.inside.output } in
     let cells : c.cells.result.now ≡ map (drawn_cell table row) (shown_infos own.infos) =
-    c.cells.ensures ∙ c.in_ok-set.ensures ∙ ap (map (drawn_cell table row)) (c.as_slice.ensures.value ∙ c.self.invariant) in
+    c.cells.ensures ∙ c.in_ok-set.ensures ∙ ap (map (drawn_cell table row)) (c.as_slice.ensures.value ∙ c.self.invariant.0) in
     let lines = drawn_between gaps table own.infos row c.cells.result.now cells ∙ ap (map (gap_line gaps)) (sym (lines_same table rows own.infos row)) in
     on_ok_weaker c.push_row.result
     (λ (pushed : c.push_row.new.output ≡ _).

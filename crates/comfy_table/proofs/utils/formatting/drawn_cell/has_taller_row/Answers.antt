@@ -1,0 +1,29 @@
+use Rattle.std.proofs.Common.{◌≡◌, ap, ◌∙◌, arith, map, nat_lt}
+use Rattle.std.proofs.lemmas.Grind.{common_steps}
+use Rattle.std.proofs.lemmas.List.Folds.{list_any_at, list_any_more}
+use Rattle.comfy_table.proofs.DrawnCellLemmas.{height_of_cells}
+use Rattle.comfy_table.specs.DrawnCells.{drawn_cell}
+use Rattle.comfy_table.specs.Pieces.{row_height}
+use Rattle.comfy_table.proofs.utils.formatting.drawn_cell.has_taller_row.Goals as goal
+
+pub returns-then-greatest_height-lines : goal.returns-then-greatest_height-lines
+returns-then-greatest_height-lines c =
+    let table = c.args.table.now in
+    let infos = c.args.infos.now in
+    let row = c.row-item.result in
+    let height : c.greatest_height.result ≡ row_height table infos row =
+    c.greatest_height.ensures ∙ height_of_cells table infos row c.cells.result.now
+    (c.cells.ensures ∙ c.in_ok-set.ensures ∙ ap (map (drawn_cell table row)) (c.as_slice.ensures.value ∙ c.in_ok-columns.ensures)) in
+    let found = list_any_at (nat_lt c.args.lines) (map (row_height table infos) table.rows) c.loop-row.row-index 0 in
+    grind (arith, height, found, common_steps)
+
+pub loop-row-preserved : goal.loop-row-preserved
+loop-row-preserved c =
+    let table = c.args.table.now in
+    let infos = c.args.infos.now in
+    let row = c.row-item.result in
+    let height : c.greatest_height.result ≡ row_height table infos row =
+    c.greatest_height.ensures ∙ height_of_cells table infos row c.cells.result.now
+    (c.cells.ensures ∙ c.in_ok-set.ensures ∙ ap (map (drawn_cell table row)) (c.as_slice.ensures.value ∙ c.in_ok-columns.ensures)) in
+    let more = list_any_more (nat_lt c.args.lines) (map (row_height table infos) table.rows) c.loop-row.row-index 0 in
+    grind (arith, height, more, common_steps)
