@@ -1,11 +1,11 @@
 -- The rows that a table has change nothing in how one row is drawn.
-use Rattle.std.proofs.Common.{◌≡◌, ℕ, List, ◌++◌, Option, Some, None, length, map, refl, ap}
-use Rattle.std.specs.List.{range_with_len, slice_get}
-use Rattle.std.specs.Prelude.{slice_index_or}
+use Rattle.std.proofs.Common.{◌≡◌, ℕ, Bool, true, false, List, [], ◌++◌, Option, Some, None, length, map, refl, ap}
+use Rattle.std.specs.List.{join_by, range_with_len, slice_get}
+use Rattle.std.specs.Prelude.{flat_map, if◌then◌else◌, slice_index_or}
 use Rattle.comfy_parts.specs.CellValue.{CellValue, ColumnInfo, RowValue}
 use Rattle.comfy_parts.specs.Text.{Text, greatest}
 use Rattle.comfy_parts.specs.declared.style.table_style.ContentLineStyle.{ContentLineStyle}
-use Rattle.comfy_table.specs.Drawing.{drawn_header, drawn_row, outer_widths}
+use Rattle.comfy_table.specs.Drawing.{drawn_header, drawn_row, outer_widths, part_of_drawing, rows_below}
 use Rattle.comfy_table.specs.Frame.{content_line, optional_frame_line}
 use Rattle.comfy_table.specs.Pieces.{blank_piece, pieces_of_optional, row_lines, shown_infos}
 use Rattle.comfy_table.specs.TableValue.{TableValue, with_other_rows}
@@ -32,3 +32,14 @@ module _ (table : TableValue) (rows : List RowValue) (infos : List ColumnInfo) w
   pub header_same : (header : Option RowValue) → drawn_header other infos header ≡ drawn_header table infos header
   header_same None = refl
   header_same (Some header) = ap (λ (lines : List Text). lines ++ optional_frame_line table.style table.style.header_separator (outer_widths infos)) (row_same table.style.header_lines header)
+
+  rows_below_same : (is_first : Bool) (drawn : List RowValue) → rows_below other infos is_first drawn ≡ rows_below table infos is_first drawn
+  rows_below_same true drawn = λ i.
+      (optional_frame_line table.style table.style.top_border (outer_widths infos) ++ header_same table.header i)
+      ++ join_by (λ (row : RowValue). row_same table.style.content_lines row i) (optional_frame_line table.style table.style.row_separator (outer_widths infos)) drawn
+  rows_below_same false drawn = λ i.
+      flat_map (λ (row : RowValue). optional_frame_line table.style table.style.row_separator (outer_widths infos) ++ row_same table.style.content_lines row i) drawn
+
+  pub part_same : (is_first is_last : Bool) (drawn : List RowValue) → part_of_drawing other infos is_first is_last drawn ≡ part_of_drawing table infos is_first is_last drawn
+  part_same is_first is_last drawn =
+      ap (λ (lines : List Text). lines ++ (if is_last then optional_frame_line table.style table.style.bottom_border (outer_widths infos) else [])) (rows_below_same is_first drawn)

@@ -20,14 +20,6 @@ with_lines-append first more output = grind (arith, append_assoc, flat_map-appen
 pub written-append : (first more : List Text) (writer : WriterValue) → with_written more (with_written first writer) ≡ with_written (first ++ more) writer
 written-append first more writer = ap (λ (output : OutputValue). record writer { output = output }) (with_lines-append first more writer.output)
 
--- four parts of a drawing, one after another
-pub four-written : (one two three four : List Text) (writer : WriterValue)
-    → with_written four (with_written three (with_written two (with_written one writer))) ≡ with_written (one ++ (two ++ (three ++ four))) writer
-four-written one two three four writer =
-    written-append three four (with_written two (with_written one writer))
-    ∙ written-append two (three ++ four) (with_written one writer)
-    ∙ written-append one (two ++ (three ++ four)) writer
-
 -- what begins with a text that more was appended to begins with the text
 pub begins-before : (front more text : Text) → BeginsWith text (front ++ more) → BeginsWith text front
 begins-before front more text known =

@@ -22,6 +22,10 @@ IsBehind n place passed i = (i < n) × (((i < place) × (place ≤ i + passed)) 
 behind_one_more : (n place passed i : ℕ) → place < n → IsBehind n (position_after n place) (passed + 1) i → (place ≡ i) ⊎ IsBehind n place passed i
 behind_one_more n place passed i within = grind arith
 
+-- at first none was passed
+none_behind : (n i : ℕ) → IsBehind n 0 0 i → ⊥
+none_behind n i behind = grind arith
+
 -- what was passed, and the position itself, are passed at the next one
 behind_next : (n place passed i : ℕ) → place < n → passed < n → IsBehind n place passed i ⊎ (place ≡ i) → IsBehind n (position_after n place) (passed + 1) i
 behind_next n place passed i within fewer behind = grind arith
@@ -95,6 +99,18 @@ module _ (rule : Rule) (needs : List ColumnNeeds) (old : Budget) where
     pub average_is : average ≡ average_room now
     pub nothing : (i : ℕ) (d : ColumnNeeds) → slice_get needs i ≡ Some d → IsBehind (length needs) place passed i → is_undecided now.widths.items i ≡ true → width_by_rule rule average d ≡ None
     pub since : IsBehind (length needs) place passed (place_after candidates offer 0 order) ⊎ (place ≡ place_after candidates offer 0 order)
+
+  -- at first nothing is taken, and no place was passed
+  pub turn_begins : (average : ℕ) → average ≡ average_room old → IsTurn old 0 0 average
+  turn_begins average is = record {
+    order = [];
+    so_far = tt;
+    taken = record { widths = refl; room = omega arith };
+    within = λ some. some;
+    average_is = is;
+    nothing = λ i d found behind left. absurd (none_behind (length needs) i behind);
+    since = inr refl;
+  }
 
   module _ (same_length : length old.widths.items ≡ length needs) (now : Budget) (place passed average : ℕ) (turn : IsTurn now place passed average) where
     -- the columns that are left

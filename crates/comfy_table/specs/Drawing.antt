@@ -1,6 +1,6 @@
 -- The drawing of a table over given widths.
 -- Source: draw_borders and draw_rows of formatting::borders, and trim_fmt, of comfy-table 8.0.1.
-use Rattle.std.specs.Prelude.{ℕ, List, [], ◌∷◌, ◌++◌, Option, Some, None, flat_map, map, zip}
+use Rattle.std.specs.Prelude.{ℕ, Bool, true, false, List, [], ◌∷◌, ◌++◌, Option, Some, None, flat_map, map, zip, if◌then◌else◌}
 use Rattle.std.specs.List.{join_by, join_with_byte}
 use Rattle.std.specs.Str.{trim_end}
 use Rattle.comfy_parts.specs.CellValue.{RowValue, ColumnValue, ColumnInfo, info_of, info_width}
@@ -35,6 +35,31 @@ module _ (table : TableValue) (infos : List ColumnInfo) where
   drawn_rows rows =
       join_by (drawn_row table.style.content_lines)
       (optional_frame_line table.style table.style.row_separator (outer_widths infos)) rows
+
+  -- top border and header
+  abbrev pub lines_above : List Text
+  lines_above =
+      optional_frame_line table.style table.style.top_border (outer_widths infos)
+      ++ drawn_header table.header
+
+  -- the lines of rows that stand below others: the row separator is above each of them
+  abbrev pub further_rows : List RowValue → List Text
+  further_rows rows =
+      flat_map (λ (row : RowValue).
+      optional_frame_line table.style table.style.row_separator (outer_widths infos)
+      ++ drawn_row table.style.content_lines row) rows
+
+  -- the lines of rows below top border and header, or of rows below others
+  abbrev pub rows_below : Bool → List RowValue → List Text
+  rows_below true rows = lines_above ++ drawn_rows rows
+  rows_below false rows = further_rows rows
+
+  -- some of the rows, from the top border on or below others, up to the bottom border or not
+  abbrev pub part_of_drawing : Bool → Bool → List RowValue → List Text
+  part_of_drawing is_first is_last rows =
+      rows_below is_first rows ++ (if is_last
+      then optional_frame_line table.style table.style.bottom_border (outer_widths infos)
+      else [])
 
   -- top border, header, rows, bottom border
   abbrev pub drawing_of_infos : List Text

@@ -1,18 +1,18 @@
 //! A table whose widths are found, and its parts.
 
-ghost use Rattle.std.specs.Prelude.{◌≡◌, ◌++◌, IfOk, OnErr, OnOk, drop, nat_lt, string_bytes, take};
-ghost use Rattle.std.specs.List.{list_any};
-ghost use Rattle.comfy_table.specs.Drawing.{drawing_of_infos};
+ghost use Rattle.std.specs.Prelude.{◌≡◌, ◌++◌, IfOk, IfSome, OnErr, OnOk, drop, nat_lt, string_bytes, take};
+ghost use Rattle.std.specs.List.{All, list_any};
+ghost use Rattle.comfy_parts.specs.CellValue.{IsColumn, IsRow};
+ghost use Rattle.comfy_table.specs.Drawing.{part_of_drawing, terminated_text_of};
 ghost use Rattle.comfy_table.specs.Output.{BeginsWith, with_lines};
 ghost use Rattle.comfy_table.specs.Parts.{IsArrangedTable, part_text, row_heights};
-ghost use Rattle.comfy_table.specs.TableValue.{with_other_rows};
 
 use crate::table::Table;
-use crate::utils::arrangement::arrange_content;
-use crate::utils::formatting::{DrawnFrame, Output, draw, has_taller_row};
-use crate::utils::look_at_parts;
+use crate::utils::arrangement::arrange;
+use crate::utils::arrangement::contents::Contents;
+use crate::utils::formatting::{DrawnFrame, Extent, Output, draw, has_taller_row};
 use comfy_parts::content_split::ColumnDisplayInfo;
-use comfy_parts::{Result, Row};
+use comfy_parts::{Column, Result, Row};
 use std::marker::Model;
 use std::mem;
 
@@ -40,13 +40,13 @@ use std::mem;
 /// // +----+--------+
 /// ```
 #[derive(Drop)]
-pub struct ArrangedTable<'a> {
-    table: &'a Table,
+pub struct ArrangedTable<'a, C: Contents = Table> {
+    contents: &'a C,
     infos: Vec<ColumnDisplayInfo>,
     frame: DrawnFrame,
 }
 
-impl<'a> Model for ArrangedTable<'a> {
+impl<'a, C: Contents> Model for ArrangedTable<'a, C> {
     ghost use Rattle.std.specs.Prelude.{◌≡◌};
     ghost use Rattle.comfy_table.specs.Drawing.{outer_widths};
     ghost use Rattle.comfy_table.specs.Gaps.{frame_of};
@@ -55,9 +55,9 @@ impl<'a> Model for ArrangedTable<'a> {
     ghost Value = { ArrangedValue };
 
     ghost invariant = { λ a. a.frame
-        ≡ frame_of a.table.now.style (outer_widths a.infos.items) };
+        ≡ frame_of (C.whole a.contents.now).style (outer_widths a.infos.items) };
 
-    ghost view = { λ a. record { table = a.table.now; infos = a.infos.items } };
+    ghost view = { λ a. record { table = C.whole a.contents.now; infos = a.infos.items } };
 }
 
 impl Table {
@@ -65,27 +65,75 @@ impl Table {
     pub fn arranged(&self) -> Result<ArrangedTable<'_>>
         ensures { IfOk result (λ arranged. IsArrangedTable self.now arranged) }
     {
-        ArrangedTable::new(self)
+        look_at_rows(self.rows.as_slice());
+        ArrangedTable::of_contents(self)
     }
 }
 
-impl<'a> ArrangedTable<'a> {
-    // Whatever draws a table finds its widths here.
-    pub(crate) fn new(table: &'a Table) -> Result<ArrangedTable<'a>>
-        ensures { IfOk result (λ arranged. IsArrangedTable table.now arranged) }
+impl<'a, C: Contents> ArrangedTable<'a, C> {
+    /// A table with the widths of its columns, whose rows may stand elsewhere. Whoever draws it
+    /// shows that these are rows: each has texts in its cells.
+    pub fn of_contents(contents: &'a C) -> Result<ArrangedTable<'a, C>>
+        ensures drawing { IfOk result (λ arranged. All IsRow (C.whole contents.now).rows
+            → IsArrangedTable (C.whole contents.now) arranged) }
+        ensures table { IfOk result (λ arranged. arranged.table ≡ C.whole contents.now) }
     {
-        look_at_parts(table);
+        let table = contents.table();
+        look_at_columns(table.columns.as_slice());
+        look_at_header(&table.header);
         // Read for the proof: what was looked at is known to be UTF-8.
         let _ = &table.indicator;
-        let infos = arrange_content(table)?;
+        let infos = arrange(contents)?;
         let frame = DrawnFrame::new(table, infos.as_slice())?;
         Ok(ArrangedTable {
-            table,
+            contents,
             infos,
             frame,
         })
     }
 
+    /// Appends the lines of some of the rows, each followed by a line feed: below the top border
+    /// and the header where the first row is among them, else below the row separator, which
+    /// stands between each two of them; with the bottom border where the last row is among them.
+    /// After `OutOfMemory` the text is as it was.
+    pub fn push_some_rows(&self, text: &mut String, rows: &[Row], extent: Extent) -> Result<()>
+        ensures ok { OnOk result (string_bytes text.new
+            ≡ string_bytes text.old ++ terminated_text_of
+            (part_of_drawing self.now.table self.now.infos extent.is_first extent.is_last
+            rows.now)) }
+        ensures err { OnErr result (string_bytes text.new ≡ string_bytes text.old) }
+    {
+        let had = text.len();
+        let empty = String::new(*text.allocator());
+        let mut output = Output::after(mem::replace(text, empty));
+        let drawn = self.draw(rows, extent, &mut output);
+        *text = output.into_text();
+        if drawn.is_err() {
+            text.truncate(had);
+        }
+        drawn
+    }
+
+    // Appends the lines of some of the rows. After `OutOfMemory` the text of the output begins with
+    // what it was.
+    pub(crate) fn draw(&self, rows: &[Row], extent: Extent, output: &mut Output) -> Result<()>
+        ensures ok { OnOk result (output.new
+            ≡ with_lines (part_of_drawing self.now.table self.now.infos extent.is_first
+            extent.is_last rows.now) output.old) }
+        ensures err { OnErr result (BeginsWith output.new.text output.old.text) }
+    {
+        draw(
+            self.contents.table(),
+            self.infos.as_slice(),
+            &self.frame,
+            rows,
+            extent,
+            output,
+        )
+    }
+}
+
+impl<'a> ArrangedTable<'a, Table> {
     /// Whether a row is drawn in more lines than these. The header doesn't count.
     ///
     /// ```
@@ -94,7 +142,7 @@ impl<'a> ArrangedTable<'a> {
     pub fn has_taller_row(&self, lines: usize) -> Result<bool>
         ensures { IfOk result (λ has. has ≡ list_any (nat_lt lines) (row_heights self.now)) }
     {
-        has_taller_row(self.table, self.infos.as_slice(), lines)
+        has_taller_row(self.contents, self.infos.as_slice(), lines)
     }
 
     /// Appends a part: the drawing of the table with `count` of its rows alone, from the one at
@@ -110,28 +158,9 @@ impl<'a> ArrangedTable<'a> {
             ≡ string_bytes text.old ++ part_text self.now first count) }
         ensures err { OnErr result (string_bytes text.new ≡ string_bytes text.old) }
     {
-        let table = self.table;
+        let table = self.contents;
         let rows = rows_from(table.rows.as_slice(), first, count);
-        let had = text.len();
-        let empty = String::new(*text.allocator());
-        let mut output = Output::after(mem::replace(text, empty));
-        let drawn = self.draw(rows, &mut output);
-        *text = output.into_text();
-        if drawn.is_err() {
-            text.truncate(had);
-        }
-        drawn
-    }
-
-    /// Appends the lines of the table with these rows alone. After `OutOfMemory` the text of the
-    /// output begins with what it was.
-    pub(crate) fn draw(&self, rows: &[Row], output: &mut Output) -> Result<()>
-        ensures ok { OnOk result (output.new
-            ≡ with_lines (drawing_of_infos (with_other_rows rows.now self.now.table) self.now.infos)
-            output.old) }
-        ensures err { OnErr result (BeginsWith output.new.text output.old.text) }
-    {
-        draw(self.table, self.infos.as_slice(), &self.frame, rows, output)
+        self.push_some_rows(text, rows, Extent::WHOLE)
     }
 }
 
@@ -141,4 +170,29 @@ fn rows_from(rows: &[Row], first: usize, count: usize) -> &[Row]
 {
     let rest = &rows[first.min(rows.len())..];
     &rest[..count.min(rest.len())]
+}
+
+// These show what each column, the header and each row keep.
+fn look_at_columns(columns: &[Column])
+    ensures { All IsColumn columns.now }
+{
+    for column in columns {
+        let _ = column.column_delimiter();
+    }
+}
+
+fn look_at_header(header: &Option<Row>)
+    ensures { IfSome header.now IsRow }
+{
+    if let Some(row) = header {
+        let _ = row.cell_count();
+    }
+}
+
+fn look_at_rows(rows: &[Row])
+    ensures { All IsRow rows.now }
+{
+    for row in rows {
+        let _ = row.cell_count();
+    }
 }

@@ -9,6 +9,7 @@ ghost use Rattle.comfy_table.specs.TableValue.{table_width};
 ghost use Rattle.comfy_table.specs.Widths.{shown_count};
 
 pub mod constraint;
+pub(crate) mod contents;
 mod disabled;
 mod dynamic;
 mod fixed;
@@ -16,10 +17,10 @@ pub mod helper;
 mod longest;
 
 use crate::table::Table;
-use crate::table::content::column_content_width;
 use comfy_parts::content_split::ColumnDisplayInfo;
 use comfy_parts::style::ContentArrangement;
 use comfy_parts::{Column, Result};
+use contents::Contents;
 use disabled::disabled_width;
 use dynamic::dynamic_widths;
 use helper::count_visible_columns;
@@ -29,12 +30,19 @@ pub use longest::longest_line;
 pub fn arrange_content(table: &Table) -> Result<Vec<ColumnDisplayInfo>>
     ensures { IfOk result (λ infos. AreInfosOf table.now infos.items) }
 {
-    match kept_width(table) {
+    arrange(table)
+}
+
+// What each column of a table is drawn by, whose rows may stand elsewhere.
+pub(crate) fn arrange<C: Contents>(contents: &C) -> Result<Vec<ColumnDisplayInfo>>
+    ensures { IfOk result (λ infos. AreInfosOf (C.whole contents.now) infos.items) }
+{
+    match kept_width(contents.table()) {
         Some(width) => {
-            let widths = dynamic_widths(table, width)?;
-            infos_with(table, widths.as_slice())
+            let widths = dynamic_widths(contents, width)?;
+            infos_with(contents, widths.as_slice())
         }
-        None => infos_by_content(table),
+        None => infos_by_content(contents),
     }
 }
 
@@ -50,16 +58,17 @@ fn kept_width(table: &Table) -> Option<u16>
 
 // Each column with its width: the visible ones get these in list order, and 1 where there are no
 // more; a hidden column has its content's.
-fn infos_with(table: &Table, widths: &[u16]) -> Result<Vec<ColumnDisplayInfo>>
+fn infos_with<C: Contents>(contents: &C, widths: &[u16]) -> Result<Vec<ColumnDisplayInfo>>
     ensures { IfOk result (λ infos. infos.items
-        ≡ infos_of table.now (all_widths table.now widths.now)) }
+        ≡ infos_of (C.whole contents.now) (all_widths (C.whole contents.now) widths.now)) }
 {
+    let table = contents.table();
     let columns = table.columns.as_slice();
     let mut infos = Vec::new(*table.columns.allocator());
     let mut shown = 0;
     for (position, column) in columns.iter().enumerate() {
         let width = if column.is_hidden() {
-            column_content_width(table, position).max(1)
+            contents.content_width(position)?.max(1)
         } else {
             let given = widths.get(shown).copied().unwrap_or(1);
             shown += 1;
@@ -71,15 +80,16 @@ fn infos_with(table: &Table, widths: &[u16]) -> Result<Vec<ColumnDisplayInfo>>
 }
 
 // Each column with the width that its content and its constraint alone give.
-fn infos_by_content(table: &Table) -> Result<Vec<ColumnDisplayInfo>>
+fn infos_by_content<C: Contents>(contents: &C) -> Result<Vec<ColumnDisplayInfo>>
     ensures { IfOk result (λ infos. infos.items
-        ≡ infos_of table.now (widths_by_content table.now)) }
+        ≡ infos_of (C.whole contents.now) (widths_by_content (C.whole contents.now))) }
 {
+    let table = contents.table();
     let columns = table.columns.as_slice();
     let visible = count_visible_columns(columns);
     let mut infos = Vec::new(*table.columns.allocator());
     for (position, column) in columns.iter().enumerate() {
-        let width = width_by_content(table, position, column, visible);
+        let width = width_by_content(contents, position, column, visible)?;
         infos.push(ColumnDisplayInfo::new(column, width))?;
     }
     Ok(infos)
@@ -87,14 +97,21 @@ fn infos_by_content(table: &Table) -> Result<Vec<ColumnDisplayInfo>>
 
 // The content width of the column at a position under `Disabled`: a hidden column has its
 // content's.
-fn width_by_content(table: &Table, position: usize, column: &Column, visible: usize) -> u16
-    requires { visible ≡ shown_count table.now }
-    ensures { result ≡ width_by_content table.now (position, column.now) }
+fn width_by_content<C: Contents>(
+    contents: &C,
+    position: usize,
+    column: &Column,
+    visible: usize,
+) -> Result<u16>
+    requires { visible ≡ shown_count (C.whole contents.now) }
+    ensures { IfOk result (λ width. width
+        ≡ width_by_content (C.whole contents.now) (position, column.now)) }
 {
-    let content = column_content_width(table, position);
+    let content = contents.content_width(position)?;
     if column.is_hidden() {
-        content.max(1)
+        Ok(content.max(1))
     } else {
-        disabled_width(table, column, content, visible)
+        let table = contents.table();
+        Ok(disabled_width(table, column, content, visible))
     }
 }

@@ -3,7 +3,7 @@
 pub mod borders;
 mod cell_lines;
 pub mod content_format;
-mod drawing;
+pub(crate) mod drawing;
 mod drawn_cell;
 mod drawn_frame;
 mod gap;
@@ -13,7 +13,7 @@ mod row_gaps;
 mod shown_column;
 mod styling;
 
-pub(crate) use drawing::draw;
+pub(crate) use drawing::{Extent, draw};
 pub(crate) use drawn_cell::has_taller_row;
 pub(crate) use drawn_frame::DrawnFrame;
 pub(crate) use output::{Output, OutputForm};

@@ -1,7 +1,7 @@
 //! Tables drawn in parts: all at the widths of the whole table, each with header and borders.
 
 use crate::support::{assert_given, table_of};
-use comfy_table::{ColumnConstraint, ContentArrangement, Table};
+use comfy_table::{ColumnConstraint, ContentArrangement, Extent, Row, Table};
 use std::alloc::{Alloc, Global};
 use std::process::Abort;
 
@@ -195,4 +195,38 @@ fn rows_are_as_high_as_their_highest_cells(rt: HostRuntime) {
 fn a_table_without_rows_has_its_borders_in_each_part(rt: HostRuntime) {
     let table = Table::new(rt.alloc());
     assert_part(&rt, &table, 0, 1, "++\n++\n");
+}
+
+// The rows of a table, drawn one after another.
+fn drawn_one_by_one(
+    rt: &impl Alloc<A = Global>,
+    table: &Table,
+    rows: &[Row],
+) -> comfy_table::Result<String> {
+    let mut text = String::new(rt.alloc());
+    let arranged = table.arranged()?;
+    for at in 0..rows.len() {
+        let extent = Extent {
+            is_first: at == 0,
+            is_last: at + 1 == rows.len(),
+        };
+        arranged.push_some_rows(&mut text, &rows[at..at + 1], extent)?;
+    }
+    Ok(text)
+}
+
+#[test]
+fn rows_one_after_another_make_the_whole(rt: HostRuntime) {
+    let table = days(&rt);
+    let mut rows = Vec::new(rt.alloc());
+    for row in table.row_iter() {
+        let row = row.clone().expect(&rt, "memory");
+        rows.push(row).expect(&rt, "memory");
+    }
+    let whole = table.to_terminated_text().expect(&rt, "memory");
+    assert_given(
+        &rt,
+        drawn_one_by_one(&rt, &table, rows.as_slice()),
+        whole.as_str(),
+    );
 }

@@ -18,6 +18,7 @@ mod round_robin;
 mod spread;
 
 use crate::table::Table;
+use crate::utils::arrangement::contents::Contents;
 use budget::Budget;
 use comfy_parts::Result;
 use comfy_parts::style::ContentArrangement;
@@ -27,27 +28,29 @@ use round_robin::{Candidates, Rule};
 use spread::final_widths;
 
 // The content widths of the shown columns of a table of this width, in list order.
-pub fn dynamic_widths(table: &Table, width: u16) -> Result<Vec<u16>>
+pub fn dynamic_widths<C: Contents>(contents: &C, width: u16) -> Result<Vec<u16>>
     ensures { IfOk result (λ widths.
-        IsDynamicLayout (room_beside_borders table.now width) (shown_needs table.now)
-        (is_full_width table.now.arrangement) widths.items) }
+        IsDynamicLayout (room_beside_borders (C.whole contents.now) width)
+        (shown_needs (C.whole contents.now))
+        (is_full_width (C.whole contents.now).arrangement) widths.items) }
 {
-    let visible = shown_needs(table)?;
+    let table = contents.table();
+    let visible = shown_needs(contents)?;
     let columns = visible.as_slice();
-    let mut budget = Budget::new(table, columns, width)?;
+    let mut budget = Budget::new(contents, columns, width)?;
     let lower = Candidates {
-        table,
+        contents,
         columns,
         rule: Rule::Lower,
     };
-    lower.go_round(&mut budget);
+    lower.go_round(&mut budget)?;
     settle(columns, &mut budget);
     let shrunk = Candidates {
-        table,
+        contents,
         columns,
         rule: Rule::Shrunk,
     };
-    shrunk.go_round(&mut budget);
+    shrunk.go_round(&mut budget)?;
     final_widths(&budget, fills_width(table), *table.columns.allocator())
 }
 

@@ -1,13 +1,11 @@
 //! The lines of a table, in their order.
 
-ghost use Rattle.std.specs.Prelude.{◌≡◌, [], nat_lt, IfOk, OnErr, OnOk, Some, map, string_bytes, option_to_list, if◌then◌else◌};
+ghost use Rattle.std.specs.Prelude.{◌≡◌, IfOk, OnErr, OnOk, Some, map, string_bytes, option_to_list};
 ghost use Rattle.std.specs.List.{range_with_len};
 ghost use Rattle.comfy_table.specs.DrawnCells.{greatest_height, piece_at};
-ghost use Rattle.comfy_table.specs.Drawing.{drawing_of_infos, drawn_header, drawn_rows, outer_widths};
-ghost use Rattle.comfy_table.specs.Frame.{optional_frame_line};
+ghost use Rattle.comfy_table.specs.Drawing.{drawn_header, drawn_rows, further_rows, lines_above, outer_widths, part_of_drawing, rows_below};
 ghost use Rattle.comfy_table.specs.Gaps.{frame_of, gap_line, row_between};
 ghost use Rattle.comfy_table.specs.Output.{BeginsWith, with_lines, with_written};
-ghost use Rattle.comfy_table.specs.TableValue.{with_other_rows};
 
 use crate::table::Table;
 use crate::utils::formatting::borders::optional_frame_line;
@@ -21,24 +19,42 @@ use comfy_parts::{Result, Row};
 use std::marker::Model;
 use std::mem;
 
-/// Appends the lines of a table with these rows alone, in this frame, whose columns are drawn by
-/// these infos: top border, header, rows, bottom border. After `OutOfMemory` the text of the output
-/// begins with what it was.
+/// Which rows of a table some rows are.
+#[derive(Clone, Copy)]
+pub struct Extent {
+    /// Whether the first one is among them, above which the top border and the header stand.
+    pub is_first: bool,
+    /// Whether the last one is among them, below which the bottom border stands.
+    pub is_last: bool,
+}
+
+impl Extent {
+    /// All rows of a table.
+    pub const WHOLE: Extent = Extent {
+        is_first: true,
+        is_last: true,
+    };
+}
+
+/// Appends the lines of these rows of a table, in this frame, whose columns are drawn by these
+/// infos. After `OutOfMemory` the text of the output begins with what it was.
 pub fn draw<'a>(
     table: &'a Table,
     infos: &'a [ColumnDisplayInfo],
     frame: &'a DrawnFrame,
     rows: &'a [Row],
+    extent: Extent,
     output: &mut Output,
 ) -> Result<()>
     requires { frame.now ≡ frame_of table.now.style (outer_widths infos.now) }
     ensures ok { OnOk result (output.new
-        ≡ with_lines (drawing_of_infos (with_other_rows rows.now table.now) infos.now) output.old) }
+        ≡ with_lines (part_of_drawing table.now infos.now extent.is_first extent.is_last rows.now)
+        output.old) }
     ensures err { OnErr result (BeginsWith output.new.text output.old.text) }
 {
-    let mut writer = Writer::new(table, infos, frame, rows)?;
+    let mut writer = Writer::new(table, infos, frame)?;
     mem::swap(&mut writer.output, output);
-    let written = writer.write();
+    let written = writer.write(rows, extent);
     mem::swap(&mut writer.output, output);
     written
 }
@@ -49,7 +65,6 @@ struct Writer<'a> {
     table: &'a Table,
     infos: &'a [ColumnDisplayInfo],
     frame: &'a DrawnFrame,
-    rows: &'a [Row],
     columns: Vec<ShownColumn<'a>>,
     // the row that is drawn now
     row: DrawnRow<'a>,
@@ -64,7 +79,6 @@ impl<'a> Model for Writer<'a> {
     ghost use Rattle.comfy_table.specs.Gaps.{frame_of};
     ghost use Rattle.comfy_table.specs.Output.{WriterValue};
     ghost use Rattle.comfy_table.specs.Pieces.{shown_infos};
-    ghost use Rattle.comfy_table.specs.TableValue.{with_other_rows};
 
     ghost Value = { WriterValue };
 
@@ -72,7 +86,7 @@ impl<'a> Model for Writer<'a> {
         × (w.frame.now ≡ frame_of w.table.now.style (outer_widths w.infos.now)) };
 
     ghost view = { λ w. record {
-      table = with_other_rows w.rows.now w.table.now;
+      table = w.table.now;
       infos = w.infos.now;
       output = w.output;
     } };
@@ -84,10 +98,9 @@ impl<'a> Writer<'a> {
         table: &'a Table,
         infos: &'a [ColumnDisplayInfo],
         frame: &'a DrawnFrame,
-        rows: &'a [Row],
     ) -> Result<Writer<'a>>
         requires { frame.now ≡ frame_of table.now.style (outer_widths infos.now) }
-        ensures { IfOk result (λ writer. (writer.table ≡ with_other_rows rows.now table.now)
+        ensures { IfOk result (λ writer. (writer.table ≡ table.now)
             × (writer.infos ≡ infos.now)) }
     {
         let alloc = *table.columns.allocator();
@@ -95,7 +108,6 @@ impl<'a> Writer<'a> {
             table,
             infos,
             frame,
-            rows,
             columns: shown_infos(alloc, infos)?,
             row: DrawnRow::new(alloc),
             line: String::new(alloc),
@@ -103,17 +115,46 @@ impl<'a> Writer<'a> {
         })
     }
 
-    // All lines.
-    fn write(&mut self) -> Result<()>
+    // The lines of these rows, and those around them.
+    fn write(&mut self, rows: &'a [Row], extent: Extent) -> Result<()>
         ensures ok { OnOk result (self.new
-            ≡ with_written (drawing_of_infos self.old.table self.old.infos) self.old) }
+            ≡ with_written (part_of_drawing self.old.table self.old.infos extent.is_first
+            extent.is_last rows.now) self.old) }
+        ensures err { OnErr result (BeginsWith self.new.output.text self.old.output.text) }
+    {
+        let frame = self.frame;
+        self.write_rows_below(rows, extent.is_first)?;
+        if extent.is_last {
+            self.write_line(&frame.bottom)
+        } else {
+            Ok(())
+        }
+    }
+
+    // The lines of these rows, below the top border and the header, or below other rows.
+    fn write_rows_below(&mut self, rows: &'a [Row], is_first: bool) -> Result<()>
+        ensures ok { OnOk result (self.new
+            ≡ with_written (rows_below self.old.table self.old.infos is_first rows.now)
+            self.old) }
+        ensures err { OnErr result (BeginsWith self.new.output.text self.old.output.text) }
+    {
+        if is_first {
+            self.write_above()?;
+            self.write_rows(rows)
+        } else {
+            self.write_further_rows(rows)
+        }
+    }
+
+    // The top border and the header.
+    fn write_above(&mut self) -> Result<()>
+        ensures ok { OnOk result (self.new
+            ≡ with_written (lines_above self.old.table self.old.infos) self.old) }
         ensures err { OnErr result (BeginsWith self.new.output.text self.old.output.text) }
     {
         let frame = self.frame;
         self.write_line(&frame.top)?;
-        self.write_header()?;
-        self.write_rows()?;
-        self.write_line(&frame.bottom)
+        self.write_header()
     }
 
     // A line of the frame, where it is drawn.
@@ -158,37 +199,34 @@ impl<'a> Writer<'a> {
         self.write_line(&separator)
     }
 
-    // The rows' lines, with the row separator between each two rows.
-    fn write_rows(&mut self) -> Result<()>
+    // The lines of these rows, with the row separator between each two rows.
+    fn write_rows(&mut self, rows: &'a [Row]) -> Result<()>
         ensures ok { OnOk result (self.new
-            ≡ with_written (drawn_rows self.old.table self.old.infos self.old.table.rows)
-            self.old) }
+            ≡ with_written (drawn_rows self.old.table self.old.infos rows.now) self.old) }
         ensures err { OnErr result (BeginsWith self.new.output.text self.old.output.text) }
     {
-        let rows = self.rows;
         let frame = self.frame;
-        for (position, row) in rows.iter().enumerate() {
-            self.write_separator(position)?;
+        match rows.split_first() {
+            Some((first, rest)) => {
+                self.write_row(&frame.gaps, first)?;
+                self.write_further_rows(rest)
+            }
+            None => Ok(()),
+        }
+    }
+
+    // The lines of these rows, with the row separator above each of them.
+    fn write_further_rows(&mut self, rows: &'a [Row]) -> Result<()>
+        ensures ok { OnOk result (self.new
+            ≡ with_written (further_rows self.old.table self.old.infos rows.now) self.old) }
+        ensures err { OnErr result (BeginsWith self.new.output.text self.old.output.text) }
+    {
+        let frame = self.frame;
+        for row in rows {
+            self.write_line(&frame.separator)?;
             self.write_row(&frame.gaps, row)?;
         }
         Ok(())
-    }
-
-    // The row separator, before each row but the first.
-    fn write_separator(&mut self, position: usize) -> Result<()>
-        ensures ok { OnOk result (self.new
-            ≡ with_written (if nat_lt 0 position
-            then optional_frame_line self.old.table.style self.old.table.style.row_separator
-            (outer_widths self.old.infos)
-            else []) self.old) }
-        ensures err { OnErr result (BeginsWith self.new.output.text self.old.output.text) }
-    {
-        let frame = self.frame;
-        if position > 0 {
-            self.write_line(&frame.separator)
-        } else {
-            Ok(())
-        }
     }
 
     // The lines of a row.

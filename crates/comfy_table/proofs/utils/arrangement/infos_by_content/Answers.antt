@@ -5,19 +5,19 @@ use Rattle.comfy_parts.proofs.CallerLemmas.{enumerated_all, enumerated_more}
 use Rattle.comfy_table.specs.TableValue.{TableValue}
 use Rattle.comfy_table.proofs.utils.arrangement.infos_by_content.Goals as goal
 
-pub width_by_content-width-requires : goal.width_by_content-width-requires
-width_by_content-width-requires c =
-    let columns : c.as_slice-columns.result.now ≡ c.args.table.now.columns = c.as_slice-columns.ensures.value ∙ ap (λ (t : TableValue). t.columns) c.table.view_is in
-    c.count_visible_columns-visible.ensures ∙ ap shown_among columns ∙ sym (shown_count-among c.args.table.now)
+pub width_by_content-requires : goal.width_by_content-requires
+width_by_content-requires g c =
+    let columns : c.as_slice-columns.result.now ≡ (g.C.Contents.whole c.args.contents.now).columns = c.as_slice-columns.ensures.value ∙ ap (λ (t : TableValue). t.columns) c.table.view_is ∙ ap (λ (t : TableValue). t.columns) c.table-table.ensures in
+    c.count_visible_columns-visible.ensures ∙ ap shown_among columns ∙ sym (shown_count-among (g.C.Contents.whole c.args.contents.now))
 
 pub loop-position-preserved : goal.loop-position-preserved
-loop-position-preserved c =
-    let f = info_by_content c.args.table.now in
+loop-position-preserved g c =
+    let f = info_by_content (g.C.Contents.whole c.args.contents.now) in
     let column = c.index-columns-position.result in
-    let item : c.new.result ≡ f (c.loop-position.position, column) = c.new.ensures ∙ ap (info_of column) c.width_by_content-width.ensures in
+    let item : c.new.result ≡ f (c.loop-position.position, column) = c.new.ensures ∙ ap (info_of column) c.in_ok-width.ensures in
     c.in_ok-push.ensures.items
     ∙ ap₂ (λ (infos : List ColumnInfo) (info : ColumnInfo). infos ++ info ∷ []) c.loop-position.invariant item
     ∙ sym (enumerated_more f c.as_slice-columns.result.now c.loop-position.position column c.loop-position-test.true c.index-columns-position.is)
 
 pub returns : goal.returns
-returns c = grind (arith, enumerated_all, infos-by_content)
+returns g c = grind (arith, enumerated_all, infos-by_content)

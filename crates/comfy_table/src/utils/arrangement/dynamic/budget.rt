@@ -7,7 +7,7 @@ ghost use Rattle.comfy_table.specs.Dynamic.{content_room};
 ghost use Rattle.comfy_table.specs.Widths.{ColumnNeeds, shown_count};
 
 use super::needs::WidthNeeds;
-use crate::table::Table;
+use crate::utils::arrangement::contents::Contents;
 use crate::utils::arrangement::helper::count_border_columns;
 use comfy_parts::Result;
 
@@ -23,15 +23,17 @@ pub struct Budget {
 impl Budget {
     // The fixed widths alone, and the room that they, the borders and all paddings leave of the
     // table's width.
-    pub fn new(table: &Table, columns: &[WidthNeeds<'_>], width: u16) -> Result<Budget>
-        requires { length columns.now ≡ shown_count table.now }
+    pub fn new<C: Contents>(contents: &C, columns: &[WidthNeeds<'_>], width: u16) -> Result<Budget>
+        requires { length columns.now ≡ shown_count (C.whole contents.now) }
         ensures widths { IfOk result
             (λ budget. budget.widths.items
-            ≡ map (λ (c : ColumnNeeds). c.fixed) (all_needs table.now columns.now)) }
+            ≡ map (λ (c : ColumnNeeds). c.fixed)
+            (all_needs (C.whole contents.now) columns.now)) }
         ensures room { IfOk result (λ budget. budget.room
-            ≡ content_room (room_beside_borders table.now width)
-            (all_needs table.now columns.now)) }
+            ≡ content_room (room_beside_borders (C.whole contents.now) width)
+            (all_needs (C.whole contents.now) columns.now)) }
     {
+        let table = contents.table();
         let borders = count_border_columns(table, columns.len());
         let mut room = usize::from(width).saturating_sub(borders);
         let mut widths = Vec::new(*table.columns.allocator());

@@ -5,9 +5,8 @@ ghost use Rattle.comfy_parts.specs.CellValue.{column_padding};
 ghost use Rattle.comfy_table.specs.Deciding.{all_needs, needs_in};
 ghost use Rattle.comfy_table.specs.Widths.{needs_of, shown_count, shown_needs};
 
-use crate::table::Table;
-use crate::table::content::column_content_width;
 use crate::utils::arrangement::constraint::{max, min};
+use crate::utils::arrangement::contents::Contents;
 use crate::utils::arrangement::fixed::fixed_width;
 use crate::utils::arrangement::helper::count_visible_columns;
 use comfy_parts::{Column, Result};
@@ -29,25 +28,27 @@ pub struct WidthNeeds<'a> {
 
 impl<'a> WidthNeeds<'a> {
     // The column at a position of the table, over so many shown columns.
-    fn new(
-        table: &Table,
+    fn new<C: Contents>(
+        contents: &C,
         position: usize,
         column: &'a Column,
         shown_columns: usize,
-    ) -> WidthNeeds<'a>
-        requires { shown_columns ≡ shown_count table.now }
-        ensures { needs_in table.now result ≡ needs_of table.now (position, column.now) }
+    ) -> Result<WidthNeeds<'a>>
+        requires { shown_columns ≡ shown_count (C.whole contents.now) }
+        ensures { IfOk result (λ needs. needs_in (C.whole contents.now) needs
+            ≡ needs_of (C.whole contents.now) (position, column.now)) }
     {
-        let content = column_content_width(table, position);
+        let table = contents.table();
+        let content = contents.content_width(position)?;
         let constraint = column.constraint().copied();
-        WidthNeeds {
+        Ok(WidthNeeds {
             column,
             position,
             content,
             fixed: fixed_width(table, column, content, shown_columns),
             lower: min(table, &constraint, shown_columns),
             upper: max(table, &constraint, shown_columns),
-        }
+        })
     }
 
     // The paddings of both sides.
@@ -60,9 +61,11 @@ impl<'a> WidthNeeds<'a> {
 }
 
 // The shown columns of a table, in list order.
-pub fn shown_needs(table: &Table) -> Result<Vec<WidthNeeds<'_>>>
-    ensures { IfOk result (λ columns. all_needs table.now columns.items ≡ shown_needs table.now) }
+pub fn shown_needs<C: Contents>(contents: &C) -> Result<Vec<WidthNeeds<'_>>>
+    ensures { IfOk result (λ columns. all_needs (C.whole contents.now) columns.items
+        ≡ shown_needs (C.whole contents.now)) }
 {
+    let table = contents.table();
     let columns = table.columns.as_slice();
     let count = count_visible_columns(columns);
     let mut visible = Vec::new(*table.columns.allocator());
@@ -70,7 +73,7 @@ pub fn shown_needs(table: &Table) -> Result<Vec<WidthNeeds<'_>>>
         if column.is_hidden() {
             continue;
         }
-        visible.push(WidthNeeds::new(table, position, column, count))?;
+        visible.push(WidthNeeds::new(contents, position, column, count)?)?;
     }
     Ok(visible)
 }

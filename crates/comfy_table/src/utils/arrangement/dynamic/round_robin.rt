@@ -1,15 +1,15 @@
 //! Columns that take a width one after another, going round the list until none takes one.
 
-ghost use Rattle.std.specs.Prelude.{◌≡◌, ◌<◌, ◌≤◌, length};
+ghost use Rattle.std.specs.Prelude.{◌≡◌, ◌<◌, ◌≤◌, IfOk, OnOk, length};
 ghost use Rattle.comfy_parts.specs.CellValue.{column_padding};
 ghost use Rattle.comfy_table.specs.Deciding.{HasGoneRound, all_needs, needs_in, position_after, width_at};
 ghost use Rattle.comfy_table.specs.Dynamic.{lower_of_boundary, shrunk_at};
 
 use super::budget::Budget;
 use super::needs::WidthNeeds;
-use crate::table::Table;
+use crate::utils::arrangement::contents::Contents;
 use crate::utils::arrangement::helper::absolute_width_with_padding;
-use crate::utils::arrangement::longest::column_longest_line;
+use comfy_parts::Result;
 use comfy_parts::content_split::ColumnDisplayInfo;
 
 // By what an undecided column takes its width.
@@ -23,20 +23,21 @@ pub enum Rule {
 
 // The columns that a rule is tried on.
 #[derive(Drop)]
-pub struct Candidates<'a> {
-    pub table: &'a Table,
+pub struct Candidates<'a, C> {
+    pub contents: &'a C,
     pub columns: &'a [WidthNeeds<'a>],
     pub rule: Rule,
 }
 
-impl<'a> Candidates<'a> {
+impl<'a, C: Contents> Candidates<'a, C> {
     // Lets the columns take their widths in turn, until none takes one. A width that is taken
     // changes the room, and with it the average. No column is tried twice at one average.
-    pub fn go_round(&self, budget: &mut Budget)
+    pub fn go_round(&self, budget: &mut Budget) -> Result<()>
         requires widths { length budget.old.widths.items ≡ length self.now.columns.now }
         requires room { budget.old.room ≤ 65535 }
-        ensures { HasGoneRound self.now.rule
-            (all_needs self.now.table.now self.now.columns.now) budget.old budget.new }
+        ensures { OnOk result (HasGoneRound self.now.rule
+            (all_needs (C.whole self.now.contents.now) self.now.columns.now) budget.old
+            budget.new) }
     {
         let mut position = 0;
         // how many columns before the position, going round, take nothing at the average
@@ -45,7 +46,7 @@ impl<'a> Candidates<'a> {
         let mut average = budget.average(undecided);
         while passed < self.columns.len() {
             passed += 1;
-            if let Some(width) = self.width_at(budget, position, average) {
+            if let Some(width) = self.width_at(budget, position, average)? {
                 budget.claim(position, width);
                 undecided -= 1;
                 let average_now = budget.average(undecided);
@@ -56,6 +57,7 @@ impl<'a> Candidates<'a> {
             }
             position = self.position_after(position);
         }
+        Ok(())
     }
 
     // The position after this one, going round.
@@ -72,18 +74,21 @@ impl<'a> Candidates<'a> {
 
     // The width that the column at a position takes at this average, where it is undecided and
     // takes one.
-    fn width_at(&self, budget: &Budget, position: usize, average: usize) -> Option<u16>
+    fn width_at(&self, budget: &Budget, position: usize, average: usize) -> Result<Option<u16>>
         requires { average ≤ 65535 }
-        ensures { result ≡ width_at self.now.rule average
-            (all_needs self.now.table.now self.now.columns.now) budget.now.widths.items position }
+        ensures { IfOk result (λ width. width ≡ width_at self.now.rule average
+            (all_needs (C.whole self.now.contents.now) self.now.columns.now)
+            budget.now.widths.items position) }
     {
         if !budget.is_undecided(position) {
-            return None;
+            return Ok(None);
         }
-        let column = self.columns.get(position)?;
+        let Some(column) = self.columns.get(position) else {
+            return Ok(None);
+        };
         match self.rule {
-            Rule::Lower => lower_width(column, average),
-            Rule::Shrunk => shrunk_width(self.table, column, average),
+            Rule::Lower => Ok(lower_width(column, average)),
+            Rule::Shrunk => shrunk_width(self.contents, column, average),
         }
     }
 }
@@ -103,19 +108,24 @@ fn lower_width(column: &WidthNeeds<'_>, average: usize) -> Option<u16>
 
 // What a column shrinks to where it has this average room: its longest line there, if that leaves
 // three or more terminal columns free.
-fn shrunk_width(table: &Table, column: &WidthNeeds<'_>, average: usize) -> Option<u16>
+fn shrunk_width<C: Contents>(
+    contents: &C,
+    column: &WidthNeeds<'_>,
+    average: usize,
+) -> Result<Option<u16>>
     requires { average ≤ 65535 }
-    ensures { result ≡ shrunk_at average (needs_in table.now column.now) }
+    ensures { IfOk result (λ width. width
+        ≡ shrunk_at average (needs_in (C.whole contents.now) column.now)) }
 {
     if average < 3 {
-        return None;
+        return Ok(None);
     }
     let info = ColumnDisplayInfo::new(column.column, average as u16);
     let limit = average - 3;
-    let longest = column_longest_line(table, column.position, &info, limit);
+    let longest = contents.longest_line(column.position, &info, limit)?;
     if longest <= limit {
-        Some((longest as u16).max(1))
+        Ok(Some((longest as u16).max(1)))
     } else {
-        None
+        Ok(None)
     }
 }

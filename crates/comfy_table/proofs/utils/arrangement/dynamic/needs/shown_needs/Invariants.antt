@@ -6,5 +6,5 @@ use Rattle.comfy_table.specs.Widths.{needs_of}
 use Rattle.comfy_table.proofs.utils.arrangement.dynamic.needs.shown_needs.Given as goal
 
 abbrev pub invariant-loop-position : goal.invariant-loop-position
-invariant-loop-position l =
-    all_needs l.table l.visible.items ≡ map (needs_of l.table) (filter (λ (p : ℕ × ColumnValue). not (is_hidden_column p.1)) (take l.position (enumerate_from 0 l.columns)))
+invariant-loop-position g l =
+    all_needs (g.C.Contents.whole l.contents) l.visible.items ≡ map (needs_of (g.C.Contents.whole l.contents)) (filter (λ (p : ℕ × ColumnValue). not (is_hidden_column p.1)) (take l.position (enumerate_from 0 l.columns)))

@@ -3,4 +3,4 @@ use Rattle.std.proofs.lemmas.Grind.{common_steps}
 use Rattle.comfy_table.proofs.utils.arrangement.dynamic.budget.Budget.new.Goals as goal
 
 pub loop-column-preserved : goal.loop-column-preserved
-loop-column-preserved c = grind (arith, common_steps)
+loop-column-preserved g c = grind (arith, common_steps)

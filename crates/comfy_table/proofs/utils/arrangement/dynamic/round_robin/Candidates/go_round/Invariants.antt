@@ -4,11 +4,11 @@ use Rattle.comfy_table.proofs.RoundRobinLemmas.{IsTurn}
 use Rattle.comfy_table.proofs.utils.arrangement.dynamic.round_robin.Candidates.go_round.Given as goal
 
 abbrev pub invariant-loop-passed : goal.invariant-loop-passed
-invariant-loop-passed l =
+invariant-loop-passed g l =
     record {
-      turn : IsTurn l.self.rule (all_needs l.self.table.now l.self.columns.now) l.initial.budget l.budget l.position l.passed l.average;
+      turn : IsTurn l.self.rule (all_needs (g.C.Contents.whole l.self.contents.now) l.self.columns.now) l.initial.budget l.budget l.position l.passed l.average;
       counted : l.undecided ≡ undecided_count l.budget.widths.items;
     }
 
 abbrev pub decreases-loop-passed : goal.decreases-loop-passed
-decreases-loop-passed l = undecided_count l.budget.widths.items * (length l.self.columns.now + 1) + (length l.self.columns.now - l.passed)
+decreases-loop-passed g l = undecided_count l.budget.widths.items * (length l.self.columns.now + 1) + (length l.self.columns.now - l.passed)

@@ -4,7 +4,7 @@ use Rattle.std.proofs.lemmas.List.{take_all}
 use Rattle.std.proofs.lemmas.List.Elements.{All-more}
 use Rattle.std.specs.List.{All}
 use Rattle.comfy_parts.specs.CellValue.{IsRow, RowValue}
-use Rattle.comfy_table.proofs.utils.look_at_rows.Goals as goal
+use Rattle.comfy_table.proofs.table.arranged.look_at_rows.Goals as goal
 
 pub loop-row-preserved : goal.loop-row-preserved
 loop-row-preserved c =

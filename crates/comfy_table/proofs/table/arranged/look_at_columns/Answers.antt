@@ -4,7 +4,7 @@ use Rattle.std.proofs.lemmas.List.{take_all}
 use Rattle.std.proofs.lemmas.List.Elements.{All-more}
 use Rattle.std.specs.List.{All}
 use Rattle.comfy_parts.specs.CellValue.{ColumnValue, IsColumn}
-use Rattle.comfy_table.proofs.utils.look_at_columns.Goals as goal
+use Rattle.comfy_table.proofs.table.arranged.look_at_columns.Goals as goal
 
 pub loop-column-preserved : goal.loop-column-preserved
 loop-column-preserved c =
