@@ -5,6 +5,7 @@
 mod beginning;
 mod characters;
 mod cleaning;
+mod counting;
 mod decimals;
 mod delimiter;
 mod digits;

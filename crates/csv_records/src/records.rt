@@ -239,10 +239,10 @@ impl<'a> Record<'a> {
     }
 }
 
-/// What reads the records of a text, whose fields stand between delimiters. Records may have
-/// different numbers of fields. A byte-order mark at the beginning is dropped. Without quotes, a
-/// quote is a character of its field.
-pub(crate) fn reader_of(alloc: Global, text: &str, delimiter: u8, has_quotes: bool) -> Reader<&[u8]>
+// What reads the records of a text, whose fields stand between delimiters. Records may have
+// different numbers of fields. A byte-order mark at the beginning is dropped. Without quotes, a
+// quote is a character of its field.
+fn reader_of(alloc: Global, text: &str, delimiter: u8, has_quotes: bool) -> Reader<&[u8]>
     ensures { IsStarted delimiter has_quotes text.now result }
 {
     ReaderBuilder::new()
