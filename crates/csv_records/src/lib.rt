@@ -11,6 +11,7 @@ mod delimiter;
 mod digits;
 mod encoding;
 mod error;
+mod fields;
 pub mod laws;
 mod lines;
 mod not_text;

@@ -10,6 +10,7 @@ ghost use Rattle.csv_records.specs.Places.{IsWithin, fields_at, places_for};
 ghost use Rattle.csv_records.specs.Started.{IsStarted};
 
 use crate::error::RecordsError;
+use crate::fields::Fields;
 use csv::{ByteRecord, Reader, ReaderBuilder, StringRecord};
 use std::alloc::{AllocError, Global};
 use std::marker::Model;
@@ -25,7 +26,7 @@ use std::str;
 /// ```
 pub struct Records {
     // the fields of all records, one behind another, which are texts
-    fields: ByteRecord,
+    fields: Fields,
     places: Vec<Place>,
 }
 
@@ -81,7 +82,7 @@ impl Records {
         let Some(places) = places_for(alloc, counts, fields.len())? else {
             return Ok(None);
         };
-        let fields = record_of(alloc, fields)?;
+        let fields = fields_from(alloc, fields)?;
         Ok(Some(Records { fields, places }))
     }
 
@@ -100,7 +101,7 @@ impl Records {
 /// them.
 #[derive(Drop)]
 pub struct Rows<'a> {
-    fields: &'a ByteRecord,
+    fields: &'a Fields,
     places: &'a [Place],
 }
 
@@ -201,7 +202,7 @@ impl<'a> Iterator for Rows<'a> {
 /// A record. It lends its fields.
 #[derive(Drop)]
 pub struct Record<'a> {
-    fields: &'a ByteRecord,
+    fields: &'a Fields,
     place: Place,
 }
 
@@ -282,7 +283,7 @@ pub(crate) fn first_records_of(
     ensures refused { IfErr result (λ e. IsReadingRefusal delimiter has_quotes text.now e) }
 {
     let mut reader = reader_of(alloc, text, delimiter, has_quotes);
-    let mut fields = ByteRecord::new(alloc);
+    let mut fields = Fields::new(alloc);
     let mut places = Vec::new(alloc);
     let mut record = ByteRecord::new(alloc);
     // No text in memory has so many.
@@ -323,7 +324,7 @@ fn is_split(delimiter: u8, fields: &ByteRecord) -> Result<bool, AllocError>
 
 // Appends a record to others.
 fn push_record(
-    fields: &mut ByteRecord,
+    fields: &mut Fields,
     places: &mut Vec<Place>,
     more: &ByteRecord,
 ) -> Result<(), RecordsError>
@@ -338,7 +339,7 @@ fn push_record(
     ensures refused { IfErr result (λ e. e ≡ RecordsError.OutOfMemory) }
 {
     let start = fields.len();
-    push_fields(fields, more)?;
+    fields.push_record(more)?;
     let end = fields.len();
     places.push(Place { start, end })?;
     Ok(())
@@ -375,24 +376,13 @@ fn places_for(
     })
 }
 
-// A record of these fields.
-fn record_of(alloc: Global, fields: &[&str]) -> Result<ByteRecord, AllocError>
-    ensures fields { IfOk result (λ made.
-        fields_of made ≡ map (λ field. field.now) fields.now) }
+// These texts as fields.
+fn fields_from(alloc: Global, texts: &[&str]) -> Result<Fields, AllocError>
+    ensures fields { IfOk result (λ made. fields_of made ≡ map (λ text. text.now) texts.now) }
     ensures text { IfOk result (λ made. AllText (fields_of made)) }
 {
-    Ok(StringRecord::from_fields(alloc, fields)?.into_byte_record())
-}
-
-// Appends the fields of a record to others.
-fn push_fields(fields: &mut ByteRecord, more: &ByteRecord) -> Result<(), AllocError>
-    requires whole { partial_of fields.old ≡ [] }
-    ensures whole { OnOk result (partial_of fields.new ≡ []) }
-    ensures fields { OnOk result (fields_of fields.new
-        ≡ fields_of fields.old ++ fields_of more.now) }
-{
-    for field in more.iter() {
-        fields.push_field(field)?;
-    }
-    Ok(())
+    let record = StringRecord::from_fields(alloc, texts)?.into_byte_record();
+    let mut made = Fields::new(alloc);
+    made.push_record(&record)?;
+    Ok(made)
 }

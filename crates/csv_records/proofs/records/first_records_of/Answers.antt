@@ -29,7 +29,7 @@ loop-count-init c =
       sym (all_of_few c.args.most [] (omega arith)),
       (λ k d h. absurd (omega arith)),
       tt,
-      c.new-fields.ensures.partial,
+      c.new-fields.ensures.whole,
     )
 
 pub loop-count-preserved : goal.loop-count-preserved
