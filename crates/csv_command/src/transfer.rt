@@ -155,6 +155,8 @@ fn rendered_input(
     // The other records are only counted.
     let most = most_drawn(&options.selection).unwrap_or(usize::MAX);
     let first = read_first_records(alloc, text.as_str(), &options.input, most)?;
+    // The records have texts of their own.
+    drop(text);
     let note = first.doubt;
     if first.count == 0 {
         let output = String::new(alloc);

@@ -1,5 +1,5 @@
 -- The delimiter that a text names.
-use Rattle.std.proofs.Common.{◌≡◌, ◌≢◌, ◌+◌, ◌-◌, ℕ, Bool, true, false, [], ◌∷◌, ◌++◌, Option, Some, None, Bor, MatchOption, ap, drop, encode_utf8, refl, subst, sym, ◌∙◌}
+use Rattle.std.proofs.Common.{◌≡◌, ◌≢◌, ℕ, Bool, true, false, [], ◌∷◌, ◌++◌, Option, Some, None, Bor, MatchOption, ap, drop, encode_utf8, refl, subst, sym, ◌∙◌}
 use Rattle.std.specs.Option.{option_map, unwrap_or}
 use Rattle.std.specs.Prelude.{if◌then◌else◌}
 use Rattle.std.specs.Str.Pattern.{FindsCharPrefix, StripsPrefix}

@@ -2,6 +2,7 @@ pub mod BeginningLemmas
 pub mod BestLemmas
 pub mod CleaningLemmas
 pub mod ControlLemmas
+pub mod CountLemmas
 pub mod CutLemmas
 pub mod DecimalLemmas
 pub mod DelimiterLemmas

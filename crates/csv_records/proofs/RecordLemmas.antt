@@ -1,21 +1,18 @@
--- Why a record wasn't read.
-use Rattle.std.proofs.Common.{◌≡◌, ℕ, zero, suc, arith, Bool, true, List, [], ◌∷◌, ◌++◌, Option, Some, None, All, refl, sym, subst}
+-- Records of text, and one that a delimiter splits.
+use Rattle.std.proofs.Common.{◌≡◌, ◌⊎◌, inl, inr, ◌<◌, ◌≤◌, ℕ, zero, suc, arith, Bool, true, List, [], ◌∷◌, ◌++◌, Option, Some, None, All, refl, sym, subst}
+use Rattle.std.proofs.lemmas.Bool.{cases_lt}
 use Rattle.std.proofs.lemmas.List.Elements.{All-append}
 use Rattle.std.specs.Str.{IsUtf8}
 use Rattle.comfy_parts.specs.Text.{Text}
 use Rattle.csv.specs.Machine.{Read as FoundRecord, next_record}
-use Rattle.csv.specs.Reading.{ExplainsRead, NextIs, Reached, ReadsNext, source_of, strip_bom}
+use Rattle.csv.specs.Reading.{NextIs, Reached, ReadRecord, ReadsNext, source_of, strip_bom}
 use Rattle.csv.specs.Records.{AllText}
-use Rattle.csv.specs.declared.error.ErrorKind.{ErrorKind}
-use Rattle.csv.specs.declared.error.ErrorKind.TheVariants as kind
 use Rattle.csv.specs.declared.parser.Config.{Config}
 use Rattle.csv.specs.declared.parser.State.{State}
 use Rattle.csv.specs.declared.parser.State.TheVariants as st
 use Rattle.csv.specs.declared.reader.Reader.{Reader}
-use Rattle.csv_records.proofs.TextLemmas.{no_ascii}
-use Rattle.csv_records.specs.Input.{IsReadingRefusal, IsRecordRefusal, config_for}
-use Rattle.csv_records.specs.declared.error.RecordsError.{RecordsError}
-use Rattle.csv_records.specs.declared.error.RecordsError.TheVariants.{OutOfMemory}
+use Rattle.csv_records.proofs.TextLemmas.{text_read}
+use Rattle.csv_records.specs.Input.{SplitsCharacter, config_for}
 
 -- the record that was taken is the next one
 is_next : (next : Option FoundRecord) (fields : List Text) (s : State) (rest : Text) → NextIs next true fields s rest → (p : FoundRecord) × (next ≡ Some p) × (fields ≡ p.0)
@@ -27,34 +24,32 @@ took : (cfg : Config) (s : State) (text : Text) (after : Option Text) (fields : 
 took cfg s text None fields s2 h = absurd h
 took cfg s text (Some rest) fields s2 h = is_next (next_record cfg s [] [] text) fields s2 rest h
 
-refused_memory : (delimiter : ℕ) (has_quotes : Bool) (input : Text) (e : RecordsError) → e ≡ OutOfMemory → IsReadingRefusal delimiter has_quotes input e
-refused_memory delimiter has_quotes input e is = subst (λ (x : RecordsError). IsReadingRefusal delimiter has_quotes input x) (sym is) tt
+module _ {R : Type 0} (rem : R → Option Text) (a b : Reader R) (delimiter : ℕ) (has_quotes : Bool) (input text : Text) (before : List (List Text)) (fields : List Text)
+    (config : a.config ≡ config_for delimiter has_quotes) (source : source_of rem a ≡ Some text) (reached : Reached (config_for delimiter has_quotes) st.StartRecord (strip_bom input) before a.state text) (read : ReadRecord rem a b true fields) where
+  found : (p : FoundRecord) × (next_record (config_for delimiter has_quotes) a.state [] [] text ≡ Some p) × (fields ≡ p.0)
+  found = took (config_for delimiter has_quotes) a.state text _ fields b.state (rw (config, source) at read.0)
 
-module _ {R : Type 0} (rem : R → Option Text) (a b : Reader R) (delimiter : ℕ) (has_quotes : Bool) (input text : Text) (before : List (List Text)) where
-  -- what is returned where the next record wasn't read
-  pub refused : (why : ErrorKind) (e : RecordsError) → IsUtf8 input → a.config ≡ config_for delimiter has_quotes → source_of rem a ≡ Some text
-      → Reached (config_for delimiter has_quotes) st.StartRecord (strip_bom input) before a.state text → All AllText before
-      → ExplainsRead rem a b true why → IsRecordRefusal why e → IsReadingRefusal delimiter has_quotes input e
-  refused (kind.Utf8 pos err) e utf8 config source reached are_text explains is =
-      let next = took (config_for delimiter has_quotes) a.state text _ explains.1 b.state (rw (config, source) at explains.2) in
-      let no_text = subst (λ (f : List Text). ¬ (AllText f)) next.2 explains.3 in
-      subst (λ (x : RecordsError). IsReadingRefusal delimiter has_quotes input x) (sym is)
-      (record {
-        no_ascii = no_ascii delimiter has_quotes input before a.state text next.0 utf8 reached next.1 no_text;
-        before = before;
-        state = a.state;
-        rest = text;
-        reached = reached;
-        are_text = are_text;
-        next = next.0;
-        is_next = next.1;
-        is_no_text = no_text;
-      })
-  refused (kind.Io cause) e utf8 config source reached are_text explains is = refused_memory delimiter has_quotes input e is
-  refused (kind.UnequalLengths pos expected len) e utf8 config source reached are_text explains is = refused_memory delimiter has_quotes input e is
-  refused (kind.Serialize why) e utf8 config source reached are_text explains is = refused_memory delimiter has_quotes input e is
-  refused (kind.Deserialize pos err) e utf8 config source reached are_text explains is = refused_memory delimiter has_quotes input e is
-  refused kind.OutOfMemory e utf8 config source reached are_text explains is = refused_memory delimiter has_quotes input e is
+  -- the fields that were read are texts, be it since the delimiter is ASCII
+  pub is_text : IsUtf8 input → (128 ≤ delimiter → AllText fields) → AllText fields
+  is_text utf8 looked_at = by_size (cases_lt delimiter 128)
+    where
+      by_size : (delimiter < 128) ⊎ (128 ≤ delimiter) → AllText fields
+      by_size (inr high) = looked_at high
+      by_size (inl ascii) = subst AllText (sym found.2) (text_read delimiter has_quotes ascii input before a.state text found.0 utf8 reached found.1)
+
+  -- or the delimiter splits a character
+  pub splits : All AllText before → 128 ≤ delimiter → ¬ (AllText fields) → SplitsCharacter delimiter has_quotes input
+  splits are_text no_ascii no_text = record {
+    no_ascii = no_ascii;
+    before = before;
+    state = a.state;
+    rest = text;
+    reached = reached;
+    are_text = are_text;
+    next = found.0;
+    is_next = found.1;
+    is_no_text = subst (λ (f : List Text). ¬ (AllText f)) found.2 no_text;
+  }
 
 -- one more record of text
 pub more_text : (rows : List (List Text)) (fields : List Text) → All AllText rows → AllText fields → All AllText (rows ++ fields ∷ [])
@@ -63,3 +58,9 @@ more_text rows fields are is = All-append AllText rows (fields ∷ []) are (only
     only : (fields : List Text) → AllText fields → All AllText (fields ∷ [])
     only fields is zero d h = is
     only fields is (suc k) d h = absurd (omega arith)
+
+-- texts behind texts
+pub both_text : (fields more : List Text) → AllText fields → AllText more → AllText (fields ++ more)
+unfolding AllText
+both_text [] more first second = second
+both_text (f ∷ fs) more first second = (first.0, both_text fs more first.1 second)

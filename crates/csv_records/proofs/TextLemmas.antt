@@ -179,13 +179,9 @@ module _ (delimiter : ℕ) (has_quotes : Bool) (ascii : delimiter < 128) where
       let others = reached_is_text records next.1 s2 next.2 rest first.outside first.rest more in
       (All-cons AllText fields records (subst AllText (sym is) first.fields) others.0, others.1, others.2)
 
--- a record that is no text is so by the delimiter
-pub no_ascii : (delimiter : ℕ) (has_quotes : Bool) (input : Text) (before : List (List Text)) (s : State) (rest : Text) (next : FoundRecord) → IsUtf8 input → Reached (config_for delimiter has_quotes) st.StartRecord (strip_bom input) before s rest
-    → next_record (config_for delimiter has_quotes) s [] [] rest ≡ Some next → ¬ (AllText next.0) → 128 ≤ delimiter
-no_ascii delimiter has_quotes input before s rest next utf8 reached found no_text = by_size (cases_lt delimiter 128)
-  where
-    by_size : (delimiter < 128) ⊎ (128 ≤ delimiter) → 128 ≤ delimiter
-    by_size (inr high) = high
-    by_size (inl ascii) =
-        let there = reached_is_text delimiter has_quotes ascii before st.StartRecord s (strip_bom input) rest refl (without_bom input utf8) reached in
-        absurd (no_text (next_is_text delimiter has_quotes ascii rest s [] [] next there.1 no_fields there.2 found).fields)
+-- a record that is read of a text is text, where the delimiter is ASCII
+pub text_read : (delimiter : ℕ) (has_quotes : Bool) → delimiter < 128 → (input : Text) (before : List (List Text)) (s : State) (rest : Text) (next : FoundRecord) → IsUtf8 input → Reached (config_for delimiter has_quotes) st.StartRecord (strip_bom input) before s rest
+    → next_record (config_for delimiter has_quotes) s [] [] rest ≡ Some next → AllText next.0
+text_read delimiter has_quotes ascii input before s rest next utf8 reached found =
+    let there = reached_is_text delimiter has_quotes ascii before st.StartRecord s (strip_bom input) rest refl (without_bom input utf8) reached in
+    (next_is_text delimiter has_quotes ascii rest s [] [] next there.1 no_fields there.2 found).fields

@@ -1,5 +1,5 @@
 -- Digits alone, as `1024`: nothing stands around them, and where they are no name they are a number.
-use Rattle.std.proofs.Common.{◌≡◌, ◌&&◌, ◌||◌, ◌==◌, ◌+◌, ◌-◌, ◌<◌, ℕ, Bool, true, false, nat_lt, List, [], ◌∷◌, ◌++◌, Option, None, Some, not, option_map, drop, take, encode_utf8_all, get_or, length, refl, sym, ap, ap₂, ◌∙◌, subst, rules, tests}
+use Rattle.std.proofs.Common.{◌≡◌, ◌&&◌, ◌==◌, ◌+◌, ◌<◌, ℕ, Bool, true, false, nat_lt, List, [], ◌∷◌, ◌++◌, Option, None, Some, not, option_map, drop, take, encode_utf8_all, get_or, length, refl, sym, ap, ap₂, ◌∙◌, subst, rules, tests}
 use Rattle.std.proofs.lemmas.Bool.{and_parts, eqb-true}
 use Rattle.std.proofs.lemmas.List.Folds.{list_all-append, list_all_at}
 use Rattle.std.proofs.lemmas.List.Quantifiers.{position-Some}
@@ -11,7 +11,7 @@ use Rattle.std.specs.Str.{IsAscii, chars}
 use Rattle.comfy_parts.specs.Text.{Text}
 use Rattle.csv_records.proofs.FigureLemmas.{by_end, to_other-stops}
 use Rattle.csv_records.specs.Decimals.{digits_in}
-use Rattle.csv_records.specs.Number.{back_of, ends, figure_of, from_other, front_of, halves, is_bare_number, is_digits, is_name, is_number, is_outer, is_space, to_other, trimmed, without_spaces_before}
+use Rattle.csv_records.specs.Number.{back_of, ends, figure_of, from_other, front_of, halves, is_digits, is_name, is_number, is_outer, is_space, to_other, trimmed, without_spaces_before}
 
 abbrev AreDigits : Text → Type 0
 AreDigits text = list_all is_ascii_digit text ≡ true

@@ -7,8 +7,6 @@ use Rattle.comfy_parts.specs.Text.{Text}
 use Rattle.csv.specs.Machine.{Read as FoundRecord, next_record}
 use Rattle.csv.specs.Reading.{AreRecords, Reached, default_config, strip_bom}
 use Rattle.csv.specs.Records.{AllText}
-use Rattle.csv.specs.declared.error.ErrorKind.{ErrorKind}
-use Rattle.csv.specs.declared.error.ErrorKind.TheVariants as kind
 use Rattle.csv.specs.declared.parser.Config.{Config}
 use Rattle.csv.specs.declared.parser.State.{State}
 use Rattle.csv.specs.declared.parser.State.TheVariants as st
@@ -77,15 +75,6 @@ pub record AreRecordsOf (delimiter : ℕ) (has_quotes : Bool) (input : Text)
     (records : List (List Text)) : Type 0 where
   pub all : AreRecords (config_for delimiter has_quotes) st.StartRecord (strip_bom input) records
   pub are_text : All AllText records
-
--- what is returned for a fault of csv's reader
-abbrev pub IsRecordRefusal : ErrorKind → RecordsError → Type 0
-IsRecordRefusal (kind.Utf8 pos err) e = e ≡ SplitCharacter
-IsRecordRefusal (kind.Io cause) e = e ≡ OutOfMemory
-IsRecordRefusal (kind.UnequalLengths pos expected len) e = e ≡ OutOfMemory
-IsRecordRefusal (kind.Serialize why) e = e ≡ OutOfMemory
-IsRecordRefusal (kind.Deserialize pos err) e = e ≡ OutOfMemory
-IsRecordRefusal kind.OutOfMemory e = e ≡ OutOfMemory
 
 -- the delimiter isn't ASCII, and after records of UTF-8 comes one that isn't UTF-8
 pub record SplitsCharacter (delimiter : ℕ) (has_quotes : Bool) (input : Text) : Type 0 where

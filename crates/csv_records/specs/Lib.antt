@@ -1,5 +1,6 @@
 pub mod Beginning
 pub mod Cleaning
+pub mod Counting
 pub mod CutLists
 pub mod Decimals
 pub mod Delimiter

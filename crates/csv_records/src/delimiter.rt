@@ -3,14 +3,13 @@
 ghost use Rattle.std.specs.Prelude.{◌≡◌, ◌==◌, IfOk, option_map};
 ghost use Rattle.std.specs.List.{count_by, list_all};
 ghost use Rattle.csv.specs.Reading.{strip_bom};
-ghost use Rattle.csv_records.specs.Delimiter.{IsAsciiUnlessAsked, agreement, delimited, delimiter_in, doubtful_delimiter, field_counts, found_delimiter, has_first_records, is_poor, named_delimiter, only_ascii, shows_delimiter, tried_delimiters};
+ghost use Rattle.csv_records.specs.Delimiter.{IsAsciiUnlessAsked, agreement, delimited, delimiter_in, doubtful_delimiter, found_delimiter, has_first_records, is_poor, named_delimiter, only_ascii, shows_delimiter, tried_delimiters};
 ghost use Rattle.csv_records.specs.Lines.{EndsIn};
 
+use crate::counting::field_counts;
 use crate::lines::split_line;
 use crate::options::InputOptions;
-use crate::records::reader_of;
 use crate::text::without_mark;
-use csv::ByteRecord;
 use std::alloc::{AllocError, Global};
 
 /// What stands between the fields of a record.
@@ -204,30 +203,4 @@ fn each_has_first_records(alloc: Global, text: &str, has_quotes: bool) -> Result
         }
     }
     Ok(true)
-}
-
-// How many fields the first records have, at most so many records.
-fn field_counts(
-    alloc: Global,
-    text: &str,
-    has_quotes: bool,
-    delimiter: u8,
-    most: usize,
-) -> Result<Vec<usize>, AllocError>
-    ensures { IfOk result (λ counts. counts.items
-        ≡ field_counts has_quotes text.now delimiter most) }
-{
-    let mut reader = reader_of(alloc, text, delimiter, has_quotes);
-    let mut record = ByteRecord::new(alloc);
-    let mut counts = Vec::with_capacity(alloc, most)?;
-    for _ in 0..most {
-        let Ok(is_found) = reader.read_byte_record(&mut record) else {
-            return Err(AllocError);
-        };
-        if !is_found {
-            break;
-        }
-        counts.push(record.len())?;
-    }
-    Ok(counts)
 }

@@ -5,11 +5,13 @@
 mod beginning;
 mod characters;
 mod cleaning;
+mod counting;
 mod decimals;
 mod delimiter;
 mod digits;
 mod encoding;
 mod error;
+mod fields;
 pub mod laws;
 mod lines;
 mod not_text;

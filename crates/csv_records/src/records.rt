@@ -1,19 +1,20 @@
 //! The records of a text.
 
-ghost use Rattle.std.specs.Prelude.{◌≡◌, ◌≢◌, ◌<◌, ◌==◌, ◌-◌, ◌^◌, ◌∷◌, ◌++◌, [], All, IfErr, IfNone, IfOk, IfSome, None, OnOk, drop, length, map, option_map, slice_get, take};
+ghost use Rattle.std.specs.Prelude.{◌≡◌, ◌≢◌, ◌<◌, ◌≤◌, ◌==◌, ◌-◌, ◌^◌, ◌∷◌, ◌++◌, [], All, IfErr, IfNone, IfOk, IfSome, IsTrue, None, OnOk, drop, false, length, map, option_map, slice_get, take};
 ghost use Rattle.std.specs.Iterator.{YieldsFirstBy, item_count};
-ghost use Rattle.csv.specs.Reading.{error_kind};
-ghost use Rattle.csv.specs.Records.{field_at, fields_of};
+ghost use Rattle.csv.specs.Records.{AllText, field_at, fields_of, partial_of};
 ghost use Rattle.csv_records.specs.CutLists.{cut_by, total};
 ghost use Rattle.csv_records.specs.First.{AreFirst};
-ghost use Rattle.csv_records.specs.Input.{AreRecordsOf, IsReadingRefusal, IsRecordRefusal};
+ghost use Rattle.csv_records.specs.Input.{AreRecordsOf, IsReadingRefusal};
 ghost use Rattle.csv_records.specs.Places.{IsWithin, fields_at, places_for};
 ghost use Rattle.csv_records.specs.Started.{IsStarted};
 
 use crate::error::RecordsError;
-use csv::{Error, ErrorKind, Reader, ReaderBuilder, StringRecord};
+use crate::fields::Fields;
+use csv::{ByteRecord, Reader, ReaderBuilder, StringRecord};
 use std::alloc::{AllocError, Global};
 use std::marker::Model;
+use std::str;
 
 /// The records of a text. However many they are, they lie in two large pieces of memory, which come
 /// back when they are dropped.
@@ -24,8 +25,8 @@ use std::marker::Model;
 /// // one record, whose field at position 1 is 3
 /// ```
 pub struct Records {
-    // the fields of all records, one behind another
-    fields: StringRecord,
+    // the fields of all records, one behind another, which are texts
+    fields: Fields,
     places: Vec<Place>,
 }
 
@@ -46,14 +47,14 @@ impl Drop for Records {
 }
 
 impl Model for Records {
-    ghost use Rattle.std.specs.Prelude.{All, List, length, map};
+    ghost use Rattle.std.specs.Prelude.{List, map};
     ghost use Rattle.csv.specs.Records.{fields_of};
     ghost use Rattle.comfy_parts.specs.Text.{Text};
-    ghost use Rattle.csv_records.specs.Places.{IsWithin, fields_at};
+    ghost use Rattle.csv_records.specs.Places.{ArePlaces, fields_at};
 
     ghost Value = { List (List Text) };
 
-    ghost invariant = { λ r. All (IsWithin (fields_of r.fields)) r.places.items };
+    ghost invariant = { λ r. ArePlaces (fields_of r.fields) r.places.items };
 
     ghost view = { λ r. map (fields_at (fields_of r.fields)) r.places.items };
 }
@@ -81,7 +82,7 @@ impl Records {
         let Some(places) = places_for(alloc, counts, fields.len())? else {
             return Ok(None);
         };
-        let fields = record_of(alloc, fields)?;
+        let fields = fields_from(alloc, fields)?;
         Ok(Some(Records { fields, places }))
     }
 
@@ -100,19 +101,19 @@ impl Records {
 /// them.
 #[derive(Drop)]
 pub struct Rows<'a> {
-    fields: &'a StringRecord,
+    fields: &'a Fields,
     places: &'a [Place],
 }
 
 impl<'a> Model for Rows<'a> {
-    ghost use Rattle.std.specs.Prelude.{All, List, length, map};
+    ghost use Rattle.std.specs.Prelude.{List, map};
     ghost use Rattle.csv.specs.Records.{fields_of};
     ghost use Rattle.comfy_parts.specs.Text.{Text};
-    ghost use Rattle.csv_records.specs.Places.{IsWithin, fields_at};
+    ghost use Rattle.csv_records.specs.Places.{ArePlaces, fields_at};
 
     ghost Value = { List (List Text) };
 
-    ghost invariant = { λ r. All (IsWithin (fields_of r.fields.now)) r.places.now };
+    ghost invariant = { λ r. ArePlaces (fields_of r.fields.now) r.places.now };
 
     ghost view = { λ r. map (fields_at (fields_of r.fields.now)) r.places.now };
 }
@@ -201,7 +202,7 @@ impl<'a> Iterator for Rows<'a> {
 /// A record. It lends its fields.
 #[derive(Drop)]
 pub struct Record<'a> {
-    fields: &'a StringRecord,
+    fields: &'a Fields,
     place: Place,
 }
 
@@ -209,11 +210,11 @@ impl<'a> Model for Record<'a> {
     ghost use Rattle.std.specs.Prelude.{List};
     ghost use Rattle.csv.specs.Records.{fields_of};
     ghost use Rattle.comfy_parts.specs.Text.{Text};
-    ghost use Rattle.csv_records.specs.Places.{IsWithin, fields_at};
+    ghost use Rattle.csv_records.specs.Places.{IsPlace, fields_at};
 
     ghost Value = { List Text };
 
-    ghost invariant = { λ r. IsWithin (fields_of r.fields.now) r.place };
+    ghost invariant = { λ r. IsPlace (fields_of r.fields.now) r.place };
 
     ghost view = { λ r. fields_at (fields_of r.fields.now) r.place };
 }
@@ -232,17 +233,18 @@ impl<'a> Record<'a> {
         ensures value { option_map (λ s. s.now) result ≡ field_at self.now position }
     {
         if position < self.len() {
-            self.fields.get(self.place.start + position)
+            let field = self.fields.get(self.place.start + position)?;
+            Some(unsafe { str::from_utf8_unchecked(field) })
         } else {
             None
         }
     }
 }
 
-/// What reads the records of a text, whose fields stand between delimiters. Records may have
-/// different numbers of fields. A byte-order mark at the beginning is dropped. Without quotes, a
-/// quote is a character of its field.
-pub(crate) fn reader_of(alloc: Global, text: &str, delimiter: u8, has_quotes: bool) -> Reader<&[u8]>
+// What reads the records of a text, whose fields stand between delimiters. Records may have
+// different numbers of fields. A byte-order mark at the beginning is dropped. Without quotes, a
+// quote is a character of its field.
+fn reader_of(alloc: Global, text: &str, delimiter: u8, has_quotes: bool) -> Reader<&[u8]>
     ensures { IsStarted delimiter has_quotes text.now result }
 {
     ReaderBuilder::new()
@@ -281,45 +283,63 @@ pub(crate) fn first_records_of(
     ensures refused { IfErr result (λ e. IsReadingRefusal delimiter has_quotes text.now e) }
 {
     let mut reader = reader_of(alloc, text, delimiter, has_quotes);
-    let mut fields = StringRecord::new(alloc);
+    let mut fields = Fields::new(alloc);
     let mut places = Vec::new(alloc);
-    let mut record = StringRecord::new(alloc);
+    let mut record = ByteRecord::new(alloc);
     // No text in memory has so many.
     for count in 0..usize::MAX {
-        match reader.read_record(&mut record) {
-            Ok(true) => {
-                if count < most {
-                    push_record(&mut fields, &mut places, &record)?;
-                }
-            }
-            Ok(false) => {
-                let records = Records { fields, places };
-                return Ok(FirstRecords {
-                    records,
-                    count,
-                    doubt: None,
-                });
-            }
-            Err(error) => return Err(refusal_of(&error)),
+        let Ok(is_found) = reader.read_byte_record(&mut record) else {
+            return Err(RecordsError::OutOfMemory);
+        };
+        if !is_found {
+            let records = Records { fields, places };
+            return Ok(FirstRecords {
+                records,
+                count,
+                doubt: None,
+            });
+        }
+        if is_split(delimiter, &record)? {
+            return Err(RecordsError::SplitCharacter);
+        }
+        if count < most {
+            push_record(&mut fields, &mut places, &record)?;
         }
     }
     Err(RecordsError::OutOfMemory)
 }
 
+// Whether the delimiter split a character of these fields, which one of ASCII doesn't.
+fn is_split(delimiter: u8, fields: &ByteRecord) -> Result<bool, AllocError>
+    ensures split { IfOk result (λ is.
+        IsTrue is → (128 ≤ delimiter) × ¬ (AllText (fields_of fields.now))) }
+    ensures whole { IfOk result (λ is.
+        is ≡ false → 128 ≤ delimiter → AllText (fields_of fields.now)) }
+{
+    if delimiter.is_ascii() {
+        return Ok(false);
+    }
+    Ok(StringRecord::from_byte_record(fields.clone()?).is_err())
+}
+
 // Appends a record to others.
 fn push_record(
-    fields: &mut StringRecord,
+    fields: &mut Fields,
     places: &mut Vec<Place>,
-    more: &StringRecord,
+    more: &ByteRecord,
 ) -> Result<(), RecordsError>
     requires within { All (IsWithin (fields_of fields.old)) places.old.items }
+    requires whole { partial_of fields.old ≡ [] }
+    ensures whole { OnOk result (partial_of fields.new ≡ []) }
+    ensures fields { OnOk result (fields_of fields.new
+        ≡ fields_of fields.old ++ fields_of more.now) }
     ensures within { OnOk result (All (IsWithin (fields_of fields.new)) places.new.items) }
     ensures records { OnOk result (map (fields_at (fields_of fields.new)) places.new.items
         ≡ map (fields_at (fields_of fields.old)) places.old.items ++ fields_of more.now ∷ []) }
     ensures refused { IfErr result (λ e. e ≡ RecordsError.OutOfMemory) }
 {
     let start = fields.len();
-    push_fields(fields, more)?;
+    fields.push_record(more)?;
     let end = fields.len();
     places.push(Place { start, end })?;
     Ok(())
@@ -356,33 +376,13 @@ fn places_for(
     })
 }
 
-// A record of these fields.
-fn record_of(alloc: Global, fields: &[&str]) -> Result<StringRecord, AllocError>
-    ensures { IfOk result (λ made. fields_of made ≡ map (λ field. field.now) fields.now) }
+// These texts as fields.
+fn fields_from(alloc: Global, texts: &[&str]) -> Result<Fields, AllocError>
+    ensures fields { IfOk result (λ made. fields_of made ≡ map (λ text. text.now) texts.now) }
+    ensures text { IfOk result (λ made. AllText (fields_of made)) }
 {
-    let mut record = StringRecord::new(alloc);
-    for text in fields {
-        record.push_field(text)?;
-    }
-    Ok(record)
-}
-
-// Appends the fields of a record to others.
-fn push_fields(fields: &mut StringRecord, more: &StringRecord) -> Result<(), AllocError>
-    ensures { OnOk result (fields_of fields.new ≡ fields_of fields.old ++ fields_of more.now) }
-{
-    for field in more.iter() {
-        fields.push_field(field)?;
-    }
-    Ok(())
-}
-
-// Why no further record was read. A reader of bytes in memory has no fault of its own.
-fn refusal_of(error: &Error) -> RecordsError
-    ensures { IsRecordRefusal (error_kind error.now) result }
-{
-    match error.kind() {
-        ErrorKind::Utf8 { .. } => RecordsError::SplitCharacter,
-        _ => RecordsError::OutOfMemory,
-    }
+    let record = StringRecord::from_fields(alloc, texts)?.into_byte_record();
+    let mut made = Fields::new(alloc);
+    made.push_record(&record)?;
+    Ok(made)
 }

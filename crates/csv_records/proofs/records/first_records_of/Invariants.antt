@@ -1,6 +1,6 @@
-use Rattle.std.proofs.Common.{◌≡◌, ℕ, List, Some, All, length, map, take}
+use Rattle.std.proofs.Common.{◌≡◌, ℕ, List, [], Some, All, length, map, take}
 use Rattle.csv.specs.Reading.{Reached, Ready, source_of, strip_bom}
-use Rattle.csv.specs.Records.{AllText, fields_of}
+use Rattle.csv.specs.Records.{AllText, fields_of, partial_of}
 use Rattle.csv.specs.declared.parser.State.TheVariants as st
 use Rattle.csv.specs.declared.reader.Trim.TheVariants as trim
 use Rattle.csv_records.specs.Input.{config_for}
@@ -16,3 +16,5 @@ invariant-loop-count l = (l.reader.trim ≡ trim.None) × Ready l.reader × (l.r
     × (length all ≡ l.count)
     × (map (fields_at (fields_of l.fields)) l.places.items ≡ take l.most all)
     × All (IsWithin (fields_of l.fields)) l.places.items
+    × AllText (fields_of l.fields)
+    × (partial_of l.fields ≡ [])

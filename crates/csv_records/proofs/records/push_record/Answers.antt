@@ -7,6 +7,6 @@ pub returns-clause-records : goal.returns-clause-records
 returns-clause-records c =
     let more = fields_of c.args.more.now in
     let had = fields_of c.args.fields.now in
-    let pushed : fields_of c.push_fields.new.fields ≡ had ++ more = search rules in
+    let pushed : fields_of c.push_record.new.self ≡ had ++ more = search rules in
     let items : c.push.new.self.items ≡ c.args.places.now.items ++ last_place had more ∷ [] = search rules in
     rw (pushed, items) (one_more had more c.args.places.now.items c.requires.within)

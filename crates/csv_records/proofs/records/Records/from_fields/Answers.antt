@@ -14,8 +14,8 @@ invariant_of-result c =
     let own : fields_of c.in_ok-fields.fields ≡ map (λ field. field.now) c.args.fields.now = search rules in
     let long : length (fields_of c.in_ok-fields.fields) ≡ length c.args.fields.now = ap length own ∙ length-map c.args.fields.now (λ field. field.now) in
     let few : length c.args.fields.now < 2 ^ 64 = search rules in
-    subst (All (IsWithin (fields_of c.in_ok-fields.fields))) (sym items)
-    (places_within (fields_of c.in_ok-fields.fields) 0 c.args.counts.now (omega (arith, long, few)) (omega (arith, long, all)))
+    let within = places_within (fields_of c.in_ok-fields.fields) 0 c.args.counts.now (omega (arith, long, few)) (omega (arith, long, all)) in
+    (subst (All (IsWithin (fields_of c.in_ok-fields.fields))) (sym items) within, c.in_ok-fields.ensures.text)
 
 pub returns-clause-some : goal.returns-clause-some
 returns-clause-some c =

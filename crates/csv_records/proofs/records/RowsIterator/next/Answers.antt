@@ -6,5 +6,5 @@ use Rattle.csv_records.proofs.records.RowsIterator.next.Goals as goal
 
 pub invariant_of-self : goal.invariant_of-self
 invariant_of-self c =
-    let all = subst (λ (places : List Place). All (IsWithin (fields_of c.self.inside.fields.now)) places) c.in_ok-place.ensures.cases.0 c.self.invariant in
-    λ k d below. all (suc k) d (omega (arith, below))
+    let all = subst (λ (places : List Place). All (IsWithin (fields_of c.self.inside.fields.now)) places) c.in_ok-place.ensures.cases.0 c.self.invariant.0 in
+    (λ k d below. all (suc k) d (omega (arith, below)), c.self.invariant.1)

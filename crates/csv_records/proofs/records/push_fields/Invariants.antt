@@ -1,6 +1,0 @@
-use Rattle.std.proofs.Common.{◌≡◌, ◌++◌, take}
-use Rattle.csv.specs.Records.{fields_of}
-use Rattle.csv_records.proofs.records.push_fields.Given as goal
-
-abbrev pub invariant-loop-field : goal.invariant-loop-field
-invariant-loop-field l = (fields_of l.fields ≡ fields_of l.initial.fields ++ take l.field-iterator.at (fields_of l.fn.more)) × (l.field-iterator.row.now ≡ l.fn.more)

@@ -1,0 +1,47 @@
+-- Private: how many fields a record has, as csv's reader finds them byte by byte.
+-- Source: the crate csv.
+use Rattle.std.specs.Prelude.{ℕ, ◌+◌, Bool, true, false, [], ◌∷◌, Option, Some, None, if◌then◌else◌}
+use Rattle.comfy_parts.specs.Text.{Text}
+use Rattle.csv.specs.Machine as csv
+use Rattle.csv.specs.declared.parser.Action.{Action}
+use Rattle.csv.specs.declared.parser.Action.TheVariants as act
+use Rattle.csv.specs.declared.parser.Config.{Config}
+use Rattle.csv.specs.declared.parser.State.{State as ReaderState}
+use Rattle.csv.specs.declared.parser.State.TheVariants as st
+use Rattle.csv_records.specs.declared.counting.State.{State}
+use Rattle.csv_records.specs.declared.counting.State.TheVariants as own
+
+-- the state of csv's reader that is meant
+abbrev pub state_at : State → ReaderState
+state_at own.StartRecord = st.StartRecord
+state_at own.StartField = st.StartField
+state_at own.InField = st.InField
+state_at own.InQuoted = st.InQuoted
+state_at own.AfterQuote = st.AfterQuote
+
+-- a state after an action that ends no record, and whether it ends a field
+abbrev pub told_of : Action → ReaderState → Option (ReaderState × Bool)
+told_of act.EndRecord state = None
+told_of act.EndField state = Some (state, true)
+told_of act.Skip state = Some (state, false)
+told_of act.Copy state = Some (state, false)
+
+abbrev pub told : ReaderState × Action → Option (ReaderState × Bool)
+told next = told_of next.1 next.0
+
+-- the same behind a byte
+abbrev pub step : Config → ReaderState → ℕ → Option (ReaderState × Bool)
+step config state b = told (csv.step config state b)
+
+-- what is counted behind a byte: the record ends, or it goes on
+abbrev pub count_behind : (ReaderState → ℕ → Option (ℕ × Text)) → ℕ → Text
+    → Option (ReaderState × Bool) → Option (ℕ × Text)
+count_behind more count rest None = Some (count, rest)
+count_behind more count rest (Some next) = more next.0 (count + (if next.1 then 1 else 0))
+
+-- how many fields the record at hand has, of which so many have begun, and what follows it
+unfoldable pub count_from : Config → ReaderState → ℕ → Text → Option (ℕ × Text)
+count_from config state count [] = if csv.ends_at_end state then Some (count, []) else None
+count_from config state count (b ∷ rest) =
+    count_behind (λ state count. count_from config state count rest) count rest
+    (step config state b)

@@ -1,0 +1,135 @@
+//! How many fields the first records of a text have.
+
+ghost use Rattle.std.specs.Prelude.{◌≡◌, IfOk, option_map, true};
+ghost use Rattle.csv.specs.Machine.{ends_with, in_field, start_field};
+ghost use Rattle.csv.specs.declared.parser.State.TheVariants as st;
+ghost use Rattle.csv.specs.declared.parser.Terminator.TheVariants as term;
+ghost use Rattle.csv_records.specs.Counting.{count_from, state_at, step, told};
+ghost use Rattle.csv_records.specs.Delimiter.{field_counts};
+ghost use Rattle.csv_records.specs.Input.{config_for};
+
+use crate::text::without_mark;
+use std::alloc::{AllocError, Global};
+
+// The states of csv's reader that are met here.
+#[derive(Clone, Copy)]
+enum State {
+    StartRecord,
+    StartField,
+    InField,
+    InQuoted,
+    AfterQuote,
+}
+
+/// How many fields the first records have, at most so many records.
+///
+/// It counts as csv's reader does, which would fill tables first: for a few records these take
+/// more time than all the rest.
+pub(crate) fn field_counts(
+    alloc: Global,
+    text: &str,
+    has_quotes: bool,
+    delimiter: u8,
+    most: usize,
+) -> Result<Vec<usize>, AllocError>
+    ensures { IfOk result (λ counts. counts.items
+        ≡ field_counts has_quotes text.now delimiter most) }
+{
+    let mut counts = Vec::with_capacity(alloc, most)?;
+    let mut rest = without_mark(text).as_bytes();
+    for _ in 0..most {
+        let Some((count, behind)) = first_count(rest, delimiter, has_quotes) else {
+            break;
+        };
+        counts.push(count)?;
+        rest = behind;
+    }
+    Ok(counts)
+}
+
+// How many fields the first record of these bytes has, and what follows it.
+fn first_count(bytes: &[u8], delimiter: u8, has_quotes: bool) -> Option<(usize, &[u8])>
+    ensures { option_map (λ found. (found.0, found.1.now)) result
+        ≡ count_from (config_for delimiter has_quotes) st.StartRecord 1 bytes.now }
+{
+    let mut state = State::StartRecord;
+    let mut count = 1;
+    let mut rest = bytes;
+    'bytes: while let Some((byte, behind)) = rest.split_first() {
+        let Some((next, ends_field)) = step(state, *byte, delimiter, has_quotes) else {
+            return Some((count, behind));
+        };
+        rest = behind;
+        state = next;
+        count += usize::from(ends_field);
+    }
+    match state {
+        State::StartRecord => None,
+        _ => Some((count, rest)),
+    }
+}
+
+// The state behind a byte, and whether it ends a field; none where it ends a record.
+fn step(state: State, byte: u8, delimiter: u8, has_quotes: bool) -> Option<(State, bool)>
+    ensures { option_map (λ next. (state_at next.0, next.1)) result
+        ≡ step (config_for delimiter has_quotes) (state_at state) byte }
+{
+    match state {
+        State::StartRecord => {
+            if ends_line(byte) {
+                Some((State::StartRecord, false))
+            } else {
+                start_field(byte, delimiter, has_quotes)
+            }
+        }
+        State::StartField => start_field(byte, delimiter, has_quotes),
+        State::InField => in_field(byte, delimiter),
+        State::InQuoted => {
+            if has_quotes && byte == b'"' {
+                Some((State::AfterQuote, false))
+            } else {
+                Some((State::InQuoted, false))
+            }
+        }
+        State::AfterQuote => {
+            if has_quotes && byte == b'"' {
+                Some((State::InQuoted, false))
+            } else {
+                in_field(byte, delimiter)
+            }
+        }
+    }
+}
+
+// The same where a field begins.
+fn start_field(byte: u8, delimiter: u8, has_quotes: bool) -> Option<(State, bool)>
+    ensures { option_map (λ next. (state_at next.0, next.1)) result
+        ≡ told (start_field (config_for delimiter has_quotes) byte) }
+{
+    if has_quotes && byte == b'"' {
+        Some((State::InQuoted, false))
+    } else {
+        in_field(byte, delimiter)
+    }
+}
+
+// And in a field, where a quote is like another byte.
+fn in_field(byte: u8, delimiter: u8) -> Option<(State, bool)>
+    ensures { option_map (λ next. (state_at next.0, next.1)) result
+        ≡ told (in_field (config_for delimiter true) byte) }
+{
+    if byte == delimiter {
+        Some((State::StartField, true))
+    } else if ends_line(byte) {
+        None
+    } else {
+        Some((State::InField, false))
+    }
+}
+
+// Whether a line ends at such a byte.
+fn ends_line(byte: u8) -> bool
+    ensures { result ≡ ends_with term.CRLF byte }
+{
+    byte == b'\r' || byte == b'\n'
+}

@@ -1,0 +1,145 @@
+//! Fields that lie one behind another in one piece of memory.
+
+ghost use Rattle.std.specs.Prelude.{◌≡◌, ◌<◌, ◌-◌, ◌^◌, ◌++◌, ◌∷◌, [], IfSome, OnErr, OnOk, get_or, length, option_map};
+ghost use Rattle.csv.specs.Records.{field_at, fields_of, partial_of, prev};
+
+use csv::ByteRecord;
+use std::alloc::{AllocError, Global};
+use std::marker::Model;
+
+/// Numbers that take four bytes each, but for those from the first on that doesn't fit.
+#[derive(Drop)]
+pub(crate) struct Ends {
+    short: Vec<u32>,
+    long: Vec<usize>,
+}
+
+impl Model for Ends {
+    ghost use Rattle.std.specs.Prelude.{◌++◌, ℕ, List};
+
+    ghost Value = { List ℕ };
+
+    ghost view = { λ e. e.short.items ++ e.long.items };
+}
+
+impl Ends {
+    fn new(alloc: Global) -> Ends
+        ensures { result ≡ [] }
+    {
+        Ends {
+            short: Vec::new(alloc),
+            long: Vec::new(alloc),
+        }
+    }
+
+    fn len(&self) -> usize
+        ensures { result ≡ length self.now }
+    {
+        self.short.len() + self.long.len()
+    }
+
+    fn get(&self, at: usize) -> usize
+        requires { at < length self.now }
+        ensures { result ≡ get_or self.now at 0 }
+    {
+        if at < self.short.len() {
+            self.short[at] as usize
+        } else {
+            self.long[at - self.short.len()]
+        }
+    }
+
+    // The end before that at a position.
+    fn start(&self, at: usize) -> usize
+        requires { at < length self.now }
+        ensures { result ≡ prev 0 self.now at }
+    {
+        if at == 0 { 0 } else { self.get(at - 1) }
+    }
+
+    fn push(&mut self, end: usize) -> Result<(), AllocError>
+        ensures ok { OnOk result (self.new ≡ self.old ++ end ∷ []) }
+        ensures err { OnErr result (self.new ≡ self.old) }
+    {
+        match u32::try_from(end) {
+            Ok(end) if self.long.is_empty() => self.short.push(end)?,
+            _ => self.long.push(end)?,
+        }
+        Ok(())
+    }
+}
+
+/// The fields of records, one behind another.
+#[derive(Drop)]
+pub(crate) struct Fields {
+    bytes: Vec<u8>,
+    // where each field ends among the bytes
+    ends: Ends,
+}
+
+impl Model for Fields {
+    ghost use Rattle.csv.specs.Records.{IsRecord, Row};
+
+    ghost Value = { Row };
+
+    ghost view = { λ f. record { bytes = f.bytes.items; ends = f.ends } };
+
+    ghost invariant = { λ f. IsRecord record { bytes = f.bytes.items; ends = f.ends } };
+}
+
+impl Fields {
+    /// No fields.
+    pub(crate) fn new(alloc: Global) -> Fields
+        ensures fields { fields_of result ≡ [] }
+        ensures whole { partial_of result ≡ [] }
+    {
+        Fields {
+            bytes: Vec::new(alloc),
+            ends: Ends::new(alloc),
+        }
+    }
+
+    /// How many there are.
+    pub(crate) fn len(&self) -> usize
+        ensures { result ≡ length (fields_of self.now) }
+    {
+        self.ends.len()
+    }
+
+    /// The field at a position.
+    pub(crate) fn get(&self, at: usize) -> Option<&[u8]>
+        ensures place { IfSome result (λ field. at < 2 ^ 64 - 1) }
+        ensures value { option_map (λ field. field.now) result ≡ field_at (fields_of self.now) at }
+    {
+        if at >= self.ends.len() {
+            return None;
+        }
+        let start = self.ends.start(at);
+        let end = self.ends.get(at);
+        Some(&self.bytes.as_slice()[start..end])
+    }
+
+    /// Appends the fields of a record.
+    pub(crate) fn push_record(&mut self, more: &ByteRecord) -> Result<(), AllocError>
+        requires whole { partial_of self.old ≡ [] }
+        ensures whole { OnOk result (partial_of self.new ≡ []) }
+        ensures fields { OnOk result (fields_of self.new
+            ≡ fields_of self.old ++ fields_of more.now) }
+    {
+        for field in more.iter() {
+            self.push_field(field)?;
+        }
+        Ok(())
+    }
+
+    fn push_field(&mut self, field: &[u8]) -> Result<(), AllocError>
+        requires whole { partial_of self.old ≡ [] }
+        ensures whole { OnOk result (partial_of self.new ≡ []) }
+        ensures fields { OnOk result (fields_of self.new
+            ≡ fields_of self.old ++ field.now ∷ []) }
+    {
+        self.bytes.extend_from_slice(field)?;
+        self.ends.push(self.bytes.len())?;
+        Ok(())
+    }
+}
