@@ -5,8 +5,8 @@
 
 - docs/PROVED.md: its counts and its list of functions are what tools/check/what_is_believed.py writes.
 - The laws of comfy_table pass on all those of comfy_parts.
-- Each law, and each function of `promises` and `csv_promises`, has a trial that shows a value of which its conclusion is
-  false, below a line `-- false: CRATE::laws::NAME` of a file of trials.
+- Each law, and each promise, has a trial that shows a value of which its conclusion is false, below a line
+  `-- false: CRATE::laws::NAME` of a file of trials.
 - README.md: what it prints is the output of the stored run.
 - CALLING.md: each clause and signature that it quotes stands in the source of the library, of one that it tells of too, or
   of a caller.
@@ -52,14 +52,14 @@ def laws():
     for crate in LIBRARIES:
         for name, (one, *_) in functions_of(crate).items():
             in_laws = f"crates/{crate}/src/laws.rt" == one.signature.path
-            if one.is_public and (in_laws or crate in [*LAWS_ALONE, *PROMISES]):
+            if one.is_public and (in_laws or crate in LAWS_ALONE or one.signature.path.startswith(PROMISES)):
                 yield f"{crate}::laws::{name}" if in_laws else f"{crate}::{name}"
 
 
 def wrong_trials():
     """The laws that no trial shows to be false of a value, and what is named as one and is none."""
     named, false = set(), r"^-- false: (.*)\n(?=(?:--.*\n)*(?:pub )?\w+ :)"
-    for path in files_of("test_definitions", "proofs/*.antt"):
+    for path in files_of("*", "proofs/*Trials.antt"):
         for labels in re.findall(false, text_of(path), re.M):
             named |= set(labels.split(", "))
     wrong = [f"no trial shows a value of which {it} is false" for it in laws() if it not in named]

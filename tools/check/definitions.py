@@ -7,12 +7,12 @@ import subprocess
 from dataclasses import dataclass, field, replace
 
 TOP = os.path.dirname(os.path.dirname(os.path.dirname(os.path.realpath(__file__))))
-PROMISES = ["promises", "csv_promises"]
 LIBRARIES = [
     *("cluster_width", "comfy_parts", "comfy_table", "devices", "comfy_run"),
-    *("csv_records", "csv_tables", "csv_command", "comfy_c"),
-    *PROMISES,
+    *("csv_records", "csv_tables", "csv_command", "comfy_c", "promises", "csv_promises"),
 ]
+# where promises stand; no crate can stand on comfy_c, so that its own stands in it
+PROMISES = ("crates/promises/src/", "crates/csv_promises/src/", "crates/comfy_c/src/promised.rt")
 BRACES = r"\{(?:[^{}]|\{(?:[^{}]|\{[^{}]*\})*\})*\}"
 PUBLIC = r"(?:pub(?:\(\w+\))? )?"
 MODEL = {"Value", "view"}  # an invariant is proved of each value

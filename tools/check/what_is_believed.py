@@ -6,21 +6,20 @@
     tools/check/what_is_believed.py
     tools/check/what_is_believed.py --update
 
-A promise is a function of `promises` or `csv_promises`; it takes a function of any other library
-too. With no word it lists the promises, each with its lines. With --update it writes docs/PROVED.md
-anew: these lines at the end of a table's row that names a promise, those of all in a sentence, and
-the list of functions with their files.
+A promise is a function of `promises`, of `csv_promises`, or of `promised.rt` of `comfy_c`; any other
+function of a library is taken too. With no word it lists the promises, each with its lines. With
+--update it writes docs/PROVED.md anew: these lines at the end of a table's row that names a promise,
+those of all in a sentence, and the list of functions with their files.
 
 A clause stands on the words in it, on the types in the function's signature, and on the ghost
 members of its block. A type of src/ stands for its model, where it has one, else for its
 declaration. What a model's fields hold is said by the clauses of calls, so their types aren't
 followed; and an invariant is proved of each value.
 
-The promise's own file comes first. A function of `promises` or `csv_promises` is printed with its
-body, since what it returns is part of the promise. Comments count as lines; clauses, bodies and
-headings don't. Public types that are declared and have no model, which callers know, are counted
-apart, with the first paragraph of their doc comments. Other libraries are counted in a line for
-each.
+The promise's own file comes first. A promise is printed with its body, since what it returns is
+part of it. Comments count as lines; clauses, bodies and headings don't. Public types that are
+declared and have no model, which callers know, are counted apart, with the first paragraph of their
+doc comments. Other libraries are counted in a line for each.
 """
 import re
 import sys
@@ -96,19 +95,21 @@ def start_of(function):
     return [replace(one, text=text), *function.members]
 
 
-def all_starts(crates=PROMISES):
-    """What each public function of these crates begins with, by its label."""
+def all_starts(paths=PROMISES):
+    """What each public function of files of these paths begins with, by its label."""
     return {
         f"{crate}::{name}": start_of(one)
-        for crate in crates for name, found in functions_of(crate).items() for one in found if one.is_public
+        for crate in LIBRARIES for name, found in functions_of(crate).items() for one in found
+        if one.is_public and one.signature.path.startswith(paths)
     }
 
 
 def listed_functions():
     """The public functions of the libraries that have clauses, file by file, as lines of a page."""
-    for crate in (it for it in LIBRARIES if it not in PROMISES):
-        yield from [f"### {crate}", ""]
-        for path in sources_of(crate):
+    for crate in LIBRARIES:
+        paths = [it for it in sources_of(crate) if not it.startswith(PROMISES)]
+        yield from [f"### {crate}", ""] if paths else []
+        for path in paths:
             found = [(name, one) for name, one in functions_in(path) if one.is_public and one.clauses]
             of_types = [re.match(r"(?:pub trait|impl(?:<.*?>)?) (?:.* for )?(\w+)", one.signature.head) for _, one in found]
             names = [f"`{of_type[1]}::{name}`" if of_type else f"`{name}`" for of_type, (name, _) in zip(of_types, found)]
@@ -154,7 +155,7 @@ def updated(page):
 
 def body_of(one):
     """The body of a function that is a promise, on lines of its own; nothing for any other."""
-    if not is_function(one) or crate_of(one.path) not in PROMISES:
+    if not is_function(one) or not one.path.startswith(PROMISES):
         return ""
     below = text_of(one.path).split("\n")[one.line :]
     return "\n" + re.search(r"^\{(?:\}|.*?^\})", "\n".join(below), re.M | re.S)[0]
@@ -195,7 +196,7 @@ def main():
     elif not sys.argv[1:]:
         for label, one in starts.items():
             print(f"{count_of(believed(one)[0]):5} {label}")
-    elif sys.argv[1] in (starts := all_starts(LIBRARIES)):
+    elif sys.argv[1] in (starts := all_starts("crates/")):
         print("\n".join(shown(starts[sys.argv[1]])))
     else:
         sys.exit(__doc__)

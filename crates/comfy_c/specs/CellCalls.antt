@@ -5,7 +5,8 @@ use Rattle.comfy_parts.specs.CellValue.{CellValue, RowValue}
 use Rattle.comfy_parts.specs.Text.{Text}
 use Rattle.comfy_parts.specs.declared.style.table.ContentArrangement.{ContentArrangement}
 use Rattle.comfy_parts.specs.declared.style.table_style.TableStyle.{TableStyle}
-use Rattle.comfy_table.specs.Headline.{JoinsTrimmedLines, TerminatesLines}
+use Rattle.comfy_table.specs.Drawing.{terminated_text_of, trimmed_text_of}
+use Rattle.comfy_table.specs.Headline.{IsTableDrawing}
 use Rattle.comfy_table.specs.TableValue.{TableValue, max_content_widths, no_terminal}
 use Rattle.csv_records.specs.CutLists.{cut_by, total}
 use Rattle.comfy_c.specs.Calls.{width_of}
@@ -92,11 +93,17 @@ pub record IsDescribed (texts : Text) (cells : List CellNumbers) (rows : List Ro
 abbrev pub listed : List ℕ → Text
 listed numbers = flat_map (λ number. decimal number ++ 0x0A ∷ []) numbers
 
--- what is asked for of a table: its lines, its trimmed lines, or the widths of its contents
+-- lines as they are written: each with a line feed behind it, or without the white space at their
+-- ends and with line feeds between them
+abbrev pub AreWritten : ℕ → List Text → Text → Type 0
+AreWritten form lines drawing =
+    (form ≡ 0) × (drawing ≡ terminated_text_of lines)
+    ⊎ (form ≡ 1) × (drawing ≡ trimmed_text_of lines)
+
+-- what is asked for of a table: its lines, or the widths of its contents
 abbrev pub IsInForm : ℕ → TableValue → Text → Type 0
 IsInForm form table drawing =
-    (form ≡ 0) × TerminatesLines table drawing
-    ⊎ (form ≡ 1) × JoinsTrimmedLines table drawing
+    ((lines : List Text) × IsTableDrawing table lines × AreWritten form lines drawing)
     ⊎ (form ≡ 2) × (drawing ≡ listed (max_content_widths table))
 
 -- what is asked for of the table that numbers and texts describe

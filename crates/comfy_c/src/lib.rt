@@ -9,6 +9,7 @@ mod cells_numbers;
 mod cells_rows;
 mod cells_settings;
 mod csv_draw;
+pub mod promised;
 mod refusal;
 mod room;
 mod rows_columns;

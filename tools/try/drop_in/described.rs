@@ -143,9 +143,13 @@ impl Described {
         self.rows[row].cells.len() + self.late_cells.iter().filter(|(at, _)| *at == row).count()
     }
 
-    pub fn texts_mut(&mut self) -> impl Iterator<Item = &mut String> {
+    pub fn cells_mut(&mut self) -> impl Iterator<Item = &mut DescribedCell> {
         let cells = self.headers.iter_mut().chain(&mut self.rows).flat_map(|row| &mut row.cells);
-        cells.chain(self.late_cells.iter_mut().map(|(_, cell)| cell)).map(|cell| &mut cell.text)
+        cells.chain(self.late_cells.iter_mut().map(|(_, cell)| cell))
+    }
+
+    pub fn texts_mut(&mut self) -> impl Iterator<Item = &mut String> {
+        self.cells_mut().map(|cell| &mut cell.text)
     }
 }
 

@@ -23,7 +23,10 @@ enum Changes {
     Sequences,
 }
 
-const ROWS: [Row; 8] = [
+const CLAIMS_NOTHING: &str =
+    "a dynamic arrangement claims 0 for a column without content, or of delimiters alone, and stores 1, so a table passes its width";
+
+const ROWS: [Row; 9] = [
     Row {
         name: "a row with cells that no column knows indexes out of range",
         speaks_of: |it| (0..it.rows.len()).any(|row| it.cells_in(row) > it.column_count()),
@@ -44,13 +47,19 @@ const ROWS: [Row; 8] = [
         changes: Changes::Original,
     },
     Row {
-        name: "a dynamic arrangement claims 0 for a column without content and stores 1, so a table passes its width",
+        name: CLAIMS_NOTHING,
         speaks_of: |it| it.arrangement > 0 && it.headers.last().is_some_and(|header| header.cells.len() < it.column_count()),
         remedy: |it| {
             let count = it.column_count();
             it.headers.last_mut().expect("a header").cells.resize_with(count, Default::default);
         },
         changes: Changes::Original,
+    },
+    Row {
+        name: CLAIMS_NOTHING,
+        speaks_of: |it| it.arrangement > 0 && has_delimiters_alone(it),
+        remedy: without_delimiters_alone,
+        changes: Changes::Both,
     },
     Row {
         name: "without vertical lines, top and bottom border still have junctions, and are wider than the rows",
@@ -86,6 +95,24 @@ const ROWS: [Row; 8] = [
 
 fn has_more_than_65535(column: &crate::described::DescribedColumn) -> bool {
     column.padding.is_some_and(|(left, right)| left == u16::MAX || right == u16::MAX)
+}
+
+// Takes the delimiters out of each line of which nothing else is visible. Cells without one of their own have that of any column.
+fn without_delimiters_alone(described: &mut Described) {
+    let columns = described.columns.iter().map(|column| column.delimiter);
+    let shared: Vec<char> = columns.chain([described.delimiter, Some(' ')]).flatten().collect();
+    for cell in described.cells_mut() {
+        let delimiters = cell.delimiter.map_or(shared.clone(), |delimiter| vec![delimiter]);
+        let is_alone = |line: &str| visible(line).chars().all(|it| delimiters.contains(&it));
+        let shown = |line: &str| if is_alone(line) { line.replace(&delimiters[..], "") } else { line.to_owned() };
+        cell.text = cell.text.split('\n').map(shown).collect::<Vec<String>>().join("\n");
+    }
+}
+
+fn has_delimiters_alone(described: &Described) -> bool {
+    let (mut given, mut without) = (described.clone(), described.clone());
+    without_delimiters_alone(&mut without);
+    !given.texts_mut().eq(without.texts_mut())
 }
 
 fn has_sequences(described: &Described) -> bool {

@@ -81,7 +81,8 @@ def tabulate(
         are the lines above the table, of the header, below it, of a row, between rows and below the table. The characters stand
         at the left, all along, between columns and at the right; a space stands for none, and "" for no line.
     floatfmt, intfmt, missingval: how floats and ints are written, as ".2f" and ",", and what stands for `None`: one text for all
-        columns, or a list with one for each column.
+        columns, or a list with one for each column. Beside "", "-", "n/a", "na", "null", "nan" and "inf" a column of numbers stays
+        one; another `missingval` makes it a column of texts.
     showindex: True puts a column with the number of each row in front, counted from 0, or the index of a DataFrame; a list puts
         its values there; "default" does so where rows have an index.
 

@@ -1,25 +1,28 @@
 use Rattle.std.proofs.Common.{◌≡◌, ◌∙◌, ap, inl, inr, rules, string_bytes}
 use Rattle.std.proofs.lemmas.Str.{IsUtf8-string_bytes}
+use Rattle.comfy_table.specs.Headline.{JoinsTrimmedLines, TerminatesLines}
 use Rattle.comfy_table.specs.TableValue.{max_content_widths}
 use Rattle.comfy_c.specs.CellCalls.{listed}
 use Rattle.comfy_c.proofs.cells_draw.cells_drawing.Goals as goal
 
 pub returns-in-0-clause-drawn : goal.returns-in-0-clause-drawn
 returns-in-0-clause-drawn c =
+    let told : TerminatesLines c.in_ok-table.table (string_bytes c.in_ok-to_terminated_text-in-0.field-0) = search rules in
     record {
       is_text = IsUtf8-string_bytes c.in_ok-to_terminated_text-in-0.field-0;
       table = c.in_ok-table.table;
       described = search rules;
-      drawn = inl (search rules, search rules);
+      drawn = inl (told.0, told.1, inl (search rules, told.2));
     }
 
 pub returns-in-1-clause-drawn : goal.returns-in-1-clause-drawn
 returns-in-1-clause-drawn c =
+    let told : JoinsTrimmedLines c.in_ok-table.table (string_bytes c.in_ok-trim_fmt-in-1.field-0) = search rules in
     record {
       is_text = IsUtf8-string_bytes c.in_ok-trim_fmt-in-1.field-0;
       table = c.in_ok-table.table;
       described = search rules;
-      drawn = inr (inl (search rules, search rules));
+      drawn = inl (told.0, told.1, inr (search rules, told.2));
     }
 
 pub returns-in-2-clause-drawn : goal.returns-in-2-clause-drawn
@@ -30,5 +33,5 @@ returns-in-2-clause-drawn c =
       is_text = IsUtf8-string_bytes c.in_ok-listed-in-2.field-0;
       table = c.in_ok-table.table;
       described = search rules;
-      drawn = inr (inr (search rules, text ∙ ap listed (c.as_slice.ensures.value ∙ widths)));
+      drawn = inr (search rules, text ∙ ap listed (c.as_slice.ensures.value ∙ widths));
     }
