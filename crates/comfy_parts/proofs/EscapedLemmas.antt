@@ -1,5 +1,5 @@
 -- Text lines without ESC are visible as they are. Printable ASCII is such a text line.
-use Rattle.std.proofs.Common.{◌≡◌, ◌<◌, ◌||◌, ◌==◌, ℕ, Bool, true, false, List, [], ◌∷◌, map, refl, sym, ap, ap₂, ◌∙◌, arith, nat_lt, slice_index, eqb-true}
+use Rattle.std.proofs.Common.{◌≡◌, ◌<◌, ◌||◌, ◌==◌, ℕ, Bool, true, false, List, [], ◌∷◌, length, map, refl, sym, ap, ap₂, ◌∙◌, arith, nat_lt, slice_index, eqb-true}
 use Rattle.std.specs.Int.{is_in_range}
 use Rattle.std.specs.List.{All, list_all, list_any, slice_split}
 use Rattle.std.proofs.lemmas.Bool.{and_parts, or_parts, true≢false}
@@ -9,8 +9,10 @@ use Rattle.std.proofs.lemmas.List.Folds.{list_any_none}
 use Rattle.std.proofs.lemmas.Str.{NoCharPasses-byte}
 use Rattle.std.specs.Str.{NoCharPasses}
 use Rattle.std.proofs.lemmas.List.Splits.{slice_split_none}
+use Rattle.comfy_parts.proofs.PrintableLemmas.{measure-printable}
 use Rattle.comfy_parts.proofs.ShownLemmas.{Shows-clear, visible_text-is}
 use Rattle.comfy_parts.specs.Text.{Text, is_printable_ascii}
+use Rattle.comfy_parts.specs.TextLines.{IsClearLine}
 use Rattle.comfy_parts.specs.VisibleText.{has_escape, visible_text}
 
 -- a text without ESC
@@ -62,3 +64,7 @@ unbroken_line text none = slice_split_none (λ b. b == 0x0A) text (each text non
     each (b ∷ bs) none =
         let both = or_parts (b == 0x0A) (list_any (λ x. x == 0x0A) bs) none in
         All-cons (λ x. (x == 0x0A) ≡ false) b bs both.0 (each bs both.1)
+
+-- printable ASCII is such a line, and each of its bytes takes a column
+pub printable_line : (text : Text) → is_printable_ascii text ≡ true → IsClearLine text (length text)
+printable_line text printable = record { unbroken = none_below 0x0A (omega arith) text printable; clear = none_below 0x1B (omega arith) text printable; width = sym (measure-printable text printable) }

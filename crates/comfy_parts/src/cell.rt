@@ -3,7 +3,7 @@
 ghost use Rattle.std.specs.Prelude.{◌≡◌, ◌∷◌, ◌++◌, [], string_bytes, map, IfOk, IfSome, Some};
 ghost use Rattle.std.specs.Cmp.{partial_equiv_from_equiv};
 ghost use Rattle.comfy_parts.specs.CellEquality.{cell_eq, cell_eq_equiv, cell_hash, cell_hash_respects_eq};
-ghost use Rattle.comfy_parts.specs.CellValue.{IsCell, content_of, plain_cell};
+ghost use Rattle.comfy_parts.specs.CellValue.{HasTextLines, IsCell, content_of, plain_cell};
 
 pub mod for_tables;
 mod text_lines;
@@ -87,14 +87,26 @@ impl Cell {
         ensures value { IfOk result (λ cell. cell ≡ plain_cell (string_bytes text)) }
         ensures content { IfOk result (λ cell. content_of cell ≡ string_bytes text) }
     {
-        Ok(Cell {
-            text_lines: TextLines::of_text(alloc, text)?,
+        let text_lines = TextLines::of_text(alloc, text)?;
+        Ok(Cell::of_lines(alloc, text_lines, None))
+    }
+
+    // The cell of text lines, with this alignment and no other setting.
+    fn of_lines(alloc: Global, text_lines: TextLines, alignment: Option<CellAlignment>) -> Cell
+        requires has_text_lines { HasTextLines text_lines }
+        ensures { result ≡ record (plain_cell []) {
+          text_lines = text_lines;
+          alignment = alignment;
+        } }
+    {
+        Cell {
+            text_lines,
             attributes: Vec::new(alloc),
             delimiter: None,
-            alignment: None,
+            alignment,
             foreground: None,
             background: None,
-        })
+        }
     }
 
     /// The text of the cell: its text lines, joined by line feeds.

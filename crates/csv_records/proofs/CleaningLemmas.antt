@@ -1,4 +1,4 @@
--- Texts that stay as they are where they are cleaned. Fields of which no character is replaced are such texts.
+-- Texts that stay as they are where they are cleaned. Fields without harmful characters are such texts.
 use Rattle.std.proofs.Common.{◌≡◌, ◌==◌, ℕ, Bool, true, false, List, [], ◌∷◌, ◌++◌, chars, encode_utf8, encode_utf8_all, fold, map, refl, ap, sym, ◌∙◌, append_assoc, append-nil, eqb-true, arith, subst, tests}
 use Rattle.std.proofs.lemmas.Bool.{and_parts, or_parts}
 use Rattle.std.proofs.lemmas.List.{map-append}
@@ -9,7 +9,7 @@ use Rattle.std.specs.Int.{is_in_range}
 use Rattle.std.specs.List.{list_any}
 use Rattle.std.specs.Str.{IsUtf8, all_scalars, encode_utf8_all}
 use lib.Utf8.{encode}
-use Rattle.comfy_parts.proofs.CallerLemmas.{IsSequence, ascii-printable, parts-clear, parts-sequence}
+use Rattle.comfy_parts.proofs.CallerLemmas.{IsSequence, IsUtf8-printable, ascii-printable, parts-clear, parts-sequence}
 use Rattle.comfy_parts.specs.Cursor.{sequence_part, visible_part}
 use Rattle.comfy_parts.specs.Text.{Text, is_printable_ascii}
 use Rattle.comfy_parts.specs.VisibleText.{Part, parts}
@@ -24,7 +24,7 @@ each_character [] s = refl
 each_character (c ∷ cs) s = each_character cs (after_character s c)
 
 -- no character is harmful where none is replaced
-none_harmful : (cs : List ℕ) → list_any is_replaced cs ≡ false → list_any is_harmful cs ≡ false
+pub none_harmful : (cs : List ℕ) → list_any is_replaced cs ≡ false → list_any is_harmful cs ≡ false
 none_harmful [] none = refl
 none_harmful (c ∷ cs) none =
     let each = or_parts (is_replaced c) (list_any is_replaced cs) none in
@@ -158,10 +158,14 @@ module _ (kept : Bool) where
           ∙ ap (λ (ps : List Part). stays.found_as ++ ps) (none kept)
           ∙ append-nil stays.found_as
 
--- so is a field of which no character is replaced
+-- so is a field without harmful characters
+pub harmless_so : (kept : Bool) (field : Text) → IsUtf8 field → list_any is_harmful (chars field) ≡ false → field ≡ cleaned kept field
+harmless_so kept field utf8 none =
+    sym (stays_cleaned kept field (subst (Stays kept) (encodes-chars field utf8) (Stays-characters kept (chars field) (scalars-chars field utf8) none)))
+
+-- and one of which no character is replaced
 pub drawn_so : (kept : Bool) (field : Text) → IsUtf8 field → list_any is_replaced (chars field) ≡ false → field ≡ cleaned kept field
-drawn_so kept field utf8 none =
-    sym (stays_cleaned kept field (subst (Stays kept) (encodes-chars field utf8) (Stays-characters kept (chars field) (scalars-chars field utf8) (none_harmful (chars field) none))))
+drawn_so kept field utf8 none = harmless_so kept field utf8 (none_harmful (chars field) none)
 
 -- no character of printable ASCII is
 plain : (c : ℕ) → is_in_range 0x20 0x7E c ≡ true → is_replaced c ≡ false
@@ -175,3 +179,7 @@ all_plain (c ∷ cs) printable =
 
 pub none_replaced : (field : Text) → is_printable_ascii field ≡ true → list_any is_replaced (chars field) ≡ false
 none_replaced field printable = ap (list_any is_replaced) (chars-IsAscii field (ascii-printable field printable)) ∙ all_plain field printable
+
+-- so it stays
+pub cleaned-printable : (kept : Bool) (field : Text) → is_printable_ascii field ≡ true → cleaned kept field ≡ field
+cleaned-printable kept field printable = sym (drawn_so kept field (IsUtf8-printable field printable) (none_replaced field printable))

@@ -7,7 +7,7 @@ ghost use Rattle.std.specs.List.{list_any};
 ghost use Rattle.std.specs.Str.{IsCharBoundary};
 ghost use Rattle.comfy_parts.specs.Text.{is_printable_ascii};
 ghost use Rattle.comfy_parts.specs.VisibleText.{sequence_len};
-ghost use Rattle.csv_records.specs.Cleaning.{after_character, after_piece, blanks_after, cleaned, is_replaced, pieces, shown, start, turns_direction};
+ghost use Rattle.csv_records.specs.Cleaning.{after_character, after_piece, blanks_after, cleaned, is_harmful, is_replaced, pieces, shown, start, turns_direction};
 ghost use Rattle.csv_records.specs.Pieces.{part_of};
 
 use crate::characters::split_first;
@@ -39,19 +39,24 @@ pub fn cleaned(alloc: Global, field: &str, keeps_sequences: bool) -> Result<Stri
     Ok(cleaner.text)
 }
 
-// Whether no character of a field is replaced. Most fields are printable ASCII, which is seen
-// faster.
+// Whether a field is drawn as it is. Most fields are printable ASCII, which is seen faster.
 fn is_clean(field: &str) -> bool
-    ensures { result ≡ not (list_any is_replaced (chars field.now)) }
+    ensures { result ≡ not (list_any is_harmful (chars field.now)) }
 {
-    is_printable(field.as_bytes()) || !has_replaced(field)
+    is_printable(field.as_bytes()) || !has_harmful(field)
 }
 
-// Whether a character of a field is drawn as another one.
-fn has_replaced(field: &str) -> bool
-    ensures { result ≡ list_any is_replaced (chars field.now) }
+fn has_harmful(field: &str) -> bool
+    ensures { result ≡ list_any is_harmful (chars field.now) }
 {
-    field.chars().any(is_replaced)
+    field.chars().any(is_harmful)
+}
+
+// Whether a character mustn't be drawn: one that is drawn as another, and breaks no line.
+fn is_harmful(c: char) -> bool
+    ensures { result ≡ is_harmful c }
+{
+    is_replaced(c) && c != '\n'
 }
 
 /// Whether a character is drawn as another one.

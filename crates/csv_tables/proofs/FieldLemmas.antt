@@ -10,14 +10,15 @@ use Rattle.std.proofs.lemmas.List.Elements.{All-cons, All-nil}
 use Rattle.std.proofs.lemmas.List.Folds.{list_all-append}
 use Rattle.std.proofs.lemmas.List.Splits.{slice_split_none}
 use Rattle.std.proofs.lemmas.Str.{chars-IsAscii, encodes-IsAscii}
-use Rattle.comfy_parts.proofs.CallerLemmas.{All-none, IsUtf8-printable, ascii-printable}
-use Rattle.comfy_parts.specs.CellValue.{plain_cell}
+use Rattle.comfy_parts.proofs.CallerLemmas.{All-none, ascii-printable}
+use Rattle.comfy_parts.specs.CellValue.{CellValue, plain_cell}
+use Rattle.comfy_parts.specs.declared.style.cell.CellAlignment.{CellAlignment}
 use Rattle.comfy_parts.specs.Text.{Text, is_printable_ascii}
 use Rattle.comfy_parts.specs.VisibleText.{is_parameter}
 use Rattle.comfy_table.proofs.StyledLemmas.{decimal-parameters}
 use Rattle.comfy_table.specs.Laws.{HasNoBreak}
-use Rattle.csv_records.proofs.CleaningLemmas.{drawn_so, none_replaced}
-use Rattle.csv_tables.specs.Cells.{field_text, marked, unless_blank}
+use Rattle.csv_records.proofs.CleaningLemmas.{cleaned-printable}
+use Rattle.csv_tables.specs.Cells.{cell_for, field_text, is_blank, marked, unless_blank}
 use Rattle.csv_records.specs.Cleaning.{cleaned}
 use Rattle.csv_tables.specs.Markdown.{escaped, escaped_after, escaped_character, is_marked_at, is_special}
 use Rattle.csv_tables.specs.declared.options.Look.{Look}
@@ -131,15 +132,31 @@ pub short_lines : (look : Look) (field : Text) → IsShortPrintable 64 field →
 short_lines look field (printable, few) =
     subst (All (IsShortPrintable 128)) (sym (whole_line (field_text look field) own.0)) (All-cons (IsShortPrintable 128) (field_text look field) [] own (All-nil (IsShortPrintable 128)))
   where
-    clean : (keeps : Bool) → cleaned keeps field ≡ field
-    clean keeps = sym (drawn_so keeps field (IsUtf8-printable field printable) (none_replaced field printable))
-
     unless : IsShortPrintable 128 (unless_blank field)
     unless = unless_blank-keeps (IsShortPrintable 128) field (refl, omega arith) (printable, omega (arith, few))
 
     by_markdown : (is_markdown : Bool) → IsShortPrintable 128 (if is_markdown then marked (cleaned false field) else unless_blank (cleaned look.has_sequences field))
-    by_markdown true = subst (λ (t : Text). IsShortPrintable 128 (marked t)) (sym (clean false)) (marked_is_short field (printable, few))
-    by_markdown false = subst (λ (t : Text). IsShortPrintable 128 (unless_blank t)) (sym (clean look.has_sequences)) unless
+    by_markdown true = subst (λ (t : Text). IsShortPrintable 128 (marked t)) (sym (cleaned-printable false field printable)) (marked_is_short field (printable, few))
+    by_markdown false = subst (λ (t : Text). IsShortPrintable 128 (unless_blank t)) (sym (cleaned-printable look.has_sequences field printable)) unless
 
     own : IsShortPrintable 128 (field_text look field)
     own = by_markdown look.is_markdown
+
+-- where it isn't blank, this is its cell too, but in Markdown
+pub printable_cell : (look : Look) (alignment : Option CellAlignment) (field : Text) (cell : CellValue) → look.is_markdown ≡ false → is_blank field ≡ false
+    → (if is_printable_ascii field then Some (record (plain_cell field) { alignment = alignment }) else None) ≡ Some cell
+    → cell ≡ cell_for look alignment field
+printable_cell look alignment field cell unmarked filled = by_test (is_printable_ascii field) refl
+  where
+    aligned : Text → CellValue
+    aligned text = record (plain_cell text) { alignment = alignment }
+
+    stays : is_printable_ascii field ≡ true → field ≡ field_text look field
+    stays printable =
+        sym (ap (λ (b : Bool). if b then marked (cleaned false field) else unless_blank (cleaned look.has_sequences field)) unmarked
+        ∙ ap unless_blank (cleaned-printable look.has_sequences field printable)
+        ∙ ap (λ (b : Bool). if b then [] else field) filled)
+
+    by_test : (b : Bool) → is_printable_ascii field ≡ b → (if b then Some (aligned field) else None) ≡ Some cell → cell ≡ cell_for look alignment field
+    by_test true printable is = cc is ∙ ap aligned (stays printable)
+    by_test false printable is = absurd (cc is)

@@ -3,11 +3,13 @@
 ghost use Rattle.std.specs.Prelude.{◌≡◌, ◌++◌, IfOk, OnOk, Some, decimal, false, max, option_map, string_bytes};
 ghost use Rattle.std.specs.Cow.{cow_str_bytes};
 ghost use Rattle.std.specs.Option.{option_or};
-ghost use Rattle.csv_tables.specs.Cells.{cell_for, cells_for, cut, field_text, header_for, is_blank, number_name, pair_for, shown_cells, shown_fields, shown_number, text_in, unless_blank, with_weight};
+ghost use Rattle.comfy_parts.specs.CellValue.{with_cell};
+ghost use Rattle.csv_tables.specs.Cells.{cell_for, cells_for, cut, field_text, header_for, is_blank, number_name, pair_for, shown_cells, shown_fields, shown_number, text_in, with_weight};
 
 use crate::decimals::spaced;
 use crate::markdown::escaped;
 use crate::options::{DrawnColumn, Look};
+use comfy_parts::for_tables::printable_cell;
 use comfy_parts::style::{Attribute, CellAlignment};
 use comfy_parts::{Cell, Cells, IntoRow, Result, Row};
 use csv_records::{Record, cleaned};
@@ -71,8 +73,8 @@ pub fn pair_of(alloc: Global, name: &str, field: &str, look: &Look) -> Result<Ro
     ensures { IfOk result (λ row. row ≡ pair_for look.now name.now field.now) }
 {
     let mut row = Cells(Vec::with_capacity(alloc, 2)?).into_row(alloc)?;
-    row.try_add_cell(cell_of(alloc, name, None, look, look.has_bold_header)?)?;
-    row.try_add_cell(cell_of(alloc, field, None, look, false)?)?;
+    add_cell(alloc, &mut row, name, None, look, look.has_bold_header)?;
+    add_cell(alloc, &mut row, field, None, look, false)?;
     Ok(cut(row, look))
 }
 
@@ -101,9 +103,7 @@ fn add_number(alloc: Global, row: &mut Row, text: &str, look: &Look, is_bold: bo
       cells = row.old.cells ++ shown_cells look.now is_bold (shown_number (Some text.now));
     }) }
 {
-    let alignment = Some(CellAlignment::Right);
-    row.try_add_cell(cell_of(alloc, text, alignment, look, is_bold)?)?;
-    Ok(())
+    add_cell(alloc, row, text, Some(CellAlignment::Right), look, is_bold)
 }
 
 // Appends the cells of fields, in bold or not.
@@ -123,7 +123,7 @@ fn add_fields(
 {
     for column in columns {
         let field = text_in(alloc, fields, column, is_aligned, look)?;
-        row.try_add_cell(cell_of(alloc, field.as_str(), column.alignment, look, is_bold)?)?;
+        add_cell(alloc, row, field.as_str(), column.alignment, look, is_bold)?;
     }
     Ok(())
 }
@@ -144,34 +144,57 @@ fn text_in<'a>(
     Ok(spaced(alloc, field, points, look.has_sequences)?)
 }
 
-// The cell of a field, in bold or not.
+// Appends the cell of a field, in bold or not.
+fn add_cell(
+    alloc: Global,
+    row: &mut Row,
+    field: &str,
+    alignment: Option<CellAlignment>,
+    look: &Look,
+    is_bold: bool,
+) -> Result<()>
+    ensures { OnOk result (row.new
+        ≡ with_cell (with_weight is_bold (cell_for look.now alignment field.now)) row.old) }
+{
+    let cell = cell_of(alloc, field, alignment, look)?;
+    if is_bold {
+        return row.try_add_cell(cell.add_attribute(Attribute::Bold)?);
+    }
+    row.try_add_cell(cell)
+}
+
+// The cell of a field. Most fields are printable ASCII, which cleaning leaves as it is.
 fn cell_of(
     alloc: Global,
     field: &str,
     alignment: Option<CellAlignment>,
     look: &Look,
-    is_bold: bool,
 ) -> Result<Cell>
-    ensures { IfOk result (λ cell. cell
-        ≡ with_weight is_bold (cell_for look.now alignment field.now)) }
+    ensures { IfOk result (λ cell. cell ≡ cell_for look.now alignment field.now) }
 {
-    let cell = Cell::new_owned(alloc, field_text(alloc, field, look)?)?;
-    let cell = match alignment {
-        Some(alignment) => cell.set_alignment(alignment),
-        None => cell,
-    };
-    with_weight(cell, is_bold)
+    if !look.is_markdown && !is_blank(field.as_bytes()) {
+        if let Some(cell) = printable_cell(alloc, field, alignment)? {
+            return Ok(cell);
+        }
+    }
+    cleaned_cell(alloc, field, alignment, look)
 }
 
-// A cell in bold, or as it is.
-fn with_weight(cell: Cell, is_bold: bool) -> Result<Cell>
-    ensures { IfOk result (λ c. c ≡ with_weight is_bold cell) }
+// The cell of any field. Most don't come here.
+#[inline(never)]
+fn cleaned_cell(
+    alloc: Global,
+    field: &str,
+    alignment: Option<CellAlignment>,
+    look: &Look,
+) -> Result<Cell>
+    ensures { IfOk result (λ cell. cell ≡ cell_for look.now alignment field.now) }
 {
-    if is_bold {
-        cell.add_attribute(Attribute::Bold)
-    } else {
-        Ok(cell)
-    }
+    let cell = Cell::new_owned(alloc, field_text(alloc, field, look)?)?;
+    Ok(match alignment {
+        Some(alignment) => cell.set_alignment(alignment),
+        None => cell,
+    })
 }
 
 // A field as its cell has it.
@@ -182,18 +205,12 @@ fn field_text(alloc: Global, field: &str, look: &Look) -> Result<String>
         let text = cleaned(alloc, field, false)?;
         Ok(escaped(alloc, text.as_str())?)
     } else {
-        Ok(unless_blank(cleaned(alloc, field, look.has_sequences)?))
+        let mut text = cleaned(alloc, field, look.has_sequences)?;
+        if is_blank(text.as_bytes()) {
+            text.clear();
+        }
+        Ok(text)
     }
-}
-
-// A text, empty where it is blank.
-fn unless_blank(mut text: String) -> String
-    ensures { string_bytes result ≡ unless_blank (string_bytes text) }
-{
-    if is_blank(text.as_bytes()) {
-        text.clear();
-    }
-    text
 }
 
 // Whether all bytes are spaces and line feeds.

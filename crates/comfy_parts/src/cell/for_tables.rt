@@ -1,16 +1,39 @@
-//! What a table reads of its cells to draw them: the widths of their text lines, what is visible of
-//! these, and what is written for their lines. It is public for the crate of tables, and whoever
-//! calls that needs none of it.
+//! How tables make most of their cells, and what they read of them to draw them: the widths of
+//! their text lines, what is visible of these, and what is written for their lines. It is public
+//! for the crates of tables, and whoever calls these needs none of it.
 
-ghost use Rattle.std.specs.Prelude.{◌≡◌, [], IfOk, if◌then◌else◌, length, map, string_bytes, true};
+ghost use Rattle.std.specs.Prelude.{◌≡◌, [], IfOk, None, Some, if◌then◌else◌, length, map, string_bytes, true};
 ghost use Rattle.std.specs.List.{list_any};
-ghost use Rattle.comfy_parts.specs.Text.{measure};
+ghost use Rattle.comfy_parts.specs.CellValue.{plain_cell};
+ghost use Rattle.comfy_parts.specs.Text.{is_printable_ascii, measure};
 ghost use Rattle.comfy_parts.specs.VisibleLines.{CellLine, line_texts};
 ghost use Rattle.comfy_parts.specs.VisibleText.{has_escape, line_text, visible_text};
 
 use crate::cell::Cell;
-use crate::content_split::{ColumnDisplayInfo, Cursor, push_lines};
+use crate::cell::text_lines::TextLines;
+use crate::content_split::{ColumnDisplayInfo, Cursor, is_printable, push_lines};
 use crate::error::Result;
+use crate::style::CellAlignment;
+use std::alloc::Global;
+
+/// The cell of printable ASCII, with this alignment; none for any other text. Whether the text is
+/// printable is asked once.
+pub fn printable_cell(
+    alloc: Global,
+    text: &str,
+    alignment: Option<CellAlignment>,
+) -> Result<Option<Cell>>
+    ensures { IfOk result (λ cell. cell
+        ≡ (if is_printable_ascii text.now
+        then Some (record (plain_cell text.now) { alignment = alignment })
+        else None)) }
+{
+    if !is_printable(text.as_bytes()) {
+        return Ok(None);
+    }
+    let text_lines = TextLines::of_printable(alloc, text)?;
+    Ok(Some(Cell::of_lines(alloc, text_lines, alignment)))
+}
 
 /// The text lines, in order, and the terminal columns that each takes. Without sequences they are
 /// what is visible of the text lines. Both were found when the cell was made.

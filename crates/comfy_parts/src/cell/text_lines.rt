@@ -3,7 +3,7 @@
 ghost use Rattle.std.specs.Prelude.{◌≡◌, ◌==◌, ◌∷◌, [], true, false, nat_lt, IfOk, IfSome, map, string_bytes};
 ghost use Rattle.std.specs.List.{list_any, slice_split};
 ghost use Rattle.comfy_parts.specs.CellValue.{HasTextLines, plain_cell};
-ghost use Rattle.comfy_parts.specs.Text.{measure};
+ghost use Rattle.comfy_parts.specs.Text.{is_printable_ascii, measure};
 ghost use Rattle.comfy_parts.specs.TextLines.{IsClearLine, IsVisible, texts_of, widths_of};
 ghost use Rattle.comfy_parts.specs.VisibleText.{has_escape, visible_text};
 
@@ -74,6 +74,19 @@ impl TextLines {
             });
         }
         TextLines::several(alloc, text)
+    }
+
+    // The text line of printable ASCII, which is one, without ESC.
+    pub(crate) fn of_printable(alloc: Global, text: &str) -> Result<TextLines>
+        requires printable { is_printable_ascii text.now ≡ true }
+        ensures value { IfOk result (λ lines. lines ≡ (plain_cell text.now).text_lines) }
+        ensures text_lines { IfOk result HasTextLines }
+    {
+        let width = text.len();
+        let text = String::from_str(alloc, text)?;
+        Ok(TextLines {
+            kept: Storage::Plain { text, width },
+        })
     }
 
     // Those of any text. Most are kept by themselves and don't come here.

@@ -1,8 +1,10 @@
+use Rattle.std.proofs.Common.{◌∙◌, [], ap}
 use Rattle.comfy_parts.proofs.ValueLemmas.{content_is_the_text}
+use Rattle.comfy_parts.specs.CellValue.{content_of, plain_cell}
 use Rattle.comfy_parts.proofs.cell.Cell.new_owned.Goals as goal
 
-pub invariant_of-result : goal.invariant_of-result
-invariant_of-result c = (c.in_ok-of_text.ensures.text_lines, tt)
-
 pub returns-clause-content : goal.returns-clause-content
-returns-clause-content c = rw c.in_ok-of_text.ensures.value (content_is_the_text _)
+returns-clause-content c =
+    ap content_of c.of_lines.ensures
+    ∙ ap (λ lines. content_of (record (plain_cell []) { text_lines = lines })) c.in_ok-text_lines.ensures.value
+    ∙ content_is_the_text _
