@@ -139,7 +139,10 @@ pub fn between(described: &Described) -> Option<&'static str> {
     if let Some(row) = rows.iter().find(|row| are_explained(described, &[row])) {
         return Some(row.name);
     }
-    are_explained(described, &rows).then_some("several of these rows")
+    // All that speak of the table first. One of them may speak of what another one prevents.
+    let some = |bits: usize| rows.iter().enumerate().filter(|(at, _)| bits >> at & 1 == 1).map(|(_, row)| *row).collect::<Vec<&Row>>();
+    let are_several = (0..1 << rows.len()).rev().any(|bits| are_explained(described, &some(bits)));
+    are_several.then_some("several of these rows")
 }
 
 fn are_explained(described: &Described, rows: &[&Row]) -> bool {
