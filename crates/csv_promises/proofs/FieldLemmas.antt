@@ -16,8 +16,7 @@ use Rattle.comfy_table.specs.Lines.{cell_delimiter}
 use Rattle.comfy_table.specs.TableValue.{TableValue, shown_columns}
 use Rattle.csv.specs.Records.{field_at}
 use Rattle.csv_records.specs.Cleaning.{after_piece, cleaned, pieces, start}
-use Rattle.csv_records.proofs.CleaningLemmas.{drawn_so, none_replaced}
-use Rattle.comfy_parts.proofs.CallerLemmas.{IsUtf8-printable}
+use Rattle.csv_records.proofs.CleaningLemmas.{cleaned-printable}
 use Rattle.comfy_parts.specs.declared.style.cell.CellAlignment.TheVariants.{Right}
 use Rattle.csv_tables.proofs.DecimalLawLemmas.{spaces_alone}
 use Rattle.csv_tables.proofs.FieldLemmas.{number_is_printable}
@@ -229,8 +228,7 @@ module _ (look : Look) (unkept : look.has_sequences ≡ false) (none : look.is_m
   unfolding field_at
   behind is_bold true number printable fields shown own zero =
       let cell = cell_is is_bold (Some Right) number in
-      let clean : cleaned false number ≡ number = sym (drawn_so false number (IsUtf8-printable number printable) (none_replaced number printable)) in
-      (cell.0, cell.1 ∙ ap filled clean)
+      (cell.0, cell.1 ∙ ap filled (cleaned-printable false number printable))
   behind is_bold true number printable fields shown own (suc i) = own i
   behind is_bold false number printable fields shown own i = own i
 

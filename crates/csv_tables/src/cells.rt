@@ -144,8 +144,30 @@ fn text_in<'a>(
     Ok(spaced(alloc, field, points, look.has_sequences)?)
 }
 
-// Appends the cell of a field, in bold or not.
+// Appends the cell of a field, in bold or not. Most fields are printable ASCII, which cleaning
+// leaves as it is.
 fn add_cell(
+    alloc: Global,
+    row: &mut Row,
+    field: &str,
+    alignment: Option<CellAlignment>,
+    look: &Look,
+    is_bold: bool,
+) -> Result<()>
+    ensures { OnOk result (row.new
+        ≡ with_cell (with_weight is_bold (cell_for look.now alignment field.now)) row.old) }
+{
+    if !is_bold && !look.is_markdown && !is_blank(field.as_bytes()) {
+        if let Some(cell) = printable_cell(alloc, field, alignment)? {
+            return row.try_add_cell(cell);
+        }
+    }
+    add_cleaned(alloc, row, field, alignment, look, is_bold)
+}
+
+// Appends the cell of any field. Most don't come here.
+#[inline(never)]
+fn add_cleaned(
     alloc: Global,
     row: &mut Row,
     field: &str,
@@ -163,26 +185,8 @@ fn add_cell(
     row.try_add_cell(cell)
 }
 
-// The cell of a field. Most fields are printable ASCII, which cleaning leaves as it is.
+// The cell of a field.
 fn cell_of(
-    alloc: Global,
-    field: &str,
-    alignment: Option<CellAlignment>,
-    look: &Look,
-) -> Result<Cell>
-    ensures { IfOk result (λ cell. cell ≡ cell_for look.now alignment field.now) }
-{
-    if !look.is_markdown && !is_blank(field.as_bytes()) {
-        if let Some(cell) = printable_cell(alloc, field, alignment)? {
-            return Ok(cell);
-        }
-    }
-    cleaned_cell(alloc, field, alignment, look)
-}
-
-// The cell of any field. Most don't come here.
-#[inline(never)]
-fn cleaned_cell(
     alloc: Global,
     field: &str,
     alignment: Option<CellAlignment>,
