@@ -17,5 +17,6 @@ returns c =
     (λ appended. (
       terminated_text_of (drawing_of_infos table arranged.infos),
       (drawing_of_infos table arranged.infos, known.headline, refl),
-      appended ∙ ap (λ (t : TableValue). string_bytes c.args.text.now ++ terminated_text_of (drawing_of_infos t arranged.infos)) whole))
+      appended ∙ ap (λ (t : TableValue). string_bytes c.args.text.now ++ terminated_text_of (drawing_of_infos t arranged.infos)) whole,
+    ))
     c.push_rows-2.ensures.ok
