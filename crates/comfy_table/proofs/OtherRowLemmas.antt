@@ -1,13 +1,13 @@
 -- The rows that a table has change nothing in how one row is drawn.
-use Rattle.std.proofs.Common.{◌≡◌, ℕ, Bool, true, false, List, [], ◌++◌, Option, Some, None, length, map, refl, ap}
+use Rattle.std.proofs.Common.{◌≡◌, ℕ, Bool, true, false, List, [], ◌∷◌, ◌++◌, Option, Some, None, length, map, append_assoc, append-nil, arith, refl, ap, ◌∙◌}
 use Rattle.std.specs.List.{join_by, range_with_len, slice_get}
 use Rattle.std.specs.Prelude.{flat_map, if◌then◌else◌, slice_index_or}
 use Rattle.comfy_parts.specs.CellValue.{CellValue, ColumnInfo, RowValue}
 use Rattle.comfy_parts.specs.Text.{Text, greatest}
 use Rattle.comfy_parts.specs.declared.style.table_style.ContentLineStyle.{ContentLineStyle}
-use Rattle.comfy_table.specs.Drawing.{drawn_header, drawn_row, outer_widths, part_of_drawing, rows_below}
+use Rattle.comfy_table.specs.Drawing.{drawing_of_infos, drawn_header, drawn_row, drawn_rows, lines_above, outer_widths, part_of_drawing, rows_below}
 use Rattle.comfy_table.specs.Frame.{content_line, optional_frame_line}
-use Rattle.comfy_table.specs.Pieces.{blank_piece, pieces_of_optional, row_lines, shown_infos}
+use Rattle.comfy_table.specs.Pieces.{blank_piece, pieces_of_optional, row_height, row_lines, shown_infos}
 use Rattle.comfy_table.specs.TableValue.{TableValue, with_other_rows}
 
 module _ (table : TableValue) (rows : List RowValue) (infos : List ColumnInfo) where
@@ -43,3 +43,24 @@ module _ (table : TableValue) (rows : List RowValue) (infos : List ColumnInfo) w
   pub part_same : (is_first is_last : Bool) (drawn : List RowValue) → part_of_drawing other infos is_first is_last drawn ≡ part_of_drawing table infos is_first is_last drawn
   part_same is_first is_last drawn =
       ap (λ (lines : List Text). lines ++ (if is_last then optional_frame_line table.style table.style.bottom_border (outer_widths infos) else [])) (rows_below_same is_first drawn)
+
+  -- rows are as high
+  pub heights_same : (drawn : List RowValue) → map (row_height other infos) drawn ≡ map (row_height table infos) drawn
+  heights_same drawn = λ i. map (λ (row : RowValue). of_pieces (λ (p : ℕ × ColumnInfo). pieces_same row p.1 (slice_get row.cells p.0) i)) drawn
+    where
+      of_pieces : (ℕ × ColumnInfo → List Text) → ℕ
+      of_pieces pieces = greatest (map (λ (p : ℕ × ColumnInfo). length (pieces p)) (shown_infos infos))
+
+-- the part that begins with a row is that of the row alone, and then that of the others
+pub part-next : (table : TableValue) (infos : List ColumnInfo) (is_first : Bool) (row : RowValue) (rows : List RowValue)
+    → part_of_drawing table infos is_first true (row ∷ rows) ≡ part_of_drawing table infos is_first false (row ∷ []) ++ part_of_drawing table infos false true rows
+part-next table infos true row rows = grind (arith, append_assoc, append-nil)
+part-next table infos false row rows = grind (arith, append_assoc, append-nil)
+
+-- all rows make the drawing
+pub part-whole : (table : TableValue) (infos : List ColumnInfo) → part_of_drawing table infos true true table.rows ≡ drawing_of_infos table infos
+part-whole table infos =
+    let top = optional_frame_line table.style table.style.top_border (outer_widths infos) in
+    let bottom = optional_frame_line table.style table.style.bottom_border (outer_widths infos) in
+    let rows = drawn_rows table infos table.rows in
+    append_assoc (lines_above table infos) rows bottom ∙ append_assoc top (drawn_header table infos table.header) (rows ++ bottom)

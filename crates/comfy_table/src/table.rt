@@ -190,6 +190,17 @@ impl Table {
         Ok(())
     }
 
+    /// Appends default columns until there are this many, for rows that stand elsewhere. After
+    /// `OutOfMemory` the table is as it was.
+    pub fn grow_columns(&mut self, count: usize) -> Result<()>
+        ensures ok { OnOk result (self.new ≡ record self.old {
+          columns = columns_grown_to count self.old.columns;
+        }) }
+        ensures err { OnErr result (self.new ≡ self.old) }
+    {
+        grow_columns(&mut self.columns, count)
+    }
+
     // `set_header` with the reference in a struct: so its clause on `OutOfMemory` can be proved.
     fn with_header_set<T: IntoRow>(&mut self, row: T) -> Result<TableReference<'_>>
         ensures* err { sem 𝓛 (TableStaysIfErr self.entry (reference_of result)) }

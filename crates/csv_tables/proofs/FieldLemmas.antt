@@ -63,7 +63,7 @@ marked_stays text printable =
     ap is_printable_ascii (ap (λ (cs : List ℕ). encode_utf8_all (escaped cs)) (chars-IsAscii text (ascii-printable text printable)) ∙ same) ∙ more
 
 -- such a text is one text line of its cell
-whole_line : (text : Text) → is_printable_ascii text ≡ true → (plain_cell text).text_lines ≡ text ∷ []
+pub whole_line : (text : Text) → is_printable_ascii text ≡ true → (plain_cell text).text_lines ≡ text ∷ []
 whole_line text printable = slice_split_none (λ b. b == 0x0A) text (All-none (λ b. b == 0x0A) text (printable_unbroken text printable))
 
 -- ---- numbers

@@ -2,11 +2,14 @@ pub mod BlankLemmas
 pub mod BuiltLemmas
 pub mod CleanCharacterLemmas
 pub mod ColumnLemmas
+mod ContentLemmas
 pub mod CountLemmas
 pub mod DecimalLawLemmas
 mod ExpandedLemmas
 pub mod FieldControlLemmas
 pub mod FieldLemmas
+mod FlatLemmas
+mod PlainLemmas
 pub mod FittingLemmas
 pub mod KeptFieldLemmas
 pub mod KeptWidthLemmas
@@ -21,6 +24,7 @@ pub mod OneOutputLemmas
 pub mod OutputControlLemmas
 pub mod OutputLemmas
 pub mod ReachedLemmas
+mod RoomLemmas
 pub mod RowLemmas
 pub mod SeenLemmas
 pub mod SeparatorLemmas

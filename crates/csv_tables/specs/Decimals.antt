@@ -1,6 +1,6 @@
 -- Decimal points below each other: the spaces behind the fields of a column.
 -- Source: this library's own.
-use Rattle.std.specs.Prelude.{Bool, ◌&&◌, ◌+◌, List, ◌++◌, Option, Some, None, is_some, length, nat_le, if◌then◌else◌}
+use Rattle.std.specs.Prelude.{Bool, ◌&&◌, List, ◌++◌, Option, Some, None, is_some, length, nat_le, if◌then◌else◌}
 use Rattle.std.specs.List.{list_all, list_any}
 use Rattle.comfy_parts.specs.Text.{Text, is_printable_ascii, spaces}
 use Rattle.csv_records.specs.Cleaning.{visible_of}

@@ -111,12 +111,16 @@ headed_table look is_numbered columns None = empty_table look
 headed_table look is_numbered columns (Some names) =
     with_header (header_for look is_numbered columns names) (empty_table look)
 
--- the table of records: a row for each, with decimal marks below each other or not
+-- a row for each record, with decimal marks below each other or not
+abbrev pub rows_of : Look → Bool → SelectedValue → List RowValue
+rows_of look is_aligned content =
+    map (row_for look is_aligned content.is_numbered content.columns)
+    (counted_from 1 content.rows)
+
+-- the table of records
 abbrev pub rows_table : Look → Bool → SelectedValue → TableValue
 rows_table look is_aligned content =
-    with_rows
-    (map (row_for look is_aligned content.is_numbered content.columns)
-    (counted_from 1 content.rows))
+    with_rows (rows_of look is_aligned content)
     (headed_table look content.is_numbered content.columns content.names)
 
 -- the table of some records, as many as are drawn

@@ -1,6 +1,7 @@
 pub mod Cells
 pub mod Columns
 pub mod ConstrainedAt
+pub mod Contents
 pub mod Controls
 pub mod Decimals
 pub mod Drawn

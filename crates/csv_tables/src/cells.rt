@@ -129,7 +129,7 @@ fn add_fields(
 }
 
 // The field of a column, with the spaces that it needs where marks stand below each other.
-fn text_in<'a>(
+pub(crate) fn text_in<'a>(
     alloc: Global,
     fields: &Record<'a>,
     column: &DrawnColumn,
@@ -185,8 +185,8 @@ fn add_cleaned(
     row.try_add_cell(cell)
 }
 
-// The cell of a field.
-fn cell_of(
+/// The cell of a field.
+pub(crate) fn cell_of(
     alloc: Global,
     field: &str,
     alignment: Option<CellAlignment>,
@@ -218,7 +218,7 @@ fn field_text(alloc: Global, field: &str, look: &Look) -> Result<String>
 }
 
 // Whether all bytes are spaces and line feeds.
-fn is_blank(bytes: &[u8]) -> bool
+pub(crate) fn is_blank(bytes: &[u8]) -> bool
     ensures { result ≡ is_blank bytes.now }
 {
     bytes.iter().all(|byte| matches!(*byte, b' ' | b'\n'))

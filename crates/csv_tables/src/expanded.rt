@@ -2,9 +2,9 @@
 
 ghost use Rattle.std.specs.Prelude.{◌≡◌, ◌+◌, ◌++◌, IfOk, OnOk, string_bytes, true};
 ghost use Rattle.comfy_table.specs.Drawing.{terminated_text_of};
-ghost use Rattle.csv_tables.specs.Drawn.{is_expanded_in, record_line, separators_in, some_lines, table_text};
+ghost use Rattle.csv_tables.specs.Drawn.{is_expanded_in, record_line, some_lines, table_text};
 
-use crate::options::{Expansion, RowSeparators};
+use crate::options::Expansion;
 use crate::output::push_count;
 use crate::selected::SelectedRecords;
 use comfy_table::{ArrangedTable, Result, TableError};
@@ -18,17 +18,6 @@ pub(crate) fn is_expanded(expansion: Expansion, has_room: bool) -> bool
         Expansion::Always => true,
         Expansion::Never => false,
         Expansion::Auto => !has_room,
-    }
-}
-
-/// Where lines between the fields of a record are drawn: none that only tall rows would need, since
-/// names part the fields.
-pub(crate) fn between_fields(separators: RowSeparators) -> RowSeparators
-    ensures { result ≡ separators_in true separators }
-{
-    match separators {
-        RowSeparators::Styled => RowSeparators::Styled,
-        RowSeparators::Needed | RowSeparators::Never => RowSeparators::Never,
     }
 }
 

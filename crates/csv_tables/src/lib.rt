@@ -4,6 +4,7 @@
 
 mod cells;
 mod columns;
+mod contents;
 mod decimals;
 mod expanded;
 pub mod laws;
@@ -11,6 +12,7 @@ mod markdown;
 mod options;
 mod output;
 mod references;
+mod rows;
 mod selected;
 mod selection;
 mod separators;

@@ -5,12 +5,13 @@ ghost use Rattle.csv_tables.specs.Markdown.{rule_line};
 ghost use Rattle.csv_tables.specs.Drawn.{RendersAnyRecords, RendersAsMarkdown, RendersAsTable, RendersContent, RendersRecords, RendersTable, are_more, count_text, has_room_for, is_aligned_in, note_for, output_table, rows_table, sides, unbroken_in};
 ghost use Rattle.csv_tables.specs.Unbroken.{kept_unbroken};
 
+use crate::contents::RowContents;
 use crate::decimals::has_points;
-use crate::expanded::{between_fields, is_expanded, records_text};
+use crate::expanded::{is_expanded, records_text};
 use crate::markdown::push_rule;
 use crate::options::{Expansion, Layout, Look};
 use crate::selected::SelectedRecords;
-use crate::separators::separate_rows;
+use crate::separators::{separate_fields, separate_rows};
 use crate::unbroken::{keep_unbroken, keep_unbroken_fields};
 use comfy_table::{Result, Table};
 use csv_records::Records;
@@ -69,71 +70,71 @@ fn table_text(selected: SelectedRecords, look: &Look) -> Result<String>
 {
     // The table of rows isn't needed to see this.
     if look.expansion == Expansion::Always {
-        return expanded_text(selected, look);
+        return expanded_text(&selected, look);
     }
-    let (table, has_room) = fitting_table(&selected, look)?;
+    let (contents, has_room) = fitting_table(&selected, look)?;
     if is_expanded(look.expansion, selected.rows().is_empty() || has_room) {
-        drop(table);
-        return expanded_text(selected, look);
+        return expanded_text(&selected, look);
     }
-    rows_text(selected, table, look)
+    rows_text(&selected, contents, look)
 }
 
 // The table of rows, with decimal points below each other where there is room for that, and whether
 // there is room for the table.
-fn fitting_table(selected: &SelectedRecords, look: &Look) -> Result<(Table, bool)>
+fn fitting_table<'a>(
+    selected: &'a SelectedRecords,
+    look: &'a Look,
+) -> Result<(RowContents<'a>, bool)>
     ensures table { IfOk result (λ x. x.0 ≡ output_table false look.now selected.now) }
     ensures has_room { IfOk result (λ x. x.1
         ≡ has_room_for look.now selected.now (is_aligned_in look.now selected.now)) }
 {
     if look.aligns_decimals && has_points(selected.columns.as_slice()) {
-        let (table, has_room) = unbroken_table(selected, true, look)?;
+        let (contents, has_room) = unbroken_table(selected, true, look)?;
         if has_room {
-            return Ok((table, true));
+            return Ok((contents, true));
         }
-        drop(table);
     }
     unbroken_table(selected, false, look)
 }
 
 // The table of rows, with decimal points below each other or not, and whether there is room for it.
-fn unbroken_table(
-    selected: &SelectedRecords,
+fn unbroken_table<'a>(
+    selected: &'a SelectedRecords,
     is_aligned: bool,
-    look: &Look,
-) -> Result<(Table, bool)>
+    look: &'a Look,
+) -> Result<(RowContents<'a>, bool)>
     ensures table { IfOk result (λ x. x.0 ≡ kept_unbroken look.now.width
         (unbroken_in selected.now) (rows_table look.now is_aligned selected.now)) }
     ensures has_room { IfOk result (λ x. x.1 ≡ has_room_for look.now selected.now is_aligned) }
 {
-    let mut table = selected.rows_table(is_aligned, look)?;
-    let has_room = keep_unbroken(&mut table, selected, look)?;
-    Ok((table, has_room))
+    let mut contents = RowContents::new(selected, is_aligned, look)?;
+    let has_room = keep_unbroken(&mut contents, selected, look)?;
+    Ok((contents, has_room))
 }
 
-// The text of this table of rows.
-fn rows_text(selected: SelectedRecords, mut table: Table, look: &Look) -> Result<String>
-    requires { table ≡ output_table false look.now selected }
-    ensures { IfOk result (λ text. RendersTable false look.now selected (string_bytes text)) }
+// The text of this table of rows, of the records that it is of.
+fn rows_text(
+    selected: &SelectedRecords,
+    mut contents: RowContents<'_>,
+    look: &Look,
+) -> Result<String>
+    requires { contents ≡ output_table false look.now selected.now }
+    ensures { IfOk result (λ text. RendersTable false look.now selected.now (string_bytes text)) }
 {
-    separate_rows(&mut table, look.separators)?;
-    let mut text = String::new(selected.alloc);
-    // The table has all that is drawn, and the text needs as much memory as the records gave.
-    drop(selected);
-    let arranged = table.arranged()?;
-    arranged.push_rows(&mut text, 0, table.row_count())?;
-    Ok(text)
+    separate_rows(&mut contents, look.separators)?;
+    contents.text()
 }
 
 // The text of expanded records.
-fn expanded_text(selected: SelectedRecords, look: &Look) -> Result<String>
-    ensures { IfOk result (λ text. RendersTable true look.now selected (string_bytes text)) }
+fn expanded_text(selected: &SelectedRecords, look: &Look) -> Result<String>
+    ensures { IfOk result (λ text. RendersTable true look.now selected.now (string_bytes text)) }
 {
     let mut table = selected.pairs_table(look)?;
     keep_unbroken_fields(&mut table, look.width)?;
-    separate_rows(&mut table, between_fields(look.separators))?;
+    separate_fields(&mut table, look.separators);
     let arranged = table.arranged()?;
-    Ok(records_text(&selected, &arranged)?)
+    Ok(records_text(selected, &arranged)?)
 }
 
 // The text of a table for Markdown.

@@ -1,7 +1,8 @@
 //! The tables of some records.
 
-ghost use Rattle.std.specs.Prelude.{◌≡◌, ◌+◌, IfOk, OnOk, decimal, option_map};
-ghost use Rattle.csv_tables.specs.Cells.{number_of};
+ghost use Rattle.std.specs.Prelude.{◌≡◌, ◌+◌, ℕ, Bool, IfOk, OnOk, decimal, length, option_map};
+ghost use Rattle.csv_tables.specs.Cells.{number_of, row_for};
+ghost use Rattle.csv_tables.specs.declared.options.Look.{Look};
 ghost use Rattle.csv_tables.specs.Drawn.{arrangement_for, empty_table, headed_table, markdown_look, markdown_style, markdown_table, pairs_of, pairs_table, rows_table, table_for};
 ghost use Rattle.comfy_table.specs.TableValue.{with_rows};
 
@@ -10,7 +11,7 @@ use crate::columns::name_at;
 use crate::options::{Layout, Look};
 use crate::selected::SelectedRecords;
 use comfy_table::presets::ASCII_MARKDOWN;
-use comfy_table::{ContentArrangement, LineStyle, Result, Table, TableStyle};
+use comfy_table::{ContentArrangement, LineStyle, Result, Row, Table, TableStyle};
 use csv_records::{Record, Records};
 use std::alloc::Global;
 
@@ -65,15 +66,39 @@ impl SelectedRecords {
     {
         let mut table = self.headed_table(names, look)?;
         for (at, row) in self.rows().enumerate() {
-            let columns = self.columns_within(&row);
-            let number = self.number_at(at);
-            table.try_add_row(row_of(self.alloc, number, &row, columns, is_aligned, look)?)?;
+            table.try_add_row(self.row_at(at, &row, is_aligned, look)?)?;
         }
         Ok(table)
     }
 
+    /// The row of the record at a place.
+    pub(crate) fn row_at(
+        &self,
+        at: usize,
+        fields: &Record<'_>,
+        is_aligned: bool,
+        look: &Look,
+    ) -> Result<Row>
+        ensures { IfOk result (λ row. row
+            ≡ row_for look.now is_aligned self.now.is_numbered self.now.columns
+            (at + 1, fields.now)) }
+    {
+        let columns = self.columns_within(fields);
+        let number = self.number_at(at);
+        row_of(self.alloc, number, fields, columns, is_aligned, look)
+    }
+
+    /// How many cells the row of a record has.
+    pub(crate) fn cell_count(&self, fields: &Record<'_>) -> usize
+        ensures { (look : Look) (is_aligned : Bool) (at : ℕ)
+            → result ≡ length (row_for look is_aligned self.now.is_numbered self.now.columns
+            (at, fields.now)).cells }
+    {
+        self.columns_within(fields).len() + usize::from(self.is_numbered)
+    }
+
     // The number of the row at a place, where rows are numbered.
-    fn number_at(&self, at: usize) -> Option<u128>
+    pub(crate) fn number_at(&self, at: usize) -> Option<u128>
         ensures { option_map decimal result ≡ number_of self.now.is_numbered (at + 1) }
     {
         if self.is_numbered {
@@ -84,7 +109,7 @@ impl SelectedRecords {
     }
 
     // A table with a header of these names, where there are any.
-    fn headed_table(&self, names: Option<Record<'_>>, look: &Look) -> Result<Table>
+    pub(crate) fn headed_table(&self, names: Option<Record<'_>>, look: &Look) -> Result<Table>
         ensures { IfOk result (λ table. table
             ≡ headed_table look.now self.now.is_numbered self.now.columns names.entry) }
     {

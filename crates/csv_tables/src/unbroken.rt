@@ -1,6 +1,6 @@
 //! Numbers and dates, which aren't broken over lines where there is room.
 
-ghost use Rattle.std.specs.Prelude.{◌≡◌, ◌||◌, ◌-◌, ◌≤◌, ◌^◌, IfOk, OnOk, Some, chars, false, length, min, nat_le, slice_get, slice_index, true, unwrap_or};
+ghost use Rattle.std.specs.Prelude.{◌≡◌, ◌||◌, ◌-◌, ◌≤◌, ◌^◌, IfOk, OnOk, Some, chars, false, length, min, nat_le, replicate, slice_get, slice_index, true, unwrap_or};
 ghost use Rattle.std.specs.List.{list_all};
 ghost use Rattle.csv_records.specs.Number.{is_neutral, is_number};
 ghost use Rattle.comfy_table.specs.TableValue.{max_content_widths, measured_cell};
@@ -8,6 +8,7 @@ ghost use Rattle.csv_tables.specs.Unbroken.{cell_unbroken_width, constrained_col
 ghost use Rattle.csv_tables.specs.ConstrainedAt.{constrained_at};
 ghost use Rattle.csv_tables.specs.Drawn.{unbroken_in};
 
+use crate::contents::RowContents;
 use crate::options::Look;
 use crate::selected::SelectedRecords;
 use comfy_parts::content_split::measure_text_width;
@@ -27,22 +28,22 @@ const NEEDED_CONTENT: u16 = 4;
 /// has room for all of them and for what the other columns need. Returns whether there is room, as
 /// there is where no width is kept.
 pub(crate) fn keep_unbroken(
-    table: &mut Table,
+    contents: &mut RowContents<'_>,
     selected: &SelectedRecords,
     look: &Look,
 ) -> Result<bool>
-    ensures table { OnOk result (table.new
-        ≡ kept_unbroken look.now.width (unbroken_in selected.now) table.old) }
+    ensures table { OnOk result (contents.new
+        ≡ kept_unbroken look.now.width (unbroken_in selected.now) contents.old) }
     ensures has_room { IfOk result (λ has. has
-        ≡ has_room look.now.width (unbroken_in selected.now) table.old) }
+        ≡ has_room look.now.width (unbroken_in selected.now) contents.old) }
 {
     let Some(width) = look.width else {
         return Ok(true);
     };
     let unbroken = unbroken_columns(selected)?;
-    let has_room = has_room(selected.alloc, table, unbroken.as_slice(), width)?;
+    let has_room = has_room(selected.alloc, contents, unbroken.as_slice(), width)?;
     if has_room {
-        constrain_columns(table, unbroken.as_slice());
+        constrain_contents(contents, unbroken.as_slice());
     }
     Ok(has_room)
 }
@@ -63,12 +64,30 @@ fn unbroken_columns(selected: &SelectedRecords) -> std::result::Result<Vec<bool>
 }
 
 // Whether a width has room for a table of rows, whose columns these are.
-fn has_room(alloc: Global, table: &Table, unbroken: &[bool], width: u16) -> Result<bool>
-    ensures { IfOk result (λ has. has ≡ has_room (Some width) unbroken.now table.now) }
+fn has_room(
+    alloc: Global,
+    contents: &RowContents<'_>,
+    unbroken: &[bool],
+    width: u16,
+) -> Result<bool>
+    ensures { IfOk result (λ has. has ≡ has_room (Some width) unbroken.now contents.now) }
 {
-    let contents = table.column_max_content_widths()?;
-    let needed = needed_contents(alloc, unbroken, contents.as_slice())?;
-    Ok(framed_width(table, needed.as_slice()) <= usize::from(width))
+    // Contents are looked at column by column, which takes long for many columns.
+    if least_width(&contents.table) > usize::from(width) {
+        return Ok(false);
+    }
+    let widths = contents.max_content_widths(alloc)?;
+    let needed = needed_contents(alloc, unbroken, widths.as_slice())?;
+    Ok(framed_width(&contents.table, needed.as_slice()) <= usize::from(width))
+}
+
+// What a line takes at least: borders, paddings and one terminal column of each content.
+fn least_width(table: &Table) -> usize
+    ensures { result ≡ min (2 ^ 64 - 1)
+        (framed_width table.now.style (replicate (length table.now.columns) 1)) }
+{
+    let count = table.column_iter().as_slice().len();
+    count_border_columns(table, count).saturating_add(count.saturating_mul(3))
 }
 
 // What the columns need of these contents.
@@ -114,6 +133,12 @@ fn framed_width(table: &Table, contents: &[u16]) -> usize
         width = width.saturating_add(2 + usize::from(*content));
     }
     width
+}
+
+fn constrain_contents(contents: &mut RowContents<'_>, unbroken: &[bool])
+    ensures { contents.new ≡ with_constrained unbroken.now contents.old }
+{
+    constrain_columns(&mut contents.table, unbroken);
 }
 
 // Lets these columns be as wide as their contents.

@@ -1,16 +1,18 @@
 //! A table whose widths are found, and its parts.
 
-ghost use Rattle.std.specs.Prelude.{◌≡◌, ◌++◌, IfOk, IfSome, OnErr, OnOk, drop, nat_lt, string_bytes, take};
+ghost use Rattle.std.specs.Prelude.{◌≡◌, ◌++◌, IfOk, IfSome, OnErr, OnOk, drop, map, nat_lt, string_bytes, take};
 ghost use Rattle.std.specs.List.{All, list_any};
 ghost use Rattle.comfy_parts.specs.CellValue.{IsColumn, IsRow};
+ghost use Rattle.comfy_table.specs.Arrangement.{AreInfosOf};
 ghost use Rattle.comfy_table.specs.Drawing.{part_of_drawing, terminated_text_of};
 ghost use Rattle.comfy_table.specs.Output.{BeginsWith, with_lines};
+ghost use Rattle.comfy_table.specs.Pieces.{row_height};
 ghost use Rattle.comfy_table.specs.Parts.{IsArrangedTable, part_text, row_heights};
 
 use crate::table::Table;
 use crate::utils::arrangement::arrange;
 use crate::utils::arrangement::contents::Contents;
-use crate::utils::formatting::{DrawnFrame, Extent, Output, draw, has_taller_row};
+use crate::utils::formatting::{DrawnFrame, Extent, Output, draw, is_any_taller};
 use comfy_parts::content_split::ColumnDisplayInfo;
 use comfy_parts::{Column, Result, Row};
 use std::marker::Model;
@@ -50,6 +52,7 @@ impl<'a, C: Contents> Model for ArrangedTable<'a, C> {
     ghost use Rattle.std.specs.Prelude.{◌≡◌};
     ghost use Rattle.comfy_table.specs.Drawing.{outer_widths};
     ghost use Rattle.comfy_table.specs.Gaps.{frame_of};
+    ghost use Rattle.comfy_table.specs.Pieces.{row_height};
     ghost use Rattle.comfy_table.specs.Parts.{ArrangedValue};
 
     ghost Value = { ArrangedValue };
@@ -77,6 +80,8 @@ impl<'a, C: Contents> ArrangedTable<'a, C> {
         ensures drawing { IfOk result (λ arranged. All IsRow (C.whole contents.now).rows
             → IsArrangedTable (C.whole contents.now) arranged) }
         ensures table { IfOk result (λ arranged. arranged.table ≡ C.whole contents.now) }
+        ensures infos { IfOk result (λ arranged.
+            AreInfosOf (C.whole contents.now) arranged.infos) }
     {
         let table = contents.table();
         look_at_columns(table.columns.as_slice());
@@ -102,7 +107,9 @@ impl<'a, C: Contents> ArrangedTable<'a, C> {
             (part_of_drawing self.now.table self.now.infos extent.is_first extent.is_last
             rows.now)) }
         ensures err { OnErr result (string_bytes text.new ≡ string_bytes text.old) }
+        ensures rows { All IsRow rows.now }
     {
+        look_at_rows(rows);
         let had = text.len();
         let empty = String::new(*text.allocator());
         let mut output = Output::after(mem::replace(text, empty));
@@ -112,6 +119,22 @@ impl<'a, C: Contents> ArrangedTable<'a, C> {
             text.truncate(had);
         }
         drawn
+    }
+
+    /// What each column is drawn by, in list order, hidden columns too.
+    pub fn infos(&self) -> &[ColumnDisplayInfo]
+        ensures { result.now ≡ self.now.infos }
+    {
+        self.infos.as_slice()
+    }
+
+    /// Whether one of these rows is drawn in more lines than these. No row behind the first such
+    /// one is looked at.
+    pub fn is_any_taller(&self, rows: &[Row], lines: usize) -> Result<bool>
+        ensures { IfOk result (λ is. is ≡ list_any (nat_lt lines)
+            (map (row_height self.now.table self.now.infos) rows.now)) }
+    {
+        is_any_taller(self.contents.table(), self.infos.as_slice(), rows, lines)
     }
 
     // Appends the lines of some of the rows. After `OutOfMemory` the text of the output begins with
@@ -142,7 +165,8 @@ impl<'a> ArrangedTable<'a, Table> {
     pub fn has_taller_row(&self, lines: usize) -> Result<bool>
         ensures { IfOk result (λ has. has ≡ list_any (nat_lt lines) (row_heights self.now)) }
     {
-        has_taller_row(self.contents, self.infos.as_slice(), lines)
+        let table = self.contents;
+        self.is_any_taller(table.rows.as_slice(), lines)
     }
 
     /// Appends a part: the drawing of the table with `count` of its rows alone, from the one at

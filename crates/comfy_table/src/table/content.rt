@@ -17,7 +17,7 @@ pub(crate) fn column_content_width(table: &Table, position: usize) -> u16
     let mut widest = 0;
     for cell in table.column_cells_with_header_iter(position) {
         if let Some(cell) = cell {
-            widest = cell_content_width(table, cell).max(widest);
+            widest = table.cell_content_width(cell).max(widest);
         }
     }
     widest
@@ -32,6 +32,19 @@ impl Table {
         ensures widths { result.1.now ≡ map measure (measured_cell self.now cell.now).text_lines }
     {
         measured_lines(cell, self.custom_styling)
+    }
+
+    /// The greatest measure of a cell's text lines, in terminal columns: at least 1, and at most
+    /// 65535.
+    pub fn cell_content_width(&self, cell: &Cell) -> u16
+        ensures { result ≡ cell_content_width (measured_cell self.now cell.now) }
+    {
+        let (_, widths) = self.measured_lines(cell);
+        let mut widest = 1;
+        for width in widths {
+            widest = widest.max(*width);
+        }
+        widest.min(65535) as u16
     }
 
     /// For each column, in list order, the greatest measure of a text line over header and rows, in
@@ -69,7 +82,7 @@ fn widen(table: &Table, row: &Row, widths: &mut Vec<u16>)
     ensures { widths.new.items ≡ widened table.now row.now.cells widths.old.items }
 {
     for (position, cell) in row.cell_iter().as_slice().iter().enumerate() {
-        widen_at(widths, position, cell_content_width(table, cell));
+        widen_at(widths, position, table.cell_content_width(cell));
     }
 }
 
@@ -81,16 +94,4 @@ fn widen_at(widths: &mut Vec<u16>, position: usize, least: u16)
     if let Some(width) = widths.get_mut(position) {
         *width = (*width).max(least);
     }
-}
-
-// The greatest measure of a cell's text lines, at least 1 and at most 65535.
-fn cell_content_width(table: &Table, cell: &Cell) -> u16
-    ensures { result ≡ cell_content_width (measured_cell table.now cell.now) }
-{
-    let (_, widths) = table.measured_lines(cell);
-    let mut widest = 1;
-    for width in widths {
-        widest = widest.max(*width);
-    }
-    widest.min(65535) as u16
 }

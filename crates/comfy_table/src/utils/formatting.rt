@@ -14,7 +14,7 @@ mod shown_column;
 mod styling;
 
 pub(crate) use drawing::{Extent, draw};
-pub(crate) use drawn_cell::has_taller_row;
+pub(crate) use drawn_cell::is_any_taller;
 pub(crate) use drawn_frame::DrawnFrame;
 pub(crate) use output::{Output, OutputForm};
 

@@ -45,7 +45,7 @@ pub fn column_longest_line(
     let mut longest = 0;
     for cell in table.column_cells_with_header_iter(position) {
         if let Some(cell) = cell {
-            longest = cell_longest_line(table, cell, info).max(longest);
+            longest = table.cell_longest_line(cell, info).max(longest);
             if longest > limit {
                 return longest;
             }
@@ -54,18 +54,21 @@ pub fn column_longest_line(
     longest
 }
 
-// The longest line of a cell as it is measured.
-fn cell_longest_line(table: &Table, cell: &Cell, info: &ColumnDisplayInfo) -> usize
-    ensures { result ≡ cell_longest_line table.now info.now (measured_cell table.now cell.now) }
-{
-    let delimiter = table.delimiter_of(cell, info.delimiter);
-    let (texts, widths) = table.measured_lines(cell);
-    let mut longest = 0;
-    for (line, text) in texts.iter().enumerate() {
-        let of_text = text_longest_line(text.as_str(), widths[line], info, delimiter);
-        longest = of_text.max(longest);
+impl Table {
+    /// The longest line of a cell, in terminal columns, where it is wrapped in a column of this
+    /// content width.
+    pub fn cell_longest_line(&self, cell: &Cell, info: &ColumnDisplayInfo) -> usize
+        ensures { result ≡ cell_longest_line self.now info.now (measured_cell self.now cell.now) }
+    {
+        let delimiter = self.delimiter_of(cell, info.delimiter);
+        let (texts, widths) = self.measured_lines(cell);
+        let mut longest = 0;
+        for (line, text) in texts.iter().enumerate() {
+            let of_text = text_longest_line(text.as_str(), widths[line], info, delimiter);
+            longest = of_text.max(longest);
+        }
+        longest
     }
-    longest
 }
 
 // The longest line of a text line that takes so many columns.

@@ -146,16 +146,20 @@ pub fn greatest_height(cells: &[DrawnCell]) -> usize
     height
 }
 
-/// Whether a row of a table is drawn in more lines than these. No row behind the first such one is
+/// Whether one of these rows is drawn in more lines than these. No row behind the first such one is
 /// looked at.
-pub fn has_taller_row(table: &Table, infos: &[ColumnDisplayInfo], lines: usize) -> Result<bool>
-    ensures { IfOk result (λ has. has
-        ≡ list_any (nat_lt lines) (map (row_height table.now infos.now) table.now.rows)) }
+pub fn is_any_taller(
+    table: &Table,
+    infos: &[ColumnDisplayInfo],
+    rows: &[Row],
+    lines: usize,
+) -> Result<bool>
+    ensures { IfOk result (λ is. is
+        ≡ list_any (nat_lt lines) (map (row_height table.now infos.now) rows.now)) }
 {
     let alloc = *table.columns.allocator();
     let columns = shown_infos(alloc, infos)?;
     let mut drawn = DrawnRow::new(alloc);
-    let rows = table.rows.as_slice();
     for row in rows {
         drawn.set(row, columns.as_slice(), table)?;
         if greatest_height(drawn.cells()) > lines {

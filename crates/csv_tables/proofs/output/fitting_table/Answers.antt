@@ -6,7 +6,7 @@ use Rattle.csv_tables.specs.Decimals.{has_points}
 use Rattle.csv_tables.specs.Drawn.{is_aligned_in, rows_table, unbroken_in}
 use Rattle.csv_tables.specs.Unbroken.{has_room, kept_unbroken}
 use Rattle.csv_tables.proofs.output.fitting_table.Goals as goal
-use Rattle.csv_tables.proofs.output.fitting_table.Goals.{else-look, else-look-via-else-look, else-look-via-then-look+else-has_points, then-look+then-has_points+in_ok-table+else-has_room}
+use Rattle.csv_tables.proofs.output.fitting_table.Goals.{else-look, else-look-via-else-look, else-look-via-then-look+else-has_points, then-look+then-has_points+in_ok-contents+else-has_room}
 
 pub returns-clause-table : goal.returns-clause-table
 returns-clause-table c =
@@ -14,7 +14,7 @@ returns-clause-table c =
     let selected = c.args.selected.now in
     let same : rows_table look false selected ≡ rows_table look (is_aligned_in look selected) selected =
     elim c.if-look.branch [
-      | then-look+then-has_points+in_ok-table+else-has_room w ↦ ap (λ (b : Bool). rows_table look b selected) (sym (without_room look selected (sym w.in_ok-table.ensures.has_room ∙ w.if-has_room.false)))
+      | then-look+then-has_points+in_ok-contents+else-has_room w ↦ ap (λ (b : Bool). rows_table look b selected) (sym (without_room look selected (sym w.in_ok-contents.ensures.has_room ∙ w.if-has_room.false)))
       | else-look w ↦
           elim w.else-look.branch [
             | else-look-via-then-look+else-has_points v ↦ without_points look selected (sym (v.has_points.ensures ∙ ap has_points (v.as_slice.ensures.value ∙ ap (λ x. x.columns) c.selected.view_is)) ∙ v.if-has_points.false)
@@ -29,7 +29,7 @@ returns-clause-has_room c =
     let selected = c.args.selected.now in
     let same : rows_table look false selected ≡ rows_table look (is_aligned_in look selected) selected =
     elim c.if-look.branch [
-      | then-look+then-has_points+in_ok-table+else-has_room w ↦ ap (λ (b : Bool). rows_table look b selected) (sym (without_room look selected (sym w.in_ok-table.ensures.has_room ∙ w.if-has_room.false)))
+      | then-look+then-has_points+in_ok-contents+else-has_room w ↦ ap (λ (b : Bool). rows_table look b selected) (sym (without_room look selected (sym w.in_ok-contents.ensures.has_room ∙ w.if-has_room.false)))
       | else-look w ↦
           elim w.else-look.branch [
             | else-look-via-then-look+else-has_points v ↦ without_points look selected (sym (v.has_points.ensures ∙ ap has_points (v.as_slice.ensures.value ∙ ap (λ x. x.columns) c.selected.view_is)) ∙ v.if-has_points.false)

@@ -1,4 +1,4 @@
-use Rattle.std.proofs.Common.{◌≡◌, ◌∙◌, ◌&&◌, ◌==◌, ℕ, Bool, List, ap, ap₂, arith, get_or, length, not, rules, tests}
+use Rattle.std.proofs.Common.{◌≡◌, ◌∙◌, ◌&&◌, ◌==◌, Bool, List, ap, arith, get_or, length, not, rules, tests}
 use Rattle.std.proofs.lemmas.Grind.{common_steps}
 use Rattle.comfy_parts.specs.Text.{Text}
 use Rattle.csv_tables.proofs.ReachedLemmas.{no_column}

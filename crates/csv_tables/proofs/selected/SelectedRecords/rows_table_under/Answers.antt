@@ -1,10 +1,9 @@
-use Rattle.std.proofs.Common.{◌≡◌, ◌∙◌, ◌+◌, ◌++◌, ℕ, List, Option, ap, ap₂, false, map, subst}
+use Rattle.std.proofs.Common.{◌≡◌, ◌∙◌, ◌+◌, ℕ, List, ap, ap₂, map, subst}
 use Rattle.std.specs.Iterator.Adapters.{enumerate_count, enumerate_source}
 use Rattle.comfy_parts.specs.CellValue.{RowValue}
 use Rattle.comfy_parts.specs.Text.{Text}
 use Rattle.comfy_table.specs.TableValue.{TableValue, with_row, with_rows}
-use Rattle.csv_tables.specs.Cells.{cells_for, counted_from, cut, number_of, row_for, shown_fields, shown_number}
-use Rattle.csv_tables.specs.declared.options.DrawnColumn.{DrawnColumn}
+use Rattle.csv_tables.specs.Cells.{counted_from, row_for}
 use Rattle.csv_tables.proofs.selected.SelectedRecords.rows_table_under.Goals as goal
 
 pub loop-at-preserved : goal.loop-at-preserved
@@ -19,10 +18,8 @@ loop-at-preserved c =
     let rest : List (List Text) = enumerate_source c.next.new.self in
     let make : ℕ × List Text → RowValue = row_for look is_aligned is_numbered columns in
     let all : TableValue = with_rows (map make (counted_from 1 c.args.self.now.rows)) c.in_ok-table.table in
-    let own : c.in_ok-row_of.field-0 ≡ make (k + 1, row) =
-    c.in_ok-row_of.ensures
-    ∙ ap₂ (λ (number : Option Text) (columns_within : List DrawnColumn). cut look (cells_for look false (shown_number number ++ shown_fields look is_aligned columns_within row)))
-    (c.number_at-number.ensures ∙ ap (λ (n : ℕ). number_of is_numbered (n + 1)) steps.1) c.columns_within-columns.ensures in
+    let own : c.in_ok-row_at.field-0 ≡ make (k + 1, row) =
+    c.in_ok-row_at.ensures ∙ ap (λ (n : ℕ). make (n + 1, row)) steps.1 in
     let added : c.try_add_row.new.self ≡ with_row (make (k + 1, row)) c.loop-at.table =
     c.in_ok-try_add_row.ensures.ok ∙ ap (λ (r : RowValue). with_row r c.loop-at.table) own in
     ap₂ (λ (n : ℕ) (t : TableValue). with_rows (map make (counted_from (n + 1) rest)) t) steps.2 added

@@ -4,7 +4,7 @@ use Rattle.std.proofs.lemmas.List.Folds.{list_any_at, list_any_more}
 use Rattle.comfy_table.proofs.DrawnCellLemmas.{height_of_cells}
 use Rattle.comfy_table.specs.DrawnCells.{drawn_cell}
 use Rattle.comfy_table.specs.Pieces.{row_height}
-use Rattle.comfy_table.proofs.utils.formatting.drawn_cell.has_taller_row.Goals as goal
+use Rattle.comfy_table.proofs.utils.formatting.drawn_cell.is_any_taller.Goals as goal
 
 pub returns-then-greatest_height-lines : goal.returns-then-greatest_height-lines
 returns-then-greatest_height-lines c =
@@ -14,7 +14,7 @@ returns-then-greatest_height-lines c =
     let height : c.greatest_height.result ≡ row_height table infos row =
     c.greatest_height.ensures ∙ height_of_cells table infos row c.cells.result.now
     (c.cells.ensures ∙ c.in_ok-set.ensures ∙ ap (map (drawn_cell table row)) (c.as_slice.ensures.value ∙ c.in_ok-columns.ensures)) in
-    let found = list_any_at (nat_lt c.args.lines) (map (row_height table infos) table.rows) c.loop-row.row-index 0 in
+    let found = list_any_at (nat_lt c.args.lines) (map (row_height table infos) c.args.rows.now) c.loop-row.row-index 0 in
     grind (arith, height, found, common_steps)
 
 pub loop-row-preserved : goal.loop-row-preserved
@@ -25,5 +25,5 @@ loop-row-preserved c =
     let height : c.greatest_height.result ≡ row_height table infos row =
     c.greatest_height.ensures ∙ height_of_cells table infos row c.cells.result.now
     (c.cells.ensures ∙ c.in_ok-set.ensures ∙ ap (map (drawn_cell table row)) (c.as_slice.ensures.value ∙ c.in_ok-columns.ensures)) in
-    let more = list_any_more (nat_lt c.args.lines) (map (row_height table infos) table.rows) c.loop-row.row-index 0 in
+    let more = list_any_more (nat_lt c.args.lines) (map (row_height table infos) c.args.rows.now) c.loop-row.row-index 0 in
     grind (arith, height, more, common_steps)

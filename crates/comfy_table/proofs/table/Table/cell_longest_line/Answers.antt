@@ -1,7 +1,7 @@
 use Rattle.std.proofs.Common.{◌<◌, [], length, map, slice_index_or, string_bytes, ap, sym, ◌∙◌, arith}
 use Rattle.std.proofs.lemmas.List.{get_or-map, length-map}
 use Rattle.comfy_parts.specs.Text.{measure}
-use Rattle.comfy_table.proofs.utils.arrangement.longest.cell_longest_line.Goals as goal
+use Rattle.comfy_table.proofs.table.Table.cell_longest_line.Goals as goal
 
 pub text_longest_line-of_text-requires : goal.text_longest_line-of_text-requires
 text_longest_line-of_text-requires c =
