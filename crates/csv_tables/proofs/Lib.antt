@@ -24,10 +24,10 @@ pub mod OneOutputLemmas
 pub mod OutputControlLemmas
 pub mod OutputLemmas
 pub mod ReachedLemmas
-mod RoomLemmas
 pub mod RowLemmas
 pub mod SeenLemmas
 pub mod SeparatorLemmas
+mod ShownLemmas
 pub mod SpacedLemmas
 pub mod StraightLemmas
 pub mod SummaryLemmas

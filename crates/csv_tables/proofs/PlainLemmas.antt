@@ -23,6 +23,7 @@ some [] filled = absurd (cc filled)
 some (b ∷ bs) filled = omega arith
 
 module _ (look : Look) (table : TableValue) (text : Text) (plain : is_plain look table text ≡ true) where
+  -- what such a text is
   unmarked : look.is_markdown ≡ false
   unmarked = not-true look.is_markdown (and_parts (not look.is_markdown) _ plain).0
 
@@ -37,6 +38,9 @@ module _ (look : Look) (table : TableValue) (text : Text) (plain : is_plain look
 
   printable : is_printable_ascii text ≡ true
   printable = (and_parts (not (is_blank text)) _ last).1
+
+  pub plain_parts : (look.is_markdown ≡ false) × (table.custom_styling ≡ false) × ((is_blank text ≡ false) × (is_printable_ascii text ≡ true))
+  plain_parts = (unmarked, custom, filled, printable)
 
   -- its cell
   cell_is : plain_cell text ≡ cell_for look None text

@@ -1,30 +1,73 @@
 -- Private: rows of records before they are made, and texts whose cells need not be made to know
 -- their widths.
 -- Source: this library's own.
-use Rattle.std.specs.Prelude.{ℕ, ◌+◌, Bool, ◌&&◌, List, Option, Some, None, not}
-use Rattle.comfy_parts.specs.CellValue.{CellValue, RowValue}
-use Rattle.comfy_parts.specs.Text.{Text, is_printable_ascii}
-use Rattle.comfy_table.specs.TableValue.{TableValue, measured_cell}
+use Rattle.std.specs.Prelude.{ℕ, ◌+◌, ◌×◌, ◌≡◌, ◌==◌, Bool, true, ◌&&◌, List, [], ◌∷◌, ◌++◌, Option, Some, None, String, drop, length, map, not, slice_get, string_bytes, unwrap_or, if◌then◌else◌}
+use Rattle.comfy_parts.specs.CellValue.{CellValue, ColumnInfo, RowValue}
+use Rattle.comfy_parts.specs.Text.{Text, greatest, is_printable_ascii}
+use Rattle.comfy_table.specs.Drawing.{part_of_drawing, terminated_text_of}
+use Rattle.comfy_table.specs.TableValue.{TableValue, cells_at, measured_cell}
 use Rattle.csv_tables.specs.Cells.{Shown, columns_within, is_blank, row_for, shown_in}
+use Rattle.csv_tables.specs.ContentsValue.{ContentsValue}
+use Rattle.csv_tables.specs.Drawn.{SelectedValue, empty_table, headed_table, is_table_expanded, output_table, pairs_of, pairs_table, record_line, rows_table, separators_in}
+use Rattle.csv_tables.specs.Separators.{AreRowsSeparated}
+use Rattle.csv_tables.specs.declared.drawn.OpenDrawing.{OpenDrawing}
 use Rattle.csv_tables.specs.declared.options.Look.{Look}
 use Rattle.csv_tables.specs.declared.rows.RecordRows.{RecordRows}
 
 -- what the row of the record at a place shows
 abbrev pub shown_by : RecordRows → ℕ → List Text → List Shown
 shown_by rows at fields =
-    shown_in rows.look.now rows.is_aligned rows.selected.now.is_numbered
-    (columns_within fields rows.selected.now.columns) (at + 1, fields)
+    shown_in rows.look rows.is_aligned rows.selected.is_numbered
+    (columns_within fields rows.selected.columns) (at + 1, fields)
 
 -- its row
 abbrev pub made_by : RecordRows → ℕ → List Text → RowValue
 made_by rows at fields =
-    row_for rows.look.now rows.is_aligned rows.selected.now.is_numbered rows.selected.now.columns
+    row_for rows.look rows.is_aligned rows.selected.is_numbered rows.selected.columns
     (at + 1, fields)
+
+-- the fields of a record, each with the name of its column
+abbrev pub pairs_by : RecordRows → List Text → List RowValue
+pairs_by rows fields =
+    pairs_of rows.look rows.selected.columns (unwrap_or rows.selected.names []) fields
+
+-- the rows of the record at a place
+abbrev pub rows_at : RecordRows → ℕ → List Text → List RowValue
+rows_at rows at fields =
+    if rows.is_expanded then pairs_by rows fields else made_by rows at fields ∷ []
+
+-- those of records from a place on
+abbrev pub rows_from : RecordRows → ℕ → List (List Text) → List RowValue
+rows_from rows at [] = []
+rows_from rows at (fields ∷ left) = rows_at rows at fields ++ rows_from rows (at + 1) left
+
+-- their table without rows, before its columns grow
+abbrev pub headed_by : RecordRows → TableValue
+headed_by rows =
+    if rows.is_expanded
+    then empty_table rows.look
+    else headed_table rows.look rows.selected.is_numbered rows.selected.columns
+    rows.selected.names
+
+-- their table
+abbrev pub table_by : RecordRows → TableValue
+table_by rows =
+    if rows.is_expanded
+    then pairs_table rows.look rows.selected
+    else rows_table rows.look rows.is_aligned rows.selected
 
 -- what a cell gives as it is measured, 0 where there is none
 abbrev pub measured_at : TableValue → (CellValue → ℕ) → Option CellValue → ℕ
 measured_at table f None = 0
 measured_at table f (Some cell) = f (measured_cell table cell)
+
+-- the greatest that the cells of some rows give at a position
+abbrev pub greatest_at : TableValue → (CellValue → ℕ) → List RowValue → ℕ → ℕ
+greatest_at table f rows i = greatest (map (measured_at table f) (cells_at rows i))
+
+-- how many cells the longest of some rows has
+abbrev pub most_cells : List RowValue → ℕ
+most_cells rows = greatest (map (λ (row : RowValue). length row.cells) rows)
 
 -- printable ASCII that isn't blank is one text line of a cell as it is, but in Markdown; with
 -- custom styling it is looked at by itself
@@ -32,3 +75,73 @@ abbrev pub is_plain : Look → TableValue → Text → Bool
 is_plain look table text =
     not look.is_markdown
     && (not table.custom_styling && (not (is_blank text) && is_printable_ascii text))
+
+-- a row shows such a text of so many characters
+abbrev pub IsPlainShown : RecordRows → TableValue → ℕ → Option Shown → Type 0
+IsPlainShown rows table count None = ⊥
+IsPlainShown rows table count (Some shown) =
+    (is_plain rows.look table shown.text ≡ true) × (length shown.text ≡ count)
+
+-- ---- drawings
+
+-- the part of a table that the fields of a record are, where it has some
+abbrev pub fields_text : TableValue → List ColumnInfo → List RowValue → Text
+fields_text table infos [] = []
+fields_text table infos (row ∷ rows) =
+    terminated_text_of (part_of_drawing table infos true true (row ∷ rows))
+
+-- an expanded record: its line, and its fields
+abbrev pub expanded_record : RecordRows → TableValue → List ColumnInfo → ℕ → List Text → Text
+expanded_record rows table infos at fields =
+    record_line (at + 1) rows.selected.count ++ fields_text table infos (pairs_by rows fields)
+
+-- expanded records from a place on
+abbrev pub expanded_from : RecordRows → TableValue → List ColumnInfo → ℕ → List (List Text)
+    → Text
+expanded_from rows table infos at [] = []
+expanded_from rows table infos at (fields ∷ left) =
+    expanded_record rows table infos at fields ++ expanded_from rows table infos (at + 1) left
+
+-- what is drawn of records from a place on, and below the last one
+abbrev pub drawn_from : RecordRows → TableValue → List ColumnInfo → ℕ → List (List Text) → Text
+drawn_from rows table infos at left =
+    if rows.is_expanded
+    then expanded_from rows table infos at left
+    else terminated_text_of (part_of_drawing table infos (at == 0) true (rows_from rows at left))
+
+-- what is left of a drawing
+abbrev pub rest_of : Option OpenDrawing → Text
+rest_of None = []
+rest_of (Some open) =
+    drawn_from open.contents.rows open.contents.table open.infos.items open.place
+    (drop open.place open.contents.rows.selected.rows)
+    ++ string_bytes open.note
+
+-- the bytes of a piece, where there is one
+abbrev pub ready_text : {A : Type 0} → Option (String A) → Text
+ready_text None = []
+ready_text (Some piece) = string_bytes piece
+
+-- ---- tables that are drawn
+
+-- contents are those of rows, or of expanded records
+pub record AreContentsOf (is_expanded : Bool) (look : Look) (content : SelectedValue)
+    (contents : ContentsValue) : Type 0 where
+  pub look_is : contents.rows.look ≡ look
+  pub selected_is : contents.rows.selected ≡ content
+  pub expanded_is : contents.rows.is_expanded ≡ is_expanded
+
+-- contents are those of the table that is drawn, with lines between rows or without
+pub record AreDrawnAs (is_expanded : Bool) (look : Look) (content : SelectedValue)
+    (contents : ContentsValue) : Type 0 where
+  pub are_contents : AreContentsOf is_expanded look content contents
+  pub separated :
+      AreRowsSeparated (separators_in is_expanded look.separators)
+      (output_table is_expanded look content) contents.table
+
+-- whether expanded or not as it is wanted
+pub record AreDrawnContents (look : Look) (content : SelectedValue) (contents : ContentsValue)
+    : Type 0 where
+  pub is_expanded : Bool
+  pub expansion : is_expanded ≡ is_table_expanded look content
+  pub drawn : AreDrawnAs is_expanded look content contents

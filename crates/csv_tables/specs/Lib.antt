@@ -2,6 +2,7 @@ pub mod Cells
 pub mod Columns
 pub mod ConstrainedAt
 pub mod Contents
+pub mod ContentsValue
 pub mod Controls
 pub mod Decimals
 pub mod Drawn

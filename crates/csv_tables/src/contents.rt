@@ -1,120 +1,104 @@
 //! The table of records whose rows are made only when they are drawn.
 
-ghost use Rattle.std.specs.Prelude.{◌≡◌, IfOk, length, string_bytes};
-ghost use Rattle.comfy_table.specs.Parts.{ArrangedValue, IsArrangedTable, part_text};
-ghost use Rattle.comfy_table.specs.TableValue.{max_content_widths};
-ghost use Rattle.csv_tables.specs.Drawn.{rows_table};
+ghost use Rattle.std.specs.Prelude.{◌≡◌, ℕ, IfOk, length, max};
+ghost use Rattle.std.specs.List.{slice_index_or};
+ghost use Rattle.comfy_table.specs.TableValue.{column_content_width, max_content_widths, with_other_rows};
+ghost use Rattle.csv_tables.specs.Contents.{headed_by, most_cells, rows_from, table_by};
 
-use crate::options::Look;
 use crate::rows::RecordRows;
 use crate::selected::SelectedRecords;
 use comfy_parts::content_split::ColumnDisplayInfo;
-use comfy_table::{ArrangedTable, Contents, Extent, Result, Table};
-use std::alloc::Global;
+use comfy_table::{Contents, Result, Table};
 use std::marker::Model;
 
-/// The table of records, a row for each, whose rows are made only when they are drawn.
+/// The table of records, whose rows are made only when they are drawn.
 #[derive(Drop)]
-pub(crate) struct RowContents<'a> {
+pub(crate) struct RowContents {
     // its header and its columns, without rows
     pub table: Table,
-    pub rows: RecordRows<'a>,
+    pub rows: RecordRows,
+    // the content width of each column
+    widths: Vec<u16>,
 }
 
-impl<'a> Model for RowContents<'a> {
-    ghost use Rattle.std.specs.Prelude.{◌≡◌, []};
-    ghost use Rattle.comfy_table.specs.TableValue.{TableValue, with_other_rows};
-    ghost use Rattle.csv_tables.specs.Drawn.{rows_of};
+impl Model for RowContents {
+    ghost use Rattle.std.specs.Prelude.{◌≡◌, ◌×◌, [], ℕ, length};
+    ghost use Rattle.std.specs.List.{slice_index_or};
+    ghost use Rattle.comfy_table.specs.TableValue.{column_content_width, with_other_rows};
+    ghost use Rattle.csv_tables.specs.Contents.{rows_from};
+    ghost use Rattle.csv_tables.specs.ContentsValue.{ContentsValue};
 
-    ghost Value = { TableValue };
+    ghost Value = { ContentsValue };
 
-    ghost invariant = { λ c. c.table.rows ≡ [] };
+    ghost invariant = { λ c. (c.table.rows ≡ [])
+        × (length c.widths.items ≡ length c.table.columns)
+        × ((i : ℕ) → slice_index_or c.widths.items i 0 ≡ column_content_width
+        (with_other_rows (rows_from c.rows 0 c.rows.selected.rows) c.table) i) };
 
-    ghost view = { λ c.
-        with_other_rows (rows_of c.rows.look.now c.rows.is_aligned c.rows.selected.now) c.table };
+    ghost view = { λ c. record {
+      table = with_other_rows (rows_from c.rows 0 c.rows.selected.rows) c.table;
+      rows = c.rows;
+    } };
 }
 
-impl<'a> RowContents<'a> {
-    /// The table of records, with all lines of the style. Decimal marks stand below each other, or
-    /// not.
-    pub fn new(
-        selected: &'a SelectedRecords,
-        is_aligned: bool,
-        look: &'a Look,
-    ) -> Result<RowContents<'a>>
-        ensures { IfOk result (λ contents. contents
-            ≡ rows_table look.now is_aligned selected.now) }
+impl RowContents {
+    /// The table of these rows, with all lines of the style.
+    pub fn new(rows: RecordRows) -> Result<RowContents>
+        ensures table { IfOk result (λ contents. contents.table ≡ table_by rows) }
+        ensures rows { IfOk result (λ contents. contents.rows ≡ rows) }
     {
-        let mut table = selected.headed_table(selected.names(), look)?;
-        for row in selected.rows() {
-            table.grow_columns(selected.cell_count(&row))?;
-        }
-        let rows = RecordRows {
-            selected,
-            is_aligned,
-            look,
-        };
-        Ok(RowContents { table, rows })
+        let mut table = rows.headed_table()?;
+        let widths = content_widths(&rows, &table)?;
+        table.grow_columns(widths.len())?;
+        Ok(RowContents {
+            table,
+            rows,
+            widths,
+        })
     }
 
-    /// The drawing of all rows, each line followed by a line feed.
-    pub fn text(&self) -> Result<String>
-        ensures { IfOk result (λ text. (arranged : ArrangedValue)
-            × IsArrangedTable self.now arranged
-            × (string_bytes text ≡ part_text arranged 0 (length self.now.rows))) }
+    /// What the records are of which its rows are made.
+    pub fn into_selected(self) -> SelectedRecords
+        ensures { result ≡ self.rows.selected }
     {
-        let rows = &self.rows;
-        let selected = rows.selected;
-        let arranged = ArrangedTable::of_contents(self)?;
-        let mut text = String::new(selected.alloc);
-        let mut is_first = true;
-        for (at, fields) in selected.rows().enumerate() {
-            let row = [rows.row_at(at, &fields)?];
-            let extent = Extent {
-                is_first,
-                is_last: false,
-            };
-            arranged.push_some_rows(&mut text, row.as_slice(), extent)?;
-            is_first = false;
-        }
-        let extent = Extent {
-            is_first,
-            is_last: true,
-        };
-        arranged.push_some_rows(&mut text, &[], extent)?;
-        Ok(text)
+        let RowContents { rows, .. } = self;
+        let RecordRows { selected, .. } = rows;
+        selected
     }
 
     /// The content width of each column, in list order.
-    pub fn max_content_widths(&self, alloc: Global) -> Result<Vec<u16>>
-        ensures { IfOk result (λ widths. widths.items ≡ max_content_widths self.now) }
+    pub fn widths(&self) -> &[u16]
+        ensures { result.now ≡ max_content_widths self.now.table }
     {
-        let count = self.table.column_iter().as_slice().len();
-        let mut widths = Vec::with_capacity(alloc, count)?;
-        for position in 0..count {
-            widths.push(self.content_width(position)?)?;
-        }
-        Ok(widths)
+        self.widths.as_slice()
     }
 }
 
-impl<'a> Contents for RowContents<'a> {
-    ghost whole = { λ contents. contents };
+// The content width of each column of a table that has these rows, which are none of its own.
+fn content_widths(rows: &RecordRows, table: &Table) -> Result<Vec<u16>>
+    ensures each { table.now ≡ headed_by rows.now → IfOk result (λ widths. (i : ℕ)
+        → slice_index_or widths.items i 0 ≡ column_content_width
+        (with_other_rows (rows_from rows.now 0 rows.now.selected.rows) table.now) i) }
+    ensures count { IfOk result (λ widths. length widths.items ≡ max (length table.now.columns)
+        (most_cells (rows_from rows.now 0 rows.now.selected.rows))) }
+{
+    let mut widths = table.column_max_content_widths()?;
+    let selected = &rows.selected;
+    for (at, fields) in selected.rows().enumerate() {
+        rows.widen(&mut widths, table, at, &fields)?;
+    }
+    Ok(widths)
+}
+
+impl Contents for RowContents {
+    ghost whole = { λ contents. contents.table };
 
     fn table(&self) -> &Table {
         &self.table
     }
 
     fn content_width(&self, position: usize) -> Result<u16> {
-        let mut widest = self.table.content_width(position)?;
-        let rows = &self.rows;
-        let selected = rows.selected;
-        for (at, fields) in selected.rows().enumerate() {
-            widest = rows
-                .cell_width(&self.table, at, &fields, position)?
-                .max(widest);
-        }
-        Ok(widest)
+        Ok(self.widths.get(position).copied().unwrap_or(0))
     }
 
     fn longest_line(
@@ -125,10 +109,9 @@ impl<'a> Contents for RowContents<'a> {
     ) -> Result<usize> {
         let mut longest = self.table.longest_line(position, info, usize::MAX)?;
         let rows = &self.rows;
-        let selected = rows.selected;
-        for (at, fields) in selected.rows().enumerate() {
+        for (at, fields) in rows.selected.rows().enumerate() {
             longest = rows
-                .cell_longest_line(&self.table, at, &fields, position, info)?
+                .longest_line(&self.table, at, &fields, position, info)?
                 .max(longest);
             if longest > limit {
                 return Ok(longest);

@@ -6,6 +6,7 @@ mod cells;
 mod columns;
 mod contents;
 mod decimals;
+mod drawn;
 mod expanded;
 pub mod laws;
 mod markdown;
@@ -21,8 +22,9 @@ mod table;
 mod unbroken;
 
 pub use columns::name_at;
+pub use drawn::DrawnRecords;
 pub use markdown::escaped;
 pub use options::{DrawnColumn, Expansion, Layout, Look, RowSeparators};
-pub use output::{output_of_records, text_of_records};
+pub use output::{drawn_records, output_of_records, text_of_records};
 pub use selection::{Columns, Selection};
 pub use table::table_of;

@@ -1,25 +1,56 @@
 //! The text that is written for some records.
 
 ghost use Rattle.std.specs.Prelude.{◌≡◌, ◌∷◌, ◌++◌, IfOk, OnOk, false, string_bytes, true};
+ghost use Rattle.comfy_table.specs.Arrangement.{AreInfosOf};
 ghost use Rattle.csv_tables.specs.Markdown.{rule_line};
-ghost use Rattle.csv_tables.specs.Drawn.{RendersAnyRecords, RendersAsMarkdown, RendersAsTable, RendersContent, RendersRecords, RendersTable, are_more, count_text, has_room_for, is_aligned_in, note_for, output_table, rows_table, sides, unbroken_in};
+ghost use Rattle.csv_tables.specs.Contents.{AreContentsOf, AreDrawnAs, AreDrawnContents};
+ghost use Rattle.csv_tables.specs.Drawn.{RendersAnyRecords, RendersAsMarkdown, RendersRecords, are_more, count_text, has_room_for, is_aligned_in, note_for, output_table, rows_table, sides, unbroken_in};
 ghost use Rattle.csv_tables.specs.Unbroken.{kept_unbroken};
 
 use crate::contents::RowContents;
 use crate::decimals::has_points;
-use crate::expanded::{is_expanded, records_text};
+use crate::drawn::{DrawnRecords, OpenDrawing};
+use crate::expanded::is_expanded;
 use crate::markdown::push_rule;
 use crate::options::{Expansion, Layout, Look};
+use crate::rows::RecordRows;
 use crate::selected::SelectedRecords;
 use crate::separators::{separate_fields, separate_rows};
 use crate::unbroken::{keep_unbroken, keep_unbroken_fields};
-use comfy_table::{Result, Table};
+use comfy_parts::content_split::ColumnDisplayInfo;
+use comfy_table::{ArrangedTable, Result};
 use csv_records::Records;
 use std::alloc::{AllocError, Global};
 use std::fmt::Write;
 
-/// The text for these records, of which so many stand below the header, where that is known. Where
+/// The drawing of these records, of which so many stand below the header, where that is known. Where
 /// not all of them are drawn, a line says how many there are, or that there are more.
+pub fn drawn_records(
+    alloc: Global,
+    records: Records,
+    count: Option<usize>,
+    layout: &Layout,
+) -> Result<DrawnRecords>
+    ensures { IfOk result (λ drawn. RendersRecords count layout.now records drawn) }
+{
+    let look = &layout.look;
+    let note = note_of(alloc, look.is_markdown, layout.selection.limit, count)?;
+    let selected = SelectedRecords::new(alloc, records, count, layout)?;
+    if look.is_markdown {
+        let mut text = markdown_text(selected, look)?;
+        text.push_str(note.as_str())?;
+        return Ok(DrawnRecords::of_text(text));
+    }
+    let (contents, infos) = arranged_contents(selected, look)?;
+    DrawnRecords::of_records(OpenDrawing {
+        contents,
+        infos,
+        place: 0,
+        note,
+    })
+}
+
+/// The text of that drawing.
 pub fn text_of_records(
     alloc: Global,
     records: Records,
@@ -29,15 +60,20 @@ pub fn text_of_records(
     ensures { IfOk result (λ output.
         RendersRecords count layout.now records (string_bytes output)) }
 {
-    let selected = SelectedRecords::new(alloc, records, count, layout)?;
-    let mut output = drawn_text(selected, &layout.look)?;
-    push_note(
-        &mut output,
-        layout.look.is_markdown,
-        layout.selection.limit,
-        count,
-    )?;
-    Ok(output)
+    let drawn = drawn_records(alloc, records, count, layout)?;
+    Ok(joined(alloc, drawn)?)
+}
+
+// The pieces of a drawing behind one another.
+fn joined(alloc: Global, drawn: DrawnRecords) -> std::result::Result<String, AllocError>
+    ensures { IfOk result (λ text. string_bytes text ≡ drawn) }
+{
+    let mut drawn = drawn;
+    let mut text = String::new(alloc);
+    while let Some(piece) = drawn.next_piece()? {
+        text.push_str(piece.as_str())?;
+    }
+    Ok(text)
 }
 
 /// The text for records that are all there are: nothing where there are none.
@@ -53,88 +89,89 @@ pub fn output_of_records(alloc: Global, records: Records, layout: &Layout) -> Re
     text_of_records(alloc, records, Some(below), layout)
 }
 
-fn drawn_text(selected: SelectedRecords, look: &Look) -> Result<String>
-    ensures { IfOk result (λ text. RendersContent look.now.is_markdown look.now selected
-        (string_bytes text)) }
+// What is drawn of records, as a table of rows or expanded, and what its columns are drawn by.
+fn arranged_contents(
+    selected: SelectedRecords,
+    look: &Look,
+) -> Result<(RowContents, Vec<ColumnDisplayInfo>)>
+    ensures contents { IfOk result (λ x. AreDrawnContents look.now selected x.0) }
+    ensures infos { IfOk result (λ x. AreInfosOf x.0.table x.1.items) }
 {
-    if look.is_markdown {
-        markdown_text(selected, look)
-    } else {
-        table_text(selected, look)
-    }
+    let contents = drawn_contents(selected, look)?;
+    let infos = ArrangedTable::of_contents(&contents)?.into_infos();
+    Ok((contents, infos))
 }
 
-// The text of a table of rows, or of expanded records.
-fn table_text(selected: SelectedRecords, look: &Look) -> Result<String>
-    ensures { IfOk result (λ text. RendersAsTable look.now selected (string_bytes text)) }
+// What is drawn of records: a table of rows, or of expanded records.
+fn drawn_contents(selected: SelectedRecords, look: &Look) -> Result<RowContents>
+    ensures { IfOk result (λ contents. AreDrawnContents look.now selected contents) }
 {
     // The table of rows isn't needed to see this.
     if look.expansion == Expansion::Always {
-        return expanded_text(&selected, look);
+        return expanded_contents(selected, look);
     }
-    let (contents, has_room) = fitting_table(&selected, look)?;
+    let (mut contents, has_room) = fitting_contents(selected, look)?;
+    let selected = &contents.rows.selected;
     if is_expanded(look.expansion, selected.rows().is_empty() || has_room) {
-        return expanded_text(&selected, look);
+        return expanded_contents(contents.into_selected(), look);
     }
-    rows_text(&selected, contents, look)
+    separate_rows(&mut contents, look.separators)?;
+    Ok(contents)
 }
 
 // The table of rows, with decimal points below each other where there is room for that, and whether
 // there is room for the table.
-fn fitting_table<'a>(
-    selected: &'a SelectedRecords,
-    look: &'a Look,
-) -> Result<(RowContents<'a>, bool)>
-    ensures table { IfOk result (λ x. x.0 ≡ output_table false look.now selected.now) }
+fn fitting_contents(selected: SelectedRecords, look: &Look) -> Result<(RowContents, bool)>
+    ensures table { IfOk result (λ x. x.0.table ≡ output_table false look.now selected) }
+    ensures rows { IfOk result (λ x. AreContentsOf false look.now selected x.0) }
     ensures has_room { IfOk result (λ x. x.1
-        ≡ has_room_for look.now selected.now (is_aligned_in look.now selected.now)) }
+        ≡ has_room_for look.now selected (is_aligned_in look.now selected)) }
 {
+    let mut selected = selected;
     if look.aligns_decimals && has_points(selected.columns.as_slice()) {
-        let (contents, has_room) = unbroken_table(selected, true, look)?;
+        let (contents, has_room) = unbroken_contents(selected, true, look)?;
         if has_room {
             return Ok((contents, true));
         }
+        selected = contents.into_selected();
     }
-    unbroken_table(selected, false, look)
+    unbroken_contents(selected, false, look)
 }
 
 // The table of rows, with decimal points below each other or not, and whether there is room for it.
-fn unbroken_table<'a>(
-    selected: &'a SelectedRecords,
+fn unbroken_contents(
+    selected: SelectedRecords,
     is_aligned: bool,
-    look: &'a Look,
-) -> Result<(RowContents<'a>, bool)>
-    ensures table { IfOk result (λ x. x.0 ≡ kept_unbroken look.now.width
-        (unbroken_in selected.now) (rows_table look.now is_aligned selected.now)) }
-    ensures has_room { IfOk result (λ x. x.1 ≡ has_room_for look.now selected.now is_aligned) }
+    look: &Look,
+) -> Result<(RowContents, bool)>
+    ensures table { IfOk result (λ x. x.0.table ≡ kept_unbroken look.now.width
+        (unbroken_in selected) (rows_table look.now is_aligned selected)) }
+    ensures rows { IfOk result (λ x. AreContentsOf false look.now selected x.0) }
+    ensures has_room { IfOk result (λ x. x.1 ≡ has_room_for look.now selected is_aligned) }
 {
-    let mut contents = RowContents::new(selected, is_aligned, look)?;
-    let has_room = keep_unbroken(&mut contents, selected, look)?;
+    let mut contents = RowContents::new(RecordRows {
+        selected,
+        look: *look,
+        is_expanded: false,
+        is_aligned,
+    })?;
+    let has_room = keep_unbroken(&mut contents)?;
     Ok((contents, has_room))
 }
 
-// The text of this table of rows, of the records that it is of.
-fn rows_text(
-    selected: &SelectedRecords,
-    mut contents: RowContents<'_>,
-    look: &Look,
-) -> Result<String>
-    requires { contents ≡ output_table false look.now selected.now }
-    ensures { IfOk result (λ text. RendersTable false look.now selected.now (string_bytes text)) }
+// The table of expanded records.
+fn expanded_contents(selected: SelectedRecords, look: &Look) -> Result<RowContents>
+    ensures { IfOk result (λ contents. AreDrawnAs true look.now selected contents) }
 {
-    separate_rows(&mut contents, look.separators)?;
-    contents.text()
-}
-
-// The text of expanded records.
-fn expanded_text(selected: &SelectedRecords, look: &Look) -> Result<String>
-    ensures { IfOk result (λ text. RendersTable true look.now selected.now (string_bytes text)) }
-{
-    let mut table = selected.pairs_table(look)?;
-    keep_unbroken_fields(&mut table, look.width)?;
-    separate_fields(&mut table, look.separators);
-    let arranged = table.arranged()?;
-    Ok(records_text(selected, &arranged)?)
+    let mut contents = RowContents::new(RecordRows {
+        selected,
+        look: *look,
+        is_expanded: true,
+        is_aligned: false,
+    })?;
+    keep_unbroken_fields(&mut contents)?;
+    separate_fields(&mut contents, look.separators);
+    Ok(contents)
 }
 
 // The text of a table for Markdown.
@@ -164,25 +201,26 @@ fn with_rule(selected: &SelectedRecords, header: &str, widths: &[u16], rows: &st
     Ok(text)
 }
 
-// Appends the line on records that aren't drawn, in Markdown below an empty one.
-fn push_note(
-    output: &mut String,
+// The line on records that aren't drawn, in Markdown below an empty one.
+fn note_of(
+    alloc: Global,
     is_markdown: bool,
     limit: Option<usize>,
     count: Option<usize>,
-) -> std::result::Result<(), AllocError>
-    ensures { OnOk result (string_bytes output.new
-        ≡ string_bytes output.old ++ note_for is_markdown limit count) }
+) -> std::result::Result<String, AllocError>
+    ensures { IfOk result (λ note. string_bytes note ≡ note_for is_markdown limit count) }
 {
+    let mut note = String::new(alloc);
     match limit {
         Some(limit) if are_more(limit, count) => {
-            output.push_str(if is_markdown { "\n" } else { "" })?;
-            write!(output, "{limit} of ")?;
-            push_count(output, count)?;
-            output.push_str(" records\n")
+            note.push_str(if is_markdown { "\n" } else { "" })?;
+            write!(note, "{limit} of ")?;
+            push_count(&mut note, count)?;
+            note.push_str(" records\n")?;
         }
-        _ => Ok(()),
+        _ => {}
     }
+    Ok(note)
 }
 
 // Whether there are more records than so many. A count that isn't known is above all that are

@@ -1,21 +1,24 @@
 //! Where lines between rows are drawn.
 
 ghost use Rattle.std.specs.Prelude.{◌≡◌, IfOk, OnOk, false, true};
-ghost use Rattle.csv_tables.specs.Drawn.{HasTallRow, condensed_style, separated_table, separators_in};
+ghost use Rattle.csv_tables.specs.Drawn.{HasTallRow, condensed_style, separated_table, separators_in, with_style};
 ghost use Rattle.csv_tables.specs.Separators.{AreRowsSeparated, AreTallRowsSeparated};
 
 use crate::contents::RowContents;
 use crate::options::RowSeparators;
-use comfy_table::{ArrangedTable, LineStyle, Result, Table, TableStyle};
+use comfy_table::{ArrangedTable, LineStyle, Result, TableStyle};
 
 /// Leaves out the lines that a table's style has between rows, where they aren't wanted.
-pub(crate) fn separate_rows(contents: &mut RowContents<'_>, separators: RowSeparators) -> Result<()>
-    ensures { OnOk result (AreRowsSeparated separators contents.old contents.new) }
+pub(crate) fn separate_rows(contents: &mut RowContents, separators: RowSeparators) -> Result<()>
+    requires { contents.old.rows.is_expanded ≡ false }
+    ensures table { OnOk result (AreRowsSeparated separators contents.old.table
+        contents.new.table) }
+    ensures rows { OnOk result (contents.new.rows ≡ contents.old.rows) }
 {
     match separators {
         RowSeparators::Styled => Ok(()),
         RowSeparators::Never => {
-            condense(&mut contents.table);
+            condense(contents);
             Ok(())
         }
         RowSeparators::Needed => separate_tall_rows(contents),
@@ -24,33 +27,47 @@ pub(crate) fn separate_rows(contents: &mut RowContents<'_>, separators: RowSepar
 
 /// The same between the fields of expanded records: no line that only tall rows would need, since
 /// names part the fields.
-pub(crate) fn separate_fields(table: &mut Table, separators: RowSeparators)
-    ensures { AreRowsSeparated (separators_in true separators) table.old table.new }
+pub(crate) fn separate_fields(contents: &mut RowContents, separators: RowSeparators)
+    ensures table { AreRowsSeparated (separators_in true separators) contents.old.table
+        contents.new.table }
+    ensures rows { contents.new.rows ≡ contents.old.rows }
 {
     match separators {
         RowSeparators::Styled => {}
-        RowSeparators::Needed | RowSeparators::Never => condense(table),
+        RowSeparators::Needed | RowSeparators::Never => condense(contents),
     }
 }
 
 // Leaves out the lines between rows, unless a row is drawn in more than one line without them.
-fn separate_tall_rows(contents: &mut RowContents<'_>) -> Result<()>
-    ensures { OnOk result (AreTallRowsSeparated contents.old contents.new) }
+fn separate_tall_rows(contents: &mut RowContents) -> Result<()>
+    requires { contents.old.rows.is_expanded ≡ false }
+    ensures table { OnOk result (AreTallRowsSeparated contents.old.table contents.new.table) }
+    ensures rows { OnOk result (contents.new.rows ≡ contents.old.rows) }
 {
     let style = contents.table.style();
-    condense(&mut contents.table);
-    if !has_tall_row(contents)? {
-        return Ok(());
+    condense(contents);
+    if has_tall_row(contents)? {
+        load_style(contents, style);
     }
-    contents.table.load_style(style);
     Ok(())
 }
 
 // Leaves out the lines between rows.
-fn condense(table: &mut Table)
-    ensures { table.new ≡ separated_table false table.old }
+fn condense(contents: &mut RowContents)
+    ensures { contents.new ≡ record contents.old {
+      table = separated_table false contents.old.table;
+    } }
 {
-    table.load_style(condensed_style(table.style()));
+    let style = condensed_style(contents.table.style());
+    load_style(contents, style);
+}
+
+fn load_style(contents: &mut RowContents, style: TableStyle)
+    ensures { contents.new ≡ record contents.old {
+      table = with_style style contents.old.table;
+    } }
+{
+    contents.table.load_style(style);
 }
 
 // The style without lines between rows.
@@ -61,12 +78,13 @@ fn condensed_style(style: TableStyle) -> TableStyle
 }
 
 // Whether a row is drawn in more than one line.
-fn has_tall_row(contents: &RowContents<'_>) -> Result<bool>
-    ensures { IfOk result (λ is_tall. HasTallRow contents.now is_tall) }
+fn has_tall_row(contents: &RowContents) -> Result<bool>
+    requires { contents.now.rows.is_expanded ≡ false }
+    ensures { IfOk result (λ is_tall. HasTallRow contents.now.table is_tall) }
 {
     let arranged = ArrangedTable::of_contents(contents)?;
     let rows = &contents.rows;
-    let selected = rows.selected;
+    let selected = &rows.selected;
     for (at, fields) in selected.rows().enumerate() {
         if rows.is_tall(&contents.table, &arranged, at, &fields)? {
             return Ok(true);

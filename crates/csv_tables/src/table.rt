@@ -35,18 +35,6 @@ impl SelectedRecords {
         self.rows_table_under(self.names(), is_aligned, look)
     }
 
-    /// The table of expanded records: for each field a row, with the name of its column.
-    pub fn pairs_table(&self, look: &Look) -> Result<Table>
-        ensures { IfOk result (λ table. table ≡ pairs_table look.now self.now) }
-    {
-        let names = self.names_or_blank();
-        let mut table = empty_table(self.alloc, look);
-        for row in self.rows() {
-            self.add_pairs(&mut table, &names, &row, look)?;
-        }
-        Ok(table)
-    }
-
     /// The table for Markdown, without the line below its header.
     pub fn markdown_table(&self, look: &Look) -> Result<Table>
         ensures { IfOk result (λ table. table ≡ markdown_table look.now self.now) }
@@ -88,15 +76,6 @@ impl SelectedRecords {
         row_of(self.alloc, number, fields, columns, is_aligned, look)
     }
 
-    /// How many cells the row of a record has.
-    pub(crate) fn cell_count(&self, fields: &Record<'_>) -> usize
-        ensures { (look : Look) (is_aligned : Bool) (at : ℕ)
-            → result ≡ length (row_for look is_aligned self.now.is_numbered self.now.columns
-            (at, fields.now)).cells }
-    {
-        self.columns_within(fields).len() + usize::from(self.is_numbered)
-    }
-
     // The number of the row at a place, where rows are numbered.
     pub(crate) fn number_at(&self, at: usize) -> Option<u128>
         ensures { option_map decimal result ≡ number_of self.now.is_numbered (at + 1) }
@@ -121,30 +100,10 @@ impl SelectedRecords {
         }
         Ok(table)
     }
-
-    // Appends the fields that one record has, each with the name of its column.
-    fn add_pairs(
-        &self,
-        table: &mut Table,
-        names: &Record<'_>,
-        row: &Record<'_>,
-        look: &Look,
-    ) -> Result<()>
-        ensures { OnOk result (table.new
-            ≡ with_rows (pairs_of look.now self.now.columns names.now row.now) table.old) }
-    {
-        for column in self.columns_within(row) {
-            if let Some(field) = row.get(column.position) {
-                let name = name_at(self.alloc, names, column.position)?;
-                table.try_add_row(pair_of(self.alloc, name.as_str(), field, look)?)?;
-            }
-        }
-        Ok(())
-    }
 }
 
-// A table without rows that looks as is wanted.
-fn empty_table(alloc: Global, look: &Look) -> Table
+/// A table without rows that looks as is wanted.
+pub(crate) fn empty_table(alloc: Global, look: &Look) -> Table
     ensures { result ≡ empty_table look.now }
 {
     let mut table = Table::new(alloc);

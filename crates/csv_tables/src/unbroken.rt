@@ -1,21 +1,24 @@
 //! Numbers and dates, which aren't broken over lines where there is room.
 
-ghost use Rattle.std.specs.Prelude.{◌≡◌, ◌||◌, ◌-◌, ◌≤◌, ◌^◌, IfOk, OnOk, Some, chars, false, length, min, nat_le, replicate, slice_get, slice_index, true, unwrap_or};
+ghost use Rattle.std.specs.Prelude.{◌≡◌, ◌||◌, ◌-◌, ◌≤◌, ◌^◌, IfOk, None, OnOk, Some, chars, false, length, min, nat_le, slice_get, true, unwrap_or};
 ghost use Rattle.std.specs.List.{list_all};
 ghost use Rattle.csv_records.specs.Number.{is_neutral, is_number};
-ghost use Rattle.comfy_table.specs.TableValue.{max_content_widths, measured_cell};
+ghost use Rattle.comfy_table.specs.TableValue.{measured_cell};
 ghost use Rattle.csv_tables.specs.Unbroken.{cell_unbroken_width, constrained_column, field_width, framed_width, has_room, is_of_dates, is_unbroken, kept_unbroken, kept_unbroken_fields, may_break, needed_content, needed_contents, room_beside, room_for_two, unbroken_width, with_constrained, with_content, with_field_width};
+ghost use Rattle.csv_tables.specs.Cells.{cell_for};
 ghost use Rattle.csv_tables.specs.ConstrainedAt.{constrained_at};
+ghost use Rattle.csv_tables.specs.Contents.{greatest_at, pairs_by};
 ghost use Rattle.csv_tables.specs.Drawn.{unbroken_in};
 
+use crate::cells::cell_of;
 use crate::contents::RowContents;
-use crate::options::Look;
+use crate::rows::{RecordRows, is_plain};
 use crate::selected::SelectedRecords;
 use comfy_parts::content_split::measure_text_width;
 use comfy_parts::for_tables::measured_lines;
 use comfy_table::utils::arrangement::helper::count_border_columns;
 use comfy_table::{Cell, Column, ColumnConstraint, Result, Table, Width};
-use csv_records::{is_neutral, is_number};
+use csv_records::{Record, is_neutral, is_number};
 use std::alloc::{AllocError, Global};
 
 // How many characters a field has at most that isn't broken.
@@ -27,21 +30,19 @@ const NEEDED_CONTENT: u16 = 4;
 /// Lets the columns of numbers and dates be as wide as their contents, where a width is kept that
 /// has room for all of them and for what the other columns need. Returns whether there is room, as
 /// there is where no width is kept.
-pub(crate) fn keep_unbroken(
-    contents: &mut RowContents<'_>,
-    selected: &SelectedRecords,
-    look: &Look,
-) -> Result<bool>
-    ensures table { OnOk result (contents.new
-        ≡ kept_unbroken look.now.width (unbroken_in selected.now) contents.old) }
-    ensures has_room { IfOk result (λ has. has
-        ≡ has_room look.now.width (unbroken_in selected.now) contents.old) }
+pub(crate) fn keep_unbroken(contents: &mut RowContents) -> std::result::Result<bool, AllocError>
+    ensures contents { OnOk result (contents.new ≡ record contents.old {
+      table = kept_unbroken contents.old.rows.look.width (unbroken_in contents.old.rows.selected)
+          contents.old.table;
+    }) }
+    ensures has_room { IfOk result (λ has. has ≡ has_room contents.old.rows.look.width
+        (unbroken_in contents.old.rows.selected) contents.old.table) }
 {
-    let Some(width) = look.width else {
+    let Some(width) = contents.rows.look.width else {
         return Ok(true);
     };
-    let unbroken = unbroken_columns(selected)?;
-    let has_room = has_room(selected.alloc, contents, unbroken.as_slice(), width)?;
+    let unbroken = unbroken_columns(&contents.rows.selected)?;
+    let has_room = has_room(contents, unbroken.as_slice(), width)?;
     if has_room {
         constrain_contents(contents, unbroken.as_slice());
     }
@@ -65,29 +66,16 @@ fn unbroken_columns(selected: &SelectedRecords) -> std::result::Result<Vec<bool>
 
 // Whether a width has room for a table of rows, whose columns these are.
 fn has_room(
-    alloc: Global,
-    contents: &RowContents<'_>,
+    contents: &RowContents,
     unbroken: &[bool],
     width: u16,
-) -> Result<bool>
-    ensures { IfOk result (λ has. has ≡ has_room (Some width) unbroken.now contents.now) }
+) -> std::result::Result<bool, AllocError>
+    ensures { IfOk result (λ has. has
+        ≡ has_room (Some width) unbroken.now contents.now.table) }
 {
-    // Contents are looked at column by column, which takes long for many columns.
-    if least_width(&contents.table) > usize::from(width) {
-        return Ok(false);
-    }
-    let widths = contents.max_content_widths(alloc)?;
-    let needed = needed_contents(alloc, unbroken, widths.as_slice())?;
+    let alloc = contents.rows.selected.alloc;
+    let needed = needed_contents(alloc, unbroken, contents.widths())?;
     Ok(framed_width(&contents.table, needed.as_slice()) <= usize::from(width))
-}
-
-// What a line takes at least: borders, paddings and one terminal column of each content.
-fn least_width(table: &Table) -> usize
-    ensures { result ≡ min (2 ^ 64 - 1)
-        (framed_width table.now.style (replicate (length table.now.columns) 1)) }
-{
-    let count = table.column_iter().as_slice().len();
-    count_border_columns(table, count).saturating_add(count.saturating_mul(3))
 }
 
 // What the columns need of these contents.
@@ -135,8 +123,10 @@ fn framed_width(table: &Table, contents: &[u16]) -> usize
     width
 }
 
-fn constrain_contents(contents: &mut RowContents<'_>, unbroken: &[bool])
-    ensures { contents.new ≡ with_constrained unbroken.now contents.old }
+fn constrain_contents(contents: &mut RowContents, unbroken: &[bool])
+    ensures { contents.new ≡ record contents.old {
+      table = with_constrained unbroken.now contents.old.table;
+    } }
 {
     constrain_columns(&mut contents.table, unbroken);
 }
@@ -169,30 +159,22 @@ fn constrain_column(column: &mut Column)
 /// Lets the fields of expanded records be as wide as the widest number or date of them that has
 /// room beside what the names need. The table stays where no width is kept, or where none of them
 /// would be broken anyway.
-pub(crate) fn keep_unbroken_fields(table: &mut Table, width: Option<u16>) -> Result<()>
-    ensures { OnOk result (table.new ≡ kept_unbroken_fields width table.old) }
+pub(crate) fn keep_unbroken_fields(contents: &mut RowContents) -> Result<()>
+    requires { contents.old.rows.is_expanded ≡ true }
+    ensures { OnOk result (contents.new ≡ record contents.old {
+      table = kept_unbroken_fields contents.old.rows.look.width contents.old.table;
+    }) }
 {
-    let Some(width) = width else {
+    let Some(width) = contents.rows.look.width else {
         return Ok(());
     };
-    let names = names_content(table)?;
-    let room = room_for_two(table, width);
-    let field = field_width(table, room_beside(names, room));
+    let names = contents.widths().first().copied().unwrap_or(0);
+    let room = room_for_two(&contents.table, width);
+    let field = field_width(contents, room_beside(names, room))?;
     if may_break(room, names, field) {
-        widen_fields(table, field);
+        widen_contents(contents, field);
     }
     Ok(())
-}
-
-// The content of the names of expanded records.
-fn names_content(table: &Table) -> Result<u16>
-    ensures { IfOk result (λ content. content ≡ slice_index (max_content_widths table.now) 0) }
-{
-    let contents = table.column_max_content_widths()?;
-    match contents.first() {
-        Some(content) => Ok(*content),
-        None => Ok(0),
-    }
 }
 
 // The room of a width for the contents of two columns.
@@ -212,17 +194,51 @@ fn room_beside(names: u16, room: u16) -> u16
 }
 
 // The width of the widest number or date of the fields that has room.
-fn field_width(table: &Table, room: u16) -> u16
-    ensures value { result ≡ field_width room table.now }
-    ensures within { result ≤ room }
+fn field_width(contents: &RowContents, room: u16) -> Result<u16>
+    requires { contents.now.rows.is_expanded ≡ true }
+    ensures value { IfOk result (λ width. width ≡ field_width room contents.now.table) }
+    ensures within { IfOk result (λ width. width ≤ room) }
 {
+    let rows = &contents.rows;
     let mut widest = 0;
-    for cell in table.column_cells_with_header_iter(1) {
-        if let Some(cell) = cell {
-            widest = cell_unbroken_width(table, cell, room).max(widest);
+    for fields in rows.selected.rows() {
+        widest = record_unbroken_width(rows, &contents.table, &fields, room)?.max(widest);
+    }
+    Ok(widest)
+}
+
+// That of the fields of a record.
+fn record_unbroken_width(
+    rows: &RecordRows,
+    table: &Table,
+    fields: &Record<'_>,
+    room: u16,
+) -> Result<u16>
+    ensures value { IfOk result (λ width. width ≡ greatest_at table.now
+        (cell_unbroken_width room) (pairs_by rows.now fields.now) 1) }
+    ensures within { IfOk result (λ width. width ≤ room) }
+{
+    let selected = &rows.selected;
+    let mut widest = 0;
+    for column in selected.columns_within(fields) {
+        if let Some(field) = fields.get(column.position) {
+            widest = field_unbroken_width(rows, table, field, room)?.max(widest);
         }
     }
-    widest
+    Ok(widest)
+}
+
+// That of a field.
+fn field_unbroken_width(rows: &RecordRows, table: &Table, field: &str, room: u16) -> Result<u16>
+    ensures value { IfOk result (λ width. width ≡ cell_unbroken_width room
+        (measured_cell table.now (cell_for rows.now.look None field.now))) }
+    ensures within { IfOk result (λ width. width ≤ room) }
+{
+    if is_plain(&rows.look, table, field) {
+        return Ok(unbroken_width(field, room));
+    }
+    let cell = cell_of(rows.selected.alloc, field, None, &rows.look)?;
+    Ok(cell_unbroken_width(table, &cell, room))
 }
 
 fn cell_unbroken_width(table: &Table, cell: &Cell, room: u16) -> u16
@@ -258,6 +274,15 @@ fn may_break(room: u16, names: u16, field: u16) -> bool
     ensures { result ≡ may_break room names field }
 {
     u32::from(room) < u32::from(names.min(field)) + u32::from(field)
+}
+
+fn widen_contents(contents: &mut RowContents, content: u16)
+    requires { content ≤ 65531 }
+    ensures { contents.new ≡ record contents.old {
+      table = with_field_width content contents.old.table;
+    } }
+{
+    widen_fields(&mut contents.table, content);
 }
 
 // Gives the fields' column this content, and its paddings.

@@ -89,12 +89,31 @@ impl<'a, C: Contents> ArrangedTable<'a, C> {
         // Read for the proof: what was looked at is known to be UTF-8.
         let _ = &table.indicator;
         let infos = arrange(contents)?;
-        let frame = DrawnFrame::new(table, infos.as_slice())?;
+        ArrangedTable::with_infos(contents, infos)
+    }
+
+    /// The same with infos that were found before, as `into_infos` gives them back.
+    pub fn with_infos(
+        contents: &'a C,
+        infos: Vec<ColumnDisplayInfo>,
+    ) -> Result<ArrangedTable<'a, C>>
+        ensures { IfOk result (λ arranged. arranged
+            ≡ record { table = C.whole contents.now; infos = infos.items }) }
+    {
+        let frame = DrawnFrame::new(contents.table(), infos.as_slice())?;
         Ok(ArrangedTable {
             contents,
             infos,
             frame,
         })
+    }
+
+    /// What each column is drawn by, to draw other rows later.
+    pub fn into_infos(self) -> Vec<ColumnDisplayInfo>
+        ensures { result.items ≡ self.entry.infos }
+    {
+        let ArrangedTable { infos, .. } = self;
+        infos
     }
 
     /// Appends the lines of some of the rows, each followed by a line feed: below the top border

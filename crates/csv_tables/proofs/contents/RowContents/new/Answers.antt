@@ -1,20 +1,17 @@
-use Rattle.std.proofs.Common.{◌≡◌, [], List, ap, map, sym, ◌∙◌, rules}
-use Rattle.comfy_parts.specs.CellValue.{RowValue}
-use Rattle.comfy_parts.specs.Text.{Text}
-use Rattle.comfy_table.specs.TableValue.{TableValue}
-use Rattle.csv_tables.proofs.ContentLemmas.{content_is, grown}
-use Rattle.csv_tables.specs.Cells.{row_for}
-use Rattle.csv_tables.specs.Drawn.{headed_table}
+use Rattle.std.proofs.Common.{◌≡◌, ℕ, ap, arith, length, max, sym, ◌∙◌, rules}
+use Rattle.comfy_parts.specs.CellValue.{columns_grown_to}
+use Rattle.comfy_table.specs.TableValue.{TableValue, with_other_rows}
+use Rattle.csv_tables.proofs.ContentLemmas.{no_rows, table_is}
+use Rattle.csv_tables.specs.Contents.{headed_by, most_cells, rows_from}
 use Rattle.csv_tables.proofs.contents.RowContents.new.Goals as goal
 
-pub returns : goal.returns
-returns c =
-    let selected = c.args.selected.now in
-    let look = c.args.look.now in
-    let make : List Text → RowValue = λ fields. row_for look c.args.is_aligned selected.is_numbered selected.columns (0, fields) in
-    let grows : TableValue → TableValue = λ t. record t { columns = grown (map make selected.rows) t.columns } in
-    let ended : c.loop-row.row-iterator ≡ [] = search rules in
-    let headed : c.in_ok-table.table ≡ headed_table look selected.is_numbered selected.columns selected.names = search rules in
-    content_is look c.args.is_aligned selected c.loop-row.table
-    (ap (λ (rest : List (List Text)). record c.loop-row.table { columns = grown (map make rest) c.loop-row.table.columns }) (sym ended)
-    ∙ c.loop-row.invariant ∙ ap grows headed)
+pub returns-clause-table : goal.returns-clause-table
+returns-clause-table c =
+    let rows = c.args.rows in
+    let all = rows_from rows 0 rows.selected.rows in
+    let headed : c.in_ok-table.table ≡ headed_by rows = c.in_ok-table.ensures in
+    let count = c.len.ensures ∙ c.in_ok-widths.ensures.count in
+    ap (with_other_rows all) c.in_ok-grow_columns.ensures.ok
+    ∙ ap (λ n. with_other_rows all (record c.in_ok-table.table { columns = columns_grown_to n c.in_ok-table.table.columns })) count
+    ∙ ap (λ (t : TableValue). with_other_rows all (record t { columns = columns_grown_to (max (length t.columns) (most_cells all)) t.columns })) headed
+    ∙ table_is rows

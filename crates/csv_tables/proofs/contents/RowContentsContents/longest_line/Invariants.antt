@@ -1,16 +1,12 @@
-use Rattle.std.proofs.Common.{◌≡◌, ◌+◌, map, max}
+use Rattle.std.proofs.Common.{◌≡◌, max}
 use Rattle.std.specs.Iterator.Adapters.{enumerate_count, enumerate_source}
-use Rattle.comfy_parts.specs.Text.{greatest}
 use Rattle.comfy_table.specs.Lines.{longest_line}
 use Rattle.comfy_table.specs.LongestLine.{cell_longest_line}
-use Rattle.comfy_table.specs.TableValue.{cells_at}
-use Rattle.csv_tables.specs.Cells.{counted_from, row_for}
-use Rattle.csv_tables.specs.Contents.{measured_at}
+use Rattle.csv_tables.specs.Contents.{greatest_at, rows_from}
 use Rattle.csv_tables.proofs.contents.RowContentsContents.longest_line.Given as goal
 
--- the greatest so far, and of the rows that are left
+-- the longest so far, and of the rows that are left
 abbrev pub invariant-loop-at : goal.invariant-loop-at
 invariant-loop-at l =
-    max l.longest (greatest (map (measured_at l.self (cell_longest_line l.self l.info))
-    (cells_at (map (row_for l.rows.look.now l.rows.is_aligned l.rows.selected.now.is_numbered l.rows.selected.now.columns) (counted_from (enumerate_count l.at-iterator + 1) (enumerate_source l.at-iterator))) l.position)))
-    ≡ longest_line l.self l.position l.info.delimiter l.info.content_width
+    max l.longest (greatest_at l.self.table (cell_longest_line l.self.table l.info) (rows_from l.rows (enumerate_count l.at-iterator) (enumerate_source l.at-iterator)) l.position)
+    ≡ longest_line l.self.table l.position l.info.delimiter l.info.content_width
