@@ -2,9 +2,9 @@
 use Rattle.std.proofs.Common.{◌≡◌, ◌<◌, ◌≤◌, ◌+◌, ◌-◌, ◌++◌, ◌∷◌, [], ℕ, zero, suc, All, List, Some, None, unwrap_or, zero-add, ap, ap₂, arith, drop, length, map, refl, sym, take, ◌∙◌}
 use Rattle.std.proofs.Math.Seq.{drop-append_seam, take-length}
 use Rattle.std.proofs.lemmas.List.{drop-append-le, length-append, length-drop, length-take-le, map-append, take-append-le}
-use Rattle.std.proofs.lemmas.List.Elements.{All-drop}
+use Rattle.std.proofs.lemmas.List.Elements.{All-cons, All-drop, All-nil}
 use Rattle.comfy_parts.specs.Text.{Text}
-use Rattle.csv.specs.Records.{field_at}
+use Rattle.csv.specs.Records.{AllText, field_at}
 use Rattle.csv_records.specs.Places.{IsWithin, fields_at}
 use Rattle.csv_records.specs.declared.records.Place.{Place}
 
@@ -71,3 +71,22 @@ field_before (suc n) (f ∷ fs) (suc i) below = field_before n fs i (omega (arit
 
 pub field_of_record : (fields : List Text) (place : Place) (i : ℕ) → i < place.end - place.start → field_at fields (place.start + i) ≡ field_at (fields_at fields place) i
 field_of_record fields place i below = sym (field_before (place.end - place.start) (drop place.start fields) i below ∙ field_behind place.start fields i)
+
+-- ---- texts
+
+texts-take : (n : ℕ) (fields : List Text) → AllText fields → AllText (take n fields)
+unfolding AllText
+texts-take zero fields texts = tt
+texts-take (suc n) [] texts = tt
+texts-take (suc n) (f ∷ fs) texts = (texts.0, texts-take n fs texts.1)
+
+texts-drop : (n : ℕ) (fields : List Text) → AllText fields → AllText (drop n fields)
+unfolding AllText
+texts-drop zero fields texts = texts
+texts-drop (suc n) [] texts = tt
+texts-drop (suc n) (f ∷ fs) texts = texts-drop n fs texts.1
+
+-- the fields of records are texts where all are
+pub all_texts : (fields : List Text) (places : List Place) → AllText fields → All AllText (map (fields_at fields) places)
+all_texts fields [] texts = All-nil AllText
+all_texts fields (place ∷ places) texts = All-cons AllText (fields_at fields place) (map (fields_at fields) places) (texts-take (place.end - place.start) (drop place.start fields) (texts-drop place.start fields texts)) (all_texts fields places texts)

@@ -133,6 +133,13 @@ impl<'a> Rows<'a> {
         self.places.is_empty()
     }
 
+    /// Does nothing. What it ensures is that fields are whole characters.
+    pub fn hold_texts(&self)
+        ensures { All AllText self.now }
+    {
+        let _ = &self.fields;
+    }
+
     /// The same records, to go over them.
     pub fn iter(&self) -> Rows<'a>
         ensures { result ≡ self.now }

@@ -62,7 +62,7 @@ module _ (P : Text → Type 0) (empty : P []) (short : (text : Text) → IsShort
   abbrev pub OfShown : Shown → Type 0
   OfShown shown = P shown.text
 
-  fields_each : (look : Look) (is_aligned : Bool) (columns : List DrawnColumn) (fields : List Text) → EachColumn P look is_aligned columns fields → All OfShown (shown_fields look is_aligned columns fields)
+  pub fields_each : (look : Look) (is_aligned : Bool) (columns : List DrawnColumn) (fields : List Text) → EachColumn P look is_aligned columns fields → All OfShown (shown_fields look is_aligned columns fields)
   fields_each look is_aligned columns fields each = All-map OfShown (λ (column : DrawnColumn). record { alignment = column.alignment; text = text_in look is_aligned column fields }) columns each
 
   pub number_each : (number : ℕ) → P (decimal number)

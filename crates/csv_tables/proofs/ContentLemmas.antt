@@ -14,7 +14,8 @@ use Rattle.comfy_table.specs.LongestLine.{cell_longest_line}
 use Rattle.comfy_table.specs.TableValue.{TableValue, cell_content_width, cells_at, cells_with_header, column_content_width, max_content_widths, with_other_rows, with_row, with_rows}
 use Rattle.csv_tables.specs.Cells.{counted_from, header_for, row_for}
 use Rattle.csv_tables.specs.Contents.{greatest_at, headed_by, made_by, measured_at, most_cells, pairs_by, rows_at, rows_from, table_by}
-use Rattle.csv_tables.specs.Drawn.{SelectedValue, empty_table, headed_table, pairs_table, rows_of, rows_table}
+use Rattle.csv_tables.specs.Drawn.{SelectedValue, empty_table, headed_table, pairs_in, pairs_table, rows_of, rows_table}
+use Rattle.csv_tables.specs.Unbroken.{cell_unbroken_width, field_width}
 use Rattle.csv_tables.specs.declared.options.DrawnColumn.{DrawnColumn}
 use Rattle.csv_tables.specs.declared.options.Look.{Look}
 use Rattle.csv_tables.specs.declared.rows.RecordRows.{RecordRows}
@@ -34,31 +35,42 @@ with_rows-grown (row ∷ rows) t =
 
 -- numbers behind one another
 ranges : (f : ℕ → ColumnValue) (a m n : ℕ) → map f (range_with_len a m) ++ map f (range_with_len (a + m) n) ≡ map f (range_with_len a (m + n))
-ranges f a zero n = ap (λ k. map f (range_with_len k n)) (omega arith)
-ranges f a (suc m) n = ap (λ (rest : List ColumnValue). f a ∷ rest) (ap (λ k. map f (range_with_len (suc a) m) ++ map f (range_with_len k n)) (omega arith) ∙ ranges f (suc a) m n)
+ranges f a zero n =
+    let start : a + 0 ≡ a = omega arith in
+    let long : n ≡ 0 + n = omega arith in
+    ap₂ (λ (k m : ℕ). map f (range_with_len k m)) start long
+ranges f a (suc m) n =
+    let next : a + suc m ≡ (a + 1) + m = omega arith in
+    let long : suc (m + n) ≡ suc m + n = omega arith in
+    ap (λ (rest : List ColumnValue). f a ∷ rest) (ap (λ k. map f (range_with_len (a + 1) m) ++ map f (range_with_len k n)) next ∙ ranges f (a + 1) m n)
+    ∙ ap (λ k. map f (range_with_len a k)) long
 
 -- columns that grow twice
 grown-twice : (a b : ℕ) (columns : List ColumnValue) → columns_grown_to b (columns_grown_to a columns) ≡ columns_grown_to (max a b) columns
 grown-twice a b columns =
     let n = length columns in
     let more = map new_column (range_with_len n (a - n)) in
+    let all : (a - n) + (b - (n + (a - n))) ≡ max a b - n = omega arith in
     let long : length (columns ++ more) ≡ n + (a - n) = length-append columns more ∙ ap (λ k. n + k) (length-map (range_with_len n (a - n)) new_column ∙ length-range_with_len n (a - n)) in
     ap (λ k. (columns ++ more) ++ map new_column (range_with_len k (b - k))) long
     ∙ append_assoc columns more (map new_column (range_with_len (n + (a - n)) (b - (n + (a - n)))))
-    ∙ ap (λ (cs : List ColumnValue). columns ++ cs) (ranges new_column n (a - n) (b - (n + (a - n))) ∙ ap (λ k. map new_column (range_with_len n k)) (omega arith))
+    ∙ ap (λ (cs : List ColumnValue). columns ++ cs) (ranges new_column n (a - n) (b - (n + (a - n))) ∙ ap (λ k. map new_column (range_with_len n k)) all)
 
 grown-most : (rows : List RowValue) (columns : List ColumnValue) → grown rows columns ≡ columns_grown_to (most_cells rows) columns
-grown-most [] columns = sym (ap (λ k. columns ++ map new_column (range_with_len (length columns) k)) (omega arith) ∙ append-nil columns)
+grown-most [] columns =
+    let none : 0 - length columns ≡ 0 = omega arith in
+    sym (ap (λ k. columns ++ map new_column (range_with_len (length columns) k)) none ∙ append-nil columns)
 grown-most (row ∷ rows) columns = grown-most rows (columns_grown_to (length row.cells) columns) ∙ grown-twice (length row.cells) (most_cells rows) columns
 
 -- a table that has rows, of which the columns alone have grown
-with_columns : List RowValue → TableValue → TableValue
+abbrev pub with_columns : List RowValue → TableValue → TableValue
 with_columns rows headed = with_other_rows rows (record headed { columns = columns_grown_to (max (length headed.columns) (most_cells rows)) headed.columns })
 
 whole : (rows : List RowValue) (headed : TableValue) → headed.rows ≡ [] → with_columns rows headed ≡ with_rows rows headed
 whole rows headed none =
     let n = length headed.columns in
-    let most : columns_grown_to (max n (most_cells rows)) headed.columns ≡ grown rows headed.columns = ap (λ k. headed.columns ++ map new_column (range_with_len n k)) (omega arith) ∙ sym (grown-most rows headed.columns) in
+    let more : max n (most_cells rows) - n ≡ most_cells rows - n = omega arith in
+    let most : columns_grown_to (max n (most_cells rows)) headed.columns ≡ grown rows headed.columns = ap (λ k. headed.columns ++ map new_column (range_with_len n k)) more ∙ sym (grown-most rows headed.columns) in
     ap (λ (cs : List ColumnValue). with_other_rows rows (record headed { columns = cs })) most
     ∙ ap (λ (own : List RowValue). with_other_rows (own ++ rows) (record headed { columns = grown rows headed.columns })) (sym none)
     ∙ sym (with_rows-grown rows headed)
@@ -66,7 +78,7 @@ whole rows headed none =
 -- ---- rows
 
 -- those of expanded records
-pairs_rows : (rows : RecordRows) → rows.is_expanded ≡ true → (at : ℕ) (left : List (List Text)) → rows_from rows at left ≡ flat_map (pairs_by rows) left
+pub pairs_rows : (rows : RecordRows) → rows.is_expanded ≡ true → (at : ℕ) (left : List (List Text)) → rows_from rows at left ≡ flat_map (pairs_by rows) left
 pairs_rows rows expanded at [] = refl
 pairs_rows rows expanded at (fields ∷ left) =
     ap₂ (λ (b : Bool) (rest : List RowValue). (if b then pairs_by rows fields else made_by rows at fields ∷ []) ++ rest) expanded (pairs_rows rows expanded (at + 1) left)
@@ -90,6 +102,9 @@ no_rows rows = by_kind rows.is_expanded
     by_kind false = headed-rows rows.look rows.selected rows.selected.names
 
 -- the table of records
+pub pairs-header : (look : Look) (content : SelectedValue) → (pairs_table look content).header ≡ None
+pairs-header look content = ap (λ (t : TableValue). t.header) (with_rows-grown (flat_map (pairs_in look content) content.rows) (empty_table look))
+
 pub table_is : (rows : RecordRows) → with_columns (rows_from rows 0 rows.selected.rows) (headed_by rows) ≡ table_by rows
 table_is rows = by_kind rows.is_expanded refl
   where
@@ -140,6 +155,27 @@ below_header f t rows i none =
     λ j. greatest (map (λ (cell : Option CellValue). (given_same f all cell ∙ sym (measured_same f t rows cell)) j) (cells_at rows i)) in
     omega (arith, same, empty, each)
 
+pub measured_alike : (f : CellValue → ℕ) (t : TableValue) (rows : List RowValue) (made : List RowValue) (i : ℕ) → greatest_at t f made i ≡ greatest_at (with_other_rows rows t) f made i
+measured_alike f t rows made i = λ j. greatest (map (λ (cell : Option CellValue). measured_same f t rows cell j) (cells_at made i))
+
+-- the fields of expanded records
+pub fields_are : (rows : RecordRows) (t : TableValue) (room : ℕ) → t.header ≡ None → t.rows ≡ [] → rows.is_expanded ≡ true
+    → max 0 (greatest_at (with_other_rows (rows_from rows 0 rows.selected.rows) t) (cell_unbroken_width room) (flat_map (pairs_by rows) rows.selected.rows) 1) ≡ field_width room (with_other_rows (rows_from rows 0 rows.selected.rows) t)
+fields_are rows t room bare none expanded =
+    let all = rows_from rows 0 rows.selected.rows in
+    let whole = with_other_rows all t in
+    let f = cell_unbroken_width room in
+    let is = pairs_rows rows expanded 0 rows.selected.rows in
+    let own = greatest_measured whole f 1 in
+    let header = ap (λ (h : Option RowValue). of_measured whole f (option_and_then (λ (row : RowValue). slice_get row.cells 1) h)) bare in
+    let each : greatest (map (of_measured whole f) (cells_at all 1)) ≡ greatest_at whole f all 1 = λ j. greatest (map (λ (cell : Option CellValue). given_same f whole cell j) (cells_at all 1)) in
+    let same = ap (λ (made : List RowValue). greatest_at whole f made 1) is in
+    omega (arith, own, header, each, same)
+
+pub longest_same : (t : TableValue) (rows : List RowValue) (info : ColumnInfo) (made : List RowValue) (i : ℕ)
+    → greatest_at t (cell_longest_line t info) made i ≡ greatest_at (with_other_rows rows t) (cell_longest_line (with_other_rows rows t) info) made i
+longest_same t rows info made i = λ j. greatest (map (λ (cell : Option CellValue). measured_same (cell_longest_line t info) t rows cell j) (cells_at made i))
+
 -- content widths
 pub width_below : (t : TableValue) (rows : List RowValue) (i : ℕ) → t.rows ≡ [] → max (column_content_width t i) (greatest_at t cell_content_width rows i) ≡ column_content_width (with_other_rows rows t) i
 width_below t rows i none =
@@ -160,7 +196,7 @@ longest_below t rows info i none =
 -- the widths of as many columns as the header has cells are those of all positions
 all_widths : (t : TableValue) → t.rows ≡ [] → ((row : RowValue) → t.header ≡ Some row → length row.cells ≤ length t.columns) → (i : ℕ) → slice_index_or (max_content_widths t) i 0 ≡ column_content_width t i
 all_widths t none within i =
-    ⊎_elim (λ inside. get_or-map-range_with_len (column_content_width t) 0 (length t.columns) i i 0 inside refl)
+    ⊎_elim (λ inside. get_or-map-range_with_len (column_content_width t) 0 (length t.columns) i i 0 inside (omega arith))
     (λ outside.
     let past = get_or_past (max_content_widths t) i 0 (subst (λ n. n ≤ i) (sym (length-map-range_with_len (column_content_width t) 0 (length t.columns))) outside) in
     past ∙ sym (greatest_measured t cell_content_width i ∙ nothing t.header within outside)) (cases_lt i (length t.columns))
@@ -195,12 +231,13 @@ header_widths rows t is i = subst (λ (own : TableValue). slice_index_or (max_co
 
 -- widths that are those of each position are those of the columns
 pub widths_are : (t : TableValue) (widths : List ℕ) → length widths ≡ length t.columns → ((i : ℕ) → slice_index_or widths i 0 ≡ column_content_width t i) → widths ≡ max_content_widths t
-widths_are t widths long each = from 0 widths (length t.columns) long (λ i. each i)
+widths_are t widths long each = from 0 widths (length t.columns) long (λ i. let same : i ≡ 0 + i = omega arith in each i ∙ ap (column_content_width t) same)
   where
     from : (a : ℕ) (own : List ℕ) (n : ℕ) → length own ≡ n → ((i : ℕ) → slice_index_or own i 0 ≡ column_content_width t (a + i)) → own ≡ map (column_content_width t) (range_with_len a n)
     from a [] zero long each = refl
     from a [] (suc n) long each = absurd (omega (arith, long))
     from a (w ∷ own) zero long each = absurd (omega (arith, long))
     from a (w ∷ own) (suc n) long each =
-        ap₂ (λ (x : ℕ) (xs : List ℕ). x ∷ xs) (each 0 ∙ ap (column_content_width t) (omega arith))
-        (from (suc a) own n (omega (arith, long)) (λ i. each (suc i) ∙ ap (column_content_width t) (omega arith)))
+        let first : a + 0 ≡ a = omega arith in
+        ap₂ (λ (x : ℕ) (xs : List ℕ). x ∷ xs) (each 0 ∙ ap (column_content_width t) first)
+        (from (a + 1) own n (omega (arith, long)) (λ i. let next : a + suc i ≡ (a + 1) + i = omega arith in each (suc i) ∙ ap (column_content_width t) next))

@@ -9,6 +9,7 @@ mod ExpandedLemmas
 pub mod FieldControlLemmas
 pub mod FieldLemmas
 mod FlatLemmas
+mod PieceLemmas
 mod PlainLemmas
 pub mod FittingLemmas
 pub mod KeptFieldLemmas
@@ -24,6 +25,7 @@ pub mod OneOutputLemmas
 pub mod OutputControlLemmas
 pub mod OutputLemmas
 pub mod ReachedLemmas
+mod RecordTextLemmas
 pub mod RowLemmas
 pub mod SeenLemmas
 pub mod SeparatorLemmas
@@ -36,4 +38,5 @@ pub mod TextTableLemmas
 pub mod UnbrokenFieldLemmas
 pub mod UnbrokenLemmas
 pub mod WholeColumnLemmas
+mod WholeRowLemmas
 pub mod WholeTableLemmas

@@ -1,5 +1,5 @@
 -- Texts whose cells need not be made to know their widths.
-use Rattle.std.proofs.Common.{◌≡◌, ◌<◌, ◌≤◌, Bool, true, false, not, ◌&&◌, List, [], ◌∷◌, ◌++◌, Option, None, Some, length, map, max, min, ap, sym, ◌∙◌, arith}
+use Rattle.std.proofs.Common.{◌≡◌, ◌<◌, ◌≤◌, ℕ, Bool, true, false, not, ◌&&◌, List, [], ◌∷◌, ◌++◌, Option, None, Some, length, map, max, min, ap, sym, ◌∙◌, arith}
 use Rattle.std.proofs.lemmas.Bool.{and_parts, not-true}
 use Rattle.std.proofs.lemmas.Bool.Decides.{nat_tests}
 use Rattle.std.specs.List.{flat_map}
@@ -16,6 +16,7 @@ use Rattle.comfy_table.specs.TableValue.{TableValue, cell_content_width, measure
 use Rattle.csv_tables.proofs.FieldLemmas.{printable_cell, whole_line}
 use Rattle.csv_tables.specs.Cells.{cell_for, is_blank}
 use Rattle.csv_tables.specs.Contents.{is_plain}
+use Rattle.csv_tables.specs.Unbroken.{cell_unbroken_width, unbroken_width}
 use Rattle.csv_tables.specs.declared.options.Look.{Look}
 
 some : (text : Text) → is_blank text ≡ false → 0 < length text
@@ -40,7 +41,7 @@ module _ (look : Look) (table : TableValue) (text : Text) (plain : is_plain look
   printable = (and_parts (not (is_blank text)) _ last).1
 
   pub plain_parts : (look.is_markdown ≡ false) × (table.custom_styling ≡ false) × ((is_blank text ≡ false) × (is_printable_ascii text ≡ true))
-  plain_parts = (unmarked, custom, filled, printable)
+  plain_parts = (unmarked, custom, (filled, printable))
 
   -- its cell
   cell_is : plain_cell text ≡ cell_for look None text
@@ -61,6 +62,11 @@ module _ (look : Look) (table : TableValue) (text : Text) (plain : is_plain look
       let lines = ap (λ (ls : List Text). max 1 (min 65535 (greatest (map measure ls)))) one_line in
       let long = some text filled in
       omega (arith, lines, wide, long)
+
+  pub plain_unbroken : (room : ℕ) → cell_unbroken_width room (measured_cell table (cell_for look None text)) ≡ unbroken_width room text
+  plain_unbroken room =
+      let lines = ap (λ (ls : List Text). greatest (map (unbroken_width room) ls)) one_line in
+      omega (arith, lines)
 
   pub plain_longest : (info : ColumnInfo) → length text ≤ info.content_width → cell_longest_line table info (measured_cell table (cell_for look None text)) ≡ length text
   plain_longest info fits =

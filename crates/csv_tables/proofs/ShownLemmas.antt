@@ -1,7 +1,8 @@
 -- Rows of which a field is measured before its cell is made.
-use Rattle.std.proofs.Common.{◌≡◌, ◌<◌, ◌≤◌, ℕ, zero, suc, ◌+◌, ◌-◌, Bool, true, false, not, ◌&&◌, List, [], ◌∷◌, ◌++◌, Option, Some, None, length, map, max, min, arith, refl, ap, ap₂, sym, subst, ◌∙◌}
-use Rattle.std.proofs.lemmas.Bool.{and_parts, not-true}
-use Rattle.std.proofs.lemmas.List.{length-append, length-map, length-repeat}
+use Rattle.std.proofs.Common.{◌≡◌, ◌<◌, ◌≤◌, ℕ, zero, suc, ◌+◌, ◌-◌, Bool, true, false, not, ◌&&◌, List, [], ◌∷◌, ◌++◌, Option, Some, None, length, map, max, min, arith, refl, ap, ap₂, sym, subst, ◌∙◌, nat_lt, ◌==◌, ◌≢◌, ⊎_elim}
+use Rattle.std.proofs.lemmas.Bool.{and_parts, cases_lt, eqb-false, eqb-true, not-true}
+use Rattle.std.proofs.lemmas.Bool.Decides.{nat_tests}
+use Rattle.std.proofs.lemmas.List.{length-append, length-map}
 use Rattle.std.proofs.lemmas.List.Folds.{list_all-append}
 use Rattle.std.proofs.lemmas.Option.{slice_get-map, slice_get_past}
 use Rattle.std.specs.List.{slice_get}
@@ -14,7 +15,7 @@ use Rattle.csv_records.specs.declared.decimals.Points.{Points}
 use Rattle.csv.specs.Records.{field_at}
 use Rattle.csv_tables.proofs.PlainLemmas.{plain_parts, plain_width}
 use Rattle.csv_tables.specs.Cells.{Shown, cell_for, columns_within, is_blank, shown_cells, shown_fields, shown_number, text_in}
-use Rattle.csv_tables.specs.Contents.{IsPlainShown, is_plain, made_by, measured_at, shown_by}
+use Rattle.csv_tables.specs.Contents.{IsPlainShown, is_plain, made_by, measured_at, shown_by, spaces_by, spaces_in}
 use Rattle.csv_tables.specs.Decimals.{spaced}
 use Rattle.csv_tables.specs.declared.options.DrawnColumn.{DrawnColumn}
 use Rattle.csv_tables.specs.declared.options.Look.{Look}
@@ -34,41 +35,33 @@ spaces_long (suc n) = ap suc (spaces_long n)
 plain_spaced : (look : Look) (table : TableValue) (field : Text) (n : ℕ) → is_plain look table field ≡ true → is_plain look table (field ++ spaces n) ≡ true
 plain_spaced look table field n plain =
     let parts = plain_parts look table field plain in
-    let printable : is_printable_ascii (field ++ spaces n) ≡ true = list_all-append _ field (spaces n) ∙ ap₂ (λ a b. a && b) parts.1.1.1 (spaces_printable n) in
-    let filled : is_blank (field ++ spaces n) ≡ false = list_all-append _ field (spaces n) ∙ ap (λ b. b && is_blank (spaces n)) parts.1.1.0 in
-    ap₂ (λ a b. not a && (not b && (not (is_blank (field ++ spaces n)) && is_printable_ascii (field ++ spaces n)))) parts.0 parts.1.0
+    let printable : is_printable_ascii (field ++ spaces n) ≡ true = list_all-append _ field (spaces n) ∙ ap₂ (λ a b. a && b) parts.2.1 (spaces_printable n) in
+    let filled : is_blank (field ++ spaces n) ≡ false = list_all-append _ field (spaces n) ∙ ap (λ b. b && is_blank (spaces n)) parts.2.0 in
+    ap₂ (λ a b. not a && (not b && (not (is_blank (field ++ spaces n)) && is_printable_ascii (field ++ spaces n)))) parts.0 parts.1
     ∙ ap₂ (λ a b. not a && b) filled printable
-
--- how many spaces a column has behind a field
-abbrev pub behind_in : RecordRows → DrawnColumn → Text → ℕ
-behind_in rows column field = by_mark (if rows.is_aligned then column.points else None)
-  where
-    by_mark : Option Points → ℕ
-    by_mark None = 0
-    by_mark (Some points) = spaces_behind points field
 
 -- ---- what a row shows
 
 module _ (rows : RecordRows) (table : TableValue) (fields : List Text) (column : DrawnColumn) (field : Text)
     (is : field_at fields column.position ≡ Some field) (kept : rows.look.has_sequences ≡ false) (plain : is_plain rows.look table field ≡ true) where
   -- the text of a column of which the field is plain
-  plain_text : (is_plain rows.look table (text_in rows.look rows.is_aligned column fields) ≡ true) × (length (text_in rows.look rows.is_aligned column fields) ≡ length field + behind_in rows column field)
+  plain_text : (is_plain rows.look table (text_in rows.look rows.is_aligned column fields) ≡ true) × (length (text_in rows.look rows.is_aligned column fields) ≡ length field + spaces_in rows column field)
   plain_text =
-      subst (λ (t : Text). (is_plain rows.look table (spaced rows.look.has_sequences mark t) ≡ true) × (length (spaced rows.look.has_sequences mark t) ≡ length field + behind_in rows column field))
+      subst (λ (t : Text). (is_plain rows.look table (spaced rows.look.has_sequences mark t) ≡ true) × (length (spaced rows.look.has_sequences mark t) ≡ length field + spaces_in rows column field))
       (sym (ap (λ (o : Option Text). unwrap_or o []) is))
-      (subst (λ (b : Bool). (is_plain rows.look table (spaced b mark field) ≡ true) × (length (spaced b mark field) ≡ length field + behind_in rows column field)) (sym kept) (by_mark mark refl))
+      (subst (λ (b : Bool). (is_plain rows.look table (spaced b mark field) ≡ true) × (length (spaced b mark field) ≡ length field + spaces_in rows column field)) (sym kept) (by_mark mark))
     where
       mark : Option Points
       mark = if rows.is_aligned then column.points else None
-      by_mark : (o : Option Points) → mark ≡ o → (is_plain rows.look table (spaced false o field) ≡ true) × (length (spaced false o field) ≡ length field + behind_in rows column field)
-      by_mark None is = (plain, omega arith)
-      by_mark (Some points) is =
+      by_mark : (o : Option Points) → (is_plain rows.look table (spaced false o field) ≡ true) × (length (spaced false o field) ≡ length field + spaces_by o field)
+      by_mark None = (plain, omega arith)
+      by_mark (Some points) =
           let n = spaces_behind points field in
           (plain_spaced rows.look table field n plain, length-append field (spaces n) ∙ ap (λ k. length field + k) (spaces_long n))
 
   pub plain_shown : (at position place : ℕ) → position ≡ place + (if rows.selected.is_numbered then 1 else 0)
-      → slice_get (columns_within fields rows.selected.columns) place ≡ Some column → IsPlainShown rows table (length field + behind_in rows column field) (slice_get (shown_by rows at fields) position)
-  plain_shown at position place stands found = subst (IsPlainShown rows table (length field + behind_in rows column field)) (sym there) plain_text
+      → slice_get (columns_within fields rows.selected.columns) place ≡ Some column → IsPlainShown rows table (length field + spaces_in rows column field) (slice_get (shown_by rows at fields) position)
+  plain_shown at position place stands found = subst (IsPlainShown rows table (length field + spaces_in rows column field)) (sym there) plain_text
     where
       drawn : List DrawnColumn
       drawn = columns_within fields rows.selected.columns
@@ -78,8 +71,12 @@ module _ (rows : RecordRows) (table : TableValue) (fields : List Text) (column :
       in_fields = slice_get-map (λ (d : DrawnColumn). record { alignment = d.alignment; text = text_in rows.look rows.is_aligned d fields }) drawn place ∙ ap (option_map (λ (d : DrawnColumn). record { alignment = d.alignment; text = text_in rows.look rows.is_aligned d fields })) found
       by_number : (b : Bool) → position ≡ place + (if b then 1 else 0)
           → slice_get (shown_number (if b then Some (decimal (at + 1)) else None) ++ shown_fields rows.look rows.is_aligned drawn fields) position ≡ Some own
-      by_number true is = ap (slice_get (shown_number (Some (decimal (at + 1))) ++ shown_fields rows.look rows.is_aligned drawn fields)) (is ∙ omega arith) ∙ in_fields
-      by_number false is = ap (slice_get (shown_fields rows.look rows.is_aligned drawn fields)) (is ∙ omega arith) ∙ in_fields
+      by_number true is =
+          let next : place + 1 ≡ suc place = omega arith in
+          ap (slice_get (shown_number (Some (decimal (at + 1))) ++ shown_fields rows.look rows.is_aligned drawn fields)) (is ∙ next) ∙ in_fields
+      by_number false is =
+          let same : place + 0 ≡ place = omega arith in
+          ap (slice_get (shown_fields rows.look rows.is_aligned drawn fields)) (is ∙ same) ∙ in_fields
       there : slice_get (shown_by rows at fields) position ≡ Some own
       there = by_number rows.selected.is_numbered stands
 
@@ -93,3 +90,50 @@ plain_cell_width rows table at position count fields shown =
     by_shown : (o : Option Shown) → IsPlainShown rows table count o → min count 65535 ≡ measured_at table cell_content_width (option_map (λ (s : Shown). cell_for rows.look s.alignment s.text) o)
     by_shown None none = absurd none
     by_shown (Some s) own = ap (λ n. min n 65535) (sym own.1) ∙ sym (plain_width rows.look table s.text own.0)
+
+-- ---- all cells of a row
+
+-- a row has a cell for its number and for each column
+pub as_many_cells : (rows : RecordRows) (at : ℕ) (fields : List Text) → length (made_by rows at fields).cells ≡ length (columns_within fields rows.selected.columns) + (if rows.selected.is_numbered then 1 else 0)
+as_many_cells rows at fields =
+    length-map (shown_by rows at fields) (λ (s : Shown). cell_for rows.look s.alignment s.text) ∙ by_number rows.selected.is_numbered
+  where
+    drawn : List DrawnColumn
+    drawn = columns_within fields rows.selected.columns
+    many : length (shown_fields rows.look rows.is_aligned drawn fields) ≡ length drawn
+    many = length-map drawn (λ (d : DrawnColumn). record { alignment = d.alignment; text = text_in rows.look rows.is_aligned d fields })
+    by_number : (b : Bool) → length (shown_number (if b then Some (decimal (at + 1)) else None) ++ shown_fields rows.look rows.is_aligned drawn fields) ≡ length drawn + (if b then 1 else 0)
+    by_number true = let own = many in omega (arith, own)
+    by_number false = let own = many in omega (arith, own)
+
+-- what a width becomes with one cell more
+pub one_wider : (had : ℕ) (f : ℕ → ℕ) (i k : ℕ) → max (max had (if nat_lt i k then f i else 0)) (if i == k then f k else 0) ≡ max had (if nat_lt i (k + 1) then f i else 0)
+one_wider had f i k = ⊎_elim (λ before. grind (arith, nat_tests, before)) (λ behind. by_test (i == k) refl behind) (cases_lt i k)
+  where
+    by_test : (b : Bool) → (i == k) ≡ b → k ≤ i → max (max had (if nat_lt i k then f i else 0)) (if b then f k else 0) ≡ max had (if nat_lt i (k + 1) then f i else 0)
+    by_test true is behind =
+        let here : i ≡ k = eqb-true i k is in
+        let same = ap f here in
+        let at : nat_lt i k ≡ false = grind (arith, nat_tests, behind) in
+        let above : nat_lt i (k + 1) ≡ true = grind (arith, nat_tests, here) in
+        let one = ap (λ b. if b then f i else 0) at in
+        let two = ap (λ b. if b then f i else 0) above in
+        omega (arith, one, two, same)
+    by_test false is behind =
+        let other : i ≢ k = eqb-false i k is in
+        let at : nat_lt i k ≡ false = grind (arith, nat_tests, behind) in
+        let above : nat_lt i (k + 1) ≡ false = grind (arith, nat_tests, behind, other) in
+        let one = ap (λ b. if b then f i else 0) at in
+        let two = ap (λ b. if b then f i else 0) above in
+        omega (arith, one, two)
+
+-- behind all cells there is none
+pub all_cells : (table : TableValue) (cells : List CellValue) (n i : ℕ) → length cells ≡ n
+    → (if nat_lt i n then measured_at table cell_content_width (slice_get cells i) else 0) ≡ measured_at table cell_content_width (slice_get cells i)
+all_cells table cells n i all = by_test (nat_lt i n) refl
+  where
+    by_test : (b : Bool) → nat_lt i n ≡ b → (if b then measured_at table cell_content_width (slice_get cells i) else 0) ≡ measured_at table cell_content_width (slice_get cells i)
+    by_test true is = refl
+    by_test false is =
+        let past : length cells ≤ i = grind (arith, nat_tests, is, all) in
+        sym (ap (measured_at table cell_content_width) (slice_get_past cells i past))

@@ -1,9 +1,9 @@
 -- Fields with spaces behind them, and columns whose fields need none.
-use Rattle.std.proofs.Common.{◌≡◌, ◌&&◌, ◌++◌, ℕ, Bool, true, false, List, [], ◌∷◌, Option, Some, None, is_some, map, refl, sym, ap, ap₂, ◌∙◌}
+use Rattle.std.proofs.Common.{◌≡◌, ◌&&◌, ◌||◌, not, ◌++◌, ℕ, Bool, true, false, List, [], ◌∷◌, Option, Some, None, is_some, map, refl, sym, ap, ap₂, ◌∙◌}
 use Rattle.std.specs.List.{list_any}
 use Rattle.std.specs.Prelude.{if◌then◌else◌}
 use Rattle.std.specs.Str.{chars}
-use Rattle.std.proofs.lemmas.Bool.{or_parts}
+use Rattle.std.proofs.lemmas.Bool.{and_parts, or_parts}
 use Rattle.comfy_parts.specs.CellValue.{RowValue}
 use Rattle.comfy_parts.specs.Text.{Text, spaces}
 use Rattle.comfy_table.specs.TableValue.{with_rows}
@@ -98,5 +98,10 @@ module _ (look : Look) where
   pub without_room : (content : SelectedValue) → has_room_for look content true ≡ false → is_aligned_in look content ≡ false
   without_room content none = ap (λ (b : Bool). look.aligns_decimals && b) none ∙ and_false look.aligns_decimals
 
-  pub without_points : (content : SelectedValue) → has_points content.columns ≡ false → rows_table look false content ≡ rows_table look (is_aligned_in look content) content
-  without_points content none = unaligned content (ap (λ (b : Bool). look.aligns_decimals && b) none ∙ and_false look.aligns_decimals)
+-- what is drawn where there is room, or no marks are aligned
+  pub fits : (content : SelectedValue) (aligns has : Bool) → aligns ≡ look.aligns_decimals && has_points content.columns → has ≡ has_room_for look content aligns → has || not aligns ≡ true
+      → rows_table look aligns content ≡ rows_table look (is_aligned_in look content) content
+  fits content false has is room drawn = unaligned content (sym is)
+  fits content true true is room drawn =
+      ap (λ (b : Bool). rows_table look b content) (sym (ap₂ (λ a b. a && b) (and_parts look.aligns_decimals (has_points content.columns) (sym is)).0 (sym room)))
+  fits content true false is room drawn = absurd (cc drawn)

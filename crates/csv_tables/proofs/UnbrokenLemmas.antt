@@ -39,6 +39,12 @@ broken-more (b ∷ bs) (suc i) [] below is = refl
 broken-more (b ∷ bs) (suc i) (c ∷ cs) below is = ap (λ (xs : List ColumnValue). constrained_column b c ∷ xs) (broken-more bs i cs (omega (arith, below)) is)
 
 -- a column is replaced
+-- as many columns
+pub length-constrained : (unbroken : List Bool) (columns : List ColumnValue) → length columns ≡ length (constrained_columns unbroken columns)
+length-constrained [] columns = refl
+length-constrained (b ∷ bs) [] = refl
+length-constrained (b ∷ bs) (c ∷ cs) = ap suc (length-constrained bs cs)
+
 pub constrained_at-set : (columns : List ColumnValue) (i : ℕ) (default : ColumnValue) → i < length columns → set columns i (constrained_column true (get_or columns i default)) ≡ constrained_at i columns
 constrained_at-set [] i default below = absurd (omega (arith, below))
 constrained_at-set (c ∷ cs) zero default below = refl

@@ -1,7 +1,7 @@
 -- Private: rows of records before they are made, and texts whose cells need not be made to know
 -- their widths.
 -- Source: this library's own.
-use Rattle.std.specs.Prelude.{ℕ, ◌+◌, ◌×◌, ◌≡◌, ◌==◌, Bool, true, ◌&&◌, List, [], ◌∷◌, ◌++◌, Option, Some, None, String, drop, length, map, not, slice_get, string_bytes, unwrap_or, if◌then◌else◌}
+use Rattle.std.specs.Prelude.{ℕ, ◌+◌, ◌≡◌, ◌==◌, Bool, true, ◌&&◌, List, [], ◌∷◌, ◌++◌, Option, Some, None, length, map, not, slice_get, unwrap_or, if◌then◌else◌}
 use Rattle.comfy_parts.specs.CellValue.{CellValue, ColumnInfo, RowValue}
 use Rattle.comfy_parts.specs.Text.{Text, greatest, is_printable_ascii}
 use Rattle.comfy_table.specs.Drawing.{part_of_drawing, terminated_text_of}
@@ -10,7 +10,9 @@ use Rattle.csv_tables.specs.Cells.{Shown, columns_within, is_blank, row_for, sho
 use Rattle.csv_tables.specs.ContentsValue.{ContentsValue}
 use Rattle.csv_tables.specs.Drawn.{SelectedValue, empty_table, headed_table, is_table_expanded, output_table, pairs_of, pairs_table, record_line, rows_table, separators_in}
 use Rattle.csv_tables.specs.Separators.{AreRowsSeparated}
-use Rattle.csv_tables.specs.declared.drawn.OpenDrawing.{OpenDrawing}
+use Rattle.csv_records.specs.Decimals.{spaces_behind}
+use Rattle.csv_records.specs.declared.decimals.Points.{Points}
+use Rattle.csv_tables.specs.declared.options.DrawnColumn.{DrawnColumn}
 use Rattle.csv_tables.specs.declared.options.Look.{Look}
 use Rattle.csv_tables.specs.declared.rows.RecordRows.{RecordRows}
 
@@ -76,6 +78,15 @@ is_plain look table text =
     not look.is_markdown
     && (not table.custom_styling && (not (is_blank text) && is_printable_ascii text))
 
+-- how many spaces a column has behind a field
+abbrev pub spaces_by : Option Points → Text → ℕ
+spaces_by None field = 0
+spaces_by (Some points) field = spaces_behind points field
+
+abbrev pub spaces_in : RecordRows → DrawnColumn → Text → ℕ
+spaces_in rows column field =
+    spaces_by (if rows.is_aligned then column.points else None) field
+
 -- a row shows such a text of so many characters
 abbrev pub IsPlainShown : RecordRows → TableValue → ℕ → Option Shown → Type 0
 IsPlainShown rows table count None = ⊥
@@ -102,25 +113,14 @@ expanded_from rows table infos at [] = []
 expanded_from rows table infos at (fields ∷ left) =
     expanded_record rows table infos at fields ++ expanded_from rows table infos (at + 1) left
 
--- what is drawn of records from a place on, and below the last one
-abbrev pub drawn_from : RecordRows → TableValue → List ColumnInfo → ℕ → List (List Text) → Text
-drawn_from rows table infos at left =
+-- what is drawn of records from a place on, and below them where the last one is among them
+abbrev pub drawn_next : RecordRows → TableValue → List ColumnInfo → ℕ → Bool → List (List Text)
+    → Text
+drawn_next rows table infos at is_last next =
     if rows.is_expanded
-    then expanded_from rows table infos at left
-    else terminated_text_of (part_of_drawing table infos (at == 0) true (rows_from rows at left))
-
--- what is left of a drawing
-abbrev pub rest_of : Option OpenDrawing → Text
-rest_of None = []
-rest_of (Some open) =
-    drawn_from open.contents.rows open.contents.table open.infos.items open.place
-    (drop open.place open.contents.rows.selected.rows)
-    ++ string_bytes open.note
-
--- the bytes of a piece, where there is one
-abbrev pub ready_text : {A : Type 0} → Option (String A) → Text
-ready_text None = []
-ready_text (Some piece) = string_bytes piece
+    then expanded_from rows table infos at next
+    else terminated_text_of
+        (part_of_drawing table infos (at == 0) is_last (rows_from rows at next))
 
 -- ---- tables that are drawn
 

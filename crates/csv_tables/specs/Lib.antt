@@ -12,6 +12,7 @@ pub mod Laws
 pub mod Leasts
 pub mod Markdown
 pub mod MarkdownLines
+pub mod Pieces
 pub mod References
 pub mod Separators
 pub mod Summaries

@@ -22,7 +22,7 @@ pub(crate) struct RowContents {
 }
 
 impl Model for RowContents {
-    ghost use Rattle.std.specs.Prelude.{◌≡◌, ◌×◌, [], ℕ, length};
+    ghost use Rattle.std.specs.Prelude.{◌≡◌, [], ℕ, length};
     ghost use Rattle.std.specs.List.{slice_index_or};
     ghost use Rattle.comfy_table.specs.TableValue.{column_content_width, with_other_rows};
     ghost use Rattle.csv_tables.specs.Contents.{rows_from};

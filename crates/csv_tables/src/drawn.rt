@@ -1,10 +1,11 @@
 //! The drawing of records, which comes in pieces.
 
-ghost use Rattle.std.specs.Prelude.{◌≡◌, ◌==◌, ◌<◌, ◌≤◌, ◌+◌, ◌++◌, ◌^◌, [], IfNone, IfOk, IfSome, None, OnErr, OnOk, Ok, Some, length, string_bytes, if◌then◌else◌};
+ghost use Rattle.std.specs.Prelude.{◌≡◌, ◌==◌, ◌<◌, ◌≤◌, ◌+◌, ◌++◌, ◌^◌, [], IfNone, IfOk, IfSome, None, OnErr, OnOk, Ok, Some, length, string_bytes, if◌then◌else◌, true};
 ghost use Rattle.std.specs.List.{All};
 ghost use Rattle.comfy_parts.specs.CellValue.{IsRow};
 ghost use Rattle.comfy_table.specs.Drawing.{part_of_drawing, terminated_text_of};
-ghost use Rattle.csv_tables.specs.Contents.{drawn_from, expanded_from, expanded_record, ready_text, rest_of, rows_from};
+ghost use Rattle.csv_tables.specs.Contents.{drawn_next, expanded_from, expanded_record, rows_from};
+ghost use Rattle.csv_tables.specs.Pieces.{ready_text, rest_of};
 
 use crate::contents::RowContents;
 use crate::expanded::push_record_line;
@@ -29,13 +30,14 @@ pub struct DrawnRecords {
 }
 
 impl Model for DrawnRecords {
-    ghost use Rattle.std.specs.Prelude.{◌≡◌, ◌×◌, ◌<◌, ◌++◌, [], ℕ, List, IfNone, IfSome, length, string_bytes};
-    ghost use Rattle.csv_tables.specs.Contents.{ready_text, rest_of};
+    ghost use Rattle.std.specs.Prelude.{◌≡◌, ◌<◌, ◌≤◌, ◌++◌, [], ℕ, List, IfNone, IfSome, length, string_bytes};
+    ghost use Rattle.csv_tables.specs.Pieces.{ready_text, rest_of};
 
     ghost Value = { List ℕ };
 
     ghost invariant = { λ d. IfNone d.ready (rest_of d.rest ≡ [])
-        × IfSome d.ready (λ piece. 0 < length (string_bytes piece)) };
+        × IfSome d.ready (λ piece. 0 < length (string_bytes piece))
+        × IfSome d.rest (λ left. left.place ≤ length left.contents.rows.selected.rows) };
 
     ghost view = { λ d. ready_text d.ready ++ rest_of d.rest };
 }
@@ -50,10 +52,11 @@ impl DrawnRecords {
     }
 
     /// The drawing of records of which none is drawn yet.
-    pub(crate) fn of_records(open: OpenDrawing) -> Result<DrawnRecords>
-        ensures { IfOk result (λ drawn. drawn ≡ rest_of (Some open)) }
+    pub(crate) fn of_records(left: OpenDrawing) -> Result<DrawnRecords>
+        requires { left.place ≡ 0 }
+        ensures { IfOk result (λ drawn. drawn ≡ rest_of (Some left)) }
     {
-        let (ready, rest) = piece_of(Some(open))?;
+        let (ready, rest) = piece_of(Some(left))?;
         Ok(DrawnRecords { ready, rest })
     }
 
@@ -89,14 +92,18 @@ pub(crate) struct OpenDrawing {
 
 // The next piece of a drawing, and what comes behind it.
 fn piece_of(rest: Option<OpenDrawing>) -> Result<(Option<String>, Option<OpenDrawing>)>
+    requires { IfSome rest (λ left.
+        left.place ≤ length left.contents.rows.selected.rows) }
     ensures all { IfOk result (λ x. rest_of rest ≡ ready_text x.0 ++ rest_of x.1) }
     ensures none { IfOk result (λ x. IfNone x.0 (rest_of x.1 ≡ [])) }
     ensures some { IfOk result (λ x. IfSome x.0 (λ piece. 0 < length (string_bytes piece))) }
+    ensures place { IfOk result (λ x. IfSome x.1 (λ left.
+        left.place ≤ length left.contents.rows.selected.rows)) }
 {
     let mut left = rest;
-    while let Some(open) = left {
-        let mut text = String::new(*open.note.allocator());
-        left = push_next(open, &mut text)?;
+    while let Some(drawing) = left {
+        let mut text = String::new(*drawing.note.allocator());
+        left = push_next(drawing, &mut text)?;
         if !text.is_empty() {
             return Ok((Some(text), left));
         }
@@ -105,17 +112,26 @@ fn piece_of(rest: Option<OpenDrawing>) -> Result<(Option<String>, Option<OpenDra
 }
 
 // Appends the lines of the next records, and behind the last one the note. Returns what is left.
-fn push_next(open: OpenDrawing, text: &mut String) -> Result<Option<OpenDrawing>>
-    ensures { IfOk result (λ left. string_bytes text.old ++ rest_of (Some open)
-        ≡ string_bytes text.new ++ rest_of left) }
+fn push_next(left: OpenDrawing, text: &mut String) -> Result<Option<OpenDrawing>>
+    requires { left.place ≤ length left.contents.rows.selected.rows }
+    ensures text { IfOk result (λ rest. string_bytes text.old ++ rest_of (Some left)
+        ≡ string_bytes text.new ++ rest_of rest) }
+    ensures place { IfOk result (λ rest. IfSome rest (λ more. (left.place < more.place)
+        × (more.place ≤ length more.contents.rows.selected.rows)
+        × (length more.contents.rows.selected.rows
+        ≡ length left.contents.rows.selected.rows))) }
 {
     let OpenDrawing {
         contents,
         infos,
         place,
         note,
-    } = open;
-    let (infos, count, is_last) = push_records(text, &contents, infos, place)?;
+    } = left;
+    let rows = contents.rows.selected.rows().rows_behind(place);
+    let next = rows.first_rows(RECORDS);
+    let count = next.len();
+    let is_last = count == rows.len();
+    let infos = push_records(text, &contents, infos, place, &next, is_last)?;
     if is_last {
         text.push_str(note.as_str())?;
         return Ok(None);
@@ -128,25 +144,27 @@ fn push_next(open: OpenDrawing, text: &mut String) -> Result<Option<OpenDrawing>
     }))
 }
 
-// Appends the lines of the next records. Returns the infos again, how many they were, and whether
-// they are the last.
+// Appends the lines of the next records. Returns the infos again.
 fn push_records(
     text: &mut String,
     contents: &RowContents,
     infos: Vec<ColumnDisplayInfo>,
     place: usize,
-) -> Result<(Vec<ColumnDisplayInfo>, usize, bool)>
+    next: &Rows<'_>,
+    is_last: bool,
+) -> Result<Vec<ColumnDisplayInfo>>
+    requires { place + length next.now < 2 ^ 64 }
+    ensures text { OnOk result (string_bytes text.new ≡ string_bytes text.old
+        ++ drawn_next contents.now.rows contents.now.table infos.items place is_last next.now) }
+    ensures infos { IfOk result (λ found. found.items ≡ infos.items) }
 {
     let arranged = ArrangedTable::with_infos(contents, infos)?;
-    let left = contents.rows.selected.rows().rows_behind(place);
-    let next = left.first_rows(RECORDS);
-    let is_last = next.len() == left.len();
     if contents.rows.is_expanded {
-        push_expanded(text, contents, &arranged, place, &next)?;
+        push_expanded(text, contents, &arranged, place, next)?;
     } else {
-        push_rows(text, contents, &arranged, place, &next, is_last)?;
+        push_rows(text, contents, &arranged, place, next, is_last)?;
     }
-    Ok((arranged.into_infos(), next.len(), is_last))
+    Ok(arranged.into_infos())
 }
 
 // Appends the lines of the rows of some records, the first of which is at a place.
@@ -158,6 +176,7 @@ fn push_rows(
     next: &Rows<'_>,
     is_last: bool,
 ) -> Result<()>
+    requires { place + length next.now < 2 ^ 64 }
     ensures { OnOk result (string_bytes text.new ≡ string_bytes text.old ++ terminated_text_of
         (part_of_drawing arranged.now.table arranged.now.infos (place == 0) is_last
         (rows_from contents.now.rows place next.now))) }
@@ -166,7 +185,7 @@ fn push_rows(
     let mut at = place;
     for fields in next.iter() {
         contents.rows.push_rows(&mut rows, at, &fields)?;
-        at = at.saturating_add(1);
+        at += 1;
     }
     let extent = Extent {
         is_first: place == 0,
@@ -183,13 +202,15 @@ fn push_expanded(
     place: usize,
     next: &Rows<'_>,
 ) -> Result<()>
+    requires expanded { contents.now.rows.is_expanded ≡ true }
+    requires places { place + length next.now < 2 ^ 64 }
     ensures { OnOk result (string_bytes text.new ≡ string_bytes text.old
         ++ expanded_from contents.now.rows arranged.now.table arranged.now.infos place next.now) }
 {
     let mut at = place;
     for fields in next.iter() {
         push_expanded_record(text, contents, arranged, at, &fields)?;
-        at = at.saturating_add(1);
+        at += 1;
     }
     Ok(())
 }

@@ -1,9 +1,9 @@
 //! The text that is written for some records.
 
 ghost use Rattle.std.specs.Prelude.{◌≡◌, ◌∷◌, ◌++◌, IfOk, OnOk, false, string_bytes, true};
-ghost use Rattle.comfy_table.specs.Arrangement.{AreInfosOf};
+ghost use Rattle.comfy_table.specs.Parts.{IsArrangedTable};
 ghost use Rattle.csv_tables.specs.Markdown.{rule_line};
-ghost use Rattle.csv_tables.specs.Contents.{AreContentsOf, AreDrawnAs, AreDrawnContents};
+ghost use Rattle.csv_tables.specs.Contents.{AreContentsOf, AreDrawnAs, AreDrawnContents, rows_from};
 ghost use Rattle.csv_tables.specs.Drawn.{RendersAnyRecords, RendersAsMarkdown, RendersRecords, are_more, count_text, has_room_for, is_aligned_in, note_for, output_table, rows_table, sides, unbroken_in};
 ghost use Rattle.csv_tables.specs.Unbroken.{kept_unbroken};
 
@@ -94,11 +94,18 @@ fn arranged_contents(
     selected: SelectedRecords,
     look: &Look,
 ) -> Result<(RowContents, Vec<ColumnDisplayInfo>)>
+    requires { look.now.is_markdown ≡ false }
     ensures contents { IfOk result (λ x. AreDrawnContents look.now selected x.0) }
-    ensures infos { IfOk result (λ x. AreInfosOf x.0.table x.1.items) }
+    ensures rows { IfOk result (λ x.
+        x.0.table.rows ≡ rows_from x.0.rows 0 x.0.rows.selected.rows) }
+    ensures infos { IfOk result (λ x. IsArrangedTable x.0.table
+        (record { table = x.0.table; infos = x.1.items })) }
 {
     let contents = drawn_contents(selected, look)?;
-    let infos = ArrangedTable::of_contents(&contents)?.into_infos();
+    // Said for the proof: rows are made of whole characters.
+    contents.rows.selected.hold_texts();
+    let arranged = ArrangedTable::of_contents(&contents)?;
+    let infos = arranged.into_infos();
     Ok((contents, infos))
 }
 
@@ -127,15 +134,12 @@ fn fitting_contents(selected: SelectedRecords, look: &Look) -> Result<(RowConten
     ensures has_room { IfOk result (λ x. x.1
         ≡ has_room_for look.now selected (is_aligned_in look.now selected)) }
 {
-    let mut selected = selected;
-    if look.aligns_decimals && has_points(selected.columns.as_slice()) {
-        let (contents, has_room) = unbroken_contents(selected, true, look)?;
-        if has_room {
-            return Ok((contents, true));
-        }
-        selected = contents.into_selected();
+    let is_aligned = look.aligns_decimals && has_points(selected.columns.as_slice());
+    let (contents, has_room) = unbroken_contents(selected, is_aligned, look)?;
+    if has_room || !is_aligned {
+        return Ok((contents, has_room));
     }
-    unbroken_contents(selected, false, look)
+    unbroken_contents(contents.into_selected(), false, look)
 }
 
 // The table of rows, with decimal points below each other or not, and whether there is room for it.

@@ -1,6 +1,6 @@
 //! The rows of records, before they are made.
 
-ghost use Rattle.std.specs.Prelude.{◌≡◌, ◌<◌, ◌≤◌, ◌++◌, ◌==◌, ℕ, IfOk, IfSome, IsTrue, None, OnOk, Some, false, if◌then◌else◌, length, max, nat_lt, option_map, slice_get};
+ghost use Rattle.std.specs.Prelude.{◌≡◌, ◌<◌, ◌≤◌, ◌+◌, ◌++◌, ◌==◌, ℕ, IfOk, IfSome, IsTrue, None, OnOk, Some, false, if◌then◌else◌, length, max, nat_lt, option_map, slice_get};
 ghost use Rattle.std.specs.Cow.{cow_str_bytes};
 ghost use Rattle.std.specs.List.{slice_index_or};
 ghost use Rattle.comfy_parts.specs.Text.{Text};
@@ -8,7 +8,7 @@ ghost use Rattle.comfy_table.specs.LongestLine.{cell_longest_line};
 ghost use Rattle.comfy_table.specs.TableValue.{TableValue, cell_content_width, measured_cell};
 ghost use Rattle.comfy_table.specs.Pieces.{row_height};
 ghost use Rattle.csv_tables.specs.Cells.{Shown, cell_for, columns_within, pair_for};
-ghost use Rattle.csv_tables.specs.Contents.{IsPlainShown, greatest_at, headed_by, is_plain, made_by, measured_at, most_cells, pairs_by, rows_at, shown_by};
+ghost use Rattle.csv_tables.specs.Contents.{IsPlainShown, greatest_at, headed_by, is_plain, made_by, measured_at, most_cells, pairs_by, rows_at, shown_by, spaces_in};
 
 use crate::cells::{cell_of, is_blank, pair_of, text_in};
 use crate::columns::name_at;
@@ -204,11 +204,18 @@ impl RecordRows {
         if self.look.has_sequences || !is_plain(&self.look, table, field) {
             return None;
         }
-        let behind = match column.points {
+        let count = field.len().checked_add(self.spaces_in(column, field))?;
+        Some(count)
+    }
+
+    // How many spaces a column has behind a field.
+    fn spaces_in(&self, column: &DrawnColumn, field: &str) -> usize
+        ensures { result ≡ spaces_in self.now column.now field.now }
+    {
+        match column.points {
             Some(points) if self.is_aligned => points.spaces_behind(field),
             _ => 0,
-        };
-        field.len().checked_add(behind)
+        }
     }
 
     /// The longest line of the cells at a position of the rows of the record at a place, where they

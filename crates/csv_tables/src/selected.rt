@@ -1,6 +1,7 @@
 //! What is drawn of some records.
 
-ghost use Rattle.std.specs.Prelude.{◌≡◌, IfOk, [], unwrap_or};
+ghost use Rattle.std.specs.Prelude.{◌≡◌, All, IfOk, [], unwrap_or};
+ghost use Rattle.csv.specs.Records.{AllText};
 ghost use Rattle.csv_tables.specs.Cells.{columns_within};
 ghost use Rattle.csv_tables.specs.Drawn.{selected_of, drawn_fields, sides};
 ghost use Rattle.csv_tables.specs.Leasts.{least_positions};
@@ -95,6 +96,15 @@ impl SelectedRecords {
     {
         let below = records_below(&self.records.rows(), self.has_header);
         limited(&below, self.limit)
+    }
+
+    /// Does nothing. What it ensures is that the fields that are drawn, and the names, are whole
+    /// characters.
+    pub(crate) fn hold_texts(&self)
+        ensures rows { All AllText self.now.rows }
+        ensures names { AllText (unwrap_or self.now.names []) }
+    {
+        self.records.rows().hold_texts();
     }
 
     /// The columns up to the last one of which a record has the field. No others are looked at, so

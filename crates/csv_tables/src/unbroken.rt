@@ -160,7 +160,8 @@ fn constrain_column(column: &mut Column)
 /// room beside what the names need. The table stays where no width is kept, or where none of them
 /// would be broken anyway.
 pub(crate) fn keep_unbroken_fields(contents: &mut RowContents) -> Result<()>
-    requires { contents.old.rows.is_expanded ≡ true }
+    requires expanded { contents.old.rows.is_expanded ≡ true }
+    requires header { contents.old.table.header ≡ None }
     ensures { OnOk result (contents.new ≡ record contents.old {
       table = kept_unbroken_fields contents.old.rows.look.width contents.old.table;
     }) }
@@ -195,7 +196,8 @@ fn room_beside(names: u16, room: u16) -> u16
 
 // The width of the widest number or date of the fields that has room.
 fn field_width(contents: &RowContents, room: u16) -> Result<u16>
-    requires { contents.now.rows.is_expanded ≡ true }
+    requires expanded { contents.now.rows.is_expanded ≡ true }
+    requires header { contents.now.table.header ≡ None }
     ensures value { IfOk result (λ width. width ≡ field_width room contents.now.table) }
     ensures within { IfOk result (λ width. width ≤ room) }
 {

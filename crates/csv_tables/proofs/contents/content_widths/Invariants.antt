@@ -1,4 +1,4 @@
-use Rattle.std.proofs.Common.{◌≡◌, ◌×◌, ℕ, length, max}
+use Rattle.std.proofs.Common.{◌≡◌, ℕ, length, max}
 use Rattle.std.specs.Iterator.Adapters.{enumerate_count, enumerate_source}
 use Rattle.std.specs.List.{slice_index_or}
 use Rattle.comfy_table.specs.TableValue.{cell_content_width, column_content_width, with_other_rows}

@@ -1,4 +1,4 @@
-use Rattle.std.proofs.Common.{◌≡◌, ◌×◌, ◌+◌, ◌-◌, ℕ, length, max}
+use Rattle.std.proofs.Common.{◌≡◌, ◌+◌, ◌-◌, ℕ, length, max}
 use Rattle.std.specs.List.{slice_index_or}
 use Rattle.csv_tables.proofs.rows.lengthen.Given as goal
 

@@ -1,8 +1,10 @@
-use Rattle.std.proofs.Common.{◌≡◌, ◌≤◌, map, max}
-use Rattle.comfy_parts.specs.Text.{greatest}
-use Rattle.comfy_table.proofs.ColumnCellLemmas.{of_measured}
+use Rattle.std.proofs.Common.{◌≡◌, ◌≤◌, flat_map, max}
+use Rattle.csv_tables.specs.Contents.{greatest_at, pairs_by}
 use Rattle.csv_tables.specs.Unbroken.{cell_unbroken_width, field_width}
 use Rattle.csv_tables.proofs.unbroken.field_width.Given as goal
 
-abbrev pub invariant-loop-cell : goal.invariant-loop-cell
-invariant-loop-cell l = (max l.widest (greatest (map (of_measured l.table (cell_unbroken_width l.room)) l.cell-iterator)) ≡ field_width l.room l.table) × (l.widest ≤ l.room)
+-- the widest so far, and of the records that are left
+abbrev pub invariant-loop-fields : goal.invariant-loop-fields
+invariant-loop-fields l =
+    (max l.widest (greatest_at l.contents.table (cell_unbroken_width l.room) (flat_map (pairs_by l.rows) l.fields-iterator) 1) ≡ field_width l.room l.contents.table)
+    × (l.widest ≤ l.room)

@@ -5,7 +5,7 @@ use Rattle.comfy_parts.specs.Text.{Text}
 use Rattle.comfy_table.specs.Lines.{longest_line}
 use Rattle.comfy_table.specs.LongestLine.{cell_longest_line}
 use Rattle.comfy_table.specs.TableValue.{TableValue, with_other_rows}
-use Rattle.csv_tables.proofs.ContentLemmas.{greatest_at-append, longest_below}
+use Rattle.csv_tables.proofs.ContentLemmas.{greatest_at-append, longest_below, longest_same}
 use Rattle.csv_tables.specs.Contents.{greatest_at, rows_at, rows_from}
 use Rattle.csv_tables.proofs.contents.RowContentsContents.longest_line.Goals as goal
 
@@ -41,10 +41,39 @@ loop-at-preserved c =
     let before = ap (λ (left : List (List Text)). g (rows_from rows k left)) steps.0 ∙ greatest_at-append c.args.self.now.table f here later i in
     let left = ap (λ n. g (rows_from rows n rest)) steps.2 in
     let at = ap (λ n. g (rows_at rows n fields)) steps.1 in
-    let one = c.in_ok-longest_line.ensures in
+    let own : TableValue = c.self.inside.table in
+    let info = c.args.info.now in
+    let made : List RowValue = rows_at rows c.in-Some.at fields in
+    let view : with_other_rows (rows_from rows 0 rows.selected.rows) own ≡ c.args.self.now.table = ap (λ v. v.table) c.self.view_is in
+    let same : greatest_at own (cell_longest_line own info) made i ≡ g made = subst (λ (w : TableValue). greatest_at own (cell_longest_line own info) made i ≡ greatest_at w (cell_longest_line w info) made i) view (longest_same own (rows_from rows 0 rows.selected.rows) info made i) in
+    let one = c.in_ok-longest_line.ensures ∙ same in
     let so = c.loop-at.invariant in
-    let greater = c.max.ensures in
+    let greater = c.max-longest.ensures in
     omega (arith, before, left, at, one, so, greater)
+
+pub returns-then-longest-limit-clause-at_most : goal.returns-then-longest-limit-clause-at_most
+returns-then-longest-limit-clause-at_most c =
+    let rows = c.self.inside.rows in
+    let i = c.args.position in
+    let f = cell_longest_line c.args.self.now.table c.args.info.now in
+    let steps = c.in-Some.ensures.steps in
+    let k : ℕ = enumerate_count c.loop-at.at-iterator in
+    let fields : List Text = c.in-Some.fields in
+    let rest : List (List Text) = enumerate_source c.next.new.self in
+    let here : List RowValue = rows_at rows k fields in
+    let later : List RowValue = rows_from rows (k + 1) rest in
+    let g : List RowValue → ℕ = λ rs. greatest_at c.args.self.now.table f rs i in
+    let before = ap (λ (left : List (List Text)). g (rows_from rows k left)) steps.0 ∙ greatest_at-append c.args.self.now.table f here later i in
+    let at = ap (λ n. g (rows_at rows n fields)) steps.1 in
+    let own : TableValue = c.self.inside.table in
+    let info = c.args.info.now in
+    let made : List RowValue = rows_at rows c.in-Some.at fields in
+    let view : with_other_rows (rows_from rows 0 rows.selected.rows) own ≡ c.args.self.now.table = ap (λ v. v.table) c.self.view_is in
+    let same : greatest_at own (cell_longest_line own info) made i ≡ g made = subst (λ (w : TableValue). greatest_at own (cell_longest_line own info) made i ≡ greatest_at w (cell_longest_line w info) made i) view (longest_same own (rows_from rows 0 rows.selected.rows) info made i) in
+    let one = c.in_ok-longest_line.ensures ∙ same in
+    let so = c.loop-at.invariant in
+    let greater = c.max-longest.ensures in
+    omega (arith, before, at, one, so, greater)
 
 pub returns-clause-exact : goal.returns-clause-exact
 returns-clause-exact c below =

@@ -14,7 +14,7 @@ high_by (Some h) = omega arith
 pub loop-position-preserved : goal.loop-position-preserved
 loop-position-preserved c = λ t same.
     let own = c.args.self.now in
-    let look = own.look.now in
+    let look = own.look in
     let row = made_by own c.args.at c.args.fields.now in
     let text = c.as_str-text.result.now in
     let info : ColumnInfo = c.index-infos-position.result in

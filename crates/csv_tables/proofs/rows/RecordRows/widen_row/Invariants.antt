@@ -1,4 +1,4 @@
-use Rattle.std.proofs.Common.{◌≡◌, ◌×◌, ℕ, length, max}
+use Rattle.std.proofs.Common.{◌≡◌, ℕ, length, max}
 use Rattle.std.specs.Prelude.{nat_lt, slice_get, if◌then◌else◌}
 use Rattle.std.specs.List.{slice_index_or}
 use Rattle.comfy_table.specs.TableValue.{cell_content_width}

@@ -1,0 +1,130 @@
+-- Drawings that come in pieces.
+use Rattle.std.proofs.Common.{◌≡◌, ◌≢◌, ◌<◌, ◌≤◌, ◌==◌, ℕ, zero, suc, ◌+◌, Bool, true, false, List, [], ◌∷◌, ◌++◌, drop, length, take, arith, append-nil, append_assoc, take-append-drop, refl, ap, ap₂, sym, subst, ◌∙◌, ⊎_elim}
+use Rattle.std.proofs.lemmas.Bool.{cases_lt}
+use Rattle.std.proofs.lemmas.Bool.Decides.{nat_tests}
+use Rattle.std.proofs.lemmas.List.{length-take-le, take_all}
+use Rattle.std.proofs.lemmas.List.Concat.{flat_map-append}
+use Rattle.std.specs.Prelude.{flat_map, if◌then◌else◌}
+use Rattle.comfy_parts.specs.CellValue.{ColumnInfo, RowValue}
+use Rattle.comfy_parts.specs.Text.{Text}
+use Rattle.comfy_table.specs.Drawing.{drawn_row, outer_widths, part_of_drawing, terminated_text_of}
+use Rattle.comfy_table.specs.Frame.{optional_frame_line}
+use Rattle.comfy_table.specs.TableValue.{TableValue}
+use Rattle.csv_tables.specs.Contents.{drawn_next, expanded_from, expanded_record, made_by, pairs_by, rows_at, rows_from}
+use Rattle.csv_tables.specs.declared.rows.RecordRows.{RecordRows}
+
+-- ---- rows of a table
+
+module _ (table : TableValue) (infos : List ColumnInfo) where
+  -- a row with the separator above it
+  further : RowValue → List Text
+  further row = optional_frame_line table.style table.style.row_separator (outer_widths infos) ++ drawn_row table infos table.style.content_lines row
+
+  bottom : Bool → List Text
+  bottom is_last = if is_last then optional_frame_line table.style table.style.bottom_border (outer_widths infos) else []
+
+  -- rows below others
+  further_on : (is_last : Bool) (xs ys : List RowValue) → part_of_drawing table infos false is_last (xs ++ ys) ≡ part_of_drawing table infos false false xs ++ part_of_drawing table infos false is_last ys
+  unfolding further bottom
+  further_on is_last xs ys =
+      ap (λ (l : List Text). l ++ bottom is_last) (flat_map-append further xs ys)
+      ∙ append_assoc (flat_map further xs) (flat_map further ys) (bottom is_last)
+      ∙ ap (λ (l : List Text). l ++ (flat_map further ys ++ bottom is_last)) (sym (append-nil (flat_map further xs)))
+
+  -- the first row alone, and then the others
+  first_row : (is_first is_last : Bool) (x : RowValue) (xs : List RowValue) → part_of_drawing table infos is_first is_last (x ∷ xs) ≡ part_of_drawing table infos is_first false (x ∷ []) ++ part_of_drawing table infos false is_last xs
+  first_row true is_last x xs = grind (arith, append_assoc, append-nil)
+  first_row false is_last x xs = grind (arith, append_assoc, append-nil)
+
+  rows_on : (is_first : Bool) (x : RowValue) (xs ys : List RowValue) → part_of_drawing table infos is_first true ((x ∷ xs) ++ ys) ≡ part_of_drawing table infos is_first false (x ∷ xs) ++ part_of_drawing table infos false true ys
+  rows_on is_first x xs ys =
+      let one = part_of_drawing table infos is_first false (x ∷ []) in
+      let more = part_of_drawing table infos false true ys in
+      first_row is_first true x (xs ++ ys)
+      ∙ ap (λ (l : List Text). one ++ l) (further_on true xs ys)
+      ∙ sym (append_assoc one (part_of_drawing table infos false false xs) more)
+      ∙ ap (λ (l : List Text). l ++ more) (sym (first_row is_first false x xs))
+
+-- ---- records
+
+from_on : (rows : RecordRows) (at : ℕ) (xs ys : List (List Text)) → rows_from rows at (xs ++ ys) ≡ rows_from rows at xs ++ rows_from rows (at + length xs) ys
+from_on rows at [] ys = let same : at ≡ at + 0 = omega arith in ap (λ n. rows_from rows n ys) same
+from_on rows at (x ∷ xs) ys =
+    let same : (at + 1) + length xs ≡ at + suc (length xs) = omega arith in
+    ap (λ (l : List RowValue). rows_at rows at x ++ l) (from_on rows (at + 1) xs ys ∙ ap (λ n. rows_from rows (at + 1) xs ++ rows_from rows n ys) same)
+    ∙ sym (append_assoc (rows_at rows at x) (rows_from rows (at + 1) xs) (rows_from rows (at + suc (length xs)) ys))
+
+expanded_on : (rows : RecordRows) (table : TableValue) (infos : List ColumnInfo) (at : ℕ) (xs ys : List (List Text))
+    → expanded_from rows table infos at (xs ++ ys) ≡ expanded_from rows table infos at xs ++ expanded_from rows table infos (at + length xs) ys
+expanded_on rows table infos at [] ys = let same : at ≡ at + 0 = omega arith in ap (λ n. expanded_from rows table infos n ys) same
+expanded_on rows table infos at (x ∷ xs) ys =
+    let same : (at + 1) + length xs ≡ at + suc (length xs) = omega arith in
+    let one = expanded_record rows table infos at x in
+    ap (λ (t : Text). one ++ t) (expanded_on rows table infos (at + 1) xs ys ∙ ap (λ n. expanded_from rows table infos (at + 1) xs ++ expanded_from rows table infos n ys) same)
+    ∙ sym (append_assoc one (expanded_from rows table infos (at + 1) xs) (expanded_from rows table infos (at + suc (length xs)) ys))
+
+-- some records, and then the others
+drawn_on : (rows : RecordRows) (table : TableValue) (infos : List ColumnInfo) (at : ℕ) (xs ys : List (List Text)) → 0 < length xs
+    → drawn_next rows table infos at true (xs ++ ys) ≡ drawn_next rows table infos at false xs ++ drawn_next rows table infos (at + length xs) true ys
+drawn_on rows table infos at [] ys some = absurd (omega (arith, some))
+drawn_on rows table infos at (x ∷ xs) ys some = by_kind rows.is_expanded refl
+  where
+    later : (at + suc (length xs) == 0) ≡ false
+    later = grind (arith, nat_tests)
+    single : rows.is_expanded ≡ false
+        → terminated_text_of (part_of_drawing table infos (at == 0) true (rows_from rows at (x ∷ (xs ++ ys))))
+        ≡ terminated_text_of (part_of_drawing table infos (at == 0) false (rows_from rows at (x ∷ xs))) ++ terminated_text_of (part_of_drawing table infos (at + suc (length xs) == 0) true (rows_from rows (at + suc (length xs)) ys))
+    single is =
+        let n = at + suc (length xs) in
+        let lines : Bool → Bool → List RowValue → Text = λ first last made. terminated_text_of (part_of_drawing table infos first last made) in
+        let one : rows_at rows at x ≡ made_by rows at x ∷ [] = ap (λ (b : Bool). if b then pairs_by rows x else made_by rows at x ∷ []) is in
+        let rest = rows_from rows (at + 1) xs in
+        let others = rows_from rows n ys in
+        let front : rows_from rows at (x ∷ xs) ≡ made_by rows at x ∷ rest = ap (λ (l : List RowValue). l ++ rest) one in
+        ap (lines (at == 0) true) (from_on rows at (x ∷ xs) ys ∙ ap (λ (l : List RowValue). l ++ others) front)
+        ∙ ap terminated_text_of (rows_on table infos (at == 0) (made_by rows at x) rest others)
+        ∙ flat_map-append _ (part_of_drawing table infos (at == 0) false (made_by rows at x ∷ rest)) (part_of_drawing table infos false true others)
+        ∙ ap₂ (λ (l : List RowValue) (b : Bool). lines (at == 0) false l ++ lines b true others) (sym front) (sym later)
+    by_kind : (b : Bool) → rows.is_expanded ≡ b
+        → (if b then expanded_from rows table infos at (x ∷ (xs ++ ys)) else terminated_text_of (part_of_drawing table infos (at == 0) true (rows_from rows at (x ∷ (xs ++ ys)))))
+        ≡ (if b then expanded_from rows table infos at (x ∷ xs) else terminated_text_of (part_of_drawing table infos (at == 0) false (rows_from rows at (x ∷ xs))))
+        ++ (if b then expanded_from rows table infos (at + suc (length xs)) ys else terminated_text_of (part_of_drawing table infos (at + suc (length xs) == 0) true (rows_from rows (at + suc (length xs)) ys)))
+    by_kind true is = expanded_on rows table infos at (x ∷ xs) ys
+    by_kind false is = single is
+
+-- ---- pieces
+
+-- what is left behind the first so many
+drop-more : (n m : ℕ) (xs : List (List Text)) → drop m (drop n xs) ≡ drop (n + m) xs
+drop-more zero m xs = let same : m ≡ 0 + m = omega arith in ap (λ k. drop k xs) same
+drop-more (suc n) m [] = drop-none m ∙ sym (drop-none (suc n + m))
+  where
+    drop-none : (k : ℕ) → drop {A = List Text} k [] ≡ []
+    drop-none zero = refl
+    drop-none (suc k) = refl
+drop-more (suc n) m (x ∷ xs) = let same : suc (n + m) ≡ suc n + m = omega arith in drop-more n m xs ∙ ap (λ k. drop k (x ∷ xs)) same
+
+-- they are as many as that, and fewer than all
+pub many_taken : (n : ℕ) (xs : List (List Text)) → length (take n xs) ≢ length xs → (length (take n xs) ≡ n) × (n < length xs)
+many_taken n xs other =
+    ⊎_elim (λ inside. (length-take-le n xs (omega (arith, inside)), inside))
+    (λ outside. absurd (other (ap length (take_all n xs outside)))) (cases_lt n (length xs))
+
+-- or they are all
+pub all_taken : (n : ℕ) (xs : List (List Text)) → length (take n xs) ≡ length xs → take n xs ≡ xs
+all_taken n xs same =
+    ⊎_elim (λ inside. let few = length-take-le n xs (omega (arith, inside)) in absurd (omega (arith, inside, few, same)))
+    (λ outside. take_all n xs outside) (cases_lt n (length xs))
+
+-- the next so many of what is left, where these aren't all
+pub next_piece : (rows : RecordRows) (table : TableValue) (infos : List ColumnInfo) (at most : ℕ) (all : List (List Text)) → 0 < most → length (take most (drop at all)) ≢ length (drop at all)
+    → drawn_next rows table infos at true (drop at all)
+    ≡ drawn_next rows table infos at false (take most (drop at all)) ++ drawn_next rows table infos (at + length (take most (drop at all))) true (drop (at + length (take most (drop at all))) all)
+next_piece rows table infos at most all some not_all =
+    let left = drop at all in
+    let next = take most left in
+    let long : length next ≡ most = (many_taken most left not_all).0 in
+    let rest : drop most left ≡ drop (at + length next) all = drop-more at most all ∙ ap (λ k. drop (at + k) all) (sym long) in
+    ap (drawn_next rows table infos at true) (sym (take-append-drop most left))
+    ∙ drawn_on rows table infos at next (drop most left) (omega (arith, long, some))
+    ∙ ap (λ (l : List (List Text)). drawn_next rows table infos at false next ++ drawn_next rows table infos (at + length next) true l) rest

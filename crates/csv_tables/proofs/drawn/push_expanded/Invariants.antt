@@ -1,0 +1,10 @@
+use Rattle.std.proofs.Common.{◌≡◌, ◌+◌, ◌++◌, length, string_bytes}
+use Rattle.csv_tables.specs.Contents.{expanded_from}
+use Rattle.csv_tables.proofs.drawn.push_expanded.Given as goal
+
+-- the text so far, and that of the records that are left
+abbrev pub invariant-loop-fields : goal.invariant-loop-fields
+invariant-loop-fields l =
+    (string_bytes l.text ++ expanded_from l.contents.rows l.arranged.table l.arranged.infos l.at l.fields-iterator
+    ≡ string_bytes l.initial.text ++ expanded_from l.contents.rows l.arranged.table l.arranged.infos l.place l.next)
+    × (l.at + length l.fields-iterator ≡ l.place + length l.next)

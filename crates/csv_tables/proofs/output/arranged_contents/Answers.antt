@@ -1,0 +1,28 @@
+use Rattle.std.proofs.Common.{◌≡◌, [], All, List, ap, ap₂, false, subst, sym, ◌∙◌, rules}
+use Rattle.std.specs.Prelude.{unwrap_or}
+use Rattle.comfy_parts.specs.CellValue.{ColumnInfo, IsRow}
+use Rattle.comfy_table.specs.Parts.{ArrangedValue, IsArrangedTable}
+use Rattle.comfy_table.specs.TableValue.{TableValue}
+use Rattle.csv_tables.proofs.WholeRowLemmas.{rows_whole}
+use Rattle.csv.specs.Records.{AllText}
+use Rattle.csv_tables.specs.Contents.{rows_from}
+use Rattle.csv_tables.specs.ContentsValue.{ContentsValue}
+use Rattle.csv_tables.proofs.output.arranged_contents.Goals as goal
+
+pub returns-clause-rows : goal.returns-clause-rows
+returns-clause-rows c = sym (ap (λ v. v.table.rows) c.contents.view_is) ∙ ap (λ v. rows_from v.rows 0 v.rows.selected.rows) c.contents.view_is
+
+pub returns-clause-infos : goal.returns-clause-infos
+returns-clause-infos c =
+    let contents = c.in_ok-contents.contents in
+    let rows = contents.rows in
+    let plain : rows.look.is_markdown ≡ false = ap (λ l. l.is_markdown) c.in_ok-contents.ensures.drawn.are_contents.look_is ∙ c.requires in
+    let own : contents.table.rows ≡ rows_from rows 0 rows.selected.rows = sym (ap (λ v. v.table.rows) c.contents.view_is) ∙ ap (λ v. rows_from v.rows 0 v.rows.selected.rows) c.contents.view_is in
+    let names = subst (λ (v : ContentsValue). AllText (unwrap_or v.rows.selected.names [])) c.contents.view_is c.hold_texts.ensures.names in
+    let texts = subst (λ (v : ContentsValue). All AllText v.rows.selected.rows) c.contents.view_is c.hold_texts.ensures.rows in
+    let whole : All IsRow contents.table.rows = subst (All IsRow) (sym own) (rows_whole rows plain names 0 rows.selected.rows texts) in
+    let arranged = c.in_ok-arranged.arranged in
+    let made : IsArrangedTable contents.table arranged = c.in_ok-arranged.ensures.drawing whole in
+    let same : arranged ≡ record { table = contents.table; infos = c.into_infos-infos.result.items } =
+    ap₂ (λ (t : TableValue) (is : List ColumnInfo). record { table = t; infos = is }) c.in_ok-arranged.ensures.table (sym c.into_infos-infos.ensures) in
+    subst (IsArrangedTable contents.table) same made

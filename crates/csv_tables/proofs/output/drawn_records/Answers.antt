@@ -1,0 +1,31 @@
+use Rattle.std.proofs.Common.{◌≡◌, ◌++◌, ap, ap₂, false, refl, string_bytes, subst, sym, true, ◌∙◌}
+use Rattle.std.proofs.lemmas.Result.{IfOk-weaker}
+use Rattle.comfy_parts.specs.Text.{Text}
+use Rattle.csv_tables.proofs.RecordTextLemmas.{renders}
+use Rattle.csv_tables.specs.Contents.{AreDrawnContents, drawn_next}
+use Rattle.csv_tables.specs.Drawn.{RendersAsTable, RendersContent, RendersRecords, SelectedValue, note_for}
+use Rattle.csv_tables.proofs.output.drawn_records.Goals as goal
+
+pub returns : goal.returns
+returns c =
+    let layout = c.args.layout.now in
+    let look = layout.look in
+    let selected = c.in_ok-selected.selected in
+    let contents = c.in_ok-contents.contents in
+    let text = drawn_next contents.rows contents.table c.in_ok-contents.infos.items 0 true contents.rows.selected.rows in
+    let made = c.in_ok-contents.ensures.contents in
+    let same : contents.rows.selected ≡ selected = made.drawn.are_contents.selected_is in
+    let drawn : RendersAsTable look selected text =
+    subst (λ (s : SelectedValue). RendersAsTable look s text) same
+    (renders look contents c.in_ok-contents.infos.items (subst (λ (s : SelectedValue). AreDrawnContents look s contents) (sym same) made) c.in_ok-contents.ensures.infos c.in_ok-contents.ensures.rows) in
+    let kind : RendersContent look.is_markdown look selected text = subst (λ b. RendersContent b look selected text) (sym c.if-look.false) drawn in
+    let count = ap (λ (s : SelectedValue). s.count) c.in_ok-selected.ensures in
+    IfOk-weaker c.of_records.result _ _
+    (λ output is. record {
+      content = selected;
+      is_content = sym c.in_ok-selected.ensures;
+      text = text;
+      is_text = kind;
+      joined = is ∙ ap (λ (t : Text). text ++ t) (c.in_ok-note.ensures ∙ ap (note_for look.is_markdown layout.selection.limit) (sym count));
+    })
+    c.of_records.ensures

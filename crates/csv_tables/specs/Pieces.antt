@@ -1,0 +1,19 @@
+-- Private: drawings of which a piece is ready, and others are made later.
+-- Source: this library's own.
+use Rattle.std.specs.Prelude.{List, [], ◌++◌, Option, Some, None, String, true, drop, string_bytes}
+use Rattle.comfy_parts.specs.Text.{Text}
+use Rattle.csv_tables.specs.Contents.{drawn_next}
+use Rattle.csv_tables.specs.declared.drawn.OpenDrawing.{OpenDrawing}
+
+-- what is left of a drawing
+abbrev pub rest_of : Option OpenDrawing → Text
+rest_of None = []
+rest_of (Some left) =
+    drawn_next left.contents.rows left.contents.table left.infos.items left.place true
+    (drop left.place left.contents.rows.selected.rows)
+    ++ string_bytes left.note
+
+-- the bytes of a piece, where there is one
+abbrev pub ready_text : {A : Type 0} → Option (String A) → Text
+ready_text None = []
+ready_text (Some piece) = string_bytes piece
