@@ -199,9 +199,9 @@ pub fn run<R: Source, W: Sink, D: Render>(
         let Some(piece) = next else {
             return Ok(note);
         };
-        if write_all(sink, piece.as_bytes()).is_err() {
+        let Ok(()) = write_all(sink, piece.as_bytes()) else {
             return Err(Stop::Write);
-        }
+        };
     }
 }
 
