@@ -32,8 +32,8 @@ use std::alloc::Global;
 ///
 /// The drawing is written in pieces. Where the input can't be read, is no text, isn't in its
 /// encoding or has a quote that is never closed, or columns can't be chosen so, nothing is written.
-/// Where the output can't be written, a beginning of it was, and where memory runs out, nothing or a
-/// beginning, never all of it.
+/// Where the output can't be written, a beginning of it was, and where memory runs out, nothing or
+/// a beginning, never all of it.
 ///
 /// ```
 /// let mut source = FromReader::new(rt.stdin());
