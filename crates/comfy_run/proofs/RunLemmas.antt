@@ -1,6 +1,6 @@
 -- What a run that stopped ensures, by this crate's error.
 use Rattle.std.specs.Prelude.{⊤}
-use Rattle.std.proofs.Common.{inl, inr, Ok, Err, subst, sym}
+use Rattle.std.proofs.Common.{◌≡◌, inl, inr, false, true, Ok, Err, refl, subst, sym}
 use Rattle.std.proofs.lemmas.Str.{IsUtf8-nil}
 use Rattle.std.specs.Str.{IsUtf8}
 use Rattle.comfy_parts.specs.Text.{Text}
@@ -11,7 +11,7 @@ use Rattle.comfy_run.specs.declared.settings.Settings.{Settings}
 use Rattle.devices.specs.Outcome.{IsAfterOk, RunFacts, Whole}
 use Rattle.devices.specs.Run.{IsAfter as IsAfterRun, IsAfterIn}
 use Rattle.devices.specs.declared.transfer.Stop.{Stop}
-use Rattle.devices.specs.declared.transfer.Stop.TheVariants.{OutOfMemory, Read, Refused, Write}
+use Rattle.devices.specs.declared.transfer.Stop.TheVariants.{OutOfMemory, Read, Refused, Unfinished, Write}
 
 -- it's asked of every beginning in vain
 abbrev Any : Text → Type 0
@@ -26,20 +26,22 @@ whole_alone : (T : Type 0) (settings : Settings) (stop : Stop RunError) (facts :
     → IsAfterIn Any (IsDrawnIn settings) IsRefusalIn {T = T} (Err stop) Whole facts
 whole_alone T settings stop facts (inl after) = after.says
 whole_alone T settings Read facts (inr part) = absurd part.says
-whole_alone T settings Write facts (inr part) = absurd part.says.is_output
+whole_alone T settings Write facts (inr part) = absurd part.says.part.is_output
+whole_alone T settings Unfinished facts (inr part) = absurd part.says.part.is_output
 whole_alone T settings OutOfMemory facts (inr part) = absurd part.says
 whole_alone T settings (Refused e) facts (inr part) = absurd part.says.fault
 
-of_whole : (T : Type 0) (settings : Settings) (stop : Stop RunError) (facts : RunFacts) → IsAfterIn Any (IsDrawnIn settings) IsRefusalIn {T = T} (Err stop) Whole facts
+of_whole : (T : Type 0) (settings : Settings) (stop : Stop RunError) (facts : RunFacts) → (stop ≡ Unfinished → true ≡ false) → IsAfterIn Any (IsDrawnIn settings) IsRefusalIn {T = T} (Err stop) Whole facts
     → IsAfter {T = T} settings (Err (run_error_of stop)) facts
-of_whole T settings Read facts after = after
-of_whole T settings Write facts after = after
-of_whole T settings OutOfMemory facts after = record { no_device_failed = after.no_device_failed; nothing_written = after.nothing_written; fine = λ whole. subst IsUtf8 (sym (after.fine whole)) IsUtf8-nil }
-of_whole T settings (Refused own.NotUtf8) facts after = after
-of_whole T settings (Refused (own.Table e)) facts after = record { no_device_failed = after.no_device_failed; nothing_written = after.nothing_written; fine = λ whole. after.fault }
-of_whole T settings (Refused own.Read) facts after = absurd after.fault
-of_whole T settings (Refused own.Write) facts after = absurd after.fault
+of_whole T settings Read facts whole after = after
+of_whole T settings Write facts whole after = after
+of_whole T settings OutOfMemory facts whole after = record { no_device_failed = after.no_device_failed; nothing_written = after.nothing_written; fine = λ ended. subst IsUtf8 (sym (after.fine ended)) IsUtf8-nil }
+of_whole T settings Unfinished facts whole after = let differ : true ≡ false = whole refl in absurd (cc differ)
+of_whole T settings (Refused own.NotUtf8) facts whole after = after
+of_whole T settings (Refused (own.Table e)) facts whole after = record { no_device_failed = after.no_device_failed; nothing_written = after.nothing_written; fine = λ ended. after.fault }
+of_whole T settings (Refused own.Read) facts whole after = absurd after.fault
+of_whole T settings (Refused own.Write) facts whole after = absurd after.fault
 
-pub after_stop : (T : Type 0) (settings : Settings) (stop : Stop RunError) (facts : RunFacts) → IsAfterRun Any (IsDrawnIn settings) IsRefusalIn {T = T} (Err stop) facts
+pub after_stop : (T : Type 0) (settings : Settings) (stop : Stop RunError) (facts : RunFacts) → (stop ≡ Unfinished → true ≡ false) → IsAfterRun Any (IsDrawnIn settings) IsRefusalIn {T = T} (Err stop) facts
     → IsAfter {T = T} settings (Err (run_error_of stop)) facts
-after_stop T settings stop facts after = of_whole T settings stop facts (whole_alone T settings stop facts after)
+after_stop T settings stop facts whole after = of_whole T settings stop facts whole (whole_alone T settings stop facts after)

@@ -56,4 +56,5 @@ abbrev pub run_error_of : Stop RunError → RunError
 run_error_of stop.Read = Read
 run_error_of stop.Write = Write
 run_error_of stop.OutOfMemory = Table memory.OutOfMemory
+run_error_of stop.Unfinished = Table memory.OutOfMemory
 run_error_of (stop.Refused e) = e

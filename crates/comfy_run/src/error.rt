@@ -50,7 +50,7 @@ impl From<Stop<RunError>> for RunError {
         match stop {
             Stop::Read => RunError::Read,
             Stop::Write => RunError::Write,
-            Stop::OutOfMemory => RunError::Table(TableError::OutOfMemory),
+            Stop::OutOfMemory | Stop::Unfinished => RunError::Table(TableError::OutOfMemory),
             Stop::Refused(error) => error,
         }
     }

@@ -24,7 +24,7 @@ use Rattle.csv_command.specs.declared.arguments.Options.{Options}
 use Rattle.devices.specs.Outcome.{Beginning, Extent, RunFacts, Whole, asked_at, asked_front}
 use Rattle.devices.specs.Run.{IsAfter as IsAfterRun, IsAfterIn as IsAfterRunIn}
 use Rattle.devices.specs.declared.transfer.Stop.{Stop}
-use Rattle.devices.specs.declared.transfer.Stop.TheVariants.{OutOfMemory, Read, Refused, Write}
+use Rattle.devices.specs.declared.transfer.Stop.TheVariants.{OutOfMemory, Read, Refused, Unfinished, Write}
 
 -- nothing is below lines of nothing
 pub no_lines : (count : ℕ) → below_lines count [] ≡ []
@@ -36,9 +36,10 @@ after_stop_in : (T : Type 0) (options : Options) (extent : Extent) (stop : Stop 
     → IsAfterIn {T = T} options (Err (of_stop stop)) extent facts
 after_stop_in T options extent Read facts after = after
 after_stop_in T options extent Write facts after = after
-after_stop_in T options Whole OutOfMemory facts after = record { no_device_failed = after.no_device_failed; nothing_written = after.nothing_written; fine = λ whole wanted. subst (λ (input : Text). IsUtf8 (below_lines options.input.skip input)) (sym (after.fine whole)) (subst IsUtf8 (sym (no_lines options.input.skip)) IsUtf8-nil) }
+after_stop_in T options Whole OutOfMemory facts after = inl (record { no_device_failed = after.no_device_failed; nothing_written = after.nothing_written; fine = λ whole wanted. subst (λ (input : Text). IsUtf8 (below_lines options.input.skip input)) (sym (after.fine whole)) (subst IsUtf8 (sym (no_lines options.input.skip)) IsUtf8-nil) })
 after_stop_in T options Beginning OutOfMemory facts after = absurd after
-after_stop_in T options extent (Refused own.OutOfMemory) facts after = record { no_device_failed = after.no_device_failed; nothing_written = after.nothing_written; fine = λ whole. after.fault }
+after_stop_in T options extent Unfinished facts after = inr after
+after_stop_in T options extent (Refused own.OutOfMemory) facts after = inl (record { no_device_failed = after.no_device_failed; nothing_written = after.nothing_written; fine = λ whole. after.fault })
 after_stop_in T options Whole (Refused own.Read) facts after = absurd after.fault
 after_stop_in T options Beginning (Refused own.Read) facts after = absurd after.fault
 after_stop_in T options Whole (Refused own.Write) facts after = absurd after.fault

@@ -28,4 +28,5 @@ abbrev pub of_stop : Stop CsvError → CsvError
 of_stop stop.Read = Read
 of_stop stop.Write = Write
 of_stop stop.OutOfMemory = OutOfMemory
+of_stop stop.Unfinished = OutOfMemory
 of_stop (stop.Refused e) = e

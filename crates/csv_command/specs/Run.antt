@@ -1,8 +1,8 @@
 -- What a call of `draw` ensures, by its result.
 -- Source: this library's own.
-use Rattle.std.specs.Prelude.{◌≡◌, ◌≢◌, Bool, true, false, List, [], Result, Ok, Err, IsUtf8}
+use Rattle.std.specs.Prelude.{◌≡◌, ◌≢◌, ◌⊎◌, Bool, true, false, List, [], Result, Ok, Err, IsUtf8}
 use Rattle.comfy_parts.specs.Text.{Text}
-use Rattle.devices.specs.Outcome.{Beginning, Extent, IsByExtent, OfWhole, Whole, IsAfterFault, IsAfterOk, IsAfterOutOfMemory, IsAfterRead, IsAfterWrite, RunFacts}
+use Rattle.devices.specs.Outcome.{Beginning, Extent, IsByExtent, OfWhole, Whole, IsAfterFault, IsAfterOk, IsAfterOutOfMemory, IsAfterRead, IsAfterUnfinished, IsAfterWrite, RunFacts}
 use Rattle.csv_command.specs.Columns.{IsColumnsRefusal, columns_for}
 use Rattle.csv_command.specs.Drawn.{AreEnough, HasLimit, IsNotEnough, RendersExtent}
 use Rattle.csv_records.specs.Beginning.{whole_lines}
@@ -72,13 +72,15 @@ IsRefusal options extent input e = IsFault options extent input e
 abbrev pub IsInputRefusal : Options → Text → CsvError → Type 0
 IsInputRefusal options input e = IsRefusal options Whole input e
 
--- what the facts of a call are, by its result
+-- what the facts of a call are, by its result; where there was no memory, none was there for the
+-- first piece of the drawing, or for a later one
 abbrev pub IsAfterIn : {T : Type 0} → Options → Result T CsvError → Extent → RunFacts → Type 0
 IsAfterIn options (Ok _) extent facts = IsAfterOk (RendersExtent options extent) facts
 IsAfterIn options (Err Read) extent facts = OfWhole (IsAfterRead facts) extent
 IsAfterIn options (Err Write) extent facts = IsAfterWrite (RendersExtent options extent) facts
 IsAfterIn options (Err OutOfMemory) extent facts =
     IsAfterOutOfMemory (IsFine options extent) facts
+    ⊎ IsAfterUnfinished (RendersExtent options extent) facts
 IsAfterIn options (Err e) extent facts =
     IsAfterFault (λ input. IsFault options extent input e) facts
 

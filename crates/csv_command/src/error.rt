@@ -137,7 +137,7 @@ impl From<Stop<CsvError>> for CsvError {
         match stop {
             Stop::Read => CsvError::Read,
             Stop::Write => CsvError::Write,
-            Stop::OutOfMemory => CsvError::OutOfMemory,
+            Stop::OutOfMemory | Stop::Unfinished => CsvError::OutOfMemory,
             Stop::Refused(error) => error,
         }
     }

@@ -6,6 +6,7 @@ ghost use Rattle.csv_command.specs.Doubt.{IsDoubtOf, IsDoubtOfInput};
 ghost use Rattle.csv_command.specs.Drawn.{HasLimit, IsNotEnough, RendersChosen, RendersExtent, RendersInput, most_drawn};
 ghost use Rattle.csv_command.specs.Run.{IsAfter, IsInputRefusal, IsRefusal, is_read_fault, is_write_fault};
 ghost use Rattle.devices.specs.Outcome.{Between};
+ghost use Rattle.devices.specs.Pieces.{text_left};
 ghost use Rattle.devices.specs.Run.{IsNoted};
 
 use crate::arguments::Options;
@@ -13,7 +14,7 @@ use crate::columns::columns_of;
 use crate::error::{ColumnsError, CsvError};
 use csv_records::{Records, decoded, read_beginning, read_first_records};
 use csv_tables::{Layout, Selection, text_of_records};
-use devices::{Render, Rendered, Sink, Source};
+use devices::{Render, Rendered, Sink, Source, joined};
 use std::alloc::Global;
 
 /// Reads the source, and writes the drawing of the table of its records to the sink, each line
@@ -29,9 +30,10 @@ use std::alloc::Global;
 /// Returns the delimiter that was taken although fewer than half of the first records agree on it,
 /// where there is one to doubt.
 ///
-/// All memory is asked for before the first write. Where the input can't be read, is no text, isn't
-/// in its encoding or has a quote that is never closed, columns can't be chosen so, or memory runs
-/// out, nothing is written. Where the output can't be written, a beginning of it was.
+/// The drawing is written in pieces. Where the input can't be read, is no text, isn't in its
+/// encoding or has a quote that is never closed, or columns can't be chosen so, nothing is written.
+/// Where the output can't be written, a beginning of it was, and where memory runs out, nothing or
+/// a beginning, never all of it.
 ///
 /// ```
 /// let mut source = FromReader::new(rt.stdin());
@@ -55,8 +57,13 @@ pub fn draw<R: Source, W: Sink>(
     Ok(devices::run(alloc, source, sink, options)?)
 }
 
+// A drawing, and the delimiter that is doubtful.
+type Drawing = Rendered<Option<String>, Option<u8>>;
+
 impl Render for Options {
     type Error = CsvError;
+
+    type Output = Option<String>;
 
     type Note = Option<u8>;
 
@@ -68,15 +75,11 @@ impl Render for Options {
 
     ghost is_refusal = { IsRefusal };
 
-    fn render(&self, alloc: Global, input: Vec<u8>) -> Result<Rendered<Option<u8>>, CsvError> {
+    fn render(&self, alloc: Global, input: Vec<u8>) -> Result<Drawing, CsvError> {
         rendered_input(alloc, input, self)
     }
 
-    fn render_beginning(
-        &self,
-        alloc: Global,
-        read: &[u8],
-    ) -> Option<Result<Rendered<Option<u8>>, CsvError>> {
+    fn render_beginning(&self, alloc: Global, read: &[u8]) -> Option<Result<Drawing, CsvError>> {
         if self.counts_all {
             return None;
         }
@@ -87,7 +90,10 @@ impl Render for Options {
         let first = found?;
         let note = first.doubt;
         match output_of(alloc, first.records, None, self) {
-            Ok(text) => Some(Ok(Rendered { text, note })),
+            Ok(text) => Some(Ok(Rendered {
+                pieces: Some(text),
+                note,
+            })),
             Err(error) => Some(Err(CsvError::from(error))),
         }
     }
@@ -136,17 +142,13 @@ pub fn output_of_input(alloc: Global, input: Vec<u8>, options: &Options) -> Resu
         RendersInput options.now input.items (string_bytes output)) }
     ensures refused { IfErr result (λ e. IsInputRefusal options.now input.items e) }
 {
-    Ok(rendered_input(alloc, input, options)?.text)
+    Ok(joined(alloc, rendered_input(alloc, input, options)?.pieces)?)
 }
 
 // The same, with the delimiter that is doubtful.
-fn rendered_input(
-    alloc: Global,
-    input: Vec<u8>,
-    options: &Options,
-) -> Result<Rendered<Option<u8>>, CsvError>
+fn rendered_input(alloc: Global, input: Vec<u8>, options: &Options) -> Result<Drawing, CsvError>
     ensures output { IfOk result (λ rendered.
-        RendersInput options.now input.items (string_bytes rendered.text)) }
+        RendersInput options.now input.items (text_left rendered.pieces)) }
     ensures doubt { IfOk result (λ rendered.
         IsDoubtOfInput options.now input.items rendered.note) }
     ensures refused { IfErr result (λ e. IsInputRefusal options.now input.items e) }
@@ -159,10 +161,12 @@ fn rendered_input(
     drop(text);
     let note = first.doubt;
     if first.count == 0 {
-        let output = String::new(alloc);
-        return Ok(Rendered { text: output, note });
+        return Ok(Rendered { pieces: None, note });
     }
     let below = first.count - usize::from(options.selection.has_header);
     let output = output_of(alloc, first.records, Some(below), options)?;
-    Ok(Rendered { text: output, note })
+    Ok(Rendered {
+        pieces: Some(output),
+        note,
+    })
 }

@@ -1,8 +1,8 @@
--- What is so after a run that wrote nothing.
-use Rattle.std.proofs.Common.{◌≡◌, inl, inr, Bool, true, false, [], Option, Some, Result, Err, refl, sym, subst}
+-- What is so after a run that wrote nothing, or a part of an output.
+use Rattle.std.proofs.Common.{◌≡◌, ◌++◌, inl, inr, true, false, [], Some, Err, ap, append_assoc, arith, length-append, refl, sym, subst, ◌∙◌}
 use Rattle.devices.proofs.AskedLemmas.{none_asked}
 use Rattle.devices.specs.Device.{Bytes}
-use Rattle.devices.specs.Outcome.{Beginning, Extent, NoDeviceFailed, NoneIsEnough, RunFacts, Whole}
+use Rattle.devices.specs.Outcome.{Beginning, Extent, IsBeginningOnly, NoDeviceFailed, NoneIsEnough, RunFacts, Whole}
 use Rattle.devices.specs.Run.{IsAfter, stop_of}
 use Rattle.devices.specs.Transfer.{IsAnswered, is_source_fault}
 use Rattle.devices.specs.declared.transfer.ReadError.{ReadError}
@@ -35,3 +35,14 @@ module _ (T : Type 0) {A E : Type 0} (IsNotEnough : Bytes → Type 0) (IsOutput 
         unread = own.0;
         says = record { no_device_failed = record { no_read_failed = unfailed.no_read_failed; no_write_failed = unfailed.no_write_failed }; whole = refl; fault = subst (λ t. IsRefusal Beginning t e) own.3 fault; nothing_written = nothing };
       })
+
+-- of pieces some were written, and of the next one a part
+pub part_written : (written part piece behind left whole : Bytes) → written ++ left ≡ whole → left ≡ piece ++ behind → IsBeginningOnly part piece → IsBeginningOnly (written ++ part) whole
+part_written written part piece behind left whole all next beginning =
+    record {
+      rest = beginning.rest ++ behind;
+      joins =
+          sym all ∙ ap (λ t. written ++ t) (next ∙ ap (λ t. t ++ behind) beginning.joins ∙ append_assoc part beginning.rest behind)
+          ∙ sym (append_assoc written part (beginning.rest ++ behind));
+      some_are_missing = omega (arith, length-append beginning.rest behind, beginning.some_are_missing);
+    }

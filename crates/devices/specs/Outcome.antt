@@ -39,15 +39,23 @@ pub record IsAfterRead (facts : RunFacts) : Type 0 where
   pub nothing_written : facts.written ≡ []
   pub nothing_left : facts.end_was_read ≡ true → facts.input ≡ []
 
--- the sink failed and the source didn't, and a beginning of an output for the whole input was
--- written, not all of it
-pub record IsAfterWrite (IsOutput : Bytes → Bytes → Type 0) (facts : RunFacts) : Type 0 where
-  pub failed : facts.write_failed ≡ true
-  pub no_read_failed : facts.read_failed ≡ false
+-- the whole input was read, and a beginning of an output for it was written, not all of it
+pub record IsPartWritten (IsOutput : Bytes → Bytes → Type 0) (facts : RunFacts) : Type 0 where
   pub whole : facts.end_was_read ≡ true
   pub output : Bytes
   pub is_output : IsOutput facts.input output
   pub beginning : IsBeginningOnly facts.written output
+
+-- the sink failed and the source didn't, and a part of an output was written
+pub record IsAfterWrite (IsOutput : Bytes → Bytes → Type 0) (facts : RunFacts) : Type 0 where
+  pub failed : facts.write_failed ≡ true
+  pub no_read_failed : facts.read_failed ≡ false
+  pub part : IsPartWritten IsOutput facts
+
+-- memory was refused for the rest of an output: no call of a device failed, and a part was written
+pub record IsAfterUnfinished (IsOutput : Bytes → Bytes → Type 0) (facts : RunFacts) : Type 0 where
+  pub no_device_failed : NoDeviceFailed facts
+  pub part : IsPartWritten IsOutput facts
 
 -- the input has no output: it was read whole, nothing was written, and no call of a device failed
 pub record IsAfterFault (IsFault : Bytes → Type 0) (facts : RunFacts) : Type 0 where

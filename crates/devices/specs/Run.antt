@@ -2,11 +2,11 @@
 -- Source: this library's own.
 use Rattle.std.specs.Prelude.{◌≡◌, ⊤, Bool, true, false, [], Result, Ok, Err, IfOk}
 use Rattle.devices.specs.Device.{Bytes}
-use Rattle.devices.specs.Outcome.{Extent, Beginning, IsByExtent, OfWhole, IsAfterFault, IsAfterOk, IsAfterOutOfMemory, IsAfterRead, IsAfterWrite, RunFacts}
+use Rattle.devices.specs.Outcome.{Extent, Beginning, IsByExtent, OfWhole, IsAfterFault, IsAfterOk, IsAfterOutOfMemory, IsAfterRead, IsAfterUnfinished, IsAfterWrite, RunFacts}
 use Rattle.devices.specs.declared.transfer.ReadError.{ReadError}
 use Rattle.devices.specs.declared.transfer.ReadError.TheVariants as read
 use Rattle.devices.specs.declared.transfer.Stop.{Stop}
-use Rattle.devices.specs.declared.transfer.Stop.TheVariants.{OutOfMemory, Read, Refused, Write}
+use Rattle.devices.specs.declared.transfer.Stop.TheVariants.{OutOfMemory, Read, Refused, Unfinished, Write}
 
 -- the result says that the source failed
 abbrev pub is_read_fault : {T E : Type 0} → Result T (Stop E) → Bool
@@ -43,6 +43,7 @@ module _ {E : Type 0} (IsNotEnough : Bytes → Type 0)
   IsAfterIn (Err Write) extent facts = IsAfterWrite (IsOutput extent) facts
   IsAfterIn (Err OutOfMemory) extent facts =
       OfWhole (IsAfterOutOfMemory (λ input. input ≡ []) facts) extent
+  IsAfterIn (Err Unfinished) extent facts = IsAfterUnfinished (IsOutput extent) facts
   IsAfterIn (Err (Refused e)) extent facts = IsAfterFault (λ input. IsRefusal extent input e) facts
 
   abbrev pub IsAfter : {T : Type 0} → Result T (Stop E) → RunFacts → Type 0

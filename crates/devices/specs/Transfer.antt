@@ -1,6 +1,6 @@
 -- What reading a source returns, to its end or up to a place.
 -- Source: this library's own.
-use Rattle.std.specs.Prelude.{ℕ, ◌≡◌, Bool, true, false, ◌++◌, Option, Some, Result, Err, MatchResult, string_bytes}
+use Rattle.std.specs.Prelude.{ℕ, ◌≡◌, Bool, true, false, ◌++◌, Option, Some, Result, Err, MatchResult}
 use Rattle.devices.specs.Device.{Bytes}
 use Rattle.devices.specs.Outcome.{Beginning, Extent, IsAsked, NoneIsEnough, Whole, asked_front}
 use Rattle.devices.specs.declared.transfer.Rendered.{Rendered}
@@ -18,11 +18,11 @@ Moves old new had has =
     (input : Bytes) → old ≡ Some input → (left : Bytes) × (new ≡ Some left)
     × (had ++ input ≡ has ++ left)
 
--- a text is an output for an input, and the note with it is one too
-abbrev pub IsRenderedBy : {N : Type 0} → (Extent → Bytes → Bytes → Type 0)
-    → (Extent → Bytes → N → Type 0) → Extent → Bytes → Rendered N → Type 0
-IsRenderedBy IsOutput IsNote extent input rendered =
-    IsOutput extent input (string_bytes rendered.text) × IsNote extent input rendered.note
+-- what is still to come of pieces is an output for an input, and the note with them is one too
+abbrev pub IsRenderedBy : {P N : Type 0} → (P → Bytes) → (Extent → Bytes → Bytes → Type 0)
+    → (Extent → Bytes → N → Type 0) → Extent → Bytes → Rendered P N → Type 0
+IsRenderedBy rest IsOutput IsNote extent input rendered =
+    IsOutput extent input (rest rendered.pieces) × IsNote extent input rendered.note
 
 -- an answer is an output for an input, or why there is none
 abbrev pub IsAnswer : {A E : Type 0} → (Extent → Bytes → A → Type 0)

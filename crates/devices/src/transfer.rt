@@ -1,12 +1,13 @@
 //! Whole outputs: all of a piece for a sink; and a run that reads a source and writes a sink.
 
-ghost use Rattle.std.specs.Prelude.{◌≡◌, ◌<◌, ◌++◌, ◌⊎◌, List, ℕ, [], true, false, Ok, Some, OnOk, OnErr, IfNone, IfOk, IfErr, IfSome, vec_len};
+ghost use Rattle.std.specs.Prelude.{◌≡◌, ◌<◌, ◌++◌, ◌⊎◌, List, ℕ, [], true, false, Err, Ok, Some, OnOk, OnErr, IfNone, IfOk, IfErr, IfSome, vec_len};
 ghost use Rattle.devices.specs.Outcome.{Between, Extent, IsBeginningOnly};
 ghost use Rattle.devices.specs.Run.{IsAfter, IsNoted, IsRefusalOfSome, IsSomeEnough, is_read_fault, is_write_fault, stop_of};
 ghost use Rattle.devices.specs.Transfer.{IsAnswer, IsAnswered, IsRenderedBy, Moves, is_source_fault};
 ghost use Rattle.devices.specs.declared.transfer.ReadError.TheVariants.{OutOfMemory};
 
 use crate::device::{DeviceFault, Sink, Source};
+use crate::pieces::Pieces;
 use std::alloc::{AllocError, Global};
 
 // How many bytes are asked for at a time, and how many are read before it is first asked whether
@@ -39,6 +40,8 @@ pub enum Stop<E> {
     Write,
     /// There was no memory for the input.
     OutOfMemory,
+    /// There was no memory for a piece of the output, so that not all of it was written.
+    Unfinished,
     /// The input was read whole, and has no output.
     Refused(E),
 }
@@ -56,9 +59,9 @@ impl<E> From<ReadError> for Stop<E> {
 
 /// An output, and what there is to say of its input.
 #[derive(Drop)]
-pub struct Rendered<N> {
+pub struct Rendered<P, N> {
     /// What is written.
-    pub text: String,
+    pub pieces: P,
     /// What there is to say.
     pub note: N,
 }
@@ -67,6 +70,8 @@ pub struct Rendered<N> {
 pub trait Render {
     /// Why an input has no output.
     type Error: Drop;
+    /// What is written.
+    type Output: Pieces + Drop;
     /// What there is to say of an input that has one.
     type Note: Drop;
 
@@ -83,8 +88,12 @@ pub trait Render {
     ghost is_refusal: { Self → Extent → List ℕ → Self.Error → Type 0 };
 
     /// The output for an input that was read whole.
-    fn render(&self, alloc: Global, input: Vec<u8>) -> Result<Rendered<Self::Note>, Self::Error>
-        ensures { IsAnswer (IsRenderedBy (is_output self.now) (is_note self.now))
+    fn render(
+        &self,
+        alloc: Global,
+        input: Vec<u8>,
+    ) -> Result<Rendered<Self::Output, Self::Note>, Self::Error>
+        ensures { IsAnswer (IsRenderedBy Self.Output.rest (is_output self.now) (is_note self.now))
             (is_refusal self.now) Extent.Whole input.items result };
 
     /// The output for an input of which these bytes were read, behind which more may follow, where
@@ -93,9 +102,9 @@ pub trait Render {
         &self,
         alloc: Global,
         read: &[u8],
-    ) -> Option<Result<Rendered<Self::Note>, Self::Error>>
+    ) -> Option<Result<Rendered<Self::Output, Self::Note>, Self::Error>>
         ensures some { IfSome result
-            (IsAnswer (IsRenderedBy (is_output self.now) (is_note self.now))
+            (IsAnswer (IsRenderedBy Self.Output.rest (is_output self.now) (is_note self.now))
             (is_refusal self.now) Extent.Beginning read.now) }
         ensures none { IfNone result (is_not_enough self.now read.now) };
 }
@@ -154,12 +163,13 @@ pub fn write_all<W: Sink>(sink: &mut W, piece: &[u8]) -> Result<(), DeviceFault>
 /// Reads the source, and writes the output for it to the sink. Returns what there is to say of it.
 ///
 /// It is read whole, or until what was read is enough: this is asked at 65536 bytes, at twice as
-/// many, and so on, so that it depends on the input alone, however the source parts it. The output
-/// is whole in memory before the first write.
+/// many, and so on, so that it depends on the input alone, however the source parts it. Each piece
+/// of the output is written as it comes.
 ///
 /// After `Read` the source has failed and the sink hasn't, after `Write` the sink and not the
-/// source, and after every other result neither. After `Write` a beginning of the output was
-/// written, and nothing after every other error.
+/// source, and after every other result neither. After `Write` and `Unfinished` a beginning of the
+/// output was written, not all of it, and nothing after every other error. `Unfinished` never comes
+/// where outputs are whole in memory.
 pub fn run<R: Source, W: Sink, D: Render>(
     alloc: Global,
     source: &mut R,
@@ -170,6 +180,7 @@ pub fn run<R: Source, W: Sink, D: Render>(
         ⊎ IsSomeEnough (D.is_output drawing.now)) }
     ensures source { R.has_failed source.new ≡ is_read_fault result }
     ensures sink { W.has_failed sink.old ≡ false → W.has_failed sink.new ≡ is_write_fault result }
+    ensures unfinished { result ≡ Err Stop.Unfinished → D.Output.is_whole ≡ false }
     ensures refused { IfErr result (IsRefusalOfSome (D.is_refusal drawing.now)) }
     ensures known { Between R.Source W.Sink (source.old, sink.old) (source.new, sink.new)
         (IsAfter (D.is_not_enough drawing.now) (D.is_output drawing.now)
@@ -177,13 +188,20 @@ pub fn run<R: Source, W: Sink, D: Render>(
     ensures noted { Between R.Source W.Sink (source.old, sink.old) (source.new, sink.new)
         (IsNoted (D.is_not_enough drawing.now) (D.is_note drawing.now) result) }
 {
-    let Rendered { text, note } = match read_answer(alloc, source, drawing)? {
+    let Rendered { mut pieces, note } = match read_answer(alloc, source, drawing)? {
         Ok(rendered) => rendered,
         Err(error) => return Err(Stop::Refused(error)),
     };
-    match write_all(sink, text.as_bytes()) {
-        Ok(()) => Ok(note),
-        Err(DeviceFault) => Err(Stop::Write),
+    loop {
+        let Ok(next) = pieces.next_piece() else {
+            return Err(Stop::Unfinished);
+        };
+        let Some(piece) = next else {
+            return Ok(note);
+        };
+        let Ok(()) = write_all(sink, piece.as_bytes()) else {
+            return Err(Stop::Write);
+        };
     }
 }
 
@@ -192,11 +210,11 @@ fn read_answer<R: Source, D: Render>(
     alloc: Global,
     source: &mut R,
     drawing: &D,
-) -> Result<Result<Rendered<D::Note>, D::Error>, ReadError>
+) -> Result<Result<Rendered<D::Output, D::Note>, D::Error>, ReadError>
     ensures fault { R.has_failed source.new ≡ is_source_fault result }
     ensures answer { IfOk result
         (IsAnswered (D.is_not_enough drawing.now)
-        (IsRenderedBy (D.is_output drawing.now) (D.is_note drawing.now))
+        (IsRenderedBy D.Output.rest (D.is_output drawing.now) (D.is_note drawing.now))
         (D.is_refusal drawing.now) (R.remaining source.old) (R.end_was_read source.new)) }
     ensures unread { OnErr result (R.end_was_read source.new ≡ R.end_was_read source.old) }
 {

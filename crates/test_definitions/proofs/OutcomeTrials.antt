@@ -1,17 +1,18 @@
 -- What `run` may return on an empty input and on half a character.
-use Rattle.std.proofs.Common.{[], ◌∷◌, refl, Global, None, true, false, arith}
+use Rattle.std.proofs.Common.{◌≡◌, ◌+◌, ◌∙◌, [], ◌∷◌, ap, length, length-append, refl, Global, None, true, false, arith}
 use Rattle.std.specs.Prelude.{codes}
 use Rattle.comfy_parts.proofs.Computing.{wrapping}
 use Rattle.comfy_parts.specs.Presets.{ascii_full}
 use Rattle.comfy_parts.specs.declared.style.table.ContentArrangement.TheVariants.{Disabled}
 use Rattle.std.proofs.lemmas.List.Elements.{All-nil}
 use Rattle.comfy_parts.specs.CellValue.{IsColumn, IsRow}
+use Rattle.comfy_parts.specs.Text.{Text}
 use Rattle.comfy_run.specs.Input.{RendersInput, input_table}
 use Rattle.comfy_table.proofs.HeadlineLemmas.{table_drawing, utf8_indicator}
 use Rattle.comfy_table.specs.TableValue.{KeepsParts, TableValue}
 use Rattle.comfy_run.specs.Run.{IsDrawnFrom}
 use Rattle.comfy_run.specs.declared.settings.Settings.{Settings}
-use Rattle.devices.specs.Outcome.{IsAfterOk, IsAfterRead, IsAfterWrite, RunFacts}
+use Rattle.devices.specs.Outcome.{IsAfterOk, IsAfterRead, IsAfterWrite, IsBeginningOnly, RunFacts}
 use Rattle.test_definitions.proofs.TrialTables.{at_widths}
 
 -- the settings of these runs
@@ -44,11 +45,12 @@ after_write =
     record {
       failed = refl;
       no_read_failed = refl;
-      whole = refl;
-      output = codes "++\n++\n";
-      is_output = (([], (refl, refl)), both_lines);
-      beginning = record { rest = codes "++\n"; joins = refl; some_are_missing = omega arith };
+      part = record { whole = refl; output = codes "++\n++\n"; is_output = (([], (refl, refl)), both_lines); beginning = record { rest = codes "++\n"; joins = refl; some_are_missing = omega arith } };
     }
+
+-- all of an output isn't a part of it
+no_part : (output : Text) → ¬ (IsBeginningOnly output output)
+no_part output part = let longer : length output ≡ length output + length part.rest = ap length part.joins ∙ length-append output part.rest in absurd (omega (arith, longer, part.some_are_missing))
 
 -- the reader failed, before the end or with all bytes read
 abbrev half_read : RunFacts

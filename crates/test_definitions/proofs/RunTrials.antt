@@ -10,11 +10,12 @@ use Rattle.csv_records.specs.Beginning.{whole_lines}
 use Rattle.csv_records.specs.declared.encoding.Encoding.TheVariants.{Utf8}
 use Rattle.csv_tables.specs.Drawn.{note_for}
 use Rattle.csv_command.specs.Drawn.{AreEnough, IsNotEnough}
-use Rattle.csv_command.specs.Run.{IsAfter}
+use Rattle.csv_command.proofs.FirstRowLemmas.{whole_no_memory}
+use Rattle.csv_command.specs.Run.{IsAfter, IsAfterIn}
 use Rattle.csv_command.specs.declared.error.CsvError.TheVariants.{OutOfMemory}
 use Rattle.csv_command.specs.declared.arguments.Options.{Options}
 use Rattle.devices.proofs.AskedLemmas.{asked_some}
-use Rattle.devices.specs.Outcome.{IsByBeginning, NoneIsEnough, RunFacts, asked_at, asked_front}
+use Rattle.devices.specs.Outcome.{IsByBeginning, NoneIsEnough, RunFacts, Whole, asked_at, asked_front}
 
 -- ---- want of memory
 
@@ -29,7 +30,14 @@ in_utf8 options = record options { input = record options.input { skip = 0; enco
 -- so it doesn't lack memory alone
 out_of_memory : (options : Options) → ¬ (IsAfter {T = ℕ} (in_utf8 options) (Err OutOfMemory) facts)
 unfolding chars is_utf8
-out_of_memory options (inl after) = let is : false ≡ true = is_utf8-from_IsUtf8 (0xFF ∷ []) (after.says.fine refl refl) in cc is
+out_of_memory options (inl after) = by_time after.says
+  where
+    by_time : IsAfterIn {T = ℕ} (in_utf8 options) (Err OutOfMemory) Whole facts → ⊥
+    by_time (inl nothing) = let is : false ≡ true = is_utf8-from_IsUtf8 (0xFF ∷ []) (nothing.fine refl refl) in cc is
+    by_time (inr part) =
+        let text = part.part.is_output.are_records in
+        let is : false ≡ true = is_utf8-from_IsUtf8 (0xFF ∷ []) (whole_no_memory (in_utf8 options) (0xFF ∷ []) text.text text.is_text refl) in
+        cc is
 out_of_memory options (inr part) = let unread : true ≡ false = part.unread in cc unread
 
 -- a beginning of a longer one may, of which the rest wasn't read
@@ -45,7 +53,7 @@ out_of_memory_by_beginning options =
       n = 0;
       is_asked = record { reaches = omega (arith, length-replicate {A = ℕ} 65536 0xFF); none_before = λ m below. absurd (omega (arith, below)) };
       unread = refl;
-      says = record { no_device_failed = record { no_read_failed = refl; no_write_failed = refl }; nothing_written = refl; fine = λ whole. record { limit = 3; is = refl; uncounted = refl } };
+      says = inl (record { no_device_failed = record { no_read_failed = refl; no_write_failed = refl }; nothing_written = refl; fine = λ whole. record { limit = 3; is = refl; uncounted = refl } });
     })
 
 -- ---- beginnings

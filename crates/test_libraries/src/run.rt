@@ -3,6 +3,7 @@
 mod counted;
 mod large;
 mod limited;
+mod pieces;
 mod program;
 mod promised;
 mod records;

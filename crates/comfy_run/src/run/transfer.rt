@@ -45,6 +45,8 @@ pub fn run<R: Source, W: Sink>(
 
 impl Render for Settings {
     type Error = RunError;
+    // A drawing is whole in memory before the first write.
+    type Output = Option<String>;
     // There is nothing to say.
     type Note = ();
 
@@ -56,12 +58,19 @@ impl Render for Settings {
 
     ghost is_refusal = { λ _. IsRefusalIn };
 
-    fn render(&self, alloc: Global, input: Vec<u8>) -> Result<Rendered<()>, RunError> {
+    fn render(
+        &self,
+        alloc: Global,
+        input: Vec<u8>,
+    ) -> Result<Rendered<Option<String>, ()>, RunError> {
         let Ok(text) = simdutf8::compat::from_utf8(input.as_slice()) else {
             return Err(RunError::NotUtf8);
         };
         let text = render_tsv(alloc, text, *self)?;
-        Ok(Rendered { text, note: () })
+        Ok(Rendered {
+            pieces: Some(text),
+            note: (),
+        })
     }
 
     // Each line is a row, so that the input is read whole.
@@ -69,7 +78,7 @@ impl Render for Settings {
         &self,
         _alloc: Global,
         _read: &[u8],
-    ) -> Option<Result<Rendered<()>, RunError>> {
+    ) -> Option<Result<Rendered<Option<String>, ()>, RunError>> {
         None
     }
 }
