@@ -249,9 +249,6 @@ or_other false b is = is
 all_digits : (ds : Text) → is_digits ds ≡ true → AreDigits ds
 all_digits ds is = (and_parts (nat_lt 0 (length ds)) (list_all is_ascii_digit ds) is).1
 
-is_mark : ℕ → Bool
-is_mark b = (b == 0x2E) || (b == 0x2C)
-
 -- digits, with what stands behind them
 module _ (whole : Text) (all : AreDigits whole) (some : nat_lt 0 (length whole) ≡ true) where
   number_inner : (fraction : Text) → is_simple_fraction fraction ≡ true → list_all is_inner (whole ++ fraction) ≡ true
