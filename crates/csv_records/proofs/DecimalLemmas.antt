@@ -1,5 +1,5 @@
 -- What a column's fields say with one field more.
-use Rattle.std.proofs.Common.{◌≡◌, ◌&&◌, ◌||◌, Bool, true, false, List, [], ◌∷◌, ◌++◌, ℕ, ◌<◌, ◌+◌, None, Some, ap, ap₂, arith, chars, drop, fold, get_or, length, map, max, not, refl, sym, ◌∙◌}
+use Rattle.std.proofs.Common.{◌≡◌, ◌&&◌, ◌||◌, Bool, true, false, List, [], ◌∷◌, ◌++◌, ℕ, ◌<◌, ◌+◌, None, Some, ap, ap₂, arith, drop, fold, get_or, length, map, max, not, refl, sym, ◌∙◌}
 use Rattle.std.specs.Char.{is_ascii_digit}
 use Rattle.std.proofs.Math.Nat.{max-zero}
 use Rattle.std.proofs.lemmas.Bool.{or_right}
@@ -7,6 +7,7 @@ use Rattle.std.proofs.lemmas.List.{map-append}
 use Rattle.std.proofs.lemmas.List.Folds.{list_all-append, list_any-append}
 use Rattle.std.proofs.lemmas.List.Sums.{fold-append}
 use Rattle.std.specs.List.{list_all, list_any}
+use Rattle.std.specs.Str.{chars}
 use Rattle.comfy_parts.specs.Text.{Text}
 use Rattle.csv_records.proofs.SimpleLemmas.{no_fraction, no_other_mark, own_mark, own_read, simple_ends, simple_is_decimal, simple_is_number}
 use Rattle.csv_records.specs.Decimals.{byte_of, decides, digits_in, fraction_len, is_plain, is_read, marks_of, use_of}
@@ -151,3 +152,15 @@ module _ (fields : List Text) (field : Text) (had : ColumnMarks) (same : had ≡
         marks_more fields field had made same (plain ∙ plain_so)
         (point ∙ nothing_of Point had.point (digits_in field) (no_other_mark field simple 0x2C rest are 0x2E refl refl))
         (comma ∙ fraction_says Comma had.comma (digits_in field) _ rest _ (own_mark field simple 0x2C rest are refl) (own_read field simple 0x2C rest are) size)
+
+-- ---- empty fields
+
+pub empty_is_plain : is_plain [] ≡ true
+unfolding chars is_neutral
+empty_is_plain = refl
+
+pub empty_says_nothing : (fields : List Text) → marks_of fields ≡ marks_of (fields ++ [] ∷ [])
+unfolding chars
+empty_says_nothing fields =
+    let plain : list_all is_plain fields ≡ (list_all is_plain fields && is_plain []) = rw empty_is_plain (sym (and_nothing (list_all is_plain fields))) in
+    marks_more fields [] (marks_of fields) (marks_of fields) refl plain (nothing_of Point (use_of Point fields) (digits_in []) refl) (nothing_of Comma (use_of Comma fields) (digits_in []) refl)

@@ -290,7 +290,7 @@ module _ (whole : Text) (all : AreDigits whole) (some : nat_lt 0 (length whole) 
       own : (bs : Text) → nat_lt 0 (length bs) ≡ true → AreDigits bs → ends is_ascii_digit bs ≡ true
       own [] more digits = absurd (cc more)
       own (b ∷ bs) more digits = ends_digits b bs digits
-  number_last (m ∷ []) is = absurd (cc (is, (and_parts ((m == 0x2E) || (m == 0x2C)) false is).1))
+  number_last (m ∷ []) is = absurd (cc (and_parts ((m == 0x2E) || (m == 0x2C)) false is).1)
   number_last (m ∷ d ∷ ds) is =
       let parts = and_parts ((m == 0x2E) || (m == 0x2C)) (is_digits (d ∷ ds)) is in
       ends_last whole m (d ∷ ds) ∙ ends_digits d ds (all_digits (d ∷ ds) parts.1)

@@ -65,11 +65,15 @@ impl ColumnSummary {
         Ok(())
     }
 
-    // Adds what one field more says. Most fields of columns of numbers are numbers as most are.
+    // Adds what one field more says. Many are empty, and say nothing; most fields of columns of
+    // numbers are numbers as most are.
     fn add_seen(&mut self, field: &str)
         ensures { (fields : List (List ℕ)) → self.old ≡ summary_of fields
             → self.new ≡ summary_of (fields ++ field.now ∷ []) }
     {
+        if field.is_empty() {
+            return;
+        }
         if !self.add_number(field) {
             *self = self.with(field);
         }
@@ -233,10 +237,7 @@ fn joined_kind(one: FieldKind, other: FieldKind) -> FieldKind
 fn kind_of(field: &str) -> FieldKind
     ensures { result ≡ kind_of field.now }
 {
-    // Many fields are empty, and are seen to be neutral faster so.
-    if field.is_empty() {
-        FieldKind::Neutral
-    } else if is_number(field) {
+    if is_number(field) {
         FieldKind::Number
     } else if is_neutral(field) {
         FieldKind::Neutral
