@@ -1,5 +1,5 @@
 -- Numbers as most are written: digits behind a sign or without one, and a mark and digits or nothing behind them.
-use Rattle.std.proofs.Common.{◌≡◌, ◌&&◌, ◌||◌, ◌==◌, ◌+◌, ◌<◌, ℕ, zero, suc, Bool, true, false, nat_lt, List, [], ◌∷◌, ◌++◌, Option, None, Some, not, option_map, drop, take, encode_utf8_all, get_or, length, refl, sym, ap, ap₂, ◌∙◌, subst, append-nil, arith, length-append, rules, tests}
+use Rattle.std.proofs.Common.{◌≡◌, ◌&&◌, ◌||◌, ◌==◌, ◌+◌, ◌<◌, ℕ, suc, Bool, true, false, nat_lt, List, [], ◌∷◌, ◌++◌, Option, None, Some, not, option_map, drop, take, encode_utf8_all, get_or, length, refl, sym, ap, ap₂, ◌∙◌, subst, append-nil, arith, length-append, rules, tests}
 use Rattle.std.proofs.Math.Seq.{take-append_seam}
 use Rattle.std.proofs.lemmas.Bool.{and_from, and_parts, eqb-true}
 use Rattle.std.proofs.lemmas.List.{take-append-drop}

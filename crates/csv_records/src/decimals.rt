@@ -172,30 +172,29 @@ impl ColumnMarks {
     {
         match simple_fraction(field.as_bytes()) {
             Some(fraction) => {
-                *self = self.with_fraction(field, fraction);
+                self.add_fraction(field, fraction);
                 true
             }
             None => false,
         }
     }
 
-    // With one field more that is a number as most are written, by what stands behind its whole
+    // Adds one field more that is a number as most are written, by what stands behind its whole
     // number.
-    fn with_fraction(self, field: &str, fraction: &[u8]) -> ColumnMarks
+    fn add_fraction(&mut self, field: &str, fraction: &[u8])
         requires simple { is_simple field.now ≡ true }
         requires fraction { fraction.now ≡ fraction_in field.now }
-        ensures { (fields : List (List ℕ)) → self ≡ marks_of fields
-            → result ≡ marks_of (fields ++ field.now ∷ []) }
+        ensures { (fields : List (List ℕ)) → self.old ≡ marks_of fields
+            → self.new ≡ marks_of (fields ++ field.now ∷ []) }
     {
         let len = fraction.len();
         if fraction.is_empty() {
-            self
-        } else if fraction[0] == b'.' {
-            let point = self.point.with_fraction(field, DecimalMark::Point, len);
-            ColumnMarks { point, ..self }
+            return;
+        }
+        if fraction[0] == b'.' {
+            self.point = self.point.with_fraction(field, DecimalMark::Point, len);
         } else {
-            let comma = self.comma.with_fraction(field, DecimalMark::Comma, len);
-            ColumnMarks { comma, ..self }
+            self.comma = self.comma.with_fraction(field, DecimalMark::Comma, len);
         }
     }
 

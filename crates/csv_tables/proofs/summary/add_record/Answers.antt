@@ -1,6 +1,4 @@
-use Rattle.std.proofs.Common.{◌≡◌, ◌<◌, ◌+◌, ◌≤◌, ◌==◌, ℕ, List, [], ◌∷◌, ◌++◌, ap, arith, drop, length, rules, suc, subst, sym, take, take_all, tests, ◌∙◌}
-use Rattle.std.specs.List.{slice_index_or}
-use Rattle.std.specs.Prelude.{if◌then◌else◌}
+use Rattle.std.proofs.Common.{◌≡◌, ◌<◌, ◌+◌, ◌≤◌, ℕ, List, [], ◌∷◌, ◌++◌, ap, arith, drop, length, rules, suc, subst, sym, take, take_all, tests, ◌∙◌}
 use Rattle.std.proofs.lemmas.List.{length-map}
 use Rattle.comfy_parts.specs.Text.{Text}
 use Rattle.csv_records.specs.Cleaning.{visible_of}

@@ -1,4 +1,4 @@
-use Rattle.std.proofs.Common.{◌≡◌, ◌<◌, ◌∙◌, ap, arith, length, sym}
+use Rattle.std.proofs.Common.{◌≡◌, ◌∙◌, ap, arith, length, sym}
 use Rattle.csv.proofs.RecordFacts.{cut-length, field-none}
 use Rattle.csv.specs.Records.{fields_of}
 use Rattle.csv_records.proofs.fields.Fields.get.Goals as goal

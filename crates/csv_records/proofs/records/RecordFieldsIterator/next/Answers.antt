@@ -1,4 +1,4 @@
-use Rattle.std.proofs.Common.{◌≡◌, ◌<◌, ◌+◌, ◌∷◌, ◌∙◌, ap, arith, length, sym}
+use Rattle.std.proofs.Common.{◌<◌, ◌+◌, ◌∷◌, ◌∙◌, ap, arith, sym}
 use Rattle.comfy_parts.specs.Text.{Text}
 use Rattle.csv.proofs.RecordFacts.{cut-length, prev-next, text-of}
 use Rattle.csv.specs.Records.{fields_of}
