@@ -6,14 +6,13 @@ ghost use Rattle.csv_command.specs.Doubt.{IsDoubtOf, IsDoubtOfInput};
 ghost use Rattle.csv_command.specs.Drawn.{HasLimit, IsNotEnough, RendersChosen, RendersExtent, RendersInput, most_drawn};
 ghost use Rattle.csv_command.specs.Run.{IsAfter, IsInputRefusal, IsRefusal, is_read_fault, is_write_fault};
 ghost use Rattle.devices.specs.Outcome.{Between};
-ghost use Rattle.devices.specs.Pieces.{text_left};
 ghost use Rattle.devices.specs.Run.{IsNoted};
 
 use crate::arguments::Options;
 use crate::columns::columns_of;
 use crate::error::{ColumnsError, CsvError};
 use csv_records::{Records, decoded, read_beginning, read_first_records};
-use csv_tables::{Layout, Selection, text_of_records};
+use csv_tables::{DrawnRecords, Layout, Selection, drawn_records};
 use devices::{Render, Rendered, Sink, Source, joined};
 use std::alloc::Global;
 
@@ -58,12 +57,12 @@ pub fn draw<R: Source, W: Sink>(
 }
 
 // A drawing, and the delimiter that is doubtful.
-type Drawing = Rendered<Option<String>, Option<u8>>;
+type Drawing = Rendered<DrawnRecords, Option<u8>>;
 
 impl Render for Options {
     type Error = CsvError;
 
-    type Output = Option<String>;
+    type Output = DrawnRecords;
 
     type Note = Option<u8>;
 
@@ -90,10 +89,7 @@ impl Render for Options {
         let first = found?;
         let note = first.doubt;
         match output_of(alloc, first.records, None, self) {
-            Ok(text) => Some(Ok(Rendered {
-                pieces: Some(text),
-                note,
-            })),
+            Ok(pieces) => Some(Ok(Rendered { pieces, note })),
             Err(error) => Some(Err(CsvError::from(error))),
         }
     }
@@ -120,9 +116,9 @@ fn output_of(
     records: Records,
     count: Option<usize>,
     options: &Options,
-) -> Result<String, ColumnsError>
+) -> Result<DrawnRecords, ColumnsError>
     ensures output { IfOk result (λ output.
-        RendersChosen count options.now records (string_bytes output)) }
+        RendersChosen count options.now records output) }
     ensures refused { IfErr result (λ e. IsColumnsRefusal e (columns_for options.now records)) }
 {
     let selection = options.selection;
@@ -133,7 +129,7 @@ fn output_of(
         columns: columns_of(alloc, &names, columns, &options.columns)?,
         look: options.look,
     };
-    Ok(text_of_records(alloc, records, count, &layout)?)
+    Ok(drawn_records(alloc, records, count, &layout)?)
 }
 
 /// The output for an input that was read whole.
@@ -148,7 +144,7 @@ pub fn output_of_input(alloc: Global, input: Vec<u8>, options: &Options) -> Resu
 // The same, with the delimiter that is doubtful.
 fn rendered_input(alloc: Global, input: Vec<u8>, options: &Options) -> Result<Drawing, CsvError>
     ensures output { IfOk result (λ rendered.
-        RendersInput options.now input.items (text_left rendered.pieces)) }
+        RendersInput options.now input.items rendered.pieces) }
     ensures doubt { IfOk result (λ rendered.
         IsDoubtOfInput options.now input.items rendered.note) }
     ensures refused { IfErr result (λ e. IsInputRefusal options.now input.items e) }
@@ -161,12 +157,10 @@ fn rendered_input(alloc: Global, input: Vec<u8>, options: &Options) -> Result<Dr
     drop(text);
     let note = first.doubt;
     if first.count == 0 {
-        return Ok(Rendered { pieces: None, note });
+        let pieces = DrawnRecords::nothing();
+        return Ok(Rendered { pieces, note });
     }
     let below = first.count - usize::from(options.selection.has_header);
-    let output = output_of(alloc, first.records, Some(below), options)?;
-    Ok(Rendered {
-        pieces: Some(output),
-        note,
-    })
+    let pieces = output_of(alloc, first.records, Some(below), options)?;
+    Ok(Rendered { pieces, note })
 }

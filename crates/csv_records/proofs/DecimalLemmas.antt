@@ -1,16 +1,18 @@
 -- What a column's fields say with one field more.
-use Rattle.std.proofs.Common.{◌≡◌, ◌&&◌, ◌||◌, Bool, true, false, List, [], ◌∷◌, ◌++◌, ℕ, None, ap, ap₂, chars, fold, length, map, max, nat_lt, not, refl, sym, ◌∙◌}
+use Rattle.std.proofs.Common.{◌≡◌, ◌&&◌, ◌||◌, Bool, true, false, List, [], ◌∷◌, ◌++◌, ℕ, ◌<◌, ◌+◌, None, Some, ap, ap₂, arith, drop, fold, get_or, length, map, max, not, refl, sym, ◌∙◌}
 use Rattle.std.specs.Char.{is_ascii_digit}
 use Rattle.std.proofs.Math.Nat.{max-zero}
-use Rattle.std.proofs.lemmas.Bool.{and_parts, or_right}
+use Rattle.std.proofs.lemmas.Bool.{or_right}
 use Rattle.std.proofs.lemmas.List.{map-append}
 use Rattle.std.proofs.lemmas.List.Folds.{list_all-append, list_any-append}
 use Rattle.std.proofs.lemmas.List.Sums.{fold-append}
 use Rattle.std.specs.List.{list_all, list_any}
+use Rattle.std.specs.Str.{chars}
 use Rattle.comfy_parts.specs.Text.{Text}
-use Rattle.csv_records.proofs.WholeLemmas.{digits_alone, ends_so, no_halves, whole_is_number}
+use Rattle.csv_records.proofs.SimpleLemmas.{no_fraction, no_other_mark, own_mark, own_read, simple_ends, simple_is_decimal, simple_is_number}
 use Rattle.csv_records.specs.Decimals.{byte_of, decides, digits_in, fraction_len, is_plain, is_read, marks_of, use_of}
-use Rattle.csv_records.specs.Number.{back_of, ends, front_of, halves, is_decimal, is_digits, is_enclosed, is_name, is_neutral, is_number, is_scientific, is_signed, trimmed}
+use Rattle.csv_records.specs.Number.{back_of, ends, front_of, halves, is_decimal, is_enclosed, is_fraction, is_name, is_neutral, is_number, is_scientific, is_signed, trimmed}
+use Rattle.csv_records.specs.Simple.{fraction_in, is_simple}
 use Rattle.csv_records.specs.declared.decimals.ColumnMarks.{ColumnMarks}
 use Rattle.csv_records.specs.declared.decimals.DecimalMark.{DecimalMark}
 use Rattle.csv_records.specs.declared.decimals.DecimalMark.TheVariants.{Comma, Point}
@@ -96,28 +98,69 @@ marks_more fields field had made same plain point comma =
     let commas : made.comma ≡ use_of Comma (fields ++ field ∷ []) = comma ∙ ap (λ (m : ColumnMarks). use_with Comma m.comma (digits_in field)) same ∙ use_more Comma fields field in
     same_parts made (marks_of (fields ++ field ∷ [])) all points commas
 
--- ---- digits alone
+-- ---- numbers as most are written
 
--- they say nothing of a mark
-nothing_of : (mark : DecimalMark) (this : MarkUse) (field : Text) → list_all is_ascii_digit field ≡ true → is_ascii_digit (byte_of mark) ≡ false → this ≡ use_with mark this (digits_in field)
-nothing_of mark this field all other =
-    let none : halves (byte_of mark) (digits_in field) ≡ None = ap (halves (byte_of mark)) (digits_alone field all) ∙ no_halves (byte_of mark) other field all in
-    rw (none, or_nothing this.is_decided, and_nothing this.is_read, max-zero this.longest) refl
+module _ (mark : DecimalMark) (this : MarkUse) (digits : Text) where
+  -- digits without a mark say nothing of it
+  nothing_of : halves (byte_of mark) digits ≡ None → this ≡ use_with mark this digits
+  nothing_of none = rw (none, or_nothing this.is_decided, and_nothing this.is_read, max-zero this.longest) refl
 
-pub whole_says_nothing : (fields : List Text) (field : Text) (had : ColumnMarks) → had ≡ marks_of fields → (is_digits field && not (is_name field)) ≡ true → had ≡ marks_of (fields ++ field ∷ [])
-whole_says_nothing fields field had same whole = marks_more fields field had had same plain (nothing_of Point had.point field all refl) (nothing_of Comma had.comma field all refl)
-  where
-    digits : is_digits field ≡ true
-    digits = (and_parts (is_digits field) (not (is_name field)) whole).0
+  -- those of a fraction that can be read say how long it is, and may decide the mark
+  fraction_says : (whole rest : Text) (len : ℕ) → halves (byte_of mark) digits ≡ Some (whole, rest) → is_fraction (Some (whole, rest)) ≡ true → len ≡ 1 + length rest
+      → record { is_decided = this.is_decided || decides mark digits; is_read = this.is_read; longest = max this.longest len } ≡ use_with mark this digits
+  fraction_says whole rest len found read long =
+      let is : is_read (halves (byte_of mark) digits) ≡ true = ap is_read found ∙ read in
+      let same : len ≡ fraction_len (halves (byte_of mark) digits) = long ∙ sym (ap fraction_len found) in
+      rw (is, and_nothing this.is_read, same) refl
 
-    all : list_all is_ascii_digit field ≡ true
-    all = (and_parts (nat_lt 0 (length field)) (list_all is_ascii_digit field) digits).1
+pub nothing_there : (text : Text) → length text ≡ 0 → text ≡ []
+nothing_there [] none = refl
+nothing_there (b ∷ bs) none = absurd (omega (arith, none))
 
-    decimal : is_decimal (digits_in field) ≡ true
-    decimal = ap is_decimal (digits_alone field all) ∙ (rw digits refl)
+pub first_there : (text : Text) (b : ℕ) → 0 < length text → get_or text 0 0 ≡ b → text ≡ b ∷ drop 1 text
+first_there [] b some is = absurd (omega (arith, some))
+first_there (c ∷ cs) b some is = ap (λ (x : ℕ). x ∷ cs) is
 
-    is : is_plain field ≡ true
-    is = or_right (is_neutral field) _ (rw (whole_is_number field whole, ends_so field digits, decimal) refl)
+pub simple_is_plain : (field : Text) → is_simple field ≡ true → is_plain field ≡ true
+simple_is_plain field simple = or_right (is_neutral field) _ (rw (simple_is_number field simple, simple_ends field simple, simple_is_decimal field simple) refl)
 
-    plain : had.are_plain ≡ (had.are_plain && is_plain field)
-    plain = rw is (sym (and_nothing had.are_plain))
+module _ (fields : List Text) (field : Text) (had : ColumnMarks) (same : had ≡ marks_of fields) (simple : is_simple field ≡ true) where
+  plain_so : had.are_plain ≡ (had.are_plain && is_plain field)
+  plain_so = rw (simple_is_plain field simple) (sym (and_nothing had.are_plain))
+
+  pub whole_says_nothing : fraction_in field ≡ [] → had ≡ marks_of (fields ++ field ∷ [])
+  whole_says_nothing none =
+      marks_more fields field had had same plain_so
+      (nothing_of Point had.point (digits_in field) (no_fraction field simple 0x2E refl none))
+      (nothing_of Comma had.comma (digits_in field) (no_fraction field simple 0x2C refl none))
+
+  module _ (rest : Text) (len : ℕ) (long : len ≡ length (fraction_in field)) (made : ColumnMarks) (plain : made.are_plain ≡ had.are_plain) where
+    pub point_says : fraction_in field ≡ 0x2E ∷ rest → made.comma ≡ had.comma
+        → made.point ≡ record { is_decided = had.point.is_decided || decides Point (digits_in field); is_read = had.point.is_read; longest = max had.point.longest len }
+        → made ≡ marks_of (fields ++ field ∷ [])
+    point_says are comma point =
+        let size : len ≡ 1 + length rest = long ∙ ap length are ∙ omega arith in
+        marks_more fields field had made same (plain ∙ plain_so)
+        (point ∙ fraction_says Point had.point (digits_in field) _ rest _ (own_mark field simple 0x2E rest are refl) (own_read field simple 0x2E rest are) size)
+        (comma ∙ nothing_of Comma had.comma (digits_in field) (no_other_mark field simple 0x2E rest are 0x2C refl refl))
+
+    pub comma_says : fraction_in field ≡ 0x2C ∷ rest → made.point ≡ had.point
+        → made.comma ≡ record { is_decided = had.comma.is_decided || decides Comma (digits_in field); is_read = had.comma.is_read; longest = max had.comma.longest len }
+        → made ≡ marks_of (fields ++ field ∷ [])
+    comma_says are point comma =
+        let size : len ≡ 1 + length rest = long ∙ ap length are ∙ omega arith in
+        marks_more fields field had made same (plain ∙ plain_so)
+        (point ∙ nothing_of Point had.point (digits_in field) (no_other_mark field simple 0x2C rest are 0x2E refl refl))
+        (comma ∙ fraction_says Comma had.comma (digits_in field) _ rest _ (own_mark field simple 0x2C rest are refl) (own_read field simple 0x2C rest are) size)
+
+-- ---- empty fields
+
+pub empty_is_plain : is_plain [] ≡ true
+unfolding chars is_neutral
+empty_is_plain = refl
+
+pub empty_says_nothing : (fields : List Text) → marks_of fields ≡ marks_of (fields ++ [] ∷ [])
+unfolding chars
+empty_says_nothing fields =
+    let plain : list_all is_plain fields ≡ (list_all is_plain fields && is_plain []) = rw empty_is_plain (sym (and_nothing (list_all is_plain fields))) in
+    marks_more fields [] (marks_of fields) (marks_of fields) refl plain (nothing_of Point (use_of Point fields) (digits_in []) refl) (nothing_of Comma (use_of Comma fields) (digits_in []) refl)

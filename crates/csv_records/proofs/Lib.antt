@@ -21,7 +21,7 @@ pub mod QuoteLemmas
 pub mod ReadTextLemmas
 pub mod RecordLemmas
 pub mod ShownLemmas
+pub mod SimpleLemmas
 pub mod SpacesLemmas
 pub mod TextLemmas
-pub mod WholeLemmas
 pub mod WholeLineLemmas

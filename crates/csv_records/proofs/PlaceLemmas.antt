@@ -47,6 +47,20 @@ all_taken [] (suc i) is = refl
 all_taken (f ∷ fs) zero is = absurd (cc is)
 all_taken (f ∷ fs) (suc i) is = ap (λ xs. f ∷ xs) (all_taken fs i is)
 
+-- what is left from a field on
+from_here : (fields : List Text) (i : ℕ) (field : Text) → field_at fields i ≡ Some field → drop i fields ≡ field ∷ drop (suc i) fields
+unfolding field_at
+from_here [] i field is = absurd (cc is)
+from_here (f ∷ fs) zero field is = ap (λ (x : Text). x ∷ fs) (ap (λ o. unwrap_or o field) is)
+from_here (f ∷ fs) (suc i) field is = from_here fs i field is
+
+pub first_left : (fields : List Text) (place : Place) (field : Text) → place.start < place.end → field_at fields place.start ≡ Some field
+    → fields_at fields place ≡ field ∷ fields_at fields (record { start = place.start + 1; end = place.end })
+first_left fields place field below is =
+    let one : place.end - place.start ≡ suc (place.end - (place.start + 1)) = omega (arith, below) in
+    let next : suc place.start ≡ place.start + 1 = omega arith in
+    ap₂ take one (from_here fields place.start field is) ∙ ap (λ (n : ℕ). field ∷ take (place.end - (place.start + 1)) (drop n fields)) next
+
 -- ---- a field of a record
 
 pub size : (fields : List Text) (place : Place) → IsWithin fields place → length (fields_at fields place) ≡ place.end - place.start

@@ -17,5 +17,6 @@ pub mod QuoteWalk
 pub mod Quotes
 pub mod Reading
 pub mod Shown
+pub mod Simple
 pub mod Spaces
 pub mod Started

@@ -2,13 +2,16 @@
 
 ghost use Rattle.std.specs.Prelude.{◌≡◌, ◌<◌, ◌==◌, ◌&&◌, ◌||◌, ◌∷◌, ◌++◌, ℕ, Bool, List, [], chars, false, max, true};
 ghost use Rattle.std.specs.Char.{is_ascii_digit};
-ghost use Rattle.csv_records.specs.Number.{back_of, begins, ends, front_of, halves, trimmed};
+ghost use Rattle.comfy_parts.specs.Text.{is_printable_ascii};
+ghost use Rattle.csv_records.specs.Number.{back_of, begins, ends, front_of, halves, is_number, trimmed};
+ghost use Rattle.csv_records.specs.Simple.{fraction_in, is_simple};
 ghost use Rattle.csv_records.specs.Decimals.{byte_of, decides, digits_in, fraction_len, has_mark, is_plain, is_read, marks_of, may_be_whole, points_for, spaces_behind};
 
 use crate::number::{
-    has_groups, is_bare_neutral, is_decimal_number, is_fraction, is_neutral, is_whole, parts_of,
-    position_of, split_last, trimmed,
+    has_groups, is_bare_neutral, is_decimal_number, is_fraction, is_neutral, parts_of, position_of,
+    split_last, trimmed,
 };
+use crate::simple::simple_fraction;
 
 /// A decimal mark.
 #[derive(Clone, Copy, Debug, PartialEq, Eq)]
@@ -108,6 +111,21 @@ impl MarkUse {
         }
     }
 
+    // With a field more whose fraction behind the mark has so many characters and can be read.
+    fn with_fraction(self, field: &str, mark: DecimalMark, len: usize) -> MarkUse
+        ensures { result ≡ record {
+          is_decided = self.is_decided || decides mark (digits_in field.now);
+          is_read = self.is_read;
+          longest = max self.longest len;
+        } }
+    {
+        MarkUse {
+            is_decided: self.is_decided || field_decides(field, mark),
+            is_read: self.is_read,
+            longest: len.max(self.longest),
+        }
+    }
+
     // Whether the mark is that of the column, beside the use of the other one.
     fn has_mark(self, other: MarkUse) -> bool
         ensures { result ≡ has_mark self other }
@@ -133,15 +151,50 @@ impl ColumnMarks {
         ensures { (fields : List (List ℕ)) → self ≡ marks_of fields
             → result ≡ marks_of (fields ++ field.now ∷ []) }
     {
-        // Many numbers are whole, and say nothing of marks.
-        if is_whole(field) {
-            return self;
-        }
         let (front, digits, back) = parts_of(trimmed(field));
         ColumnMarks {
             are_plain: self.are_plain && is_plain(field, front, digits, back),
             point: self.point.with(digits, DecimalMark::Point),
             comma: self.comma.with(digits, DecimalMark::Comma),
+        }
+    }
+
+    /// Adds one field more where it is a number as most are written: digits behind a sign or
+    /// without one, and a mark and digits or nothing behind them. Returns whether it is one; other
+    /// numbers aren't seen so fast, and are left to `with`.
+    pub fn add_simple(&mut self, field: &str) -> bool
+        ensures number { result ≡ true → is_number field.now ≡ true }
+        ensures plain { result ≡ true → is_plain field.now ≡ true }
+        ensures printable { result ≡ true → is_printable_ascii field.now ≡ true }
+        ensures added { result ≡ true → (fields : List (List ℕ)) → self.old ≡ marks_of fields
+            → self.new ≡ marks_of (fields ++ field.now ∷ []) }
+        ensures other { result ≡ false → self.new ≡ self.old }
+    {
+        match simple_fraction(field.as_bytes()) {
+            Some(fraction) => {
+                self.add_fraction(field, fraction);
+                true
+            }
+            None => false,
+        }
+    }
+
+    // Adds one field more that is a number as most are written, by what stands behind its whole
+    // number.
+    fn add_fraction(&mut self, field: &str, fraction: &[u8])
+        requires simple { is_simple field.now ≡ true }
+        requires fraction { fraction.now ≡ fraction_in field.now }
+        ensures { (fields : List (List ℕ)) → self.old ≡ marks_of fields
+            → self.new ≡ marks_of (fields ++ field.now ∷ []) }
+    {
+        let len = fraction.len();
+        if fraction.is_empty() {
+            return;
+        }
+        if fraction[0] == b'.' {
+            self.point = self.point.with_fraction(field, DecimalMark::Point, len);
+        } else {
+            self.comma = self.comma.with_fraction(field, DecimalMark::Comma, len);
         }
     }
 
@@ -182,6 +235,14 @@ fn ends_with_digit(field: &str) -> bool
     ensures { result ≡ ends is_ascii_digit (chars field.now) }
 {
     matches!(split_last(field), Some((_, c)) if c.is_ascii_digit())
+}
+
+// Whether nothing but a fraction behind this mark can be read in a field.
+fn field_decides(field: &str, mark: DecimalMark) -> bool
+    ensures { result ≡ decides mark (digits_in field.now) }
+{
+    let (_, digits, _) = parts_of(trimmed(field));
+    decides(digits, mark)
 }
 
 // Whether nothing but a fraction behind this mark can be read.

@@ -1,6 +1,6 @@
 //! Fields that lie one behind another in one piece of memory.
 
-ghost use Rattle.std.specs.Prelude.{◌≡◌, ◌<◌, ◌-◌, ◌^◌, ◌++◌, ◌∷◌, [], IfSome, OnErr, OnOk, get_or, length, option_map};
+ghost use Rattle.std.specs.Prelude.{◌≡◌, ◌<◌, ◌-◌, ◌^◌, ◌++◌, ◌∷◌, [], IfSome, OnErr, OnOk, Some, get_or, length, option_map};
 ghost use Rattle.csv.specs.Records.{field_at, fields_of, partial_of, prev};
 
 use csv::ByteRecord;
@@ -114,9 +114,27 @@ impl Fields {
         if at >= self.ends.len() {
             return None;
         }
-        let start = self.ends.start(at);
+        let (field, _) = self.field_from(at, self.start(at));
+        Some(field)
+    }
+
+    /// Where the field at a position starts among the bytes.
+    pub(crate) fn start(&self, at: usize) -> usize
+        requires { at < length (fields_of self.now) }
+        ensures { result ≡ prev 0 self.now.ends at }
+    {
+        self.ends.start(at)
+    }
+
+    /// The field at a position, by where it starts, and where it ends.
+    pub(crate) fn field_from(&self, at: usize, start: usize) -> (&[u8], usize)
+        requires there { at < length (fields_of self.now) }
+        requires start { start ≡ prev 0 self.now.ends at }
+        ensures value { field_at (fields_of self.now) at ≡ Some result.0.now }
+        ensures end { result.1 ≡ get_or self.now.ends at 0 }
+    {
         let end = self.ends.get(at);
-        Some(&self.bytes.as_slice()[start..end])
+        (&self.bytes.as_slice()[start..end], end)
     }
 
     /// Appends the fields of a record.

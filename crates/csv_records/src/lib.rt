@@ -21,6 +21,7 @@ mod quotes;
 mod reading;
 mod records;
 mod shown;
+mod simple;
 mod spaces;
 mod text;
 
@@ -36,5 +37,5 @@ pub use not_text::NotText;
 pub use number::{is_neutral, is_number};
 pub use options::InputOptions;
 pub use reading::{read_first_records, read_records};
-pub use records::{FirstRecords, Record, Records, Rows};
+pub use records::{FirstRecords, Record, RecordFields, Records, Rows};
 pub use shown::shown_text;

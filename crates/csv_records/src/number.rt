@@ -51,14 +51,7 @@ const CURRENCY_CODES: [&str; 161] = [
 pub fn is_number(field: &str) -> bool
     ensures { result ≡ is_number field.now }
 {
-    is_whole(field) || is_bare_number(trimmed(field))
-}
-
-// Digits that are no name. Such a number is seen at once, since nothing stands around it.
-pub(crate) fn is_whole(field: &str) -> bool
-    ensures { result ≡ (is_digits field.now && not (is_name field.now)) }
-{
-    is_digits(field.as_bytes()) && !is_name(field.as_bytes())
+    is_bare_number(trimmed(field))
 }
 
 // A number without spaces around it.
@@ -371,7 +364,7 @@ fn is_figure(text: &str) -> bool
 }
 
 // Whether `0` and a digit are in front.
-fn is_name(bytes: &[u8]) -> bool
+pub(crate) fn is_name(bytes: &[u8]) -> bool
     ensures { result ≡ is_name bytes.now }
 {
     match bytes {
@@ -522,7 +515,7 @@ fn begins_with_capital(bytes: &[u8]) -> bool
 }
 
 // Digits, at least one.
-fn is_digits(bytes: &[u8]) -> bool
+pub(crate) fn is_digits(bytes: &[u8]) -> bool
     ensures { result ≡ is_digits bytes.now }
 {
     !bytes.is_empty() && are_digits(bytes)

@@ -246,6 +246,70 @@ impl<'a> Record<'a> {
             None
         }
     }
+
+    /// Its fields, to go over them.
+    pub fn iter(&self) -> RecordFields<'a>
+        ensures { result ≡ self.now }
+    {
+        let place = self.place;
+        let start = if place.start < place.end {
+            self.fields.start(place.start)
+        } else {
+            0
+        };
+        let fields = self.fields;
+        RecordFields {
+            fields,
+            place,
+            start,
+        }
+    }
+}
+
+/// Fields of a record, one behind another. Each is found by where the one before it ends.
+#[derive(Drop)]
+pub struct RecordFields<'a> {
+    fields: &'a Fields,
+    // of those that are left
+    place: Place,
+    // where the first of them starts among the bytes
+    start: usize,
+}
+
+impl<'a> Model for RecordFields<'a> {
+    ghost use Rattle.std.specs.Prelude.{◌≡◌, ◌<◌, List};
+    ghost use Rattle.csv.specs.Records.{fields_of, prev};
+    ghost use Rattle.comfy_parts.specs.Text.{Text};
+    ghost use Rattle.csv_records.specs.Places.{IsPlace, fields_at};
+
+    ghost Value = { List Text };
+
+    ghost invariant = { λ r. IsPlace (fields_of r.fields.now) r.place
+        × (r.place.start < r.place.end → r.start ≡ prev 0 r.fields.now.ends r.place.start) };
+
+    ghost view = { λ r. fields_at (fields_of r.fields.now) r.place };
+}
+
+impl<'a> Iterator for RecordFields<'a> {
+    type Item = &'a str;
+
+    ghost next_gives = { YieldsFirstBy (λ field. field.now) (λ fields. fields) };
+
+    ghost remaining = { item_count (λ fields. fields) };
+
+    fn next(&mut self) -> Option<&'a str> {
+        let Place { start, end } = self.place;
+        if start == end {
+            return None;
+        }
+        let (field, next) = self.fields.field_from(start, self.start);
+        self.place = Place {
+            start: start + 1,
+            end,
+        };
+        self.start = next;
+        Some(unsafe { str::from_utf8_unchecked(field) })
+    }
 }
 
 // What reads the records of a text, whose fields stand between delimiters. Records may have

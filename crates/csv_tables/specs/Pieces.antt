@@ -12,8 +12,3 @@ rest_of (Some left) =
     drawn_next left.contents.rows left.contents.table left.infos.items left.place true
     (drop left.place left.contents.rows.selected.rows)
     ++ string_bytes left.note
-
--- the bytes of a piece, where there is one
-abbrev pub ready_text : {A : Type 0} → Option (String A) → Text
-ready_text None = []
-ready_text (Some piece) = string_bytes piece

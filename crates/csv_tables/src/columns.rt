@@ -4,7 +4,6 @@ ghost use Rattle.std.specs.Prelude.{◌≡◌, IfOk, map, string_bytes};
 ghost use Rattle.std.specs.Cow.{cow_str_bytes};
 ghost use Rattle.comfy_parts.specs.VisibleText.{visible_text};
 ghost use Rattle.csv_records.specs.Cleaning.{visible_of};
-ghost use Rattle.csv_tables.specs.Fields.{field_or_blank};
 ghost use Rattle.csv_tables.specs.Columns.{alignment_for, column_at, drawn_columns, name_at, points_at, seen};
 
 use crate::markdown::is_right;
@@ -91,20 +90,7 @@ fn alignment_of(
     }
 }
 
-/// The field at a position as it is seen, without sequences that are kept. A missing one is blank.
-pub(crate) fn seen_field<'a>(
-    alloc: Global,
-    position: usize,
-    row: &Record<'a>,
-    has_sequences: bool,
-) -> Result<CowStr<'a>, AllocError>
-    ensures { IfOk result (λ field. cow_str_bytes field
-        ≡ field_or_blank (seen has_sequences row.now) position) }
-{
-    seen_text(alloc, row.get(position).unwrap_or(""), has_sequences)
-}
-
-/// What is seen of a field.
+/// What is seen of a field, without sequences that are kept.
 pub(crate) fn seen_text<'a>(
     alloc: Global,
     field: &'a str,

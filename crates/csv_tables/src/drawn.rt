@@ -5,13 +5,15 @@ ghost use Rattle.std.specs.List.{All};
 ghost use Rattle.comfy_parts.specs.CellValue.{IsRow};
 ghost use Rattle.comfy_table.specs.Drawing.{part_of_drawing, terminated_text_of};
 ghost use Rattle.csv_tables.specs.Contents.{drawn_next, expanded_from, expanded_record, rows_from};
-ghost use Rattle.csv_tables.specs.Pieces.{ready_text, rest_of};
+ghost use Rattle.csv_tables.specs.Pieces.{rest_of};
+ghost use Rattle.devices.specs.Pieces.{text_left};
 
 use crate::contents::RowContents;
 use crate::expanded::push_record_line;
 use comfy_parts::content_split::ColumnDisplayInfo;
 use comfy_table::{ArrangedTable, Extent, Result};
 use csv_records::{Record, Rows};
+use devices::Pieces;
 use std::alloc::{AllocError, Global};
 use std::marker::Model;
 use std::mem;
@@ -31,7 +33,8 @@ pub struct DrawnRecords {
 
 impl Model for DrawnRecords {
     ghost use Rattle.std.specs.Prelude.{◌≡◌, ◌<◌, ◌≤◌, ◌++◌, [], ℕ, List, IfNone, IfSome, length, string_bytes};
-    ghost use Rattle.csv_tables.specs.Pieces.{ready_text, rest_of};
+    ghost use Rattle.csv_tables.specs.Pieces.{rest_of};
+    ghost use Rattle.devices.specs.Pieces.{text_left};
 
     ghost Value = { List ℕ };
 
@@ -39,10 +42,20 @@ impl Model for DrawnRecords {
         × IfSome d.ready (λ piece. 0 < length (string_bytes piece))
         × IfSome d.rest (λ left. left.place ≤ length left.contents.rows.selected.rows) };
 
-    ghost view = { λ d. ready_text d.ready ++ rest_of d.rest };
+    ghost view = { λ d. text_left d.ready ++ rest_of d.rest };
 }
 
 impl DrawnRecords {
+    /// The drawing of nothing.
+    pub fn nothing() -> DrawnRecords
+        ensures { result ≡ [] }
+    {
+        DrawnRecords {
+            ready: None,
+            rest: None,
+        }
+    }
+
     /// A drawing that is whole in memory.
     pub(crate) fn of_text(text: String) -> DrawnRecords
         ensures { result ≡ string_bytes text }
@@ -59,16 +72,14 @@ impl DrawnRecords {
         let (ready, rest) = piece_of(Some(left))?;
         Ok(DrawnRecords { ready, rest })
     }
+}
 
-    /// The next piece, which isn't empty; none behind the last one. After an error there is still
-    /// one to come.
-    pub fn next_piece(&mut self) -> Result<Option<String>, AllocError>
-        ensures ok { IfOk result (λ piece. self.old ≡ ready_text piece ++ self.new) }
-        ensures none { result ≡ Ok None → self.old ≡ [] }
-        ensures some { IfOk result (λ piece.
-            IfSome piece (λ p. 0 < length (string_bytes p))) }
-        ensures err { OnErr result (0 < length self.old) }
-    {
+impl Pieces for DrawnRecords {
+    ghost rest = { λ drawn. drawn };
+
+    ghost is_whole = { false };
+
+    fn next_piece(&mut self) -> Result<Option<String>, AllocError> {
         if self.ready.is_none() {
             return Ok(None);
         }
@@ -94,7 +105,7 @@ pub(crate) struct OpenDrawing {
 fn piece_of(rest: Option<OpenDrawing>) -> Result<(Option<String>, Option<OpenDrawing>)>
     requires { IfSome rest (λ left.
         left.place ≤ length left.contents.rows.selected.rows) }
-    ensures all { IfOk result (λ x. rest_of rest ≡ ready_text x.0 ++ rest_of x.1) }
+    ensures all { IfOk result (λ x. rest_of rest ≡ text_left x.0 ++ rest_of x.1) }
     ensures none { IfOk result (λ x. IfNone x.0 (rest_of x.1 ≡ [])) }
     ensures some { IfOk result (λ x. IfSome x.0 (λ piece. 0 < length (string_bytes piece))) }
     ensures place { IfOk result (λ x. IfSome x.1 (λ left.

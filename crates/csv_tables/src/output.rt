@@ -20,6 +20,7 @@ use crate::unbroken::{keep_unbroken, keep_unbroken_fields};
 use comfy_parts::content_split::ColumnDisplayInfo;
 use comfy_table::{ArrangedTable, Result};
 use csv_records::Records;
+use devices::joined;
 use std::alloc::{AllocError, Global};
 use std::fmt::Write;
 
@@ -62,18 +63,6 @@ pub fn text_of_records(
 {
     let drawn = drawn_records(alloc, records, count, layout)?;
     Ok(joined(alloc, drawn)?)
-}
-
-// The pieces of a drawing behind one another.
-fn joined(alloc: Global, drawn: DrawnRecords) -> std::result::Result<String, AllocError>
-    ensures { IfOk result (λ text. string_bytes text ≡ drawn) }
-{
-    let mut drawn = drawn;
-    let mut text = String::new(alloc);
-    while let Some(piece) = drawn.next_piece()? {
-        text.push_str(piece.as_str())?;
-    }
-    Ok(text)
 }
 
 /// The text for records that are all there are: nothing where there are none.

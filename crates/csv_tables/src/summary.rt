@@ -1,7 +1,8 @@
 //! What the fields of each column say together, found in one pass over the records.
 
-ghost use Rattle.std.specs.Prelude.{◌≡◌, ◌<◌, ◌==◌, ◌++◌, ◌∷◌, ℕ, List, [], IfOk, OnOk, if◌then◌else◌, length, map, true};
+ghost use Rattle.std.specs.Prelude.{◌≡◌, ◌<◌, ◌==◌, ◌++◌, ◌∷◌, ℕ, List, [], IfOk, OnOk, if◌then◌else◌, false, length, map, true};
 ghost use Rattle.std.specs.List.{slice_index_or};
+ghost use Rattle.csv_records.specs.Cleaning.{visible_of};
 ghost use Rattle.csv_tables.specs.Columns.{seen};
 ghost use Rattle.csv_tables.specs.Kinds.{is_other_kind, joined_kind, kind_of};
 ghost use Rattle.csv_tables.specs.Unbroken.{is_unbroken};
@@ -9,7 +10,7 @@ ghost use Rattle.csv_tables.specs.declared.summary.FieldKind.TheVariants.{Other}
 ghost use Rattle.csv_tables.specs.Decimals.{narrow_marks};
 ghost use Rattle.csv_tables.specs.Summaries.{AreSummaries, summary_of};
 
-use crate::columns::seen_field;
+use crate::columns::seen_text;
 use crate::decimals::is_narrow;
 use crate::unbroken::{is_short, is_unbroken};
 use csv_records::{ColumnMarks, Record, Rows, is_neutral, is_number};
@@ -45,6 +46,58 @@ impl ColumnSummary {
             marks: Some(ColumnMarks::new()),
             are_unbroken: true,
         }
+    }
+
+    // Adds what one field more says, by what is seen of it.
+    fn add(&mut self, alloc: Global, field: &str, has_sequences: bool) -> Result<(), AllocError>
+        ensures { OnOk result ((fields : List (List ℕ)) → self.old ≡ summary_of fields
+            → self.new ≡ summary_of (fields ++ visible_of has_sequences field.now ∷ [])) }
+    {
+        if self.is_settled() {
+            return Ok(());
+        }
+        if has_sequences {
+            let seen = seen_text(alloc, field, has_sequences)?;
+            self.add_seen(seen.as_str());
+        } else {
+            self.add_seen(field);
+        }
+        Ok(())
+    }
+
+    // Adds what one field more says. Many are empty, and say nothing; most fields of columns of
+    // numbers are numbers as most are.
+    fn add_seen(&mut self, field: &str)
+        ensures { (fields : List (List ℕ)) → self.old ≡ summary_of fields
+            → self.new ≡ summary_of (fields ++ field.now ∷ []) }
+    {
+        if field.is_empty() {
+            return;
+        }
+        if !self.add_number(field) {
+            *self = self.with(field);
+        }
+    }
+
+    // Adds what a number as most are written says, together with its marks. Returns whether the
+    // field is one.
+    fn add_number(&mut self, field: &str) -> bool
+        ensures added { result ≡ true → (fields : List (List ℕ)) → self.old ≡ summary_of fields
+            → self.new ≡ summary_of (fields ++ field.now ∷ []) }
+        ensures other { result ≡ false → self.new ≡ self.old }
+    {
+        let is_added = match &mut self.marks {
+            Some(marks) => marks.add_simple(field),
+            None => false,
+        };
+        if is_added {
+            self.kind = joined_kind(self.kind, FieldKind::Number);
+            if !is_short(field) {
+                self.marks = None;
+                self.are_unbroken = false;
+            }
+        }
+        is_added
     }
 
     // What they say with one field more.
@@ -97,12 +150,30 @@ fn add_record(
         → AreSummaries rows summaries.old.items
         → AreSummaries (rows ++ seen has_sequences row.now ∷ []) summaries.new.items) }
 {
-    for position in 0..row.len() {
-        let known = summary_at(summaries.as_slice(), position);
-        if !known.is_settled() {
-            let field = seen_field(alloc, position, row, has_sequences)?;
-            put_at(summaries, position, known.with(field.as_str()))?;
-        }
+    for (position, field) in row.iter().enumerate() {
+        add_field(alloc, summaries, position, field, has_sequences)?;
+    }
+    Ok(())
+}
+
+// Adds what a field says of the column at its position. Positions behind the end of the list have
+// the summary of no field.
+fn add_field(
+    alloc: Global,
+    summaries: &mut Vec<ColumnSummary>,
+    position: usize,
+    field: &str,
+    has_sequences: bool,
+) -> Result<(), AllocError>
+    ensures { OnOk result ((fields : List (List ℕ))
+        → slice_index_or summaries.old.items position (summary_of []) ≡ summary_of fields
+        → (at : ℕ) → slice_index_or summaries.new.items at (summary_of [])
+        ≡ if position == at then summary_of (fields ++ visible_of has_sequences field.now ∷ [])
+        else slice_index_or summaries.old.items at (summary_of [])) }
+{
+    widen(summaries, position)?;
+    if let Some(summary) = summaries.get_mut(position) {
+        summary.add(alloc, field, has_sequences)?;
     }
     Ok(())
 }
@@ -115,23 +186,6 @@ pub(crate) fn summary_at(summaries: &[ColumnSummary], position: usize) -> Column
         Some(summary) => *summary,
         None => ColumnSummary::new(),
     }
-}
-
-// Puts a summary at a position of a list, whose positions behind its end have that of no field.
-fn put_at(
-    summaries: &mut Vec<ColumnSummary>,
-    position: usize,
-    summary: ColumnSummary,
-) -> Result<(), AllocError>
-    ensures { OnOk result ((at : ℕ) → slice_index_or summaries.new.items at (summary_of [])
-        ≡ if position == at then summary
-        else slice_index_or summaries.old.items at (summary_of [])) }
-{
-    widen(summaries, position)?;
-    if let Some(place) = summaries.get_mut(position) {
-        *place = summary;
-    }
-    Ok(())
 }
 
 // Lets a list have a summary at a position.
@@ -183,10 +237,7 @@ fn joined_kind(one: FieldKind, other: FieldKind) -> FieldKind
 fn kind_of(field: &str) -> FieldKind
     ensures { result ≡ kind_of field.now }
 {
-    // Many fields are empty, and are seen to be neutral faster so.
-    if field.is_empty() {
-        FieldKind::Neutral
-    } else if is_number(field) {
+    if is_number(field) {
         FieldKind::Number
     } else if is_neutral(field) {
         FieldKind::Neutral

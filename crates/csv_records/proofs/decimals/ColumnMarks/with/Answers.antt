@@ -1,11 +1,8 @@
-use Rattle.std.proofs.Common.{◌≡◌, ◌∙◌, ◌&&◌, rules, sym, tests}
+use Rattle.std.proofs.Common.{◌≡◌, ◌&&◌, rules, tests}
 use Rattle.csv_records.specs.Decimals.{is_plain}
-use Rattle.csv_records.proofs.DecimalLemmas.{marks_more, whole_says_nothing}
+use Rattle.csv_records.proofs.DecimalLemmas.{marks_more}
 use Rattle.csv_records.proofs.decimals.ColumnMarks.with.Goals as goal
 use Rattle.csv_records.proofs.decimals.ColumnMarks.with.Goals.{else-self, then-self}
-
-pub returns-then-is_whole : goal.returns-then-is_whole
-returns-then-is_whole c fields same = whole_says_nothing fields c.args.field.now c.args.self same (sym c.is_whole.ensures ∙ c.if-is_whole.true)
 
 pub returns : goal.returns
 returns c fields same =
