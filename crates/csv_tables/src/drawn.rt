@@ -1,6 +1,6 @@
 //! The drawing of records, which comes in pieces.
 
-ghost use Rattle.std.specs.Prelude.{◌≡◌, ◌==◌, ◌<◌, ◌≤◌, ◌+◌, ◌++◌, ◌^◌, [], IfNone, IfOk, IfSome, None, OnErr, OnOk, Ok, Some, length, string_bytes, if◌then◌else◌, true};
+ghost use Rattle.std.specs.Prelude.{◌≡◌, ◌==◌, ◌<◌, ◌≤◌, ◌+◌, ◌++◌, ◌^◌, [], IfNone, IfOk, IfSome, None, OnErr, OnOk, Ok, Some, false, length, string_bytes, true};
 ghost use Rattle.std.specs.List.{All};
 ghost use Rattle.comfy_parts.specs.CellValue.{IsRow};
 ghost use Rattle.comfy_table.specs.Drawing.{part_of_drawing, terminated_text_of};

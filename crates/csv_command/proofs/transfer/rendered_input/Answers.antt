@@ -12,11 +12,11 @@ returns-in_err-text-clause-refused c =
     let same : c.from_residual.result ≡ Err (of_decoding e) = search rules in
     rw same (of_no_text c.args.options.now _ e c.in_err-text.ensures.refused)
 
-pub returns-in_err-output-clause-refused : goal.returns-in_err-output-clause-refused
-returns-in_err-output-clause-refused c =
+pub returns-in_err-pieces-clause-refused : goal.returns-in_err-pieces-clause-refused
+returns-in_err-pieces-clause-refused c =
     let options = c.args.options.now in
-    let e = c.in_err-output.field-0.0 in
-    let same : c.from_residual-in_err-output.result ≡ Err (of_columns e) = search rules in
+    let e = c.in_err-pieces.field-0.0 in
+    let same : c.from_residual-in_err-pieces.result ≡ Err (of_columns e) = search rules in
     let are = c.in_ok-first.ensures.all in
     let text = string_bytes c.in_ok-text.text in
     let is_text : IsDecodedBy options.input c.args.input.items text = search rules in
@@ -24,7 +24,7 @@ returns-in_err-output-clause-refused c =
     let most : c.unwrap_or-most.result ≡ unwrap_or c.most_drawn.result (2 ^ 64 - 1) = search rules in
     let few : length are.all < 2 ^ 64 = omega (arith, c.in_ok-first.ensures.count, are.count) in
     let alike = drawn_alike options.selection c.in_ok-first.first.records are.all c.most_drawn.result c.most_drawn.ensures.some (rw most at are.records) few in
-    rw same (whole_refused options c.args.input.items text c.in_ok-first.first.records are.all alike is_text (rw c.as_str.ensures.value at are.are) some e c.in_err-output.ensures.refused)
+    rw same (whole_refused options c.args.input.items text c.in_ok-first.first.records are.all alike is_text (rw c.as_str.ensures.value at are.are) some e c.in_err-pieces.ensures.refused)
 
 pub returns-clause-output : goal.returns-clause-output
 returns-clause-output c =
@@ -41,5 +41,5 @@ returns-clause-output c =
     record {
       records = are.all;
       are_records = record { text = text; is_text = is_text; are_records = rw c.as_str.ensures.value at are.are };
-      is_output = whole_output options c.in_ok-first.first.records are.all _ (string_bytes c.in_ok-output.output) alike some below c.in_ok-output.ensures.output;
+      is_output = whole_output options c.in_ok-first.first.records are.all _ c.in_ok-pieces.pieces alike some below c.in_ok-pieces.ensures.output;
     }

@@ -1,4 +1,4 @@
-use Rattle.std.proofs.Common.{rules, ◌≡◌, ◌<◌, ◌^◌, None, length, string_bytes}
+use Rattle.std.proofs.Common.{rules, ◌≡◌, ◌<◌, ◌^◌, None, length}
 use Rattle.csv_records.specs.Beginning.{IsFoundInBeginning}
 use Rattle.csv_command.specs.Errors.{of_columns}
 use Rattle.csv_command.proofs.FirstRowLemmas.{beginning_doubt, beginning_output, beginning_refused, no_memory, none_found, unlimited}
@@ -11,7 +11,7 @@ returns-in-Ok-output_of-clause-some c =
     let records = c.in_ok-first.first.records in
     let found : IsFoundInBeginning options.input most c.args.read.now c.in_ok-first.first = search rules in
     let first = found.are_first in (
-      beginning_output options c.args.read.now most records c.if-self.false c.in_ok-most.ensures.some first (string_bytes c.in-Ok-output_of.text) c.in-Ok-output_of.ensures.output,
+      beginning_output options c.args.read.now most records c.if-self.false c.in_ok-most.ensures.some first c.in-Ok-output_of.pieces c.in-Ok-output_of.ensures.output,
       beginning_doubt options c.args.read.now most records c.if-self.false c.in_ok-most.ensures.some first c.in_ok-first.first.doubt found.doubt,
     )
 
