@@ -1,15 +1,17 @@
 -- Characters that join no other take their own columns in every text.
-use Rattle.std.proofs.Common.{◌≡◌, ◌≢◌, ◌≤◌, ℕ, ◌+◌, ◌*◌, Bool, true, false, not, ◌&&◌, ◌||◌, ◌==◌, ◌++◌, Option, Some, None, append-nil, length, nat_le, sum_by, zero-add, [], refl, sym, ap, ap₂, ◌∙◌, arith}
+use Rattle.std.proofs.Common.{◌≡◌, ◌≢◌, ◌<◌, ◌≤◌, ℕ, ◌+◌, ◌*◌, ◌/◌, ◌%◌, Bool, true, false, cond, not, ◌&&◌, ◌||◌, ◌==◌, List, ◌∷◌, ◌++◌, drop, Option, Some, None, append-nil, length, nat_le, sum_by, zero-add, [], refl, sym, subst, ap, ap₂, ◌∙◌, arith}
 use Rattle.std.specs.Char.{IsScalar}
 use Rattle.std.specs.Int.{is_in_range}
 use Rattle.std.specs.List.{list_all}
-use Rattle.std.specs.Prelude.{if◌then◌else◌, chars, encode_utf8, unwrap_or, IsUtf8}
+use Rattle.std.specs.Prelude.{if◌then◌else◌, chars, encode_utf8, encode_utf8_all, unwrap_or, IsUtf8}
 use Rattle.std.proofs.StrCases.{chars_of_empty}
 use Rattle.std.proofs.lemmas.List.{length-append}
 use Rattle.std.proofs.lemmas.List.Sums.{sum_by-cons}
-use Rattle.std.proofs.lemmas.Str.{IsUtf8-past_char, chars_past_char}
+use Rattle.std.proofs.lemmas.Str.{IsCharBoundary-past_char, IsUtf8-past_char, chars_past_char, drop_past_char, length-encode}
+use Rattle.std.specs.Char.{len_utf8}
+use Rattle.std.specs.Str.{IsCharBoundary}
 use Rattle.unicode_segmentation.proofs.TextLemmas.{encode_utf8_nonempty}
-use Rattle.std.proofs.lemmas.Bool.{eqb-true, or_left}
+use Rattle.std.proofs.lemmas.Bool.{eqb-true}
 use Rattle.std.proofs.lemmas.Bool.Decides.{nat_tests}
 use Rattle.ucd_table.specs.Rows.{in_ranges}
 use Rattle.unicode_width.proofs.Rules.{width_or_zero}
@@ -18,8 +20,12 @@ use Rattle.unicode_width.specs.declared.kind.Kind.TheVariants as kinds
 use Rattle.unicode_width.specs.Kind.{kind}
 use Rattle.unicode_width.specs.Width.{alone, char_width, of_kind}
 use Rattle.comfy_parts.specs.Columns.{joining_characters, joins_no_other}
-use Rattle.comfy_parts.specs.OwnWidth.{own_width}
-use Rattle.comfy_parts.specs.Text.{Text, measure}
+use Rattle.comfy_parts.specs.OwnWidth.{begins_wide, own_width}
+use Rattle.comfy_parts.specs.Text.{HasNo, Text, measure}
+use Rattle.comfy_parts.specs.TextLines.{IsClearLine}
+use Rattle.comfy_parts.proofs.AbsentByteLemmas.{HasNo-append, encoded_clear}
+use lib.Dec.{ltb}
+use lib.Utf8.{encode}
 use Rattle.comfy_parts.proofs.KindRangeLemmas.{adds_up_kind, others_add_up}
 use Rattle.cluster_width.proofs.SpaceMeasureLemmas.{one_character}
 use Rattle.cluster_width.proofs.Sums.{implied}
@@ -82,12 +88,52 @@ pub ascii-one : (c : ℕ) → is_in_range 0x20 0x7E c ≡ true → Some 1 ≡ ow
 unfolding char_width
 ascii-one c is = grind (arith, nat_tests, is)
 
-pub ideograph-two : (c : ℕ) → is_in_range 0x4E00 0x9FFF c ≡ true → Some 2 ≡ own_width c
+wide-two : (c : ℕ) → (is_in_range 0x4E00 0x9FFF c || (is_in_range 0xB000 0xCFFF c || false)) ≡ true → Some 2 ≡ own_width c
 unfolding in_ranges
-ideograph-two c is =
-    let within = or_left (is_in_range 0x4E00 0x9FFF c) false is in
+wide-two c within =
     let two = eqb-true (own_number c) 2 (implied (in_ranges ideographs c) _ (ideographs-wide c) within) in
     ap of_number (sym two) ∙ sym (own-columns c)
+
+-- a text begins with a character of two columns and three bytes
+pub record BeginsWide (text : Text) : Type 0 where
+  pub first : ℕ
+  pub later : Text
+  pub splits : text ≡ encode_utf8 first ++ later
+  pub columns : own_width first ≡ Some 2
+  pub wide : (is_in_range 0x4E00 0x9FFF first || (is_in_range 0xB000 0xCFFF first || false)) ≡ true
+  pub boundary : IsCharBoundary text 3
+  pub behind : drop 3 text ≡ later
+
+wide_first : (c : ℕ) (later : Text) → begins_wide (encode_utf8 c ++ later) ≡ true → (length (encode_utf8 c) ≡ 3) × ((is_in_range 0x4E00 0x9FFF c || (is_in_range 0xB000 0xCFFF c || false)) ≡ true)
+unfolding encode
+wide_first c later is = by_size (ltb c 128) (ltb c 2048) (ltb c 65536) refl refl refl is
+  where
+    by_size : (one two three : Bool) → ltb c 128 ≡ one → ltb c 2048 ≡ two → ltb c 65536 ≡ three
+        → begins_wide (cond one (c ∷ []) (cond two ((192 + c / 64) ∷ (128 + c % 64) ∷ []) (cond three ((224 + c / 4096) ∷ (128 + (c / 64) % 64) ∷ (128 + c % 64) ∷ []) ((240 + c / 262144) ∷ (128 + (c / 4096) % 64) ∷ (128 + (c / 64) % 64) ∷ (128 + c % 64) ∷ []))) ++ later) ≡ true
+        → (length (cond one (c ∷ []) (cond two ((192 + c / 64) ∷ (128 + c % 64) ∷ []) (cond three ((224 + c / 4096) ∷ (128 + (c / 64) % 64) ∷ (128 + c % 64) ∷ []) ((240 + c / 262144) ∷ (128 + (c / 4096) % 64) ∷ (128 + (c / 64) % 64) ∷ (128 + c % 64) ∷ [])))) ≡ 3) × ((is_in_range 0x4E00 0x9FFF c || (is_in_range 0xB000 0xCFFF c || false)) ≡ true)
+    by_size true two three first second third is = absurd (grind (arith, nat_tests, first, is))
+    by_size false true three first second third is = absurd (grind (arith, nat_tests, second, is))
+    by_size false false true first second third is = (refl, grind (arith, nat_tests, is))
+    by_size false false false first second third is = absurd (grind (arith, nat_tests, third, is))
+
+pub begins-wide : (text : Text) → IsUtf8 text → 0 < length text → begins_wide text ≡ true → BeginsWide text
+begins-wide text utf8 some is = by_characters utf8.0 utf8.1.1
+  where
+    by_characters : (cs : List ℕ) → encode_utf8_all cs ≡ text → BeginsWide text
+    by_characters [] spelt = absurd (omega (arith, some, ap length spelt))
+    by_characters (c ∷ cs) spelt =
+        let wide = wide_first c (encode_utf8_all cs) (ap begins_wide spelt ∙ is) in
+        let splits : text ≡ encode_utf8 c ++ encode_utf8_all cs = sym spelt in
+        let size : len_utf8 c ≡ 3 = sym (length-encode c) ∙ wide.0 in
+        record {
+          first = c;
+          later = encode_utf8_all cs;
+          splits = splits;
+          columns = sym (wide-two c wide.1);
+          wide = wide.1;
+          boundary = subst (IsCharBoundary text) (zero-add (len_utf8 c) ∙ size) (IsCharBoundary-past_char text (encode_utf8_all cs) 0 c (omega arith) utf8 splits);
+          behind = ap (λ n. drop n text) (sym (zero-add (len_utf8 c) ∙ size)) ∙ drop_past_char text (encode_utf8_all cs) 0 c splits;
+        }
 
 -- ---- and in a text
 
@@ -97,7 +143,7 @@ pub record IsOwn (c n : ℕ) : Type 0 where
   pub columns : width_or_zero false c ≡ n
   pub most : n ≤ 2
 
-own : (c n : ℕ) → own_width c ≡ Some n → IsOwn c n
+pub own : (c n : ℕ) → own_width c ≡ Some n → IsOwn c n
 own c n is = by_joins (joins_no_other c) refl is
   where
     by_joins : (b : Bool) → joins_no_other c ≡ b → (if b then char_width false c else None) ≡ Some n → IsOwn c n
@@ -107,15 +153,20 @@ own c n is = by_joins (joins_no_other c) refl is
         record { apart = apart; columns = columns; most = omega (arith, columns, most) }
     by_joins false apart same = absurd (cc same)
 
+-- no control character is such a one
+no_control : (b c : ℕ) → b < 0x20 → joins_no_other c ≡ true → (c == b) ≡ false
+no_control b c low apart = grind (arith, nat_tests, low, apart)
+
 -- a walk over a text has counted so many columns before the rest of it
 pub record IsCounted (text rest : Text) (columns : ℕ) : Type 0 where
   pub utf8 : IsUtf8 rest
+  pub clear : (b : ℕ) → b < 0x20 → HasNo b rest → HasNo b text
   pub apart : list_all joins_no_other (chars rest) ≡ true → list_all joins_no_other (chars text) ≡ true
   pub sum : sum_by (width_or_zero false) (chars text) ≡ columns + sum_by (width_or_zero false) (chars rest)
   pub bound : columns + 2 * length rest ≤ 2 * length text
 
 pub counted-none : (text : Text) → IsUtf8 text → IsCounted text text 0
-counted-none text utf8 = record { utf8 = utf8; apart = λ each. each; sum = omega arith; bound = omega arith }
+counted-none text utf8 = record { utf8 = utf8; clear = λ b low none. none; apart = λ each. each; sum = omega arith; bound = omega arith }
 
 -- and then one character more
 pub counted-more : (text rest later : Text) (columns c n : ℕ) → IsCounted text rest columns → rest ≡ encode_utf8 c ++ later → own_width c ≡ Some n → IsCounted text later (columns + n)
@@ -127,6 +178,8 @@ counted-more text rest later columns c n counted splits is =
     let some = encode_utf8_nonempty c in
     record {
       utf8 = IsUtf8-past_char rest later c counted.utf8 splits;
+      clear = λ b low none. counted.clear b low
+          (subst (HasNo b) (sym splits) (HasNo-append b (encode_utf8 c) later (encoded_clear b c (omega (arith, low)) (no_control b c low one.apart)) none));
       apart = λ each. counted.apart (ap (list_all joins_no_other) next ∙ ap₂ (λ a b. a && b) one.apart each);
       sum = omega (arith, counted.sum, cons, one.columns);
       bound = omega (arith, counted.bound, long, some, one.most);
@@ -141,6 +194,19 @@ counted-all text rest columns counted none =
     let left = ap (sum_by (width_or_zero false)) nothing in
     let total : columns ≡ sum_by (width_or_zero false) (chars text) = omega (arith, sum, left) in
     total ∙ sym (summed_add_up.sums (chars text) each)
+
+-- and the text is a line without ESC
+pub counted-clear : (text rest : Text) (columns : ℕ) → IsCounted text rest columns → length rest ≡ 0 → IsClearLine text columns
+counted-clear text rest columns counted none =
+    record {
+      unbroken = counted.clear 0x0A (omega arith) (nothing 0x0A rest none);
+      clear = counted.clear 0x1B (omega arith) (nothing 0x1B rest none);
+      width = counted-all text rest columns counted none;
+    }
+  where
+    nothing : (b : ℕ) (bs : Text) → length bs ≡ 0 → HasNo b bs
+    nothing b [] is = refl
+    nothing b (x ∷ xs) is = absurd (omega (arith, is))
 
 -- ---- and as a text of its own
 

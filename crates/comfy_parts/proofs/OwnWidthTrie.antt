@@ -1,4 +1,4 @@
--- The table of own widths has what the characters take, and ideographs take two: computed over all of Unicode.
+-- The table of own widths has what the characters take, and ideographs and Hangul syllables take two: computed over all of Unicode.
 use Rattle.std.proofs.Common.{◌≡◌, ℕ, ◌<◌, Bool, true, not, ◌||◌, ◌==◌, List, [], ◌∷◌, refl}
 use Rattle.std.specs.Prelude.{if◌then◌else◌}
 use Rattle.ucd_table.specs.Rows.{Range, in_ranges}
@@ -53,9 +53,9 @@ table_ok : trie_ok 2 4 4 INDEX WORDS TAIL (runs_of own_number own_number_stepped
 unfolding unicode_width tables own_number_stepped ranged_stepped
 table_ok = refl
 
--- ideographs, which are not looked up
+-- ideographs and Hangul syllables, which are not looked up
 abbrev pub ideographs : List Range
-ideographs = (0x4E00, 0x9FFF) ∷ []
+ideographs = (0x4E00, 0x9FFF) ∷ (0xB000, 0xCFFF) ∷ []
 
 unfoldable ideographs_stepped : Stepped (in_ranges ideographs)
 unfolding rises_from

@@ -1,6 +1,6 @@
 -- Private: an element at a text's front, and what follows it.
 -- Source: this library's own.
-use Rattle.std.specs.Prelude.{◌≡◌, ◌⊎◌, ℕ, ◌+◌, ◌<◌, ◌≤◌, List, [], ◌∷◌, ◌++◌, length, take, drop, sum_by, false, encode_utf8, IsUtf8}
+use Rattle.std.specs.Prelude.{◌≡◌, ◌⊎◌, ℕ, ◌+◌, ◌<◌, ◌≤◌, List, [], ◌∷◌, ◌++◌, length, take, drop, sum_by, false, encode_utf8, IsUtf8, ◌*◌}
 use Rattle.std.specs.List.{concat}
 use Rattle.std.specs.Str.{IsCharBoundary}
 use Rattle.comfy_parts.specs.Text.{Text, measure, clusters, head, elements, begins_with}
@@ -23,6 +23,13 @@ pub record IsFirstElement (d : ℕ) (text first behind : Text) : Type 0 where
   pub joined : first ++ behind ≡ text
   pub whole_first : IsUtf8 first
   pub whole_behind : IsUtf8 behind
+
+-- the first element of a text takes so many terminal columns, and this follows it
+pub record IsSummed (d : ℕ) (text behind : Text) (columns : ℕ) : Type 0 where
+  pub word : Text
+  pub element : IsFirstElement d text word behind
+  pub columns_are : columns ≡ measure word
+  pub bound : columns ≤ 2 * length word
 
 -- each end of a word that has at least so many bytes is wider than w terminal columns
 abbrev pub IsWideFrom : ℕ → ℕ → Text → Type 0

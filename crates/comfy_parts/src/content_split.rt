@@ -29,6 +29,7 @@ pub(crate) use sequences::written::{needs_no_rewrite, push_lines};
 pub use sequences::{leaves_sequence_open, sequence_len, visible_text};
 use std::alloc::Global;
 pub use width::measure_text_width;
+pub(crate) use width::{joined_columns, summed_columns};
 
 /// What stands between the delimiters of a line, in order and empty parts too.
 pub fn split_line_by_delimiter(alloc: Global, line: &str, delimiter: char) -> Result<Vec<&str>>

@@ -51,12 +51,6 @@ module _ (table : TableValue) (rows : List RowValue) (infos : List ColumnInfo) w
       of_pieces : (ℕ × ColumnInfo → List Text) → ℕ
       of_pieces pieces = greatest (map (λ (p : ℕ × ColumnInfo). length (pieces p)) (shown_infos infos))
 
--- the part that begins with a row is that of the row alone, and then that of the others
-pub part-next : (table : TableValue) (infos : List ColumnInfo) (is_first : Bool) (row : RowValue) (rows : List RowValue)
-    → part_of_drawing table infos is_first true (row ∷ rows) ≡ part_of_drawing table infos is_first false (row ∷ []) ++ part_of_drawing table infos false true rows
-part-next table infos true row rows = grind (arith, append_assoc, append-nil)
-part-next table infos false row rows = grind (arith, append_assoc, append-nil)
-
 -- all rows make the drawing
 pub part-whole : (table : TableValue) (infos : List ColumnInfo) → part_of_drawing table infos true true table.rows ≡ drawing_of_infos table infos
 part-whole table infos =

@@ -11,7 +11,19 @@ use Rattle.std.proofs.lemmas.Str.{IsCharBoundary-from_take}
 use Rattle.std.proofs.lemmas.List.Concat.{flat_map-append}
 use Rattle.comfy_parts.specs.Text.{Text}
 use Rattle.comfy_table.specs.Drawing.{terminated_text_of, text_of}
-use Rattle.comfy_table.specs.Output.{BeginsWith, OutputValue, WriterValue, line_in_text, with_lines, with_written}
+use Rattle.comfy_table.specs.Output.{BeginsWith, OutputValue, WriterValue, line_in_text, lines_in_list, with_lines, with_written}
+use Rattle.comfy_table.specs.declared.utils.formatting.output.OutputForm.{OutputForm}
+use Rattle.comfy_table.specs.declared.utils.formatting.output.OutputForm.TheVariants.{Lines, Joined, Trimmed}
+
+-- no lines
+pub with_lines-none : (output : OutputValue) → with_lines [] output ≡ output
+with_lines-none output =
+    ap₂ (λ (lines : List Text) (text : Text). record output { lines = lines; text = text }) (ap (λ (more : List Text). output.lines ++ more) (unlisted output.form) ∙ append-nil output.lines) (append-nil output.text)
+  where
+    unlisted : (form : OutputForm) → lines_in_list form [] ≡ []
+    unlisted Lines = refl
+    unlisted Joined = refl
+    unlisted Trimmed = refl
 
 -- lines and then more lines
 pub with_lines-append : (first more : List Text) (output : OutputValue) → with_lines more (with_lines first output) ≡ with_lines (first ++ more) output

@@ -1,6 +1,7 @@
 -- Private: the cells of a row as its shown columns draw them.
 -- Source: this library's own.
-use Rattle.std.specs.Prelude.{ℕ, List, [], ◌∷◌, Option, Some, None, map, length, slice_index_or, if◌then◌else◌}
+use Rattle.std.specs.Prelude.{◌≡◌, ◌≤◌, ◌-◌, ℕ, List, [], ◌∷◌, ◌++◌, Option, Some, None, map, nat_lt, length, slice_index_or, take, if◌then◌else◌}
+use Rattle.std.specs.List.{All}
 use Rattle.comfy_parts.specs.CellValue.{CellValue, RowValue, ColumnInfo}
 use Rattle.comfy_parts.specs.Text.{Text, greatest}
 use Rattle.comfy_table.specs.DrawnLines.{DrawnLine}
@@ -44,3 +45,23 @@ greatest_height cells = greatest (map (λ (drawn : DrawnCell). length drawn.piec
 -- the piece in line k of the row
 abbrev pub piece_at : ℕ → DrawnCell → Text
 piece_at k drawn = slice_index_or drawn.pieces k (blank_piece drawn.info)
+
+-- cells that are kept for further lines, and one more behind them
+abbrev pub with_further : List DrawnCell → DrawnCell → List DrawnCell
+with_further [] cell = if nat_lt 1 (length cell.pieces) then cell ∷ [] else []
+with_further (first ∷ others) cell = first ∷ others ++ cell ∷ []
+
+-- the last ones of some cells, before which none has more than one piece
+pub record AreFurther (further cells : List DrawnCell) : Type 0 where
+  pub low : List DrawnCell
+  pub before : All (λ (drawn : DrawnCell). length drawn.pieces ≤ 1) low
+  pub all : cells ≡ low ++ further
+
+-- a column without a piece
+abbrev pub without_piece : ℕ × ColumnInfo → DrawnCell
+without_piece p = record { info = p.1; pieces = [] }
+
+-- columns of which the last ones have these cells, and the others no piece
+abbrev pub filled : List (ℕ × ColumnInfo) → List DrawnCell → List DrawnCell
+filled columns further =
+    map without_piece (take (length columns - length further) columns) ++ further

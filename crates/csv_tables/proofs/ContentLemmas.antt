@@ -110,8 +110,10 @@ table_is rows = by_kind rows.is_expanded refl
   where
     headed : Bool → TableValue
     headed b = if b then empty_table rows.look else headed_table rows.look rows.selected.is_numbered rows.selected.columns rows.selected.names
+
     table : Bool → TableValue
     table b = if b then pairs_table rows.look rows.selected else rows_table rows.look rows.is_aligned rows.selected
+
     by_kind : (b : Bool) → rows.is_expanded ≡ b → with_columns (rows_from rows 0 rows.selected.rows) (headed rows.is_expanded) ≡ table rows.is_expanded
     by_kind true is =
         ap₂ (λ (all : List RowValue) (b : Bool). with_columns all (headed b)) (pairs_rows rows is 0 rows.selected.rows) is
@@ -203,6 +205,7 @@ all_widths t none within i =
   where
     rows_nothing : greatest (map (of_measured t cell_content_width) (cells_at t.rows i)) ≡ 0
     rows_nothing = ap (λ (rows : List RowValue). greatest (map (of_measured t cell_content_width) (cells_at rows i))) none
+
     nothing : (header : Option RowValue) → ((row : RowValue) → header ≡ Some row → length row.cells ≤ length t.columns) → length t.columns ≤ i
         → max (of_measured t cell_content_width (option_and_then (λ (row : RowValue). slice_get row.cells i) header)) (greatest (map (of_measured t cell_content_width) (cells_at t.rows i))) ≡ 0
     nothing None own outside = let rest = rows_nothing in omega (arith, rest)
@@ -217,6 +220,7 @@ header_widths rows t is i = subst (λ (own : TableValue). slice_index_or (max_co
   where
     headed : Option (List Text) → TableValue
     headed names = headed_table rows.look rows.selected.is_numbered rows.selected.columns names
+
     within : (names : Option (List Text)) (row : RowValue) → (headed names).header ≡ Some row → length row.cells ≤ length (headed names).columns
     within None row is = absurd (cc is)
     within (Some names) row is =
@@ -225,6 +229,7 @@ header_widths rows t is i = subst (λ (own : TableValue). slice_index_or (max_co
         let long : length (headed (Some names)).columns ≡ cells = length-map (range_with_len 0 (cells - 0)) new_column ∙ length-range_with_len 0 (cells - 0) ∙ omega arith in
         let own = ap (λ (r : RowValue). length r.cells) same in
         omega (arith, long, own)
+
     by_kind : (b : Bool) → slice_index_or (max_content_widths (if b then empty_table rows.look else headed rows.selected.names)) i 0 ≡ column_content_width (if b then empty_table rows.look else headed rows.selected.names) i
     by_kind true = all_widths (empty_table rows.look) refl (λ row is. absurd (cc is)) i
     by_kind false = all_widths (headed rows.selected.names) (headed-rows rows.look rows.selected rows.selected.names) (within rows.selected.names) i

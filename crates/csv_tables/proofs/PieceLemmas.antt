@@ -71,6 +71,7 @@ drawn_on rows table infos at (x ∷ xs) ys some = by_kind rows.is_expanded refl
   where
     later : (at + suc (length xs) == 0) ≡ false
     later = grind (arith, nat_tests)
+
     single : rows.is_expanded ≡ false
         → terminated_text_of (part_of_drawing table infos (at == 0) true (rows_from rows at (x ∷ (xs ++ ys))))
         ≡ terminated_text_of (part_of_drawing table infos (at == 0) false (rows_from rows at (x ∷ xs))) ++ terminated_text_of (part_of_drawing table infos (at + suc (length xs) == 0) true (rows_from rows (at + suc (length xs)) ys))
@@ -85,6 +86,7 @@ drawn_on rows table infos at (x ∷ xs) ys some = by_kind rows.is_expanded refl
         ∙ ap terminated_text_of (rows_on table infos (at == 0) (made_by rows at x) rest others)
         ∙ flat_map-append _ (part_of_drawing table infos (at == 0) false (made_by rows at x ∷ rest)) (part_of_drawing table infos false true others)
         ∙ ap₂ (λ (l : List RowValue) (b : Bool). lines (at == 0) false l ++ lines b true others) (sym front) (sym later)
+
     by_kind : (b : Bool) → rows.is_expanded ≡ b
         → (if b then expanded_from rows table infos at (x ∷ (xs ++ ys)) else terminated_text_of (part_of_drawing table infos (at == 0) true (rows_from rows at (x ∷ (xs ++ ys)))))
         ≡ (if b then expanded_from rows table infos at (x ∷ xs) else terminated_text_of (part_of_drawing table infos (at == 0) false (rows_from rows at (x ∷ xs))))

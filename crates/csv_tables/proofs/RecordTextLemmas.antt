@@ -80,10 +80,13 @@ text_is contents arranged same own = by_kind contents.rows.is_expanded refl
   where
     rows : RecordRows
     rows = contents.rows
+
     table : TableValue
     table = contents.table
+
     lines : TableValue → List RowValue → Text
     lines t made = terminated_text_of (part_of_drawing t arranged.infos true true made)
+
     by_kind : (b : Bool) → contents.rows.is_expanded ≡ b
         → (if b then expanded_from contents.rows contents.table arranged.infos 0 contents.rows.selected.rows else terminated_text_of (part_of_drawing contents.table arranged.infos true true (rows_from contents.rows 0 contents.rows.selected.rows)))
         ≡ table_text b contents.rows.selected arranged

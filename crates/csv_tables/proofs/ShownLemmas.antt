@@ -53,6 +53,7 @@ module _ (rows : RecordRows) (table : TableValue) (fields : List Text) (column :
     where
       mark : Option Points
       mark = if rows.is_aligned then column.points else None
+
       by_mark : (o : Option Points) → (is_plain rows.look table (spaced false o field) ≡ true) × (length (spaced false o field) ≡ length field + spaces_by o field)
       by_mark None = (plain, omega arith)
       by_mark (Some points) =
@@ -65,10 +66,13 @@ module _ (rows : RecordRows) (table : TableValue) (fields : List Text) (column :
     where
       drawn : List DrawnColumn
       drawn = columns_within fields rows.selected.columns
+
       own : Shown
       own = record { alignment = column.alignment; text = text_in rows.look rows.is_aligned column fields }
+
       in_fields : slice_get (shown_fields rows.look rows.is_aligned drawn fields) place ≡ Some own
       in_fields = slice_get-map (λ (d : DrawnColumn). record { alignment = d.alignment; text = text_in rows.look rows.is_aligned d fields }) drawn place ∙ ap (option_map (λ (d : DrawnColumn). record { alignment = d.alignment; text = text_in rows.look rows.is_aligned d fields })) found
+
       by_number : (b : Bool) → position ≡ place + (if b then 1 else 0)
           → slice_get (shown_number (if b then Some (decimal (at + 1)) else None) ++ shown_fields rows.look rows.is_aligned drawn fields) position ≡ Some own
       by_number true is =
@@ -77,6 +81,7 @@ module _ (rows : RecordRows) (table : TableValue) (fields : List Text) (column :
       by_number false is =
           let same : place + 0 ≡ place = omega arith in
           ap (slice_get (shown_fields rows.look rows.is_aligned drawn fields)) (is ∙ same) ∙ in_fields
+
       there : slice_get (shown_by rows at fields) position ≡ Some own
       there = by_number rows.selected.is_numbered stands
 
@@ -100,8 +105,10 @@ as_many_cells rows at fields =
   where
     drawn : List DrawnColumn
     drawn = columns_within fields rows.selected.columns
+
     many : length (shown_fields rows.look rows.is_aligned drawn fields) ≡ length drawn
     many = length-map drawn (λ (d : DrawnColumn). record { alignment = d.alignment; text = text_in rows.look rows.is_aligned d fields })
+
     by_number : (b : Bool) → length (shown_number (if b then Some (decimal (at + 1)) else None) ++ shown_fields rows.look rows.is_aligned drawn fields) ≡ length drawn + (if b then 1 else 0)
     by_number true = let own = many in omega (arith, own)
     by_number false = let own = many in omega (arith, own)

@@ -98,7 +98,7 @@ module _ (look : Look) where
   pub without_room : (content : SelectedValue) → has_room_for look content true ≡ false → is_aligned_in look content ≡ false
   without_room content none = ap (λ (b : Bool). look.aligns_decimals && b) none ∙ and_false look.aligns_decimals
 
--- what is drawn where there is room, or no marks are aligned
+  -- what is drawn where there is room, or no marks are aligned
   pub fits : (content : SelectedValue) (aligns has : Bool) → aligns ≡ look.aligns_decimals && has_points content.columns → has ≡ has_room_for look content aligns → has || not aligns ≡ true
       → rows_table look aligns content ≡ rows_table look (is_aligned_in look content) content
   fits content false has is room drawn = unaligned content (sym is)

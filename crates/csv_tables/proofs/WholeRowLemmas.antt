@@ -105,10 +105,13 @@ module _ (rows : RecordRows) (plain : rows.look.is_markdown ≡ false) where
     where
       drawn : List DrawnColumn
       drawn = columns_within fields rows.selected.columns
+
       each : All (λ (column : DrawnColumn). IsUtf8 (text_in rows.look rows.is_aligned column fields)) drawn
       each = All-every (λ (column : DrawnColumn). IsUtf8 (text_in rows.look rows.is_aligned column fields)) drawn (λ column. text_drawn rows.look rows.is_aligned column fields utf8)
+
       of_fields : All (λ (s : Shown). IsUtf8 s.text) (shown_fields rows.look rows.is_aligned drawn fields)
       of_fields = fields_each IsUtf8 IsUtf8-nil short_whole rows.look rows.is_aligned drawn fields each
+
       shown : (b : Bool) → All (λ (s : Shown). IsUtf8 s.text) (shown_number (if b then Some (decimal (at + 1)) else None) ++ shown_fields rows.look rows.is_aligned drawn fields)
       shown true = All-cons (λ (s : Shown). IsUtf8 s.text) _ (shown_fields rows.look rows.is_aligned drawn fields) (number_each IsUtf8 IsUtf8-nil short_whole (at + 1)) of_fields
       shown false = of_fields

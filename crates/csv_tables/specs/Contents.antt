@@ -120,7 +120,7 @@ drawn_next rows table infos at is_last next =
     if rows.is_expanded
     then expanded_from rows table infos at next
     else terminated_text_of
-        (part_of_drawing table infos (at == 0) is_last (rows_from rows at next))
+    (part_of_drawing table infos (at == 0) is_last (rows_from rows at next))
 
 -- ---- tables that are drawn
 

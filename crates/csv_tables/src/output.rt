@@ -24,8 +24,8 @@ use devices::joined;
 use std::alloc::{AllocError, Global};
 use std::fmt::Write;
 
-/// The drawing of these records, of which so many stand below the header, where that is known. Where
-/// not all of them are drawn, a line says how many there are, or that there are more.
+/// The drawing of these records, of which so many stand below the header, where that is known. A
+/// line says how many there are, or that there are more, where not all of them are drawn.
 pub fn drawn_records(
     alloc: Global,
     records: Records,

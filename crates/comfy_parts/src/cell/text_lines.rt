@@ -8,7 +8,8 @@ ghost use Rattle.comfy_parts.specs.TextLines.{IsClearLine, IsVisible, texts_of, 
 ghost use Rattle.comfy_parts.specs.VisibleText.{has_escape, visible_text};
 
 use crate::content_split::{
-    has_control, has_escape, is_printable, measure_text_width, visible_text,
+    has_control, has_escape, is_printable, joined_columns, measure_text_width, summed_columns,
+    visible_text,
 };
 use crate::error::Result;
 use std::alloc::{AllocError, Global};
@@ -228,10 +229,14 @@ fn clear_width(text: &str) -> Option<usize>
     if is_printable(text.as_bytes()) {
         return Some(text.len());
     }
+    // So is one whose columns add up, since a control character joins others.
+    if let Some(columns) = summed_columns(text) {
+        return Some(columns);
+    }
     if !is_clear_line(text) {
         return None;
     }
-    Some(measure_text_width(text))
+    Some(joined_columns(text))
 }
 
 // Whether a text is one text line without ESC. Most texts show it by one look at their bytes: they

@@ -5,13 +5,14 @@ ghost use Rattle.std.specs.Prelude.{◌≡◌, IfSome, ℕ, ◌+◌, ◌*◌, �
 ghost use Rattle.std.specs.List.{list_any};
 ghost use Rattle.std.specs.Str.{IsCharBoundary};
 ghost use Rattle.comfy_parts.specs.Columns.{AddsOneColumn};
-ghost use Rattle.comfy_parts.specs.Following.{AreColumnsUpTo, EndsElement, EndsWith, FillsTo, Follow, IsFirstElement, IsMeasured};
+ghost use Rattle.comfy_parts.specs.Following.{AreColumnsUpTo, EndsElement, EndsWith, FillsTo, Follow, IsFirstElement, IsMeasured, IsSummed};
 ghost use Rattle.comfy_parts.specs.Text.{Text, begins_with, is_printable_ascii, measure};
 ghost use Rattle.comfy_parts.specs.Wrapping.{bytes_taken, head_or_first, line_end, part_taken, wrapped};
 
 use crate::content_split::joining::adds_one_column;
+use crate::content_split::own_width::{WIDE_LEN, begins_wide, own_width};
 use crate::content_split::prefix::split_long_word;
-use crate::content_split::width::{char_width, measure_text_width};
+use crate::content_split::width::{char_width, joined_columns};
 
 /// The text from its first character that is no delimiter.
 pub fn line_start(text: &str, delimiter: char) -> &str
@@ -50,8 +51,40 @@ pub fn measured_element(text: &str, delimiter: char) -> (&str, &str, usize)
     if ends_element(behind, delimiter) {
         return (word, behind, word.len());
     }
+    if let Some((behind, columns)) = summed_element(text, delimiter) {
+        let (word, _) = text.split_at(text.len() - behind.len());
+        return (word, behind, columns);
+    }
     let (word, behind) = first_element(text, delimiter);
-    (word, behind, measure_text_width(word))
+    (word, behind, joined_columns(word))
+}
+
+// What follows the first element, and the element's terminal columns, where its characters join no
+// other: one walk counts these and finds the delimiter.
+fn summed_element(text: &str, delimiter: char) -> Option<(&str, usize)>
+    ensures { IfSome result (λ r. IsSummed delimiter text.now r.0.now r.1) }
+{
+    // such a delimiter would be passed
+    if ('\u{4e00}'..='\u{cfff}').contains(&delimiter) {
+        return None;
+    }
+    let mut columns = 0;
+    let mut rest = text;
+    while !rest.is_empty() {
+        if begins_wide(rest.as_bytes()) {
+            columns += 2;
+            (_, rest) = rest.split_at(WIDE_LEN);
+        } else {
+            let mut characters = rest.chars();
+            let character = characters.next()?;
+            if character == delimiter {
+                return Some((rest, columns));
+            }
+            columns += own_width(character)?;
+            rest = characters.as_str();
+        }
+    }
+    Some((rest, columns))
 }
 
 // Whether nothing stands after an element, or a delimiter.

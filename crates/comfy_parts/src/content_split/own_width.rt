@@ -1,7 +1,7 @@
 //! The terminal columns of a character that joins no other.
 
 ghost use Rattle.std.specs.Prelude.{◌≡◌};
-ghost use Rattle.comfy_parts.specs.OwnWidth.{own_width};
+ghost use Rattle.comfy_parts.specs.OwnWidth.{begins_wide, own_width};
 
 use table::{INDEX, TAIL, WORDS};
 
@@ -10,18 +10,32 @@ mod table;
 // What the table has for a character that joins others.
 const JOINS: u32 = 3;
 
+/// The bytes of a character by which a text `begins_wide`.
+pub const WIDE_LEN: usize = 3;
+
+/// Whether a text begins with a character from U+4E00 to U+9FFF or from U+B000 to U+CFFF: most
+/// ideographs and Hangul syllables. Each adds two terminal columns to every text, so these needn't
+/// be decoded.
+#[inline]
+pub fn begins_wide(text: &[u8]) -> bool
+    ensures { result ≡ begins_wide text.now }
+{
+    match text.first() {
+        // most other scripts
+        Some(..0xe4) | None => false,
+        Some(0xe4) => text.len() > 1 && text[1] >= 0xb8,
+        Some(first) => matches!(*first, 0xe5..=0xe9 | 0xeb..=0xec),
+    }
+}
+
 /// The terminal columns that a character adds to every text, and none where it joins others.
 #[inline]
 pub fn own_width(character: char) -> Option<usize>
     ensures { result ≡ own_width character }
 {
-    // Most characters are printable ASCII or ideographs. Tests of their own keep these from being
-    // looked up.
+    // Many characters are printable ASCII. A test of its own keeps these from being looked up.
     if character <= '~' {
         return if character < ' ' { None } else { Some(1) };
-    }
-    if ('\u{4e00}'..='\u{9fff}').contains(&character) {
-        return Some(2);
     }
     tabled_width(character)
 }

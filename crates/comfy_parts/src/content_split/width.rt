@@ -3,9 +3,10 @@
 ghost use Rattle.std.specs.Prelude.{◌≡◌, ◌+◌, ◌*◌, ◌≤◌, IfSome, length, nat_lt, encode_utf8};
 ghost use Rattle.comfy_parts.specs.Following.{IsWideFrom};
 ghost use Rattle.comfy_parts.specs.Text.{measure};
+ghost use Rattle.comfy_parts.specs.TextLines.{IsClearLine};
 
 use crate::content_split::bytes::is_printable;
-use crate::content_split::own_width::own_width;
+use crate::content_split::own_width::{WIDE_LEN, begins_wide, own_width};
 use unicode_width::UnicodeWidthStr;
 
 // How many bytes more or less aren't looked for.
@@ -23,19 +24,36 @@ pub fn measure_text_width(text: &str) -> usize
     if let Some(columns) = summed_columns(text) {
         return columns;
     }
-    text.width()
+    joined_columns(text)
 }
 
-// The terminal columns of a text whose characters join no other, which add up: counted in one walk.
-fn summed_columns(text: &str) -> Option<usize>
-    ensures value { IfSome result (λ columns. columns ≡ measure text.now) }
+/// The terminal columns of a text whose characters join no other, which add up: counted in one
+/// walk. Such a text has no control character, so it is one text line without ESC.
+pub fn summed_columns(text: &str) -> Option<usize>
+    ensures clear { IfSome result (IsClearLine text.now) }
     ensures bound { IfSome result (λ columns. columns ≤ 2 * length text.now) }
 {
     let mut columns = 0;
-    for character in text.chars() {
-        columns += own_width(character)?;
+    let mut rest = text;
+    while !rest.is_empty() {
+        if begins_wide(rest.as_bytes()) {
+            columns += 2;
+            (_, rest) = rest.split_at(WIDE_LEN);
+        } else {
+            let mut characters = rest.chars();
+            columns += own_width(characters.next()?)?;
+            rest = characters.as_str();
+        }
     }
     Some(columns)
+}
+
+/// The terminal columns of a text, by a walk that knows how characters join.
+pub fn joined_columns(text: &str) -> usize
+    ensures value { result ≡ measure text.now }
+    ensures bound { result ≤ 2 * length text.now }
+{
+    text.width()
 }
 
 /// How many bytes of a word's end show that the word is wider than these columns: each end of the

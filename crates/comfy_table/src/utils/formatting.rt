@@ -6,6 +6,7 @@ pub mod content_format;
 pub(crate) mod drawing;
 mod drawn_cell;
 mod drawn_frame;
+mod drawn_row;
 mod gap;
 mod output;
 mod piece;

@@ -6,7 +6,7 @@ ghost use Rattle.comfy_table.specs.Pieces.{content_lines, row_lines};
 ghost use Rattle.comfy_table.specs.DrawnCells.{piece_at};
 
 use crate::table::Table;
-use crate::utils::formatting::drawn_cell::{DrawnCell, DrawnRow, greatest_height};
+use crate::utils::formatting::drawn_cell::{DrawnCell, drawn_cells, greatest_height};
 use crate::utils::formatting::gap::{Gap, push_spaces};
 use crate::utils::formatting::shown_column::shown_infos;
 use comfy_parts::content_split::ColumnDisplayInfo;
@@ -30,9 +30,8 @@ pub fn format_row(
 {
     let alloc = *table.columns.allocator();
     let columns = shown_infos(alloc, display_infos)?;
-    let mut drawn = DrawnRow::new(alloc);
-    drawn.set(row, columns.as_slice(), table)?;
-    let cells = drawn.cells();
+    let cells = drawn_cells(row, columns.as_slice(), table)?;
+    let cells = cells.as_slice();
     let none = Gap::new(alloc, false, None)?;
     let mut lines = Vec::new(alloc);
     for line in 0..greatest_height(cells) {

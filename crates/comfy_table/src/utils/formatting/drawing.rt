@@ -1,16 +1,16 @@
 //! The lines of a table, in their order.
 
-ghost use Rattle.std.specs.Prelude.{◌≡◌, IfOk, OnErr, OnOk, Some, map, string_bytes, option_to_list};
+ghost use Rattle.std.specs.Prelude.{◌≡◌, ◌<◌, ◌≤◌, ◌-◌, ◌∷◌, IfOk, OnErr, OnOk, Some, length, map, string_bytes, option_to_list};
 ghost use Rattle.std.specs.List.{range_with_len};
-ghost use Rattle.comfy_table.specs.DrawnCells.{greatest_height, piece_at};
+ghost use Rattle.comfy_table.specs.DrawnCells.{filled, piece_at};
 ghost use Rattle.comfy_table.specs.Drawing.{drawn_header, drawn_rows, further_rows, lines_above, outer_widths, part_of_drawing, rows_below};
 ghost use Rattle.comfy_table.specs.Gaps.{frame_of, gap_line, row_between};
 ghost use Rattle.comfy_table.specs.Output.{BeginsWith, with_lines, with_written};
 
 use crate::table::Table;
 use crate::utils::formatting::borders::optional_frame_line;
-use crate::utils::formatting::drawn_cell::{DrawnCell, DrawnRow, greatest_height};
 use crate::utils::formatting::drawn_frame::DrawnFrame;
+use crate::utils::formatting::drawn_row::DrawnRow;
 use crate::utils::formatting::output::{Output, OutputForm};
 use crate::utils::formatting::row_gaps::RowGaps;
 use crate::utils::formatting::shown_column::{ShownColumn, shown_infos};
@@ -235,26 +235,47 @@ impl<'a> Writer<'a> {
             ≡ with_written (row_between gaps.now self.old.table self.old.infos row.now) self.old) }
         ensures err { OnErr result (BeginsWith self.new.output.text self.old.output.text) }
     {
-        self.row.set(row, self.columns.as_slice(), self.table)?;
-        push_row(&mut self.output, &mut self.line, gaps, self.row.cells())
+        self.line.clear();
+        let columns = self.columns.as_slice();
+        let height = self
+            .row
+            .push_first_line(&mut self.line, gaps, row, columns, self.table)?;
+        if height == 0 {
+            return Ok(());
+        }
+        push_row(
+            &mut self.output,
+            &mut self.line,
+            gaps,
+            &self.row,
+            columns,
+            height,
+        )
     }
 }
 
-// Appends the lines of a row of these cells. Each is drawn in the text first.
-fn push_row(
+// Appends so many lines of a row. The first is drawn in the text already, and each other one is
+// drawn there.
+fn push_row<'a>(
     output: &mut Output,
     text: &mut String,
     gaps: &RowGaps,
-    cells: &[DrawnCell],
+    row: &DrawnRow<'a>,
+    columns: &[ShownColumn<'a>],
+    height: usize,
 ) -> Result<()>
-    ensures ok { OnOk result (output.new
-        ≡ with_lines (map (λ k. gap_line gaps.now (map (piece_at k) cells.now))
-        (range_with_len 0 (greatest_height cells.now))) output.old) }
+    requires height { 0 < height }
+    requires some { 0 < length columns.now }
+    requires columns { length row.now ≤ length columns.now }
+    ensures ok { OnOk result (output.new ≡ with_lines (string_bytes text.old
+        ∷ map (λ k. gap_line gaps.now (map (piece_at k) (filled columns.now row.now)))
+        (range_with_len 1 (height - 1))) output.old) }
     ensures err { OnErr result (BeginsWith output.new.text output.old.text) }
 {
-    for line in 0..greatest_height(cells) {
+    output.push_line(text.as_str())?;
+    for line in 1..height {
         text.clear();
-        gaps.push_line(text, cells, line)?;
+        row.push_further_line(text, gaps, columns, line)?;
         output.push_line(text.as_str())?;
     }
     Ok(())

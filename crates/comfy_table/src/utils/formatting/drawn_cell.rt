@@ -1,6 +1,6 @@
 //! The cells of a row as the shown columns draw them.
 
-ghost use Rattle.std.specs.Prelude.{◌≡◌, [], IfOk, OnOk, length, map, nat_lt};
+ghost use Rattle.std.specs.Prelude.{◌≡◌, IfOk, length, map, nat_lt};
 ghost use Rattle.std.specs.List.{list_any};
 ghost use Rattle.comfy_parts.specs.CellValue.{info_width};
 ghost use Rattle.comfy_table.specs.DrawnCells.{drawn_cell, greatest_height, piece_at, styles_of};
@@ -41,8 +41,8 @@ impl<'a> Model for DrawnCell<'a> {
 }
 
 impl<'a> DrawnCell<'a> {
-    // A missing cell takes one line.
-    fn height(&self) -> usize
+    /// How many lines the cell has. A missing one takes one line.
+    pub fn height(&self) -> usize
         ensures { result ≡ length self.now.pieces }
     {
         match &self.lines {
@@ -71,68 +71,34 @@ impl<'a> DrawnCell<'a> {
     }
 }
 
-/// The cells of a row as its shown columns draw them. One row after another is drawn by it, in the
-/// memory of those before.
-#[derive(Drop)]
-pub struct DrawnRow<'a> {
-    cells: Vec<DrawnCell<'a>>,
-    // lists in which the lines of earlier rows stood
-    spare: Vec<Vec<Line<'a>>>,
-}
-
-impl<'a> Model for DrawnRow<'a> {
-    ghost use Rattle.std.specs.Prelude.{List};
-    ghost use Rattle.comfy_table.specs.DrawnCells.{DrawnCell};
-
-    ghost Value = { List DrawnCell };
-
-    ghost view = { λ r. r.cells.items };
-}
-
-impl<'a> DrawnRow<'a> {
-    /// A row without cells. It takes no memory.
-    pub fn new(alloc: Global) -> DrawnRow<'a>
-        ensures { result ≡ [] }
+/// Takes a cell that isn't drawn any more. The list of its lines is kept, unless it is long.
+#[inline(always)]
+pub fn take_list<'a>(cell: DrawnCell<'a>, spare: &mut Vec<Vec<Line<'a>>>) -> Result<()> {
+    if let CellLines::Multiple(_, lines) = cell.lines
+        && lines.capacity() <= KEPT_LINES
     {
-        DrawnRow {
-            cells: Vec::new(alloc),
-            spare: Vec::new(alloc),
-        }
-    }
-
-    /// The cells, from the left.
-    pub fn cells(&self) -> &[DrawnCell<'a>]
-        ensures { result.now ≡ self.now }
-    {
-        self.cells.as_slice()
-    }
-
-    /// Makes the cells those of a row in these columns, each the one at its column's own position.
-    pub fn set(&mut self, row: &'a Row, columns: &[ShownColumn<'a>], table: &Table) -> Result<()>
-        ensures { OnOk result (self.new ≡ map (drawn_cell table.now row.now) columns.now) }
-    {
-        take_lists(&mut self.cells, &mut self.spare)?;
-        let styles = Styles::of(table);
-        for column in columns {
-            let cell = drawn_cell(row, column, table, styles, &mut self.spare)?;
-            self.cells.push(cell)?;
-        }
-        Ok(())
-    }
-}
-
-// Drops these cells, and keeps the lists of their lines, but for long ones.
-fn take_lists<'a>(cells: &mut Vec<DrawnCell<'a>>, spare: &mut Vec<Vec<Line<'a>>>) -> Result<()>
-    ensures { OnOk result (cells.new.items ≡ []) }
-{
-    while let Some(cell) = cells.pop() {
-        if let CellLines::Multiple(_, lines) = cell.lines
-            && lines.capacity() <= KEPT_LINES
-        {
-            spare.push(lines)?;
-        }
+        spare.push(lines)?;
     }
     Ok(())
+}
+
+/// The cells of a row in these columns, each the one at its column's own position.
+pub fn drawn_cells<'a>(
+    row: &'a Row,
+    columns: &[ShownColumn<'a>],
+    table: &Table,
+) -> Result<Vec<DrawnCell<'a>>>
+    ensures { IfOk result (λ cells. cells.items
+        ≡ map (drawn_cell table.now row.now) columns.now) }
+{
+    let alloc = *table.columns.allocator();
+    let styles = Styles::of(table);
+    let mut spare = Vec::new(alloc);
+    let mut cells = Vec::new(alloc);
+    for column in columns {
+        cells.push(drawn_cell(row, column, table, styles, &mut spare)?)?;
+    }
+    Ok(cells)
 }
 
 /// The height of a row: that of its highest shown cell.
@@ -159,19 +125,39 @@ pub fn is_any_taller(
 {
     let alloc = *table.columns.allocator();
     let columns = shown_infos(alloc, infos)?;
-    let mut drawn = DrawnRow::new(alloc);
+    let mut spare = Vec::new(alloc);
     for row in rows {
-        drawn.set(row, columns.as_slice(), table)?;
-        if greatest_height(drawn.cells()) > lines {
+        if row_height(row, columns.as_slice(), table, &mut spare)? > lines {
             return Ok(true);
         }
     }
     Ok(false)
 }
 
-// A shown column with the cell that stands at its position in a row. Its lines may stand in a spare
-// list.
-fn drawn_cell<'a>(
+// The height of a row in these columns. The lines of its cells stand in spare lists, if there are
+// any.
+fn row_height<'a>(
+    row: &'a Row,
+    columns: &[ShownColumn<'a>],
+    table: &Table,
+    spare: &mut Vec<Vec<Line<'a>>>,
+) -> Result<usize>
+    ensures { IfOk result (λ height. height
+        ≡ greatest_height (map (drawn_cell table.now row.now) columns.now)) }
+{
+    let styles = Styles::of(table);
+    let mut height = 0;
+    for column in columns {
+        let cell = drawn_cell(row, column, table, styles, spare)?;
+        height = cell.height().max(height);
+        take_list(cell, spare)?;
+    }
+    Ok(height)
+}
+
+/// A shown column with the cell that stands at its position in a row. Its lines may stand in a
+/// spare list.
+pub fn drawn_cell<'a>(
     row: &'a Row,
     column: &ShownColumn<'a>,
     table: &Table,

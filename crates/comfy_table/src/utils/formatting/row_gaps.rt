@@ -1,12 +1,10 @@
-//! The lines of a row as pieces between gaps.
+//! The gaps between the pieces of a row's lines.
 
-ghost use Rattle.std.specs.Prelude.{◌≡◌, ◌++◌, IfOk, OnOk, map, string_bytes};
+ghost use Rattle.std.specs.Prelude.{◌≡◌, ◌++◌, IfOk, OnOk, string_bytes};
 ghost use Rattle.comfy_parts.specs.Text.{spaces};
-ghost use Rattle.comfy_table.specs.DrawnCells.{piece_at};
-ghost use Rattle.comfy_table.specs.Gaps.{gap_line, row_gaps};
+ghost use Rattle.comfy_table.specs.Gaps.{row_gaps};
 
 use crate::table::Table;
-use crate::utils::formatting::drawn_cell::DrawnCell;
 use crate::utils::formatting::gap::Gap;
 use comfy_parts::Result;
 use comfy_parts::style::ContentLineStyle;
@@ -42,30 +40,25 @@ impl RowGaps {
         })
     }
 
+    /// The gap before the first piece.
+    pub fn left(&self) -> &Gap
+        ensures { result.now ≡ self.now.left }
+    {
+        &self.left
+    }
+
+    /// The gap between two pieces.
+    pub fn junction(&self) -> &Gap
+        ensures { result.now ≡ self.now.junction }
+    {
+        &self.junction
+    }
+
     /// Appends what ends a line: so many spaces and the last gap.
     pub fn push_end(&self, text: &mut String, free: usize) -> Result<()>
         ensures { OnOk result (string_bytes text.new
             ≡ string_bytes text.old ++ (spaces free ++ self.now.right)) }
     {
         self.right.push(text, free, 0)
-    }
-
-    /// Appends a line of these cells. Lines of a row are counted from 0.
-    #[inline(never)]
-    pub fn push_line(&self, text: &mut String, cells: &[DrawnCell], line: usize) -> Result<()>
-        ensures { OnOk result (string_bytes text.new
-            ≡ string_bytes text.old ++ gap_line self.now (map (piece_at line) cells.now)) }
-    {
-        if cells.is_empty() {
-            self.left.push(text, 0, 0)?;
-            return self.push_end(text, 0);
-        }
-        let mut gap = &self.left;
-        let mut free = 0;
-        for cell in cells {
-            free = cell.piece_at(line).push(text, gap, free)?;
-            gap = &self.junction;
-        }
-        self.push_end(text, free)
     }
 }

@@ -19,9 +19,9 @@ loop-at-init c =
     let left : rows_from rows (enumerate_count c.into_iter-at-iterator.result) (enumerate_source c.into_iter-at-iterator.result) ≡ all = ap₂ (rows_from rows) count source in
     let own : c.in_ok-widths.widths.items ≡ max_content_widths table = c.in_ok-widths.ensures in (
       λ is i.
-      ap₂ (λ (ws : List ℕ) (rs : List RowValue). max (slice_index_or ws i 0) (greatest_at table cell_content_width rs i)) own left
-      ∙ ap (λ n. max n (greatest_at table cell_content_width all i)) (header_widths rows table is i)
-      ∙ width_below table all i (ap (λ t. t.rows) is ∙ no_rows rows),
+          ap₂ (λ (ws : List ℕ) (rs : List RowValue). max (slice_index_or ws i 0) (greatest_at table cell_content_width rs i)) own left
+          ∙ ap (λ n. max n (greatest_at table cell_content_width all i)) (header_widths rows table is i)
+          ∙ width_below table all i (ap (λ t. t.rows) is ∙ no_rows rows),
       ap₂ (λ (ws : List ℕ) (rs : List RowValue). max (length ws) (most_cells rs)) own left
           ∙ ap (λ n. max n (most_cells all)) (length-map-range_with_len (column_content_width table) 0 (length table.columns)),
     )
@@ -42,17 +42,17 @@ loop-at-preserved c =
     let new = c.widen.new.widths.items in
     let old = c.loop-at.widths.items in (
       λ is i.
-      let f : List RowValue → ℕ = λ rs. greatest_at table cell_content_width rs i in
-      let grown : slice_index_or new i 0 ≡ max (slice_index_or old i 0) (f here) = c.in_ok-widen.ensures.each i ∙ ap (λ (rs : List RowValue). max (slice_index_or old i 0) (f rs)) at in
-      let parts = ap f before ∙ greatest_at-append table cell_content_width here later i in
-      let next = ap f left in
-      let so = c.loop-at.invariant.0 is i in
-      omega (arith, grown, parts, next, so),
+          let f : List RowValue → ℕ = λ rs. greatest_at table cell_content_width rs i in
+          let grown : slice_index_or new i 0 ≡ max (slice_index_or old i 0) (f here) = c.in_ok-widen.ensures.each i ∙ ap (λ (rs : List RowValue). max (slice_index_or old i 0) (f rs)) at in
+          let parts = ap f before ∙ greatest_at-append table cell_content_width here later i in
+          let next = ap f left in
+          let so = c.loop-at.invariant.0 is i in
+          omega (arith, grown, parts, next, so),
       let grown : length new ≡ max (length old) (most_cells here) = c.in_ok-widen.ensures.count ∙ ap (λ (rs : List RowValue). max (length old) (most_cells rs)) at in
-      let parts = ap most_cells before ∙ most_cells-append here later in
-      let next = ap most_cells left in
-      let so = c.loop-at.invariant.1 in
-      omega (arith, grown, parts, next, so),
+          let parts = ap most_cells before ∙ most_cells-append here later in
+          let next = ap most_cells left in
+          let so = c.loop-at.invariant.1 in
+          omega (arith, grown, parts, next, so),
     )
 
 pub returns-clause-each : goal.returns-clause-each

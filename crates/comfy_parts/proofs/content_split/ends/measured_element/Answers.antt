@@ -6,6 +6,7 @@ use Rattle.std.proofs.lemmas.Str.{IsUtf8-drop}
 use Rattle.comfy_parts.specs.Text.{is_printable_ascii}
 use Rattle.comfy_parts.proofs.PrintableElementLemmas.{first-printable}
 use Rattle.comfy_parts.proofs.PrintableLemmas.{measure-printable, place-looked_at}
+use Rattle.comfy_parts.proofs.SummedElementLemmas.{front-boundary}
 use Rattle.comfy_parts.proofs.content_split.ends.measured_element.Goals as goal
 
 pub split_at-requires : goal.split_at-requires
@@ -32,3 +33,6 @@ pub returns-then-ends_element-clause-columns : goal.returns-then-ends_element-cl
 returns-then-ends_element-clause-columns c =
     let front_is = ap (take c.printable_run.result) (c.as_bytes.ensures.value) ∙ sym c.split_at.ensures.front in
     sym (measure-printable c.split_at.result.0.now (ap is_printable_ascii (sym front_is) ∙ c.printable_run.ensures.printable))
+
+pub split_at-requires-in-Some : goal.split_at-requires-in-Some
+split_at-requires-in-Some c = front-boundary c.args.delimiter c.args.text.now c.in-Some.behind.now c.in-Some.columns c.in-Some.ensures

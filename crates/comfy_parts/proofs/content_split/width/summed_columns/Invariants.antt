@@ -1,6 +1,9 @@
-use Rattle.std.specs.Str.Iter.{chars_rest}
+use Rattle.std.proofs.Common.{length}
 use Rattle.comfy_parts.proofs.OwnWidthLemmas.{IsCounted}
 use Rattle.comfy_parts.proofs.content_split.width.summed_columns.Given as goal
 
-abbrev pub invariant-loop-character : goal.invariant-loop-character
-invariant-loop-character l = IsCounted l.text (chars_rest l.character-iterator) l.columns
+abbrev pub invariant-loop-rest : goal.invariant-loop-rest
+invariant-loop-rest l = IsCounted l.text l.rest l.columns
+
+abbrev pub decreases-loop-rest : goal.decreases-loop-rest
+decreases-loop-rest l = length l.rest

@@ -38,23 +38,23 @@ loop-column-preserved c =
           ∙ ap (λ (t : Text). before ++ pair_for own.look t w.in-Some.field.now ∷ []) (sym name) in
           let widths = ap (λ widths. widths.items) w.widths-is in (
             λ at.
-            let grown = w.in_ok-widen_pair.ensures.each at in
-            let all = ap (λ (rows : List RowValue). greatest_at table cell_content_width rows at) more ∙ greatest_at-append table cell_content_width before (row ∷ []) at in
-            let so = had.0 at in
-            let now = ap (λ (ws : List ℕ). slice_index_or ws at 0) widths in
-            omega (arith, grown, all, so, now),
+                let grown = w.in_ok-widen_pair.ensures.each at in
+                let all = ap (λ (rows : List RowValue). greatest_at table cell_content_width rows at) more ∙ greatest_at-append table cell_content_width before (row ∷ []) at in
+                let so = had.0 at in
+                let now = ap (λ (ws : List ℕ). slice_index_or ws at 0) widths in
+                omega (arith, grown, all, so, now),
             let grown = w.in_ok-widen_pair.ensures.count in
-            let all = ap most_cells more ∙ most_cells-append before (row ∷ []) in
-            let so = had.1 in
-            let now = ap length widths in
-            omega (arith, grown, all, so, now),
+                let all = ap most_cells more ∙ most_cells-append before (row ∷ []) in
+                let so = had.1 in
+                let now = ap length widths in
+                omega (arith, grown, all, so, now),
           )
       | in_default w ↦
           let none = sym (ap (option_map (λ s. s.now)) w.in_default.is) ∙ c.get.ensures.value ∙ ap (λ (d : DrawnColumn). field_at fields d.position) same in
           let more = pairs-none own.look columns c.names_or_blank-names.result fields i no_column below none in
           let widths = ap (λ widths. widths.items) w.widths-is in (
             λ at.
-            ap (λ (ws : List ℕ). slice_index_or ws at 0) widths ∙ had.0 at ∙ ap (λ (rows : List RowValue). max (slice_index_or c.args.widths.now.items at 0) (greatest_at table cell_content_width rows at)) (sym more),
+                ap (λ (ws : List ℕ). slice_index_or ws at 0) widths ∙ had.0 at ∙ ap (λ (rows : List RowValue). max (slice_index_or c.args.widths.now.items at 0) (greatest_at table cell_content_width rows at)) (sym more),
             ap length widths ∙ had.1 ∙ ap (λ (rows : List RowValue). max (length c.args.widths.now.items) (most_cells rows)) (sym more),
           )
     ]

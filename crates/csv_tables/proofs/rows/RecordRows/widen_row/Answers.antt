@@ -18,12 +18,12 @@ loop-position-preserved c =
     let grown = c.in_ok-widen_at.ensures in
     let width : c.in_ok-width.width ≡ f k = c.in_ok-width.ensures in (
       λ i.
-      grown.each i ∙ ap (λ n. max (slice_index_or c.loop-position.widths.items i 0) (if i == k then n else 0)) width
-      ∙ ap (λ n. max n (if i == k then f k else 0)) (had.0 i)
-      ∙ one_wider (slice_index_or c.args.widths.now.items i 0) f i k,
+          grown.each i ∙ ap (λ n. max (slice_index_or c.loop-position.widths.items i 0) (if i == k then n else 0)) width
+          ∙ ap (λ n. max n (if i == k then f k else 0)) (had.0 i)
+          ∙ one_wider (slice_index_or c.args.widths.now.items i 0) f i k,
       let count = grown.count in
-      let so = had.1 in
-      omega (arith, count, so),
+          let so = had.1 in
+          omega (arith, count, so),
     )
 
 pub returns-clause-each : goal.returns-clause-each

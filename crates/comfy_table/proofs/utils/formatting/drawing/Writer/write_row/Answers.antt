@@ -1,12 +1,34 @@
-use Rattle.std.proofs.Common.{◌≡◌, List, map, ap, ◌∙◌}
+use Rattle.std.proofs.Common.{◌≡◌, ◌<◌, ◌++◌, ◌∷◌, ◌-◌, ℕ, List, length, map, string_bytes, ap, sym, ◌∙◌, arith}
+use Rattle.std.proofs.lemmas.List.{length-map}
 use Rattle.std.proofs.lemmas.Result.{on_ok_weaker}
+use Rattle.std.specs.List.{range_with_len}
 use Rattle.comfy_parts.specs.Text.{Text}
-use Rattle.comfy_table.proofs.DrawnCellLemmas.{drawn_between}
-use Rattle.comfy_table.specs.DrawnCells.{drawn_cell}
-use Rattle.comfy_table.specs.Gaps.{row_between}
+use Rattle.comfy_table.proofs.FurtherLineLemmas.{further-few, lines-between, none-between, some-columns}
+use Rattle.comfy_table.proofs.OutputLemmas.{with_lines-none}
+use Rattle.comfy_table.specs.DrawnCells.{drawn_cell, filled, piece_at}
+use Rattle.comfy_table.specs.Gaps.{gap_line, row_between}
 use Rattle.comfy_table.specs.Output.{OutputValue, WriterValue, with_lines, with_written}
 use Rattle.comfy_table.specs.Pieces.{shown_infos}
 use Rattle.comfy_table.proofs.utils.formatting.drawing.Writer.write_row.Goals as goal
+
+pub push_row-requires-clause-some : goal.push_row-requires-clause-some
+push_row-requires-clause-some c =
+    some-columns c.self.inside.table.now c.args.row.now c.as_slice-columns.result.now c.in_ok-height.height c.in_ok-height.ensures.height (omega (arith, c.if-height-eq0.false))
+
+pub push_row-requires-clause-columns : goal.push_row-requires-clause-columns
+push_row-requires-clause-columns c =
+    let few = further-few c.push_first_line.new.self (map (drawn_cell c.self.inside.table.now c.args.row.now) c.as_slice-columns.result.now) c.in_ok-height.ensures.further in
+    omega (arith, few, length-map c.as_slice-columns.result.now (drawn_cell c.self.inside.table.now c.args.row.now))
+
+pub returns-then-height-eq0-clause-ok : goal.returns-then-height-eq0-clause-ok
+returns-then-height-eq0-clause-ok c =
+    let gaps = c.args.gaps.now in
+    let row = c.args.row.now in
+    let table = c.self.inside.table.now in
+    let own : WriterValue = record { table = table; infos = c.self.inside.infos.now; output = c.self.inside.output } in
+    let none = none-between table row gaps c.as_slice-columns.result.now own.infos c.in_ok-height.height (c.as_slice-columns.ensures.value ∙ c.self.invariant.0) c.in_ok-height.ensures.height c.if-height-eq0.true in
+    ap (λ (o : OutputValue). record own { output = o }) (sym (with_lines-none own.output) ∙ ap (λ (ls : List Text). with_lines ls own.output) (sym none))
+    ∙ ap (λ (w : WriterValue). with_written (row_between gaps w.table w.infos row) w) c.self.view_is
 
 pub returns-clause-ok : goal.returns-clause-ok
 returns-clause-ok c =
@@ -14,9 +36,17 @@ returns-clause-ok c =
     let row = c.args.row.now in
     let table = c.self.inside.table.now in
     let own : WriterValue = record { table = table; infos = c.self.inside.infos.now; output = c.self.inside.output } in
-    let cells : c.cells.result.now ≡ map (drawn_cell table row) (shown_infos own.infos) =
-    c.cells.ensures ∙ c.in_ok-set.ensures ∙ ap (map (drawn_cell table row)) (c.as_slice.ensures.value ∙ c.self.invariant.0) in
-    let lines = drawn_between gaps table own.infos row c.cells.result.now cells in
+    let columns = c.as_slice-columns.result.now in
+    let cells = map (drawn_cell table row) columns in
+    let height = c.in_ok-height.height in
+    let positive : 0 < height = omega (arith, c.if-height-eq0.false) in
+    let some : 0 < length columns = some-columns table row columns height c.in_ok-height.ensures.height positive in
+    let others = map (λ k. gap_line gaps (map (piece_at k) (filled columns c.push_first_line.new.self))) (range_with_len 1 (height - 1)) in
+    let first : string_bytes c.push_first_line.new.text ≡ gap_line gaps (map (piece_at 0) cells) =
+    c.in_ok-height.ensures.line some ∙ ap (λ (t : Text). t ++ gap_line gaps (map (piece_at 0) cells)) c.clear.ensures.bytes in
+    let lines : string_bytes c.push_first_line.new.text ∷ others ≡ row_between gaps table own.infos row =
+    ap (λ (t : Text). t ∷ others) first
+    ∙ lines-between table row columns c.push_first_line.new.self c.in_ok-height.ensures.further gaps own.infos height (c.as_slice-columns.ensures.value ∙ c.self.invariant.0) c.in_ok-height.ensures.height positive in
     on_ok_weaker c.push_row.result
     (λ (pushed : c.push_row.new.output ≡ _).
     ap (λ (o : OutputValue). record own { output = o }) (pushed ∙ ap (λ (ls : List Text). with_lines ls own.output) lines)

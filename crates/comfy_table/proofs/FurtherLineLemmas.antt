@@ -1,0 +1,123 @@
+-- The lines of a row behind its first, of the cells that are kept for them.
+use Rattle.std.proofs.Common.{◌≡◌, ◌<◌, ◌≤◌, ◌+◌, ◌-◌, ℕ, zero, suc, Bool, true, false, List, [], ◌∷◌, ◌++◌, length, map, take, nat_lt, refl, ap, ap₂, sym, subst, ◌∙◌, arith, append-nil, append_assoc, slice_index_or}
+use Rattle.std.proofs.lemmas.Bool.Decides.{nat_tests}
+use Rattle.std.proofs.lemmas.List.{get_or_append_left, get_or-append_right, get_or-map, get_or_past, get_or-take, length-append, length-map, length-take-le, map-append, take-map}
+use Rattle.std.proofs.Math.Seq.{take-append_seam}
+use Rattle.std.proofs.lemmas.List.Elements.{All-append, All-cons, All-head, All-nil, All-tail}
+use Rattle.std.specs.List.{All, range_with_len}
+use Rattle.std.specs.Prelude.{if◌then◌else◌}
+use Rattle.comfy_parts.specs.CellValue.{RowValue, ColumnInfo}
+use Rattle.comfy_parts.specs.Text.{Text}
+use Rattle.comfy_table.proofs.DrawnCellLemmas.{drawn_between}
+use Rattle.comfy_table.specs.DrawnCells.{AreFurther, DrawnCell, drawn_cell, filled, greatest_height, piece_at, with_further, without_piece}
+use Rattle.comfy_table.specs.Gaps.{RowGapsValue, gap_line, row_between}
+use Rattle.comfy_table.specs.Pieces.{blank_piece, shown_infos}
+use Rattle.comfy_table.specs.TableValue.{TableValue}
+
+-- it has a piece in the first line at the most
+abbrev IsLow : DrawnCell → Type 0
+IsLow drawn = length drawn.pieces ≤ 1
+
+-- ---- the cells that are kept
+
+-- and one more
+pub further-more : (further cells : List DrawnCell) (drawn : DrawnCell) → AreFurther further cells → AreFurther (with_further further drawn) (cells ++ drawn ∷ [])
+further-more [] cells drawn are = by_height (nat_lt 1 (length drawn.pieces)) refl
+  where
+    by_height : (b : Bool) → nat_lt 1 (length drawn.pieces) ≡ b → AreFurther (if b then drawn ∷ [] else []) (cells ++ drawn ∷ [])
+    by_height true is = record { low = are.low; before = are.before; all = ap (λ (ds : List DrawnCell). ds ++ drawn ∷ []) (are.all ∙ append-nil are.low) }
+    by_height false is =
+        let low : length drawn.pieces ≤ 1 = grind (arith, nat_tests, is) in
+        record {
+          low = are.low ++ drawn ∷ [];
+          before = All-append IsLow are.low (drawn ∷ []) are.before (All-cons IsLow drawn [] low (All-nil IsLow));
+          all = ap (λ (ds : List DrawnCell). ds ++ drawn ∷ []) (are.all ∙ append-nil are.low) ∙ sym (append-nil (are.low ++ drawn ∷ []));
+        }
+further-more (first ∷ others) cells drawn are =
+    record {
+      low = are.low;
+      before = are.before;
+      all = ap (λ (ds : List DrawnCell). ds ++ drawn ∷ []) are.all ∙ append_assoc are.low (first ∷ others) (drawn ∷ []);
+    }
+
+-- there are no more of them than cells
+pub further-few : (further cells : List DrawnCell) → AreFurther further cells → length further ≤ length cells
+further-few further cells are = let size = ap length are.all ∙ length-append are.low further in omega (arith, size)
+
+-- ---- the cells of the columns, position by position
+
+module _ (columns : List (ℕ × ColumnInfo)) (further : List DrawnCell) where
+  -- those before the kept ones
+  abbrev front : List (ℕ × ColumnInfo)
+  front = take (length columns - length further) columns
+
+  front-size : length (map without_piece front) ≡ length columns - length further
+  front-size = length-map front without_piece ∙ length-take-le (length columns - length further) columns (omega arith)
+
+  pub length-filled : length further ≤ length columns → length (filled columns further) ≡ length columns
+  length-filled within = let size = length-append (map without_piece front) further in omega (arith, within, size, front-size)
+
+  pub low-at : (i : ℕ) (p : ℕ × ColumnInfo) → i < length columns - length further → p ≡ slice_index_or columns i p → without_piece p ≡ slice_index_or (filled columns further) i (without_piece p)
+  low-at i p below is =
+      let within : i < length (map without_piece front) = omega (arith, below, front-size) in
+      let among : i < length front = omega (arith, within, length-map front without_piece) in
+      sym
+      (get_or_append_left (map without_piece front) further (without_piece p) i within
+      ∙ get_or-map without_piece front i p (without_piece p) among
+      ∙ ap without_piece (get_or-take (length columns - length further) columns i p below ∙ sym is))
+
+  pub kept-at : (i : ℕ) (drawn : DrawnCell) → length columns - length further ≤ i → drawn ≡ slice_index_or further (i - (length columns - length further)) drawn → drawn ≡ slice_index_or (filled columns further) i drawn
+  kept-at i drawn from is = is ∙ sym (get_or-append_right (map without_piece front) further (length columns - length further) i drawn front-size from)
+
+-- ---- the lines of a row
+
+module _ (table : TableValue) (row : RowValue) where
+  -- in a line behind the first a low cell has no piece
+  low-pieces : (k : ℕ) (xs : List (ℕ × ColumnInfo)) → 0 < k → All IsLow (map (drawn_cell table row) xs) → map (piece_at k) (map without_piece xs) ≡ map (piece_at k) (map (drawn_cell table row) xs)
+  low-pieces k [] some low = refl
+  low-pieces k (x ∷ xs) some low =
+      ap₂ (λ (p : Text) (ps : List Text). p ∷ ps) (sym (get_or_past (drawn_cell table row x).pieces k (blank_piece x.1) (omega (arith, some, All-head IsLow (drawn_cell table row x) (map (drawn_cell table row) xs) low)))) (low-pieces k xs some (All-tail IsLow (drawn_cell table row x) (map (drawn_cell table row) xs) low))
+
+  -- a row with a line has a column
+  pub some-columns : (columns : List (ℕ × ColumnInfo)) (height : ℕ) → height ≡ greatest_height (map (drawn_cell table row) columns) → 0 < height → 0 < length columns
+  some-columns [] height is some = absurd (omega (arith, is, some))
+  some-columns (x ∷ xs) height is some = omega arith
+
+  -- and one without a line has no text
+  pub none-between : (gaps : RowGapsValue) (columns : List (ℕ × ColumnInfo)) (infos : List ColumnInfo) (height : ℕ) → columns ≡ shown_infos infos → height ≡ greatest_height (map (drawn_cell table row) columns) → height ≡ 0 → row_between gaps table infos row ≡ []
+  none-between gaps columns infos height shown is none =
+      let cells = map (drawn_cell table row) columns in
+      sym (drawn_between gaps table infos row cells (ap (map (drawn_cell table row)) shown))
+      ∙ ap (λ n. map (λ k. gap_line gaps (map (piece_at k) cells)) (range_with_len 0 n)) (sym is ∙ none)
+
+  module _ (columns : List (ℕ × ColumnInfo)) (further : List DrawnCell) (are : AreFurther further (map (drawn_cell table row) columns)) where
+    -- there the kept cells have all pieces
+    same-pieces : (k : ℕ) → 0 < k → map (piece_at k) (filled columns further) ≡ map (piece_at k) (map (drawn_cell table row) columns)
+    same-pieces k some =
+        let n = length columns - length further in
+        let size : length are.low ≡ n = let whole = ap length are.all ∙ length-append are.low further in omega (arith, whole, length-map columns (drawn_cell table row)) in
+        let low : map (drawn_cell table row) (take n columns) ≡ are.low =
+        sym (take-map (drawn_cell table row) n columns) ∙ ap₂ (λ m (ds : List DrawnCell). take m ds) (sym size) are.all ∙ take-append_seam are.low further in
+        map-append (piece_at k) (map without_piece (take n columns)) further
+        ∙ ap (λ (ps : List Text). ps ++ map (piece_at k) further)
+        (low-pieces k (take n columns) some (subst (λ (ds : List DrawnCell). All IsLow ds) (sym low) are.before) ∙ ap (map (piece_at k)) low)
+        ∙ sym (map-append (piece_at k) are.low further)
+        ∙ ap (map (piece_at k)) (sym are.all)
+
+    module _ (gaps : RowGapsValue) where
+      others : (from count : ℕ) → 0 < from
+          → map (λ k. gap_line gaps (map (piece_at k) (filled columns further))) (range_with_len from count) ≡ map (λ k. gap_line gaps (map (piece_at k) (map (drawn_cell table row) columns))) (range_with_len from count)
+      others from zero some = refl
+      others from (suc count) some = ap₂ (λ (line : Text) (lines : List Text). line ∷ lines) (ap (gap_line gaps) (same-pieces from some)) (others (from + 1) count (omega arith))
+
+      -- the first line and those behind it
+      pub lines-between : (infos : List ColumnInfo) (height : ℕ) → columns ≡ shown_infos infos → height ≡ greatest_height (map (drawn_cell table row) columns) → 0 < height
+          → gap_line gaps (map (piece_at 0) (map (drawn_cell table row) columns)) ∷ map (λ k. gap_line gaps (map (piece_at k) (filled columns further))) (range_with_len 1 (height - 1)) ≡ row_between gaps table infos row
+      lines-between infos zero shown is some = absurd (omega (arith, some))
+      lines-between infos (suc height) shown is some =
+          let cells = map (drawn_cell table row) columns in
+          let count : suc height - 1 ≡ height = omega arith in
+          ap (λ n. gap_line gaps (map (piece_at 0) cells) ∷ map (λ k. gap_line gaps (map (piece_at k) (filled columns further))) (range_with_len 1 n)) count
+          ∙ ap (λ (lines : List Text). gap_line gaps (map (piece_at 0) cells) ∷ lines) (others 1 height (omega arith))
+          ∙ ap (λ n. map (λ k. gap_line gaps (map (piece_at k) cells)) (range_with_len 0 n)) is
+          ∙ drawn_between gaps table infos row cells (ap (map (drawn_cell table row)) shown)

@@ -1,6 +1,0 @@
-use Rattle.std.proofs.Common.{◌≡◌, map, take}
-use Rattle.comfy_table.specs.DrawnCells.{drawn_cell}
-use Rattle.comfy_table.proofs.utils.formatting.drawn_cell.DrawnRow.set.Given as goal
-
-abbrev pub invariant-loop-column : goal.invariant-loop-column
-invariant-loop-column l = l.self-inside.cells.items ≡ map (drawn_cell l.table l.row) (take l.column-index l.columns)
