@@ -46,6 +46,20 @@ fn is_clean(field: &str) -> bool
     is_printable(field.as_bytes()) || !has_harmful(field)
 }
 
+/// Whether a field is one text line that is drawn as it is: no character of it is replaced, and it
+/// has no line feed. Most fields are printable ASCII, which is seen faster.
+pub fn is_clean_line(field: &str) -> bool
+    ensures { result ≡ not (list_any is_replaced (chars field.now)) }
+{
+    is_printable(field.as_bytes()) || !has_replaced(field)
+}
+
+fn has_replaced(field: &str) -> bool
+    ensures { result ≡ list_any is_replaced (chars field.now) }
+{
+    field.chars().any(is_replaced)
+}
+
 fn has_harmful(field: &str) -> bool
     ensures { result ≡ list_any is_harmful (chars field.now) }
 {

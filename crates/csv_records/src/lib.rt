@@ -27,7 +27,7 @@ mod text;
 
 pub use beginning::read_beginning;
 pub use characters::split_first;
-pub use cleaning::cleaned;
+pub use cleaning::{cleaned, is_clean_line};
 pub use decimals::{ColumnMarks, DecimalMark, MarkUse, Points};
 pub use delimiter::{Delimiter, only_ascii};
 pub use digits::parse_digits;

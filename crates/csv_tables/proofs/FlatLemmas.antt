@@ -15,7 +15,7 @@ use Rattle.comfy_table.specs.Pieces.{cell_pieces, piece, pieces_at, pieces_of_op
 use Rattle.comfy_table.specs.TableValue.{TableValue}
 use Rattle.csv_tables.proofs.PlainLemmas.{plain_lines}
 use Rattle.csv_tables.specs.Cells.{Shown, cell_for, shown_cells}
-use Rattle.csv_tables.specs.Contents.{is_plain}
+use Rattle.csv_tables.specs.Contents.{IsPlainText}
 use Rattle.csv_tables.specs.declared.options.Look.{Look}
 
 -- one line isn't cut
@@ -24,12 +24,12 @@ uncut cut None lines one high = one
 uncut cut (Some h) lines one high = grind (arith, nat_tests, one, high)
 
 -- the cell of such a text is one piece
-pub flat_cell : (look : Look) (table : TableValue) (text : Text) → is_plain look table text ≡ true → (t : TableValue) → t.custom_styling ≡ table.custom_styling → (row : RowValue) → IfSome row.max_height (λ h. 1 ≤ h)
-    → (info : ColumnInfo) → length text ≤ info.content_width → (alignment : Option CellAlignment) → length (cell_pieces t row info (cell_for look alignment text)) ≤ 1
-flat_cell look table text plain t same row high info fits alignment =
+pub flat_cell : (look : Look) (table : TableValue) (text : Text) (width : ℕ) → IsPlainText look table width text → (t : TableValue) → t.custom_styling ≡ table.custom_styling → (row : RowValue) → IfSome row.max_height (λ h. 1 ≤ h)
+    → (info : ColumnInfo) → width ≤ info.content_width → (alignment : Option CellAlignment) → length (cell_pieces t row info (cell_for look alignment text)) ≤ 1
+flat_cell look table text width plain t same row high info fits alignment =
     let cell = cell_for look alignment text in
     let lines = uncut_lines t.custom_styling info.content_width (cell_delimiter t info.delimiter cell) cell in
-    let one : length (row_cell_lines t row info cell) ≡ 1 = uncut (cut_line t.custom_styling info.content_width t.indicator) row.max_height lines (plain_lines look table text plain t same info fits alignment) high in
+    let one : length (row_cell_lines t row info cell) ≡ 1 = uncut (cut_line t.custom_styling info.content_width t.indicator) row.max_height lines (plain_lines look table text plain.0 plain.2 t same info (omega (arith, fits, plain.1)) alignment) high in
     let pieces = length-map (row_cell_lines t row info cell) (piece t cell info) in
     omega (arith, pieces, one)
 

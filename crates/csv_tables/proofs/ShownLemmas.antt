@@ -1,21 +1,24 @@
 -- Rows of which a field is measured before its cell is made.
-use Rattle.std.proofs.Common.{◌≡◌, ◌<◌, ◌≤◌, ℕ, zero, suc, ◌+◌, ◌-◌, Bool, true, false, not, ◌&&◌, List, [], ◌∷◌, ◌++◌, Option, Some, None, length, map, max, min, arith, refl, ap, ap₂, sym, subst, ◌∙◌, nat_lt, ◌==◌, ◌≢◌, ⊎_elim}
+use Rattle.std.proofs.Common.{◌≡◌, ◌<◌, ◌≤◌, ℕ, zero, suc, ◌+◌, ◌-◌, Bool, true, false, not, ◌&&◌, List, [], ◌∷◌, ◌++◌, Option, Some, None, length, map, max, min, arith, refl, ap, ap₂, sym, subst, ◌∙◌, ◌⊎◌, inl, inr, append-nil, chars, nat_lt, ◌==◌, ◌≢◌, ⊎_elim}
 use Rattle.std.proofs.lemmas.Bool.{and_parts, cases_lt, eqb-false, eqb-true, not-true}
 use Rattle.std.proofs.lemmas.Bool.Decides.{nat_tests}
 use Rattle.std.proofs.lemmas.List.{length-append, length-map}
 use Rattle.std.proofs.lemmas.List.Folds.{list_all-append}
 use Rattle.std.proofs.lemmas.Option.{slice_get-map, slice_get_past}
-use Rattle.std.specs.List.{slice_get}
+use Rattle.std.specs.List.{list_any, slice_get}
 use Rattle.std.specs.Prelude.{decimal, option_map, unwrap_or, if◌then◌else◌}
 use Rattle.comfy_parts.specs.CellValue.{CellValue, RowValue}
 use Rattle.comfy_parts.specs.Text.{Text, is_printable_ascii, spaces}
 use Rattle.comfy_table.specs.TableValue.{TableValue, cell_content_width}
+use Rattle.comfy_parts.proofs.CallerLemmas.{IsUtf8-printable, measure-printable}
+use Rattle.csv_records.proofs.CleaningLemmas.{none_replaced}
+use Rattle.csv_records.specs.Cleaning.{is_replaced}
 use Rattle.csv_records.specs.Decimals.{spaces_behind}
 use Rattle.csv_records.specs.declared.decimals.Points.{Points}
 use Rattle.csv.specs.Records.{field_at}
 use Rattle.csv_tables.proofs.PlainLemmas.{plain_parts, plain_width}
 use Rattle.csv_tables.specs.Cells.{Shown, cell_for, columns_within, is_blank, shown_cells, shown_fields, shown_number, text_in}
-use Rattle.csv_tables.specs.Contents.{IsPlainShown, is_plain, made_by, measured_at, shown_by, spaces_by, spaces_in}
+use Rattle.csv_tables.specs.Contents.{IsPlainShown, IsPlainText, made_by, measured_at, shown_by, spaces_by, spaces_in}
 use Rattle.csv_tables.specs.Decimals.{spaced}
 use Rattle.csv_tables.specs.declared.options.DrawnColumn.{DrawnColumn}
 use Rattle.csv_tables.specs.declared.options.Look.{Look}
@@ -31,38 +34,49 @@ spaces_long : (n : ℕ) → length (spaces n) ≡ n
 spaces_long zero = refl
 spaces_long (suc n) = ap suc (spaces_long n)
 
--- a field of printable ASCII that isn't blank stays that
-plain_spaced : (look : Look) (table : TableValue) (field : Text) (n : ℕ) → is_plain look table field ≡ true → is_plain look table (field ++ spaces n) ≡ true
-plain_spaced look table field n plain =
-    let parts = plain_parts look table field plain in
-    let printable : is_printable_ascii (field ++ spaces n) ≡ true = list_all-append _ field (spaces n) ∙ ap₂ (λ a b. a && b) parts.2.1 (spaces_printable n) in
-    let filled : is_blank (field ++ spaces n) ≡ false = list_all-append _ field (spaces n) ∙ ap (λ b. b && is_blank (spaces n)) parts.2.0 in
-    ap₂ (λ a b. not a && (not b && (not (is_blank (field ++ spaces n)) && is_printable_ascii (field ++ spaces n)))) parts.0 parts.1
-    ∙ ap₂ (λ a b. not a && b) filled printable
+-- a field that is one line stays that, with no spaces, or if it is of printable ASCII
+plain_spaced : (look : Look) (table : TableValue) (width : ℕ) (field : Text) (n : ℕ) → IsPlainText look table width field → (n ≡ 0) ⊎ (is_printable_ascii field ≡ true) → IsPlainText look table (width + n) (field ++ spaces n)
+plain_spaced look table width field n own (inl none) =
+    let same : field ≡ field ++ spaces n = sym (ap (λ k. field ++ spaces k) none ∙ append-nil field) in
+    let wide : width ≡ width + n = omega (arith, none) in
+    subst (λ (t : Text). IsPlainText look table (width + n) t) same (subst (λ k. IsPlainText look table k field) wide own)
+plain_spaced look table width field n own (inr printable) =
+    let parts = plain_parts look table field own.0 own.2 in
+    let text = field ++ spaces n in
+    let all : is_printable_ascii text ≡ true = list_all-append _ field (spaces n) ∙ ap₂ (λ a b. a && b) printable (spaces_printable n) in
+    let filled : is_blank text ≡ false = list_all-append _ field (spaces n) ∙ ap (λ b. b && is_blank (spaces n)) parts.2 in
+    let clean : list_any is_replaced (chars text) ≡ false = none_replaced text all in
+    let own_width = measure-printable field printable in
+    let whole = measure-printable text all in
+    let long = length-append field (spaces n) in
+    let count = spaces_long n in (
+      ap₂ (λ a b. not a && (not b && (not (is_blank text) && not (list_any is_replaced (chars text))))) parts.0 parts.1 ∙ ap₂ (λ a b. not a && not b) filled clean,
+      omega (arith, own_width, whole, long, count, own.1),
+      IsUtf8-printable text all,
+    )
 
 -- ---- what a row shows
 
-module _ (rows : RecordRows) (table : TableValue) (fields : List Text) (column : DrawnColumn) (field : Text)
-    (is : field_at fields column.position ≡ Some field) (kept : rows.look.has_sequences ≡ false) (plain : is_plain rows.look table field ≡ true) where
+module _ (rows : RecordRows) (table : TableValue) (fields : List Text) (column : DrawnColumn) (field : Text) (width : ℕ)
+    (is : field_at fields column.position ≡ Some field) (kept : rows.look.has_sequences ≡ false) (plain : IsPlainText rows.look table width field)
+    (few : (spaces_in rows column field ≡ 0) ⊎ (is_printable_ascii field ≡ true)) where
   -- the text of a column of which the field is plain
-  plain_text : (is_plain rows.look table (text_in rows.look rows.is_aligned column fields) ≡ true) × (length (text_in rows.look rows.is_aligned column fields) ≡ length field + spaces_in rows column field)
+  plain_text : IsPlainText rows.look table (width + spaces_in rows column field) (text_in rows.look rows.is_aligned column fields)
   plain_text =
-      subst (λ (t : Text). (is_plain rows.look table (spaced rows.look.has_sequences mark t) ≡ true) × (length (spaced rows.look.has_sequences mark t) ≡ length field + spaces_in rows column field))
+      subst (λ (t : Text). IsPlainText rows.look table (width + spaces_in rows column field) (spaced rows.look.has_sequences mark t))
       (sym (ap (λ (o : Option Text). unwrap_or o []) is))
-      (subst (λ (b : Bool). (is_plain rows.look table (spaced b mark field) ≡ true) × (length (spaced b mark field) ≡ length field + spaces_in rows column field)) (sym kept) (by_mark mark))
+      (subst (λ (b : Bool). IsPlainText rows.look table (width + spaces_in rows column field) (spaced b mark field)) (sym kept) (by_mark mark few))
     where
       mark : Option Points
       mark = if rows.is_aligned then column.points else None
 
-      by_mark : (o : Option Points) → (is_plain rows.look table (spaced false o field) ≡ true) × (length (spaced false o field) ≡ length field + spaces_by o field)
-      by_mark None = (plain, omega arith)
-      by_mark (Some points) =
-          let n = spaces_behind points field in
-          (plain_spaced rows.look table field n plain, length-append field (spaces n) ∙ ap (λ k. length field + k) (spaces_long n))
+      by_mark : (o : Option Points) → (spaces_by o field ≡ 0) ⊎ (is_printable_ascii field ≡ true) → IsPlainText rows.look table (width + spaces_by o field) (spaced false o field)
+      by_mark None so = let wide : width ≡ width + 0 = omega arith in subst (λ k. IsPlainText rows.look table k field) wide plain
+      by_mark (Some points) so = plain_spaced rows.look table width field (spaces_behind points field) plain so
 
   pub plain_shown : (at position place : ℕ) → position ≡ place + (if rows.selected.is_numbered then 1 else 0)
-      → slice_get (columns_within fields rows.selected.columns) place ≡ Some column → IsPlainShown rows table (length field + spaces_in rows column field) (slice_get (shown_by rows at fields) position)
-  plain_shown at position place stands found = subst (IsPlainShown rows table (length field + spaces_in rows column field)) (sym there) plain_text
+      → slice_get (columns_within fields rows.selected.columns) place ≡ Some column → IsPlainShown rows table (width + spaces_in rows column field) (slice_get (shown_by rows at fields) position)
+  plain_shown at position place stands found = subst (IsPlainShown rows table (width + spaces_in rows column field)) (sym there) plain_text
     where
       drawn : List DrawnColumn
       drawn = columns_within fields rows.selected.columns
@@ -87,14 +101,14 @@ module _ (rows : RecordRows) (table : TableValue) (fields : List Text) (column :
 
 -- the width of its cell
 pub plain_cell_width : (rows : RecordRows) (table : TableValue) (at position count : ℕ) (fields : List Text) → IsPlainShown rows table count (slice_get (shown_by rows at fields) position)
-    → min count 65535 ≡ measured_at table cell_content_width (slice_get (made_by rows at fields).cells position)
+    → max 1 (min count 65535) ≡ measured_at table cell_content_width (slice_get (made_by rows at fields).cells position)
 plain_cell_width rows table at position count fields shown =
     by_shown (slice_get (shown_by rows at fields) position) shown
     ∙ ap (measured_at table cell_content_width) (sym (slice_get-map (λ (s : Shown). cell_for rows.look s.alignment s.text) (shown_by rows at fields) position))
   where
-    by_shown : (o : Option Shown) → IsPlainShown rows table count o → min count 65535 ≡ measured_at table cell_content_width (option_map (λ (s : Shown). cell_for rows.look s.alignment s.text) o)
+    by_shown : (o : Option Shown) → IsPlainShown rows table count o → max 1 (min count 65535) ≡ measured_at table cell_content_width (option_map (λ (s : Shown). cell_for rows.look s.alignment s.text) o)
     by_shown None none = absurd none
-    by_shown (Some s) own = ap (λ n. min n 65535) (sym own.1) ∙ sym (plain_width rows.look table s.text own.0)
+    by_shown (Some s) own = ap (λ n. max 1 (min n 65535)) (sym own.1) ∙ sym (plain_width rows.look table s.text own.0 own.2)
 
 -- ---- all cells of a row
 

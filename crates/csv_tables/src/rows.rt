@@ -8,16 +8,16 @@ ghost use Rattle.comfy_table.specs.LongestLine.{cell_longest_line};
 ghost use Rattle.comfy_table.specs.TableValue.{TableValue, cell_content_width, measured_cell};
 ghost use Rattle.comfy_table.specs.Pieces.{row_height};
 ghost use Rattle.csv_tables.specs.Cells.{Shown, cell_for, columns_within, pair_for};
-ghost use Rattle.csv_tables.specs.Contents.{IsPlainShown, greatest_at, headed_by, is_plain, made_by, measured_at, most_cells, pairs_by, rows_at, shown_by, spaces_in};
+ghost use Rattle.csv_tables.specs.Contents.{IsPlainShown, IsPlainText, greatest_at, headed_by, made_by, measured_at, most_cells, pairs_by, rows_at, shown_by, spaces_in};
 
 use crate::cells::{cell_of, is_blank, pair_of, text_in};
 use crate::columns::name_at;
 use crate::options::{DrawnColumn, Look};
 use crate::selected::SelectedRecords;
 use crate::table::empty_table;
-use comfy_parts::content_split::{ColumnDisplayInfo, is_printable};
+use comfy_parts::content_split::{ColumnDisplayInfo, is_printable, measure_text_width};
 use comfy_table::{ArrangedTable, Contents, Result, Row, Table};
-use csv_records::Record;
+use csv_records::{Record, is_clean_line};
 use std::alloc::AllocError;
 use std::borrow::CowStr;
 
@@ -176,8 +176,8 @@ impl RecordRows {
         ensures { IfOk result (λ width. width ≡ measured_at table.now cell_content_width
             (slice_get (made_by self.now at fields.now).cells position)) }
     {
-        if let Some(count) = self.plain_len(table, columns, fields, position) {
-            return Ok(count.min(65535) as u16);
+        if let Some(width) = self.plain_shown(table, columns, fields, position) {
+            return Ok(width.clamp(1, 65535) as u16);
         }
         match self.text_at(columns, at, fields, position)? {
             Some(text) => self.text_width(table, text.as_str()),
@@ -185,9 +185,9 @@ impl RecordRows {
         }
     }
 
-    // How many characters the row of a record shows at a position, where that is a field of
-    // printable ASCII that isn't blank.
-    fn plain_len(
+    // How many terminal columns the text takes that the row of a record shows at a position, where
+    // it is a field that is one line as it is.
+    fn plain_shown(
         &self,
         table: &Table,
         columns: &[DrawnColumn],
@@ -195,17 +195,22 @@ impl RecordRows {
         position: usize,
     ) -> Option<usize>
         requires { columns.now ≡ columns_within fields.now self.now.selected.columns }
-        ensures { IfSome result (λ count. (at : ℕ) → IsPlainShown self.now table.now count
+        ensures { IfSome result (λ width. (at : ℕ) → IsPlainShown self.now table.now width
             (slice_get (shown_by self.now at fields.now) position)) }
     {
         let place = position.checked_sub(usize::from(self.selected.is_numbered))?;
         let column = columns.get(place)?;
         let field = fields.get(column.position)?;
-        if self.look.has_sequences || !is_plain(&self.look, table, field) {
+        if self.look.has_sequences {
             return None;
         }
-        let count = field.len().checked_add(self.spaces_in(column, field))?;
-        Some(count)
+        let width = plain_width(&self.look, table, field)?;
+        let spaces = self.spaces_in(column, field);
+        if spaces > 0 && !is_printable(field.as_bytes()) {
+            return None;
+        }
+        let width = width.checked_add(spaces)?;
+        Some(width)
     }
 
     // How many spaces a column has behind a field.
@@ -336,8 +341,8 @@ impl RecordRows {
         ensures { IfOk result (λ width. width ≡ cell_content_width
             (measured_cell table.now (cell_for self.now.look None text.now))) }
     {
-        if is_plain(&self.look, table, text) {
-            return Ok(text.len().min(65535) as u16);
+        if let Some(width) = plain_width(&self.look, table, text) {
+            return Ok(width.clamp(1, 65535) as u16);
         }
         let cell = cell_of(self.selected.alloc, text, None, &self.look)?;
         Ok(table.cell_content_width(&cell))
@@ -353,8 +358,10 @@ impl RecordRows {
         ensures { IfOk result (λ longest. longest ≡ cell_longest_line table.now info.now
             (measured_cell table.now (cell_for self.now.look None text.now))) }
     {
-        if is_plain(&self.look, table, text) && text.len() <= usize::from(info.content_width) {
-            return Ok(text.len());
+        if let Some(width) = plain_width(&self.look, table, text) {
+            if width <= usize::from(info.content_width) {
+                return Ok(width);
+            }
         }
         let cell = cell_of(self.selected.alloc, text, None, &self.look)?;
         Ok(table.cell_longest_line(&cell, info))
@@ -400,8 +407,10 @@ impl RecordRows {
             let Some(text) = self.text_at(columns, at, fields, position)? else {
                 continue;
             };
-            let text = text.as_str();
-            if !is_plain(&self.look, table, text) || text.len() > usize::from(info.content_width) {
+            let Some(width) = plain_width(&self.look, table, text.as_str()) else {
+                return Ok(false);
+            };
+            if width > usize::from(info.content_width) {
                 return Ok(false);
             }
         }
@@ -409,14 +418,21 @@ impl RecordRows {
     }
 }
 
-/// Whether a text is printable ASCII that isn't blank, and is drawn as it is.
-pub(crate) fn is_plain(look: &Look, table: &Table, text: &str) -> bool
-    ensures { result ≡ is_plain look.now table.now text.now }
+/// How many terminal columns a text takes, where it isn't blank, and is drawn as it is in one line.
+pub(crate) fn plain_width(look: &Look, table: &Table, text: &str) -> Option<usize>
+    ensures { IfSome result (λ width. IsPlainText look.now table.now width text.now) }
 {
-    !look.is_markdown
-        && !table.has_custom_styling()
-        && !is_blank(text.as_bytes())
-        && is_printable(text.as_bytes())
+    if look.is_markdown || table.has_custom_styling() || is_blank(text.as_bytes()) {
+        return None;
+    }
+    if is_printable(text.as_bytes()) {
+        return Some(text.len());
+    }
+    if is_clean_line(text) {
+        Some(measure_text_width(text))
+    } else {
+        None
+    }
 }
 
 // Lets the width at a position be at least so much. Those before it that aren't there become 0.
