@@ -56,7 +56,8 @@ delimiter_for (Some word) file =
 -- a name of UTF-16, whose order of bytes its mark tells, else little-endian
 abbrev pub is_utf16 : Text → Bool
 is_utf16 name =
-    is_named (codes "utf-16") name || (is_named (codes "utf16") name || is_named (codes "utf-16le") name)
+    is_named (codes "utf-16") name
+    || (is_named (codes "utf16") name || is_named (codes "utf-16le") name)
 
 -- the encoding of a name; that of each other name is Windows-1252, also of `latin1`
 abbrev pub encoding_for : Option Text → Option Encoding
