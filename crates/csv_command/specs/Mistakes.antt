@@ -1,4 +1,4 @@
--- What is said of words that are to be numbers and are none.
+-- What is said of words that are to be numbers or a delimiter, and are none.
 -- Source: this library's own.
 use Rattle.std.specs.Prelude.{ℕ, ◌-◌, ◌^◌, Bool, false, ◌==◌, ◌||◌, nat_le, List, [], ◌∷◌, ◌++◌, Option, Some, None, bytes_eq, codes, decimal, length, option_and_then, if◌then◌else◌}
 use Rattle.std.specs.List.{after_first, before_first}
@@ -7,6 +7,14 @@ use Rattle.std.specs.Str.Parse.{without_leading_plus}
 use Rattle.clap.specs.Lexer.{has_byte, strip_byte}
 use Rattle.comfy_parts.specs.Text.{Text}
 use Rattle.csv_records.specs.Numerals.{number_for}
+
+-- what is said of a word that is to be a delimiter and is none
+abbrev pub wrong_delimiter : Text → Text
+wrong_delimiter word =
+    ((codes "a delimiter is `tab`, `spaces`, `auto` or one ASCII "
+    ++ codes "character other than a quote or a line end, not '")
+    ++ word)
+    ++ codes "'"
 
 -- the greatest number that may stand behind an option
 abbrev pub greatest_behind : Text → Option ℕ

@@ -1,9 +1,23 @@
-//! What is said of words that are to be numbers and are none.
+//! What is said of words that are to be numbers or a delimiter, and are none.
 
 ghost use Rattle.std.specs.Prelude.{◌≡◌, IfOk, Some, map, option_map, string_bytes};
-ghost use Rattle.csv_command.specs.Mistakes.{allowed_numbers, behind_letter, given, greatest_behind, in_one_word, is_number_to, number_reason, reason_behind, reason_of, with_value, wrong_number};
+ghost use Rattle.csv_command.specs.Mistakes.{allowed_numbers, behind_letter, given, greatest_behind, in_one_word, is_number_to, number_reason, reason_behind, reason_of, with_value, wrong_delimiter, wrong_number};
 
 use std::alloc::{AllocError, Global};
+
+/// What is said of a word that is to be a delimiter and is none.
+pub(crate) fn reason_of_delimiter(alloc: Global, word: &str) -> Result<String, AllocError>
+    ensures { IfOk result (λ reason. string_bytes reason ≡ wrong_delimiter word.now) }
+{
+    let mut text = String::from_str(
+        alloc,
+        "a delimiter is `tab`, `spaces`, `auto` or one ASCII ",
+    )?;
+    text.push_str("character other than a quote or a line end, not '")?;
+    text.push_str(word)?;
+    text.push_str("'")?;
+    Ok(text)
+}
 
 /// What is said of the first word that is to be a number and is none.
 pub(crate) fn reason_of_number(

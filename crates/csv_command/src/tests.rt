@@ -366,6 +366,26 @@ fn words_that_are_no_numbers(rt: HostRuntime) {
     assert_refused(&rt, &arguments, "unexpected argument '-5' found");
 }
 
+// A word that is no delimiter is told.
+#[test]
+fn words_that_are_no_delimiters(rt: HostRuntime) {
+    let cases = [
+        (
+            ["csvtable", "-d", "comma"],
+            "a delimiter is `tab`, `spaces`, `auto` or one ASCII character other than a quote or \
+             a line end, not 'comma'",
+        ),
+        (
+            ["csvtable", "-d", ""],
+            "a delimiter is `tab`, `spaces`, `auto` or one ASCII character other than a quote or \
+             a line end, not ''",
+        ),
+    ];
+    for (arguments, reason) in &cases {
+        assert_refused(&rt, arguments.as_slice(), reason);
+    }
+}
+
 #[test]
 fn words_that_can_not_be_read(rt: HostRuntime) {
     let ending = ending_without_arguments(ErrorKind::InvalidData);
