@@ -3,7 +3,7 @@ _csvtable() {
   local word=${COMP_WORDS[COMP_CWORD]}
   case ${COMP_WORDS[COMP_CWORD - 1]} in
     -e|--encoding)
-      COMPREPLY=($(compgen -W 'utf-8 cp1252 latin1 utf-16' -- "$word"))
+      COMPREPLY=($(compgen -W 'utf-8 utf8 cp1252 windows-1252 latin1 latin-1 iso-8859-1 utf-16 utf16 utf-16le' -- "$word"))
       return
       ;;
     --expanded)

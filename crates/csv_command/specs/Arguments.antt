@@ -53,13 +53,19 @@ delimiter_for (Some word) file =
     else if is_named (codes "spaces") word then Some Spaces
     else option_map Byte (only_ascii word)
 
--- the encoding of a name; `latin1` is Windows-1252
+-- a name of UTF-16, whose order of bytes its mark tells, else little-endian
+abbrev pub is_utf16 : Text → Bool
+is_utf16 name =
+    is_named (codes "utf-16") name
+    || (is_named (codes "utf16") name || is_named (codes "utf-16le") name)
+
+-- the encoding of a name; that of each other name is Windows-1252, also of `latin1`
 abbrev pub encoding_for : Option Text → Option Encoding
 encoding_for None = None
 encoding_for (Some name) =
-    if is_named (codes "utf-8") name
+    if is_named (codes "utf-8") name || is_named (codes "utf8") name
     then Some Utf8
-    else if is_named (codes "utf-16") name
+    else if is_utf16 name
     then Some Utf16
     else Some Cp1252
 

@@ -1,10 +1,20 @@
--- What is said of words that are to be numbers and are none.
+-- What is said of words that are to be numbers or a delimiter, and are none.
 -- Source: this library's own.
-use Rattle.std.specs.Prelude.{ℕ, ◌-◌, ◌^◌, Bool, false, ◌||◌, nat_le, List, [], ◌∷◌, ◌++◌, Option, Some, None, bytes_eq, codes, decimal, option_and_then, if◌then◌else◌}
+use Rattle.std.specs.Prelude.{ℕ, ◌-◌, ◌^◌, Bool, false, ◌==◌, ◌||◌, nat_le, List, [], ◌∷◌, ◌++◌, Option, Some, None, bytes_eq, codes, decimal, length, option_and_then, if◌then◌else◌}
+use Rattle.std.specs.List.{after_first, before_first}
 use Rattle.std.specs.Option.{option_map_or, option_or}
 use Rattle.std.specs.Str.Parse.{without_leading_plus}
+use Rattle.clap.specs.Lexer.{has_byte, strip_byte}
 use Rattle.comfy_parts.specs.Text.{Text}
 use Rattle.csv_records.specs.Numerals.{number_for}
+
+-- what is said of a word that is to be a delimiter and is none
+abbrev pub wrong_delimiter : Text → Text
+wrong_delimiter word =
+    ((codes "a delimiter is `tab`, `spaces`, `auto` or one ASCII "
+    ++ codes "character other than a quote or a line end, not '")
+    ++ word)
+    ++ codes "'"
 
 -- the greatest number that may stand behind an option
 abbrev pub greatest_behind : Text → Option ℕ
@@ -37,11 +47,39 @@ reason_behind option word =
     if is_number_to greatest word then None else Some (number_reason option greatest word))
     (greatest_behind option)
 
+-- an option and what stands behind it, where that isn't empty
+abbrev pub with_value : Text → Text → Option (Text × Text)
+with_value option value = if length value == 0 then None else Some (option, value)
+
+-- an option of one letter and its value in one word, which has lost its hyphen, as `w5`
+abbrev pub behind_letter : Text → Option (Text × Text)
+behind_letter rest =
+    option_map_or (with_value (codes "-w")) (strip_byte 0x77 rest)
+    (option_and_then (with_value (codes "-m")) (strip_byte 0x6D rest))
+
+-- an option and its value in one word, as `--width=5`, `-w=5` and `-w5`
+abbrev pub in_one_word : Text → Option (Text × Text)
+in_one_word word =
+    if has_byte 0x3D word
+    then Some (before_first (λ b. b == 0x3D) word, after_first (λ b. b == 0x3D) word)
+    else option_and_then behind_letter (strip_byte 0x2D word)
+
+-- an option and the next word
+abbrev pub next_given : Text → List Text → Option (Text × Text)
+next_given option [] = None
+next_given option (word ∷ more) = Some (option, word)
+
+-- an option and its value, which stands in the same word or else is the next one
+abbrev pub given : Text → List Text → Option (Text × Text)
+given option more = option_or (in_one_word option) (next_given option more)
+
+abbrev pub reason_of : Option (Text × Text) → Option Text
+reason_of given = option_and_then (λ it. reason_behind it.0 it.1) given
+
 -- what is said of the first such word; behind `--` no word is an option
 abbrev pub wrong_number : List Text → Option Text
 wrong_number [] = None
-wrong_number (option ∷ []) = None
-wrong_number (option ∷ word ∷ more) =
+wrong_number (option ∷ more) =
     if bytes_eq option (codes "--")
     then None
-    else option_or (reason_behind option word) (wrong_number (word ∷ more))
+    else option_or (reason_of (given option more)) (wrong_number more)

@@ -39,7 +39,18 @@ whens = codes "auto" ∷ codes "always" ∷ codes "never" ∷ []
 
 -- how an input may be written
 abbrev pub encodings : List Text
-encodings = codes "utf-8" ∷ codes "cp1252" ∷ codes "latin1" ∷ codes "utf-16" ∷ []
+encodings =
+    codes "utf-8"
+    ∷ codes "utf8"
+    ∷ codes "cp1252"
+    ∷ codes "windows-1252"
+    ∷ codes "latin1"
+    ∷ codes "latin-1"
+    ∷ codes "iso-8859-1"
+    ∷ codes "utf-16"
+    ∷ codes "utf16"
+    ∷ codes "utf-16le"
+    ∷ []
 
 -- the rules, each with the names that its value may be
 abbrev pub csvtable_rules : List (Rule × List Text)

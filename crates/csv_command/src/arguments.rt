@@ -3,12 +3,12 @@
 ghost use Rattle.std.specs.Prelude.{◌≡◌, ◌≢◌, ◌==◌, IfOk, IfErr, Some, codes, map, option_map, string_bytes};
 ghost use Rattle.std.specs.List.{slice_split};
 ghost use Rattle.clap.specs.Words.{app_of, first_value, found_of, kind_of};
-ghost use Rattle.clap.specs.declared.error.kind.ErrorKind.TheVariants.{OutOfMemory};
+ghost use Rattle.clap.specs.declared.error.kind.ErrorKind.TheVariants.{InvalidValue, OutOfMemory};
 ghost use Rattle.csv_command.specs.Program.{IsCsvtable};
-ghost use Rattle.csv_command.specs.Arguments.{AreColumnsParsed, IsInputParsed, IsParsed, IsRefusedBy, IsLookParsed, AreOptionsParsed, IsSelectionParsed, delimiter_by, delimiter_for, encoding_for, expansion_for, file_for, has_end, ids_in, is_behind, is_bold_for, is_bold_there, is_given, is_given_last, is_markdown_in, separators_for, some_columns, some_width, terminal_width, wanted_delimiter, wants_color, width_for, words_in};
+ghost use Rattle.csv_command.specs.Arguments.{AreColumnsParsed, IsInputParsed, IsParsed, IsRefusedBy, IsLookParsed, AreOptionsParsed, IsSelectionParsed, delimiter_by, delimiter_for, encoding_for, expansion_for, file_for, has_end, ids_in, is_behind, is_bold_for, is_bold_there, is_given, is_given_last, is_markdown_in, is_utf16, separators_for, some_columns, some_width, terminal_width, wanted_delimiter, wants_color, width_for, words_in};
 
 use crate::columns::ColumnWords;
-use crate::mistakes::reason_of_number;
+use crate::mistakes::{reason_of_delimiter, reason_of_number};
 use crate::options::command;
 use crate::styles::{is_compact, is_named, style_names, style_of};
 use clap::error::ErrorKind;
@@ -17,10 +17,6 @@ use clap::{Command, Error};
 use csv_records::{Delimiter, Encoding, InputOptions, only_ascii, parse_digits};
 use csv_tables::{Expansion, Look, RowSeparators, Selection};
 use std::alloc::{AllocError, Global};
-
-// Why a delimiter is none.
-const NO_DELIMITER: &str = "the delimiter is one ASCII character, `tab`, `spaces` or `auto`; it's \
-    no quote and no line end";
 
 // The width of a terminal that doesn't say its own.
 const TERMINAL_WIDTH: u16 = 80;
@@ -116,7 +112,17 @@ fn parse_by<'a>(
     };
     match wanted_delimiter(&matches) {
         Some(delimiter) => Ok(invocation_of(alloc, &matches, delimiter, context)?),
-        None => Err(refusal(command, ErrorKind::InvalidValue, NO_DELIMITER)),
+        None => Err(without_delimiter(alloc, command, matches.get_str("delimiter"))),
+    }
+}
+
+// A refusal of a word that is to be a delimiter.
+fn without_delimiter<'a>(alloc: Global, command: &mut Command<'a>, word: Option<&str>) -> Error
+    ensures { (kind_of result ≢ OutOfMemory) → kind_of result ≡ InvalidValue }
+{
+    match reason_of_delimiter(alloc, word.unwrap_or("")) {
+        Ok(reason) => refusal(command, ErrorKind::InvalidValue, reason.as_str()),
+        Err(no_memory) => Error::from(no_memory),
     }
 }
 
@@ -270,16 +276,22 @@ fn has_end(path: &str, end: &str) -> bool
     bytes[bytes.len().saturating_sub(end.len())..].eq_ignore_ascii_case(end.as_bytes())
 }
 
-// The encoding of this name.
+// The encoding of this name, which is one of those that `command` knows.
 fn encoding_of(name: Option<&str>) -> Option<Encoding>
     ensures { result ≡ encoding_for (option_map (λ n. n.now) name.entry) }
 {
     match name {
         None => None,
-        Some(name) if is_named("utf-8", name) => Some(Encoding::Utf8),
-        Some(name) if is_named("utf-16", name) => Some(Encoding::Utf16),
+        Some(name) if is_named("utf-8", name) || is_named("utf8", name) => Some(Encoding::Utf8),
+        Some(name) if is_utf16(name) => Some(Encoding::Utf16),
         Some(_) => Some(Encoding::Cp1252),
     }
+}
+
+fn is_utf16(name: &str) -> bool
+    ensures { result ≡ is_utf16 name.now }
+{
+    is_named("utf-16", name) || is_named("utf16", name) || is_named("utf-16le", name)
 }
 
 // What the matches ask for.

@@ -1,9 +1,23 @@
-//! What is said of words that are to be numbers and are none.
+//! What is said of words that are to be numbers or a delimiter, and are none.
 
-ghost use Rattle.std.specs.Prelude.{◌≡◌, IfOk, map, option_map, string_bytes};
-ghost use Rattle.csv_command.specs.Mistakes.{allowed_numbers, greatest_behind, is_number_to, number_reason, reason_behind, wrong_number};
+ghost use Rattle.std.specs.Prelude.{◌≡◌, IfOk, Some, map, option_map, string_bytes};
+ghost use Rattle.csv_command.specs.Mistakes.{allowed_numbers, behind_letter, given, greatest_behind, in_one_word, is_number_to, number_reason, reason_behind, reason_of, with_value, wrong_delimiter, wrong_number};
 
 use std::alloc::{AllocError, Global};
+
+/// What is said of a word that is to be a delimiter and is none.
+pub(crate) fn reason_of_delimiter(alloc: Global, word: &str) -> Result<String, AllocError>
+    ensures { IfOk result (λ reason. string_bytes reason ≡ wrong_delimiter word.now) }
+{
+    let mut text = String::from_str(
+        alloc,
+        "a delimiter is `tab`, `spaces`, `auto` or one ASCII ",
+    )?;
+    text.push_str("character other than a quote or a line end, not '")?;
+    text.push_str(word)?;
+    text.push_str("'")?;
+    Ok(text)
+}
 
 /// What is said of the first word that is to be a number and is none.
 pub(crate) fn reason_of_number(
@@ -14,16 +28,74 @@ pub(crate) fn reason_of_number(
         ≡ wrong_number (map (λ w. w.now) arguments.now)) }
 {
     let mut rest = arguments;
-    while let [option, word, ..] = rest {
+    while let [option, ..] = rest {
         if *option == "--" {
             return Ok(None);
         }
-        if let Some(reason) = reason_behind(alloc, option, word)? {
+        if let Some(reason) = reason_of(alloc, given(option, &rest[1..]))? {
             return Ok(Some(reason));
         }
         rest = &rest[1..];
     }
     Ok(None)
+}
+
+// An option and its value, which stands in the same word or else is the next one.
+fn given<'a>(option: &'a str, rest: &[&'a str]) -> Option<(&'a str, &'a str)>
+    ensures { option_map (λ it. (it.0.now, it.1.now)) result
+        ≡ given option.now (map (λ w. w.now) rest.now) }
+{
+    match (in_one_word(option), rest) {
+        (Some(both), _) => Some(both),
+        (None, [word, ..]) => Some((option, *word)),
+        (None, []) => None,
+    }
+}
+
+// An option and its value in one word, as `--width=5`, `-w=5` and `-w5`.
+fn in_one_word(word: &str) -> Option<(&str, &str)>
+    ensures { option_map (λ it. (it.0.now, it.1.now)) result ≡ in_one_word word.now }
+{
+    match word.split_once('=') {
+        Some(both) => Some(both),
+        None => match word.strip_prefix('-') {
+            Some(rest) => behind_letter(rest),
+            None => None,
+        },
+    }
+}
+
+// Such a word without its hyphen.
+fn behind_letter(rest: &str) -> Option<(&str, &str)>
+    ensures { option_map (λ it. (it.0.now, it.1.now)) result ≡ behind_letter rest.now }
+{
+    match (rest.strip_prefix('w'), rest.strip_prefix('m')) {
+        (Some(value), _) => with_value("-w", value),
+        (None, Some(value)) => with_value("-m", value),
+        (None, None) => None,
+    }
+}
+
+// An option and what stands behind it, where that isn't empty.
+fn with_value<'a>(option: &'a str, value: &'a str) -> Option<(&'a str, &'a str)>
+    ensures { option_map (λ it. (it.0.now, it.1.now)) result ≡ with_value option.now value.now }
+{
+    if value.is_empty() {
+        None
+    } else {
+        Some((option, value))
+    }
+}
+
+// What is said of an option and its value.
+fn reason_of(alloc: Global, given: Option<(&str, &str)>) -> Result<Option<String>, AllocError>
+    ensures { IfOk result (λ reason. option_map string_bytes reason
+        ≡ reason_of (option_map (λ it. (it.0.now, it.1.now)) given.entry)) }
+{
+    match given {
+        Some((option, value)) => reason_behind(alloc, option, value),
+        None => Ok(None),
+    }
 }
 
 // What is said of a word behind an option, where it's to be a number and is none.

@@ -65,8 +65,9 @@ static OPTIONS: [OptionSpec; 26] = [
         letter: Some('e'),
         kind: Kind::Encoding,
         value: "NAME",
-        help: "How the file is written: utf-8, cp1252 or latin1, or\n\
-            utf-16 [default: utf-16 behind its mark, else utf-8]",
+        help: "How the file is written: utf-8, utf-16, or cp1252\n\
+            (windows-1252, latin1, iso-8859-1) [default: utf-16\n\
+            behind its mark, else utf-8]",
     },
     OptionSpec {
         name: "no-quotes",
@@ -240,7 +241,18 @@ Without FILE it reads standard input; from a terminal, up to Ctrl-D.";
 
 static WHENS: [&str; 3] = ["auto", "always", "never"];
 
-static ENCODINGS: [&str; 4] = ["utf-8", "cp1252", "latin1", "utf-16"];
+static ENCODINGS: [&str; 10] = [
+    "utf-8",
+    "utf8",
+    "cp1252",
+    "windows-1252",
+    "latin1",
+    "latin-1",
+    "iso-8859-1",
+    "utf-16",
+    "utf16",
+    "utf-16le",
+];
 
 // The options of `csvtable`, for clap, with these names of styles.
 pub(crate) fn command<'a>(alloc: Global, styles: &'a [&'a str]) -> Result<Command<'a>, AllocError>

@@ -336,7 +336,27 @@ fn words_that_are_no_numbers(rt: HostRuntime) {
         ),
         (
             ["csvtable", "--width=x", "-n"],
-            "invalid value 'x' for '--width <N>': invalid digit found in string",
+            "--width takes a number from 0 to 65535, not 'x'",
+        ),
+        (
+            ["csvtable", "-wabc", "-n"],
+            "-w takes a number from 0 to 65535, not 'abc'",
+        ),
+        (
+            ["csvtable", "-n", "-w=-5"],
+            "-w takes a number from 0 to 65535, not '-5'",
+        ),
+        (
+            ["csvtable", "-n", "-m1k"],
+            "-m takes a number from 0 to 18446744073709551615, not '1k'",
+        ),
+        (
+            ["csvtable", "-n", "--skip=1k"],
+            "--skip takes a number from 0 to 18446744073709551615, not '1k'",
+        ),
+        (
+            ["csvtable", "--unknown", "-w"],
+            "unexpected argument '--unknown' found",
         ),
     ];
     for (arguments, reason) in &cases {
@@ -344,6 +364,26 @@ fn words_that_are_no_numbers(rt: HostRuntime) {
     }
     let arguments = ["csvtable", "--", "-w", "-5"];
     assert_refused(&rt, &arguments, "unexpected argument '-5' found");
+}
+
+// A word that is no delimiter is told.
+#[test]
+fn words_that_are_no_delimiters(rt: HostRuntime) {
+    let cases = [
+        (
+            ["csvtable", "-d", "comma"],
+            "a delimiter is `tab`, `spaces`, `auto` or one ASCII character other than a quote or \
+             a line end, not 'comma'",
+        ),
+        (
+            ["csvtable", "-d", ""],
+            "a delimiter is `tab`, `spaces`, `auto` or one ASCII character other than a quote or \
+             a line end, not ''",
+        ),
+    ];
+    for (arguments, reason) in &cases {
+        assert_refused(&rt, arguments.as_slice(), reason);
+    }
 }
 
 #[test]

@@ -113,7 +113,7 @@ by_escape = refl
 by_files : map (λ (file : Option Text). delimiter_for None file) (None ∷ map Some (texts ("a.tsv" ∷ "A.TAB" ∷ "tsv" ∷ ".tab" ∷ "a.tsv.csv" ∷ []))) ≡ Some Auto ∷ Some NamedOrTab ∷ Some NamedOrTab ∷ Some Auto ∷ Some NamedOrTab ∷ Some Auto ∷ []
 by_files = refl
 
-encodings : map encoding_for (None ∷ map Some (texts ("utf-8" ∷ "UTF-16" ∷ "cp1252" ∷ "Latin1" ∷ []))) ≡ None ∷ Some Utf8 ∷ Some Utf16 ∷ Some Cp1252 ∷ Some Cp1252 ∷ []
+encodings : map encoding_for (None ∷ map Some (texts ("utf-8" ∷ "UTF-16" ∷ "cp1252" ∷ "Latin1" ∷ "utf8" ∷ "UTF16" ∷ "utf-16LE" ∷ "ISO-8859-1" ∷ []))) ≡ None ∷ Some Utf8 ∷ Some Utf16 ∷ Some Cp1252 ∷ Some Cp1252 ∷ Some Utf8 ∷ Some Utf16 ∷ Some Utf16 ∷ Some Cp1252 ∷ []
 encodings = refl
 
 -- ---- fields that aren't broken

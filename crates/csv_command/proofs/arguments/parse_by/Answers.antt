@@ -17,7 +17,7 @@ returns-clause-refused c no_memory =
         are_found = record { app = app_of c.args.command.now; is_csvtable = c.requires; is_found = (c.in-Ok.ensures.ok.2 (csvtable_is_simple _ c.requires)).0 };
         in_vain = sym c.wanted_delimiter.ensures ∙ c.in-None.is;
       },
-      c.refusal.ensures no_memory,
+      c.without_delimiter.ensures no_memory,
     )
 
 pub returns-in-Some-clause-ok : goal.returns-in-Some-clause-ok
