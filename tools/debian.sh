@@ -25,7 +25,7 @@ put_debian() {
   root=$1 prefix=$1/usr
   maintainer='The authors of comfy_table <authors@comfy-table.invalid>'
   put_csvtable > /dev/null
-  strip "$prefix/libexec/csvtable"
+  strip -R .comment -R .note "$prefix/libexec/csvtable"
   gzip -9n "$prefix/share/man/man1/csvtable.1"
   mv "$prefix/share/zsh/site-functions" "$prefix/share/zsh/vendor-completions"
   put 644 LICENSE share/doc/csvtable copyright > /dev/null
