@@ -1,10 +1,12 @@
 #!/bin/sh
-# Makes packages in a folder: a wheel for Python, a crate for Rust, an archive with the library for C, its header and its file
-# for pkg-config, and one with the program csvtable, its page and its completions. No network is needed. What isn't built yet
-# is built first, which proves it.
+# Makes all that a release has in a folder: a wheel for Python, a crate for Rust, an archive with the library for C, its header
+# and its file for pkg-config, and of the program csvtable, with its page and its completions, a Debian package and an archive.
+# No network is needed. What isn't built yet is built first, which proves it. Equal files make equal packages.
 #
 # usage: tools/package.sh OUT
 # CC is the compiler that links the shared library of the wheel, cc where it isn't set. Making the wheel takes Python 3.11.
+# DPKG_DEB is the program that writes the Debian package, dpkg-deb where it isn't set; without it tar and ar write it.
+# SOURCE_DATE_EPOCH is the time of all files, the day of the version where it isn't set.
 set -eu
 if [ $# -ne 1 ]; then
   echo "usage: $0 OUT" >&2
@@ -14,29 +16,39 @@ mkdir -p "$1"
 out=$(cd "$1" && pwd)
 cd "$(dirname "$0")/.."
 . tools/installing.sh
+. tools/debian.sh
 work=$(mktemp -d)
 trap 'rm -rf "$work"' EXIT
 version=$(sed -n 's/^Version: //p' packages/c/comfy_table.pc)
 for file in packages/python/pyproject.toml packages/rust/Cargo.toml; do
   grep -qx "version = \"$version\"" "$file" || { echo "$file hasn't the version $version" >&2; exit 1; }
 done
+export SOURCE_DATE_EPOCH="${SOURCE_DATE_EPOCH:-$(date -ud "$(sed -n 's/^\.TH CSVTABLE 1 \([0-9-]*\) .*/\1/p' share/csvtable.1)" +%s)}"
 
-prefix=$work/comfy_table-$version
-put_library > /dev/null
-cp LICENSE "$prefix"
-tar -C "$work" -czf "$out/comfy_table-$version-linux-x86_64.tar.gz" "comfy_table-$version"
+# Prints a tar of what stands in a folder under a name, the same for equal files.
+packed() {
+  folder=$1 name=$2
+  shift 2
+  tar -C "$folder" --format=gnu --sort=name --mtime="@$SOURCE_DATE_EPOCH" --owner=root:0 --group=root:0 --mode=u=rwX,go=rX "$@" -cf - "$name"
+}
 
 prefix=$work/csvtable-$version
 put_csvtable > /dev/null
 cp LICENSE "$prefix"
-tar -C "$work" -czf "$out/csvtable-$version-linux-x86_64.tar.gz" "csvtable-$version"
+packed "$work" "csvtable-$version" | gzip -9n > "$out/csvtable-$version-linux-x86_64.tar.gz"
+put_debian "$work/debian" "$version"
+write_debian "$work/debian" "$out/csvtable_${version}_amd64.deb"
+
 prefix=$work/comfy_table-$version
+put_library > /dev/null
+cp LICENSE "$prefix"
+packed "$work" "comfy_table-$version" | gzip -9n > "$out/comfy_table-$version-linux-x86_64.tar.gz"
 
 name=comfy_table_proved-$version
 mkdir "$work/$name" "$work/$name/lib"
 cp -r packages/rust/* LICENSE "$work/$name"
 cp "$prefix"/lib/*.a "$work/$name/lib"
-tar -C "$work" -czf "$out/$name.crate" "$name"
+packed "$work" "$name" | gzip -9n > "$out/$name.crate"
 
 cp -r packages/python "$work/python"
 cp LICENSE "$work/python"

@@ -44,6 +44,7 @@ def style_names():
     return re.findall(r'\("(\w+)"', own) + re.findall(r'\("(\w+)"', presets)
 
 
+PAGE = "docs/CSVTABLE.md"
 VALUES = {"When": names_in("WHENS"), "Encoding": names_in("ENCODINGS"), "Style": style_names()}
 
 
@@ -52,6 +53,17 @@ def escaped(text):
     text = text.replace("\\", "\\e").replace("-", "\\-").replace("'", "\\(aq")
     text = re.sub(r"`(.+?)`", r"\\fB\1\\fR", text)
     return "\n".join(textwrap.wrap(text, 78, break_long_words=False, break_on_hyphens=False))
+
+
+def command(text):
+    """A command for man, on one line. A quote there parts what a macro is given."""
+    return "\\fB" + text.replace("\\", "\\e").replace("-", "\\-").replace("'", "\\(aq").replace('"', "\\(dq") + "\\fR"
+
+
+def examples():
+    """Commands with what they are for: those of the program's help, and the recipes of its page."""
+    recipes = re.search(r"```sh\n(.*?)```", text_of(PAGE), re.S)[1]
+    return re.findall(r"^  (csvtable .+?)  +(.+)$", SOURCE, re.M) + re.findall(r"^(.+?)  +# (.+)$", recipes, re.M)
 
 
 def man_page():
@@ -76,8 +88,8 @@ def man_page():
     lines += ["The width of a terminal.", escaped("Where it isn't set, csvtable asks the terminal by stty; where that tells nothing either, the width is 80.")]
     lines += [".TP", ".B NO_COLOR", escaped("Where it is set and isn't empty, the header isn't in bold unless that is asked for.")]
     lines += [".SH EXAMPLES"]
-    for command, what in re.findall(r"^  (csvtable .+?)  +(.+)$", SOURCE, re.M):
-        lines += [".TP", f".B {escaped(command)}", what[0].upper() + what[1:]]
+    for example, what in examples():
+        lines += [".TP", command(example), escaped(what[0].upper() + what[1:])]
     return "\n".join(lines) + "\n"
 
 
@@ -123,9 +135,6 @@ def zsh():
             lines.append(f"  '{forms[0]}[{text}]{value}' \\")
     lines += ["  '(-h --help)'{-h,--help}'[Print help]' \\", "  '(-V --version)'{-V,--version}'[Print version]' \\"]
     return "\n".join([*lines, "  '::FILE:_files'"]) + "\n"
-
-
-PAGE = "docs/CSVTABLE.md"
 
 
 def page():

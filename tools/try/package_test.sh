@@ -1,8 +1,8 @@
 #!/bin/sh
-# Makes the packages for C, Rust and Python, installs each where nothing else is, and tries it: an empty prefix, an empty
-# project of cargo, an empty virtual environment. The tests of the packages must pass, and their example programs must print
-# the same bytes as csvtable, or what they say of themselves. A language whose compiler or interpreter isn't there is left out, and the last line
-# says which were tried.
+# Makes the packages, twice, and the same ones. Installs each where nothing else is, and tries it: those of csvtable and for C
+# in an empty prefix or an empty root of Debian, those for Rust and Python in an empty project of cargo and an empty virtual
+# environment. The tests of the packages must pass, and their example programs must print the same bytes as csvtable, or what
+# they say of themselves. What isn't there, as a compiler or dpkg, is left out, and the last line says what was tried.
 #
 # usage: tools/try/package_test.sh
 # CC is the compiler for C, cc where it isn't set. What isn't built yet is built first.
@@ -15,8 +15,11 @@ build csvtable csvtable rt run -- --version
 work=$(mktemp -d)
 trap 'rm -rf "$work"' EXIT
 tools/package.sh "$work/packages"
+tools/package.sh "$work/again" > /dev/null
+diff -r "$work/packages" "$work/again"
+DPKG_DEB= tools/package.sh "$work/without_dpkg" > /dev/null
 export CSVTABLE="$top/crates/csvtable/out/csvtable" PYTHONDONTWRITEBYTECODE=1
-tried=C
+tried="csvtable, C"
 
 # The inputs of CSV: a ledger, messages with quotes and line breaks, TABs, another encoding, a quote that is never closed, nothing.
 mkdir "$work/csv"
@@ -55,12 +58,53 @@ try_in_terminal() {
   echo "$1 keeps to its terminal"
 }
 
-# C, by pkg-config where it is there.
+# An installed csvtable draws as the built one.
+try_csvtable() {
+  "$1/bin/csvtable" crates/csvtable/data/ledger.csv > "$work/drawn"
+  "$CSVTABLE" crates/csvtable/data/ledger.csv | cmp - "$work/drawn"
+}
+
+# dpkg in an empty root, where it needs no rights of an administrator.
+dpkg_in() {
+  PATH=$PATH:/usr/sbin:/sbin dpkg --root="$root" --log=/dev/null --force-not-root "$@"
+}
+
+# A Debian package is installed into a root in which the C library alone is, draws a table, and leaves nothing when it is removed.
+try_debian() {
+  root=$(mktemp -d "$work/root.XXXXXX")
+  mkdir -p "$root/var/lib/dpkg/info" "$root/var/lib/dpkg/updates"
+  printf '%s\n' 'Package: libc6' 'Status: install ok installed' "Version: $(getconf GNU_LIBC_VERSION | cut -d ' ' -f 2)" \
+    'Architecture: amd64' 'Maintainer: none' 'Description: the C library' > "$root/var/lib/dpkg/status"
+  : > "$root/var/lib/dpkg/info/libc6.list"
+  dpkg_in --install "$1" > /dev/null
+  try_csvtable "$root/usr"
+  zcat "$root/usr/share/man/man1/csvtable.1.gz" | cmp - share/csvtable.1
+  cmp share/csvtable.bash "$root/usr/share/bash-completion/completions/csvtable"
+  cmp share/_csvtable "$root/usr/share/zsh/vendor-completions/_csvtable"
+  cmp LICENSE "$root/usr/share/doc/csvtable/copyright"
+  [ -z "$(dpkg_in --verify csvtable)" ]
+  dpkg_in --remove csvtable > /dev/null
+  [ "$(cd "$root" && echo *)" = var ]
+  [ -z "$(find "$root/var" -name '*csvtable*')" ]
+  echo "$(basename "$(dirname "$1")")/$(basename "$1") is installed and removed"
+}
+
+# csvtable, from its archive, and from its Debian package by dpkg; where that isn't there the package is only unpacked.
 mkdir "$work/prefix" "$work/programs"
-tar -C "$work/prefix" --strip-components=1 -xzf "$work"/packages/comfy_table-*.tar.gz
 tar -C "$work/prefix" --strip-components=1 -xzf "$work"/packages/csvtable-*.tar.gz
-"$work/prefix/bin/csvtable" crates/csvtable/data/ledger.csv > "$work/drawn"
-"$CSVTABLE" crates/csvtable/data/ledger.csv | cmp - "$work/drawn"
+try_csvtable "$work/prefix"
+if command -v dpkg > /dev/null; then
+  tried="Debian, $tried"
+  try_debian "$work"/packages/*.deb
+  try_debian "$work"/without_dpkg/*.deb
+else
+  mkdir "$work/root"
+  ar p "$work"/packages/*.deb data.tar.xz | tar -C "$work/root" -xJf -
+  try_csvtable "$work/root/usr"
+fi
+
+# C, by pkg-config where it is there.
+tar -C "$work/prefix" --strip-components=1 -xzf "$work"/packages/comfy_table-*.tar.gz
 if command -v pkg-config > /dev/null; then
   flags=$(PKG_CONFIG_PATH=$work/prefix/lib/pkgconfig pkg-config --cflags --libs comfy_table)
 else

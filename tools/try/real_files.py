@@ -1,11 +1,12 @@
 #!/usr/bin/env python3
 """Makes 18 files as people have them, and some that are no text, and tries csvtable on them.
 
-    tools/try/real_files.py PROGRAM             runs PROGRAM on each file: its status, what it writes and what it says; and whether numbers
-                                                and dates stand whole at each width from 20 to 200
+    tools/try/real_files.py PROGRAM             runs PROGRAM on each file: its status, what it writes and what it says; whether numbers
+                                                and dates stand whole at each width from 20 to 200; and each example of the man page,
+                                                which has the recipes of docs/CSVTABLE.md, where the other programs that it names are
     tools/try/real_files.py --compare PROGRAM   prints a table of what PROGRAM, csvlook, mlr and column do, file by file
 
-What is wanted stands beside each file, and comes from the rules in docs/CSVTABLE.md. The first form prints a line for each
+What is wanted stands beside each file or example, and comes from the rules in docs/CSVTABLE.md. The first form prints a line for each
 run, and ends with status 1 where one is otherwise.
 """
 import csv
@@ -13,12 +14,20 @@ import gzip
 import io
 import itertools
 import os
+import pty
 import re
+import shutil
 import subprocess
 import sys
 import tempfile
+import termios
 import textwrap
 import unicodedata
+
+TOP = os.path.realpath(os.path.join(os.path.dirname(__file__), "..", ".."))
+sys.path.insert(0, os.path.join(TOP, "tools", "make"))
+
+from manual import examples
 
 WIDE = ",".join(f"column_{i}" for i in range(1, 31)) + "\n" + "".join(
     ",".join(f"value {i * row}" for i in range(1, 31)) + "\n" for row in range(1, 13)
@@ -98,6 +107,54 @@ OTHERS = [
     ("folder", "csvtable: folder: is a directory\n"),
 ]
 
+with open(os.path.join(TOP, "crates/csvtable/data/ledger.csv"), encoding="utf-8") as file:
+    LEDGER = file.read()
+# more than --limit reads at first, and then no UTF-8: nothing refuses what it needn't read
+BIG = b"id,name,x,y,z,last\n" + b"".join(b"%d,n%d,1,2,3,4\n" % (it, it) for it in range(9000)) + b"\xff\n"
+GIT = "git init -q; git config user.name Ann; git config user.email ann@localhost; echo '*.csv diff=csv' > .gitattributes; git add .; git commit -qm one; sed -i s/1,150/1,175/ ledger.csv"
+FILES = '[{"name": "a, b.txt", "size": 12}, {"name": "c", "size": 3000}]'
+
+
+class Recipe:
+    """A command of the man page, commands before and after it, and the texts that all of them write in this order. What they write
+    goes into a pipe, or to a terminal of so many columns."""
+
+    def __init__(self, command, name, text, drawn, before="", after="", columns=0):
+        self.command, self.name, self.drawn, self.columns = command, name, drawn, columns
+        self.bytes = text if isinstance(text, bytes) else text.encode()
+        self.script = "\n".join([before, command, after])
+
+
+RECIPES = [
+    Recipe("csvtable -r price list.csv", "list.csv", "item,price\nnut,3 for 1\nbolt,2\n", ["│ nut  ┆ 3 for 1 │", "│ bolt ┆       2 │"]),
+    Recipe("csvtable -c name,3-5 --limit 20 big.csv", "big.csv", BIG, ["│ name ┆ x ┆ y ┆ z │", "│ n19  ┆ 1 ┆ 2 ┆ 3 │\n╰", "20 of more records\n"]),
+    Recipe("csvtable -e cp1252 --skip 4 bank.csv", "bank.csv", ("1\n2\n3\n4\n" + BANK).encode("latin-1"), ["│ Buchungstag ┆ Verwendungszweck ┆   Betrag │", "Bäckerei Müller"]),
+    Recipe(
+        "csvtable ledger.csv | less -S",
+        "ledger.csv",
+        LEDGER,
+        ["│ date       ┆ place  ┆ text         ", "│ 2026-01-15 ┆ Αθήνα  ┆ Tickets to th"],
+        before="export LESS=-EX TERM=xterm LC_ALL=C.UTF-8",
+        columns=40,
+    ),
+    Recipe("csvtable --limit 20 big.csv", "big.csv", BIG, ["│ id ┆ name ┆ x ┆ y ┆ z ┆ last │", "│ 19 ┆ n19  ┆ 1 ┆ 2 ┆ 3 ┆    4 │\n╰", "20 of more records\n"]),
+    Recipe("jq -r '.[] | [.name, .size] | @csv' files.json | csvtable -n", "files.json", FILES, ["│ a, b.txt ┆   12 │", "│ c        ┆ 3000 │"]),
+    Recipe(
+        "git config diff.csv.textconv csvtable",
+        "ledger.csv",
+        LEDGER,
+        ["\n-│ 2026-01-05 ┆ 京都 ", "-1,150.00 │\n", "\n+│ 2026-01-05 ┆ 京都 ", "-1,175.00 │\n"],
+        before=GIT,
+        after="git --no-pager diff",
+    ),
+    Recipe(
+        """mlr --csv -S put '$key = float(gsub($amount, ",", ""))' then sort -nr key then cut -x -f key ledger.csv | csvtable""",
+        "ledger.csv",
+        LEDGER,
+        ["┆    amount │\n", "┆   2400.00 │\n", "┆     -3.50 │\n", "┆    -12.80 │\n", "┆   -310.00 │\n", "┆ -1,150.00 │\n"],
+    ),
+]
+
 
 def width_of(line):
     """So many terminal columns: what is joined to an emoji before it takes none, and a flag is two letters of one."""
@@ -168,7 +225,64 @@ def tried(program, folder):
         good = result.returncode == 1 and not result.stdout and result.stderr.decode() == message
         print(f"{name}: {'as it should be' if good else result.stderr}")
         faults += not good
-    return faults
+    return faults + tried_examples(program)
+
+
+# ---- the examples of the man page
+
+
+def shown(script, folder, columns):
+    """What a script writes in a folder whose bin/ has csvtable: into a pipe, or to a terminal of so many columns."""
+    ours, theirs = pty.openpty() if columns else os.pipe()
+    if columns:
+        termios.tcsetwinsize(theirs, (50, columns))
+    path = os.path.join(folder, "bin") + os.pathsep + os.environ["PATH"]
+    environment = {name: it for name, it in os.environ.items() if name not in ("COLUMNS", "NO_COLOR")} | {"PATH": path, "HOME": folder}
+    process = subprocess.Popen(["timeout", "60", "sh", "-ec", script], cwd=folder, stdin=subprocess.DEVNULL, stdout=theirs, stderr=theirs, env=environment, start_new_session=True)
+    os.close(theirs)
+    out = b""
+    try:
+        while more := os.read(ours, 65536):
+            out += more
+    except OSError:  # a terminal whose other end is closed
+        pass
+    os.close(ours)
+    process.wait(timeout=120)
+    return out.decode(errors="replace").replace("\r", "")
+
+
+def recipe_fault(recipe, out):
+    """The first text that isn't there behind the one before it, or a line that is wider than the terminal; else nothing."""
+    place = 0
+    for text in recipe.drawn:
+        place = out.find(text, place)
+        if place < 0:
+            return f"no {text!r} in\n{out}"
+    wide = [line for line in re.sub("\x1b(\\[[^a-zA-Z]*[a-zA-Z]|[=>])", "", out).split("\n") if recipe.columns and width_of(line) > recipe.columns]
+    return f"a wide line: {wide[0]}" if wide else ""
+
+
+def tried_recipe(program, recipe):
+    """Whether an example does otherwise than it should. One whose other programs aren't there is left out."""
+    others = [it for it in ("git", "jq", "less", "mlr") if it in recipe.script.split() and not shutil.which(it)]
+    if others:
+        print(f"{recipe.command}: left out, without {others[0]}")
+        return False
+    with tempfile.TemporaryDirectory() as folder:
+        os.mkdir(os.path.join(folder, "bin"))
+        os.symlink(program, os.path.join(folder, "bin", "csvtable"))
+        write(recipe, folder)
+        fault = recipe_fault(recipe, shown(recipe.script, folder, recipe.columns))
+    print(f"{recipe.command}: {fault or 'as it should be'}")
+    return bool(fault)
+
+
+def tried_examples(program):
+    """How many examples of the man page do otherwise than they should, or aren't tried here."""
+    untried = {command for command, _ in examples()} ^ {it.command for it in RECIPES}
+    for command in sorted(untried):
+        print(f"{command}: stands in one of the man page and this file alone")
+    return len(untried) + sum(tried_recipe(program, it) for it in RECIPES)
 
 
 # ---- beside other programs
