@@ -3,7 +3,7 @@
 
     tools/check/check_proved.py
 
-- docs/PROVED.md: its counts and its list of functions are what tools/check/what_is_believed.py writes.
+- docs/PROVED.md: its counts are what tools/check/what_is_believed.py writes.
 - The laws of comfy_table pass on all those of comfy_parts.
 - Each law, and each promise, has a trial that shows a value of which its conclusion is false, below a line
   `-- false: CRATE::laws::NAME` of a file of trials.

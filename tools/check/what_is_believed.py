@@ -4,12 +4,14 @@
     tools/check/what_is_believed.py promises::straight_lines
     tools/check/what_is_believed.py comfy_table::lines
     tools/check/what_is_believed.py
+    tools/check/what_is_believed.py --functions
     tools/check/what_is_believed.py --update
 
 A promise is a function of `promises`, of `csv_promises`, or of `promised.rt` of `comfy_c`; any other
-function of a library is taken too. With no word it lists the promises, each with its lines. With
---update it writes docs/PROVED.md anew: these lines at the end of a table's row that names a promise,
-those of all in a sentence, and the list of functions with their files.
+function of a library is taken too. With no word it lists the promises, each with its lines, and with
+--functions all public functions that have clauses, with their files. With --update it writes
+docs/PROVED.md anew: the lines of a promise at the end of a table's row that names it, and those of
+all in a sentence.
 
 A clause stands on the words in it, on the types in the function's signature, and on the ghost
 members of its block. A type of src/ stands for its model, where it has one, else for its
@@ -105,17 +107,15 @@ def all_starts(paths=PROMISES):
 
 
 def listed_functions():
-    """The public functions of the libraries that have clauses, file by file, as lines of a page."""
+    """The public functions of the libraries that have clauses, file by file."""
     for crate in LIBRARIES:
         paths = [it for it in sources_of(crate) if not it.startswith(PROMISES)]
-        yield from [f"### {crate}", ""] if paths else []
         for path in paths:
             found = [(name, one) for name, one in functions_in(path) if one.is_public and one.clauses]
             of_types = [re.match(r"(?:pub trait|impl(?:<.*?>)?) (?:.* for )?(\w+)", one.signature.head) for _, one in found]
-            names = [f"`{of_type[1]}::{name}`" if of_type else f"`{name}`" for of_type, (name, _) in zip(of_types, found)]
+            names = [f"{of_type[1]}::{name}" if of_type else name for of_type, (name, _) in zip(of_types, found)]
             if names:
-                yield f"- `{path.split('/src/')[1]}`: {', '.join(names)}"
-        yield ""
+                yield f"{path.removeprefix('crates/')}: {', '.join(names)}"
 
 
 def believed(starts):
@@ -149,8 +149,7 @@ def updated(page):
     for label, starts in all_starts().items():
         count = count_of(believed(starts)[0])
         page = re.sub(rf"^(\|.*`{label}`.*\|) *\d+ *\|$", rf"\1 {count} |", page, flags=re.M)
-    head, marks, _ = page.partition("<!-- functions -->\n")
-    return head + marks + "\n".join(["", *listed_functions()]).rstrip("\n") + "\n"
+    return page
 
 
 def body_of(one):
@@ -193,6 +192,8 @@ def main():
     if sys.argv[1:] == ["--update"]:
         with open(f"{TOP}/docs/PROVED.md", "w", encoding="utf-8") as file:
             file.write(updated(page))
+    elif sys.argv[1:] == ["--functions"]:
+        print("\n".join(listed_functions()))
     elif not sys.argv[1:]:
         for label, one in starts.items():
             print(f"{count_of(believed(one)[0]):5} {label}")
