@@ -1,5 +1,5 @@
 -- The rows that a table has change nothing in how one row is drawn.
-use Rattle.std.proofs.Common.{◌≡◌, ℕ, Bool, true, false, List, [], ◌∷◌, ◌++◌, Option, Some, None, length, map, append_assoc, append-nil, arith, refl, ap, ◌∙◌}
+use Rattle.std.proofs.Common.{◌≡◌, ℕ, Bool, true, false, List, [], ◌++◌, Option, Some, None, length, map, append_assoc, refl, ap, ◌∙◌}
 use Rattle.std.specs.List.{join_by, range_with_len, slice_get}
 use Rattle.std.specs.Prelude.{flat_map, if◌then◌else◌, slice_index_or}
 use Rattle.comfy_parts.specs.CellValue.{CellValue, ColumnInfo, RowValue}

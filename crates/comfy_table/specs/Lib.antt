@@ -23,6 +23,7 @@ pub mod NewTables
 pub mod Output
 pub mod Parts
 pub mod Pieces
+pub mod PlainCells
 pub mod Predicate
 pub mod Straight
 pub mod Styling

@@ -52,3 +52,7 @@ pub record WriterValue : Type 0 where
 -- a writer with these lines after those of its output
 abbrev pub with_written : List Text → WriterValue → WriterValue
 with_written more writer = record writer { output = with_lines more writer.output }
+
+-- they draw the same columns of the same table
+abbrev pub AreSame : WriterValue → WriterValue → Type 0
+AreSame old new = (new.table ≡ old.table) × (new.infos ≡ old.infos)

@@ -22,9 +22,11 @@ pub use table::arranged::ArrangedTable;
 pub use table::column_cells::ColumnCellIter;
 pub use table::output::Lines;
 pub use table::parts::TableParts;
+pub use table::row_writer::RowWriter;
 pub use table::terminal::Terminal;
 pub use utils::arrangement::contents::Contents;
 pub use utils::formatting::drawing::Extent;
+pub use utils::formatting::plain_cell::PlainCell;
 
 /// A row of values of several types, as an array of their cells: of each value that a cell can be
 /// made of (`IntoCell`). It stands in a function that returns a `Result`.

@@ -15,6 +15,7 @@ mod columns;
 pub(crate) mod content;
 pub mod output;
 pub mod parts;
+pub mod row_writer;
 mod rows;
 mod settings;
 pub mod terminal;

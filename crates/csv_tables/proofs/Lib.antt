@@ -11,6 +11,7 @@ pub mod FieldLemmas
 mod FlatLemmas
 mod PieceLemmas
 mod PlainLemmas
+mod PlainRowLemmas
 pub mod FittingLemmas
 pub mod KeptFieldLemmas
 pub mod KeptWidthLemmas

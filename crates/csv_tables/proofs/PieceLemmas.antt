@@ -9,8 +9,9 @@ use Rattle.comfy_parts.specs.CellValue.{ColumnInfo, RowValue}
 use Rattle.comfy_parts.specs.Text.{Text}
 use Rattle.comfy_table.specs.Drawing.{drawn_row, outer_widths, part_of_drawing, terminated_text_of}
 use Rattle.comfy_table.specs.Frame.{optional_frame_line}
-use Rattle.comfy_table.specs.TableValue.{TableValue}
-use Rattle.csv_tables.specs.Contents.{drawn_next, expanded_from, expanded_record, made_by, pairs_by, rows_at, rows_from}
+use Rattle.comfy_table.proofs.OtherRowLemmas.{part_same}
+use Rattle.comfy_table.specs.TableValue.{TableValue, with_other_rows}
+use Rattle.csv_tables.specs.Contents.{drawn_next, expanded_from, expanded_record, fields_text, made_by, pairs_by, rows_at, rows_from}
 use Rattle.csv_tables.specs.declared.rows.RecordRows.{RecordRows}
 
 -- ---- rows of a table
@@ -36,16 +37,73 @@ module _ (table : TableValue) (infos : List ColumnInfo) where
   first_row true is_last x xs = grind (arith, append_assoc, append-nil)
   first_row false is_last x xs = grind (arith, append_assoc, append-nil)
 
-  rows_on : (is_first : Bool) (x : RowValue) (xs ys : List RowValue) → part_of_drawing table infos is_first true ((x ∷ xs) ++ ys) ≡ part_of_drawing table infos is_first false (x ∷ xs) ++ part_of_drawing table infos false true ys
-  rows_on is_first x xs ys =
+  rows_on : (is_first is_last : Bool) (x : RowValue) (xs ys : List RowValue)
+      → part_of_drawing table infos is_first is_last ((x ∷ xs) ++ ys) ≡ part_of_drawing table infos is_first false (x ∷ xs) ++ part_of_drawing table infos false is_last ys
+  rows_on is_first is_last x xs ys =
       let one = part_of_drawing table infos is_first false (x ∷ []) in
-      let more = part_of_drawing table infos false true ys in
-      first_row is_first true x (xs ++ ys)
-      ∙ ap (λ (l : List Text). one ++ l) (further_on true xs ys)
+      let more = part_of_drawing table infos false is_last ys in
+      first_row is_first is_last x (xs ++ ys)
+      ∙ ap (λ (l : List Text). one ++ l) (further_on is_last xs ys)
       ∙ sym (append_assoc one (part_of_drawing table infos false false xs) more)
       ∙ ap (λ (l : List Text). l ++ more) (sym (first_row is_first false x xs))
 
+  -- their text
+  abbrev lines : Bool → Bool → List RowValue → Text
+  lines is_first is_last rows = terminated_text_of (part_of_drawing table infos is_first is_last rows)
+
+  -- the rows that are drawn so far, without the bottom border
+  pub begun : List RowValue → Text
+  begun [] = []
+  begun (x ∷ xs) = terminated_text_of (part_of_drawing table infos true false (x ∷ xs))
+
+  pub begun_none : begun [] ≡ []
+  unfolding begun
+  begun_none = refl
+
+  pub begun_more : (xs : List RowValue) (x : RowValue) → begun (xs ++ x ∷ []) ≡ begun xs ++ terminated_text_of (part_of_drawing table infos (length xs == 0) false (x ∷ []))
+  unfolding begun
+  begun_more [] x = refl
+  begun_more (y ∷ ys) x =
+      let later : (length (y ∷ ys) == 0) ≡ false = grind (arith, nat_tests) in
+      ap terminated_text_of (rows_on true false y ys (x ∷ []))
+      ∙ flat_map-append _ (part_of_drawing table infos true false (y ∷ ys)) (part_of_drawing table infos false false (x ∷ []))
+      ∙ ap (λ b. lines true false (y ∷ ys) ++ lines b false (x ∷ [])) (sym later)
+
+  -- and with it
+  pub begun_all : (xs : List RowValue) → begun xs ++ (if length xs == 0 then [] else terminated_text_of (part_of_drawing table infos false true [])) ≡ fields_text table infos xs
+  unfolding begun
+  begun_all [] = refl
+  begun_all (y ∷ ys) =
+      let later : (length (y ∷ ys) == 0) ≡ false = grind (arith, nat_tests) in
+      ap (λ b. lines true false (y ∷ ys) ++ (if b then [] else lines false true [])) later
+      ∙ sym
+      (ap (lines true true) (sym (append-nil (y ∷ ys)))
+      ∙ ap terminated_text_of (rows_on true true y ys [])
+      ∙ flat_map-append _ (part_of_drawing table infos true false (y ∷ ys)) (part_of_drawing table infos false true []))
+
+-- a table draws parts as with other rows
+module _ (own table : TableValue) (infos : List ColumnInfo) (is : with_other_rows table.rows own ≡ table) where
+  pub part_as : (is_first is_last : Bool) (rows : List RowValue) → part_of_drawing own infos is_first is_last rows ≡ part_of_drawing table infos is_first is_last rows
+  part_as is_first is_last rows = sym (part_same own table.rows infos is_first is_last rows) ∙ ap (λ (t : TableValue). part_of_drawing t infos is_first is_last rows) is
+
+  pub fields_as : (rows : List RowValue) → fields_text own infos rows ≡ fields_text table infos rows
+  fields_as [] = refl
+  fields_as (x ∷ xs) = ap terminated_text_of (part_as true true (x ∷ xs))
+
 -- ---- records
+
+-- the row of the next record, and those of the others
+pub row_more : (rows : RecordRows) (table : TableValue) (infos : List ColumnInfo) (at : ℕ) (is_last : Bool) (x : List Text) (xs : List (List Text)) → rows.is_expanded ≡ false
+    → terminated_text_of (part_of_drawing table infos (at == 0) false (made_by rows at x ∷ [])) ++ terminated_text_of (part_of_drawing table infos (at + 1 == 0) is_last (rows_from rows (at + 1) xs))
+    ≡ terminated_text_of (part_of_drawing table infos (at == 0) is_last (rows_from rows at (x ∷ xs)))
+row_more rows table infos at is_last x xs is =
+    let later : (at + 1 == 0) ≡ false = grind (arith, nat_tests) in
+    let rest = rows_from rows (at + 1) xs in
+    let one : rows_at rows at x ≡ made_by rows at x ∷ [] = ap (λ (b : Bool). if b then pairs_by rows x else made_by rows at x ∷ []) is in
+    ap (λ b. lines table infos (at == 0) false (made_by rows at x ∷ []) ++ lines table infos b is_last rest) later
+    ∙ sym (flat_map-append _ (part_of_drawing table infos (at == 0) false (made_by rows at x ∷ [])) (part_of_drawing table infos false is_last rest))
+    ∙ ap terminated_text_of (sym (first_row table infos (at == 0) is_last (made_by rows at x) rest))
+    ∙ ap (λ (l : List RowValue). lines table infos (at == 0) is_last (l ++ rest)) (sym one)
 
 from_on : (rows : RecordRows) (at : ℕ) (xs ys : List (List Text)) → rows_from rows at (xs ++ ys) ≡ rows_from rows at xs ++ rows_from rows (at + length xs) ys
 from_on rows at [] ys = let same : at ≡ at + 0 = omega arith in ap (λ n. rows_from rows n ys) same
@@ -83,7 +141,7 @@ drawn_on rows table infos at (x ∷ xs) ys some = by_kind rows.is_expanded refl
         let others = rows_from rows n ys in
         let front : rows_from rows at (x ∷ xs) ≡ made_by rows at x ∷ rest = ap (λ (l : List RowValue). l ++ rest) one in
         ap (lines (at == 0) true) (from_on rows at (x ∷ xs) ys ∙ ap (λ (l : List RowValue). l ++ others) front)
-        ∙ ap terminated_text_of (rows_on table infos (at == 0) (made_by rows at x) rest others)
+        ∙ ap terminated_text_of (rows_on table infos (at == 0) true (made_by rows at x) rest others)
         ∙ flat_map-append _ (part_of_drawing table infos (at == 0) false (made_by rows at x ∷ rest)) (part_of_drawing table infos false true others)
         ∙ ap₂ (λ (l : List RowValue) (b : Bool). lines (at == 0) false l ++ lines b true others) (sym front) (sym later)
 

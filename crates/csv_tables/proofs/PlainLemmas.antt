@@ -43,6 +43,13 @@ printable_plain look table text unmarked custom filled printable = (
   IsUtf8-printable text printable,
 )
 
+-- a text that isn't blank and of which no character is replaced is what its cell has
+pub stays_so : (look : Look) (text : Text) → look.is_markdown ≡ false → is_blank text ≡ false → IsUtf8 text → list_any is_replaced (chars text) ≡ false → field_text look text ≡ text
+stays_so look text unmarked filled utf8 clean =
+    ap (λ (b : Bool). if b then marked (cleaned false text) else unless_blank (cleaned look.has_sequences text)) unmarked
+    ∙ ap unless_blank (sym (drawn_so look.has_sequences text utf8 clean))
+    ∙ ap (λ (b : Bool). if b then [] else text) filled
+
 module _ (look : Look) (table : TableValue) (text : Text) (plain : is_plain look table text ≡ true) (utf8 : IsUtf8 text) where
   -- what such a text is
   unmarked : look.is_markdown ≡ false
@@ -65,10 +72,7 @@ module _ (look : Look) (table : TableValue) (text : Text) (plain : is_plain look
 
   -- its cell has it as it is
   stays : field_text look text ≡ text
-  stays =
-      ap (λ (b : Bool). if b then marked (cleaned false text) else unless_blank (cleaned look.has_sequences text)) unmarked
-      ∙ ap unless_blank (sym (drawn_so look.has_sequences text utf8 clean))
-      ∙ ap (λ (b : Bool). if b then [] else text) filled
+  stays = stays_so look text unmarked filled utf8 clean
 
   lines_are : (plain_cell (field_text look text)).text_lines ≡ text ∷ []
   lines_are = ap (λ (t : Text). (plain_cell t).text_lines) stays ∙ one_text_line text utf8 clean

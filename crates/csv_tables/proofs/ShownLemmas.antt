@@ -26,7 +26,7 @@ use Rattle.csv_tables.specs.declared.rows.RecordRows.{RecordRows}
 
 -- ---- spaces behind a field
 
-spaces_printable : (n : ℕ) → is_printable_ascii (spaces n) ≡ true
+pub spaces_printable : (n : ℕ) → is_printable_ascii (spaces n) ≡ true
 spaces_printable zero = refl
 spaces_printable (suc n) = spaces_printable n
 

@@ -4,7 +4,7 @@ ghost use Rattle.std.specs.Prelude.{◌≡◌, ◌==◌, ◌<◌, ◌≤◌, ◌
 ghost use Rattle.std.specs.List.{All};
 ghost use Rattle.comfy_parts.specs.CellValue.{IsRow};
 ghost use Rattle.comfy_table.specs.Drawing.{part_of_drawing, terminated_text_of};
-ghost use Rattle.csv_tables.specs.Contents.{drawn_next, expanded_from, expanded_record, rows_from};
+ghost use Rattle.csv_tables.specs.Contents.{drawn_next, expanded_from, rows_from};
 ghost use Rattle.csv_tables.specs.Pieces.{rest_of};
 ghost use Rattle.devices.specs.Pieces.{text_left};
 
@@ -12,7 +12,7 @@ use crate::contents::RowContents;
 use crate::expanded::push_record_line;
 use comfy_parts::content_split::ColumnDisplayInfo;
 use comfy_table::{ArrangedTable, Extent, Result};
-use csv_records::{Record, Rows};
+use csv_records::Rows;
 use devices::Pieces;
 use std::alloc::{AllocError, Global};
 use std::marker::Model;
@@ -187,22 +187,26 @@ fn push_rows(
     next: &Rows<'_>,
     is_last: bool,
 ) -> Result<()>
-    requires { place + length next.now < 2 ^ 64 }
+    requires rows { contents.now.rows.is_expanded ≡ false }
+    requires places { place + length next.now < 2 ^ 64 }
     ensures { OnOk result (string_bytes text.new ≡ string_bytes text.old ++ terminated_text_of
         (part_of_drawing arranged.now.table arranged.now.infos (place == 0) is_last
         (rows_from contents.now.rows place next.now))) }
 {
-    let mut rows = Vec::with_capacity(contents.rows.selected.alloc, next.len())?;
+    let mut writer = arranged.row_writer()?;
+    let mut cells = Vec::new(contents.rows.selected.alloc);
     let mut at = place;
     for fields in next.iter() {
-        contents.rows.push_rows(&mut rows, at, &fields)?;
+        contents
+            .rows
+            .push_row(text, &mut writer, &mut cells, at, &fields)?;
         at += 1;
     }
-    let extent = Extent {
-        is_first: place == 0,
+    let end = Extent {
+        is_first: at == 0,
         is_last,
     };
-    arranged.push_some_rows(text, rows.as_slice(), extent)
+    writer.push_rows(text, &[], end)
 }
 
 // Appends some expanded records, the first of which is at a place.
@@ -218,33 +222,12 @@ fn push_expanded(
     ensures { OnOk result (string_bytes text.new ≡ string_bytes text.old
         ++ expanded_from contents.now.rows arranged.now.table arranged.now.infos place next.now) }
 {
+    let mut writer = arranged.row_writer()?;
     let mut at = place;
     for fields in next.iter() {
-        push_expanded_record(text, contents, arranged, at, &fields)?;
+        push_record_line(text, at, contents.rows.selected.count())?;
+        contents.rows.push_pairs(text, &mut writer, &fields)?;
         at += 1;
     }
     Ok(())
-}
-
-// Appends an expanded record: its line, and its fields, where it has some.
-fn push_expanded_record(
-    text: &mut String,
-    contents: &RowContents,
-    arranged: &ArrangedTable<'_, RowContents>,
-    at: usize,
-    fields: &Record<'_>,
-) -> Result<()>
-    requires { contents.now.rows.is_expanded ≡ true }
-    ensures { OnOk result (string_bytes text.new ≡ string_bytes text.old
-        ++ expanded_record contents.now.rows arranged.now.table arranged.now.infos at
-        fields.now) }
-{
-    let selected = &contents.rows.selected;
-    push_record_line(text, at, selected.count())?;
-    let mut rows = Vec::new(selected.alloc);
-    contents.rows.push_rows(&mut rows, at, fields)?;
-    if rows.is_empty() {
-        return Ok(());
-    }
-    arranged.push_some_rows(text, rows.as_slice(), Extent::WHOLE)
 }

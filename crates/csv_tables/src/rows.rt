@@ -1,14 +1,16 @@
 //! The rows of records, before they are made.
 
-ghost use Rattle.std.specs.Prelude.{◌≡◌, ◌<◌, ◌≤◌, ◌+◌, ◌++◌, ◌==◌, ℕ, IfOk, IfSome, IsTrue, None, OnOk, Some, false, if◌then◌else◌, length, max, nat_lt, option_map, slice_get};
+ghost use Rattle.std.specs.Prelude.{◌≡◌, ◌<◌, ◌≤◌, ◌+◌, ◌++◌, ◌==◌, ◌∷◌, [], ℕ, IfOk, IfSome, IsTrue, None, OnOk, Some, false, if◌then◌else◌, length, max, nat_lt, option_map, slice_get, string_bytes};
 ghost use Rattle.std.specs.Cow.{cow_str_bytes};
 ghost use Rattle.std.specs.List.{slice_index_or};
-ghost use Rattle.comfy_parts.specs.Text.{Text};
+ghost use Rattle.comfy_parts.specs.Text.{Text, spaces};
 ghost use Rattle.comfy_table.specs.LongestLine.{cell_longest_line};
 ghost use Rattle.comfy_table.specs.TableValue.{TableValue, cell_content_width, measured_cell};
+ghost use Rattle.comfy_table.specs.Drawing.{part_of_drawing, terminated_text_of};
 ghost use Rattle.comfy_table.specs.Pieces.{row_height};
-ghost use Rattle.csv_tables.specs.Cells.{Shown, cell_for, columns_within, pair_for};
-ghost use Rattle.csv_tables.specs.Contents.{IsPlainShown, IsPlainText, greatest_at, headed_by, made_by, measured_at, most_cells, pairs_by, rows_at, shown_by, spaces_in};
+ghost use Rattle.csv_tables.specs.Cells.{Shown, cell_for, columns_within, field_text, pair_for, text_in};
+ghost use Rattle.csv_tables.specs.declared.options.Look.{Look};
+ghost use Rattle.csv_tables.specs.Contents.{IsPlainShown, IsPlainText, fields_text, greatest_at, headed_by, made_by, measured_at, most_cells, pairs_by, rows_at, shown_by, spaces_in};
 
 use crate::cells::{cell_of, is_blank, pair_of, text_in};
 use crate::columns::name_at;
@@ -16,7 +18,8 @@ use crate::options::{DrawnColumn, Look};
 use crate::selected::SelectedRecords;
 use crate::table::empty_table;
 use comfy_parts::content_split::{ColumnDisplayInfo, is_printable, measure_text_width};
-use comfy_table::{ArrangedTable, Contents, Result, Row, Table};
+use comfy_parts::style::CellAlignment;
+use comfy_table::{ArrangedTable, Contents, Extent, PlainCell, Result, Row, RowWriter, Table};
 use csv_records::{Record, is_clean_line};
 use std::alloc::AllocError;
 use std::borrow::CowStr;
@@ -45,17 +48,6 @@ impl RecordRows {
         }
     }
 
-    /// Appends the rows of the record at a place.
-    pub fn push_rows(&self, rows: &mut Vec<Row>, at: usize, fields: &Record<'_>) -> Result<()>
-        ensures { OnOk result (rows.new.items ≡ rows.old.items ++ rows_at self.now at fields.now) }
-    {
-        if self.is_expanded {
-            return self.push_pairs(rows, fields);
-        }
-        rows.push(self.row_at(at, fields)?)?;
-        Ok(())
-    }
-
     // The row of the record at a place, where records aren't expanded.
     fn row_at(&self, at: usize, fields: &Record<'_>) -> Result<Row>
         ensures { IfOk result (λ row. row ≡ made_by self.now at fields.now) }
@@ -64,19 +56,180 @@ impl RecordRows {
         selected.row_at(at, fields, self.is_aligned, &self.look)
     }
 
-    // Appends the fields that one record has, each with the name of its column.
-    fn push_pairs(&self, rows: &mut Vec<Row>, fields: &Record<'_>) -> Result<()>
-        ensures { OnOk result (rows.new.items ≡ rows.old.items ++ pairs_by self.now fields.now) }
+    // ---- drawing
+
+    /// Appends the lines of the row of the record at a place, with what stands above them. Cells of
+    /// one line stand in the list while they are drawn.
+    pub fn push_row<'r>(
+        &self,
+        text: &mut String,
+        writer: &mut RowWriter<'_>,
+        cells: &mut Vec<PlainCell<'r>>,
+        at: usize,
+        fields: &Record<'r>,
+    ) -> Result<()>
+        ensures text { OnOk result (string_bytes text.new ≡ string_bytes text.old
+            ++ terminated_text_of (part_of_drawing writer.old.table writer.old.infos (at == 0) false
+            (made_by self.now at fields.now ∷ []))) }
+        ensures kept { writer.new ≡ writer.old }
+    {
+        let extent = Extent {
+            is_first: at == 0,
+            is_last: false,
+        };
+        if self.push_plain_row(text, writer, cells, fields, extent)? {
+            return Ok(());
+        }
+        let row = [self.row_at(at, fields)?];
+        writer.push_rows(text, row.as_slice(), extent)
+    }
+
+    // The same where each cell is one line as it is, and fits its column. Whether it is so is told.
+    fn push_plain_row<'r>(
+        &self,
+        text: &mut String,
+        writer: &mut RowWriter<'_>,
+        cells: &mut Vec<PlainCell<'r>>,
+        fields: &Record<'r>,
+        extent: Extent,
+    ) -> Result<bool>
+        ensures drawn { IfOk result (λ is. IsTrue is → (at : ℕ) → string_bytes text.new
+            ≡ string_bytes text.old ++ terminated_text_of (part_of_drawing writer.old.table
+            writer.old.infos extent.is_first extent.is_last (made_by self.now at fields.now ∷ []))) }
+        ensures other { IfOk result (λ is. is ≡ false
+            → string_bytes text.new ≡ string_bytes text.old) }
+        ensures kept { writer.new ≡ writer.old }
+    {
+        if !self.list_cells(cells, fields)? {
+            return Ok(false);
+        }
+        writer.push_cells(text, cells.as_slice(), extent)
+    }
+
+    // Lists the cells of the row of a record, where each is one line as it is. Whether it is so is
+    // told.
+    fn list_cells<'r>(&self, cells: &mut Vec<PlainCell<'r>>, fields: &Record<'r>) -> Result<bool>
+        ensures { IfOk result (λ all. IsTrue all → (at : ℕ) → cells.new.items
+            ≡ (made_by self.now at fields.now).cells) }
+    {
+        cells.clear();
+        let selected = &self.selected;
+        if selected.is_numbered {
+            return Ok(false);
+        }
+        for column in selected.columns_within(fields) {
+            let Some(cell) = self.cell_in(column, fields) else {
+                return Ok(false);
+            };
+            cells.push(cell)?;
+        }
+        Ok(true)
+    }
+
+    // The cell of a column in the row of a record, where it is one line as it is.
+    fn cell_in<'r>(&self, column: &DrawnColumn, fields: &Record<'r>) -> Option<PlainCell<'r>>
+        ensures { IfSome result (λ cell. cell ≡ cell_for self.now.look column.now.alignment
+            (text_in self.now.look self.now.is_aligned column.now fields.now)) }
+    {
+        if self.look.has_sequences {
+            return None;
+        }
+        let field = fields.get(column.position).unwrap_or("");
+        let behind = self.spaces_in(column, field);
+        plain_cell(&self.look, field, behind, column.alignment)
+    }
+
+    /// Appends the fields that a record has, each with the name of its column, as the rows of a
+    /// table; nothing where it has none.
+    pub fn push_pairs(
+        &self,
+        text: &mut String,
+        writer: &mut RowWriter<'_>,
+        fields: &Record<'_>,
+    ) -> Result<()>
+        ensures text { OnOk result (string_bytes text.new ≡ string_bytes text.old
+            ++ fields_text writer.old.table writer.old.infos (pairs_by self.now fields.now)) }
+        ensures kept { writer.new ≡ writer.old }
     {
         let selected = &self.selected;
         let names = selected.names_or_blank();
+        let mut is_first = true;
         for column in selected.columns_within(fields) {
             if let Some(field) = fields.get(column.position) {
                 let name = name_at(selected.alloc, &names, column.position)?;
-                rows.push(pair_of(selected.alloc, name.as_str(), field, &self.look)?)?;
+                self.push_pair(text, writer, name.as_str(), field, is_first)?;
+                is_first = false;
             }
         }
-        Ok(())
+        if is_first {
+            return Ok(());
+        }
+        let end = Extent {
+            is_first: false,
+            is_last: true,
+        };
+        writer.push_rows(text, &[], end)
+    }
+
+    // Appends the lines of a name and a field, with what stands above them.
+    fn push_pair(
+        &self,
+        text: &mut String,
+        writer: &mut RowWriter<'_>,
+        name: &str,
+        field: &str,
+        is_first: bool,
+    ) -> Result<()>
+        ensures text { OnOk result (string_bytes text.new ≡ string_bytes text.old
+            ++ terminated_text_of (part_of_drawing writer.old.table writer.old.infos is_first false
+            (pair_for self.now.look name.now field.now ∷ []))) }
+        ensures kept { writer.new ≡ writer.old }
+    {
+        let extent = Extent {
+            is_first,
+            is_last: false,
+        };
+        if self.push_plain_pair(text, writer, name, field, extent)? {
+            return Ok(());
+        }
+        let row = [pair_of(self.selected.alloc, name, field, &self.look)?];
+        writer.push_rows(text, row.as_slice(), extent)
+    }
+
+    // The same where both are one line as they are, and fit their columns. Whether it is so is told.
+    fn push_plain_pair(
+        &self,
+        text: &mut String,
+        writer: &mut RowWriter<'_>,
+        name: &str,
+        field: &str,
+        extent: Extent,
+    ) -> Result<bool>
+        ensures drawn { IfOk result (λ is. IsTrue is → string_bytes text.new
+            ≡ string_bytes text.old ++ terminated_text_of (part_of_drawing writer.old.table
+            writer.old.infos extent.is_first extent.is_last
+            (pair_for self.now.look name.now field.now ∷ []))) }
+        ensures other { IfOk result (λ is. is ≡ false
+            → string_bytes text.new ≡ string_bytes text.old) }
+        ensures kept { writer.new ≡ writer.old }
+    {
+        let Some(cells) = self.pair_cells(name, field) else {
+            return Ok(false);
+        };
+        writer.push_cells(text, cells.as_slice(), extent)
+    }
+
+    // The cells of a name and a field, where both are one line as they are.
+    fn pair_cells<'r>(&self, name: &'r str, field: &'r str) -> Option<[PlainCell<'r>; 2]>
+        ensures { IfSome result (λ cells. cells
+            ≡ (pair_for self.now.look name.now field.now).cells) }
+    {
+        if self.look.has_bold_header {
+            return None;
+        }
+        let name = plain_cell(&self.look, name, 0, None)?;
+        let field = plain_cell(&self.look, field, 0, None)?;
+        Some([name, field])
     }
 
     // ---- widths
@@ -416,6 +569,33 @@ impl RecordRows {
         }
         Ok(true)
     }
+}
+
+// The cell of a field with so many spaces behind it, where it is one line as it is.
+fn plain_cell<'r>(
+    look: &Look,
+    field: &'r str,
+    behind: usize,
+    alignment: Option<CellAlignment>,
+) -> Option<PlainCell<'r>>
+    ensures { IfSome result (λ cell. cell
+        ≡ cell_for look.now alignment (field.now ++ spaces behind)) }
+{
+    if look.is_markdown || !is_drawn_as_it_is(field, behind) {
+        return None;
+    }
+    PlainCell::new(field, behind, alignment)
+}
+
+// Whether a field with so many spaces behind it is seen to be what its cell has.
+fn is_drawn_as_it_is(field: &str, behind: usize) -> bool
+    ensures { (look : Look) → look.is_markdown ≡ false → IsTrue result
+        → field_text look (field.now ++ spaces behind) ≡ field.now ++ spaces behind }
+{
+    if behind > 0 {
+        return is_printable(field.as_bytes()) && !is_blank(field.as_bytes());
+    }
+    field.is_empty() || (!is_blank(field.as_bytes()) && is_clean_line(field))
 }
 
 /// How many terminal columns a text takes, where it isn't blank, and is drawn as it is in one line.

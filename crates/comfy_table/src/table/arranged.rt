@@ -7,16 +7,17 @@ ghost use Rattle.comfy_table.specs.Arrangement.{AreInfosOf};
 ghost use Rattle.comfy_table.specs.Drawing.{part_of_drawing, terminated_text_of};
 ghost use Rattle.comfy_table.specs.Output.{BeginsWith, with_lines};
 ghost use Rattle.comfy_table.specs.Pieces.{row_height};
+ghost use Rattle.comfy_table.specs.TableValue.{with_other_rows};
 ghost use Rattle.comfy_table.specs.Parts.{IsArrangedTable, part_text, row_heights};
 
 use crate::table::Table;
+use crate::table::row_writer::RowWriter;
 use crate::utils::arrangement::arrange;
 use crate::utils::arrangement::contents::Contents;
-use crate::utils::formatting::{DrawnFrame, Extent, Output, draw, is_any_taller};
+use crate::utils::formatting::{DrawnFrame, Extent, Output, Writer, is_any_taller};
 use comfy_parts::content_split::ColumnDisplayInfo;
 use comfy_parts::{Column, Result, Row};
 use std::marker::Model;
-use std::mem;
 
 /// A table whose widths are found. It is drawn in parts, each some of its rows with header and
 /// borders, all at the widths of the whole table: pages of a large table, or records under each
@@ -116,28 +117,13 @@ impl<'a, C: Contents> ArrangedTable<'a, C> {
         infos
     }
 
-    /// Appends the lines of some of the rows, each followed by a line feed: below the top border
-    /// and the header where the first row is among them, else below the row separator, which
-    /// stands between each two of them; with the bottom border where the last row is among them.
-    /// After `OutOfMemory` the text is as it was.
-    pub fn push_some_rows(&self, text: &mut String, rows: &[Row], extent: Extent) -> Result<()>
-        ensures ok { OnOk result (string_bytes text.new
-            ≡ string_bytes text.old ++ terminated_text_of
-            (part_of_drawing self.now.table self.now.infos extent.is_first extent.is_last
-            rows.now)) }
-        ensures err { OnErr result (string_bytes text.new ≡ string_bytes text.old) }
-        ensures rows { All IsRow rows.now }
+    /// What draws rows of the table one after another.
+    pub fn row_writer(&self) -> Result<RowWriter<'_>>
+        ensures table { IfOk result (λ writer. with_other_rows self.now.table.rows writer.table
+            ≡ self.now.table) }
+        ensures infos { IfOk result (λ writer. writer.infos ≡ self.now.infos) }
     {
-        look_at_rows(rows);
-        let had = text.len();
-        let empty = String::new(*text.allocator());
-        let mut output = Output::after(mem::replace(text, empty));
-        let drawn = self.draw(rows, extent, &mut output);
-        *text = output.into_text();
-        if drawn.is_err() {
-            text.truncate(had);
-        }
-        drawn
+        RowWriter::new(self.contents.table(), self.infos.as_slice(), &self.frame)
     }
 
     /// What each column is drawn by, in list order, hidden columns too.
@@ -164,14 +150,9 @@ impl<'a, C: Contents> ArrangedTable<'a, C> {
             extent.is_last rows.now) output.old) }
         ensures err { OnErr result (BeginsWith output.new.text output.old.text) }
     {
-        draw(
-            self.contents.table(),
-            self.infos.as_slice(),
-            &self.frame,
-            rows,
-            extent,
-            output,
-        )
+        let table = self.contents.table();
+        let mut writer = Writer::new(table, self.infos.as_slice(), &self.frame)?;
+        writer.draw(rows, extent, output)
     }
 }
 
@@ -203,7 +184,7 @@ impl<'a> ArrangedTable<'a, Table> {
     {
         let table = self.contents;
         let rows = rows_from(table.rows.as_slice(), first, count);
-        self.push_some_rows(text, rows, Extent::WHOLE)
+        self.row_writer()?.push_rows(text, rows, Extent::WHOLE)
     }
 }
 

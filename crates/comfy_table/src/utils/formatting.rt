@@ -10,11 +10,12 @@ mod drawn_row;
 mod gap;
 mod output;
 mod piece;
+pub(crate) mod plain_cell;
 mod row_gaps;
 mod shown_column;
 mod styling;
 
-pub(crate) use drawing::{Extent, draw};
+pub(crate) use drawing::{Extent, Writer};
 pub(crate) use drawn_cell::is_any_taller;
 pub(crate) use drawn_frame::DrawnFrame;
 pub(crate) use output::{Output, OutputForm};

@@ -205,12 +205,13 @@ fn drawn_one_by_one(
 ) -> comfy_table::Result<String> {
     let mut text = String::new(rt.alloc());
     let arranged = table.arranged()?;
+    let mut writer = arranged.row_writer()?;
     for at in 0..rows.len() {
         let extent = Extent {
             is_first: at == 0,
             is_last: at + 1 == rows.len(),
         };
-        arranged.push_some_rows(&mut text, &rows[at..at + 1], extent)?;
+        writer.push_rows(&mut text, &rows[at..at + 1], extent)?;
     }
     Ok(text)
 }

@@ -1,17 +1,22 @@
 //! The lines of a table, in their order.
 
-ghost use Rattle.std.specs.Prelude.{◌≡◌, ◌<◌, ◌≤◌, ◌-◌, ◌∷◌, IfOk, OnErr, OnOk, Some, length, map, string_bytes, option_to_list};
-ghost use Rattle.std.specs.List.{range_with_len};
+ghost use Rattle.std.specs.Prelude.{◌≡◌, ◌<◌, ◌≤◌, ◌-◌, ◌∷◌, [], IfOk, IsTrue, OnErr, OnOk, Some, false, if◌then◌else◌, length, map, string_bytes, option_to_list};
+ghost use Rattle.std.specs.List.{All, range_with_len};
+ghost use Rattle.comfy_parts.specs.CellValue.{RowValue};
 ghost use Rattle.comfy_table.specs.DrawnCells.{filled, piece_at};
-ghost use Rattle.comfy_table.specs.Drawing.{drawn_header, drawn_rows, further_rows, lines_above, outer_widths, part_of_drawing, rows_below};
+ghost use Rattle.comfy_table.specs.Drawing.{drawn_header, drawn_row, drawn_rows, further_rows, lines_above, outer_widths, part_of_drawing, rows_below};
 ghost use Rattle.comfy_table.specs.Gaps.{frame_of, gap_line, row_between};
-ghost use Rattle.comfy_table.specs.Output.{BeginsWith, with_lines, with_written};
+ghost use Rattle.comfy_table.specs.Frame.{optional_frame_line};
+ghost use Rattle.comfy_table.specs.Output.{AreSame, BeginsWith, with_lines, with_written};
+ghost use Rattle.comfy_table.specs.Pieces.{shown_infos};
+ghost use Rattle.comfy_table.specs.PlainCells.{IsFitting, IsRowOf};
 
 use crate::table::Table;
 use crate::utils::formatting::borders::optional_frame_line;
 use crate::utils::formatting::drawn_frame::DrawnFrame;
 use crate::utils::formatting::drawn_row::DrawnRow;
 use crate::utils::formatting::output::{Output, OutputForm};
+use crate::utils::formatting::plain_cell::{PlainCell, are_fitting, push_plain_line};
 use crate::utils::formatting::row_gaps::RowGaps;
 use crate::utils::formatting::shown_column::{ShownColumn, shown_infos};
 use comfy_parts::content_split::ColumnDisplayInfo;
@@ -36,38 +41,13 @@ impl Extent {
     };
 }
 
-/// Appends the lines of these rows of a table, in this frame, whose columns are drawn by these
-/// infos. After `OutOfMemory` the text of the output begins with what it was.
-pub fn draw<'a>(
-    table: &'a Table,
-    infos: &'a [ColumnDisplayInfo],
-    frame: &'a DrawnFrame,
-    rows: &'a [Row],
-    extent: Extent,
-    output: &mut Output,
-) -> Result<()>
-    requires { frame.now ≡ frame_of table.now.style (outer_widths infos.now) }
-    ensures ok { OnOk result (output.new
-        ≡ with_lines (part_of_drawing table.now infos.now extent.is_first extent.is_last rows.now)
-        output.old) }
-    ensures err { OnErr result (BeginsWith output.new.text output.old.text) }
-{
-    let mut writer = Writer::new(table, infos, frame)?;
-    mem::swap(&mut writer.output, output);
-    let written = writer.write(rows, extent);
-    mem::swap(&mut writer.output, output);
-    written
-}
-
 /// What draws a table, line by line.
 #[derive(Drop)]
-struct Writer<'a> {
+pub struct Writer<'a> {
     table: &'a Table,
     infos: &'a [ColumnDisplayInfo],
     frame: &'a DrawnFrame,
     columns: Vec<ShownColumn<'a>>,
-    // the row that is drawn now
-    row: DrawnRow<'a>,
     // the line that is drawn now
     line: String,
     output: Output,
@@ -93,8 +73,8 @@ impl<'a> Model for Writer<'a> {
 }
 
 impl<'a> Writer<'a> {
-    // The output is empty.
-    fn new(
+    /// What draws a table in this frame, whose columns are drawn by these infos.
+    pub fn new(
         table: &'a Table,
         infos: &'a [ColumnDisplayInfo],
         frame: &'a DrawnFrame,
@@ -109,34 +89,72 @@ impl<'a> Writer<'a> {
             infos,
             frame,
             columns: shown_infos(alloc, infos)?,
-            row: DrawnRow::new(alloc),
             line: String::new(alloc),
             output: Output::new(alloc, OutputForm::Joined),
         })
     }
 
+    /// Appends the lines of these rows to an output. After `OutOfMemory` its text begins with what
+    /// it was.
+    pub fn draw(&mut self, rows: &[Row], extent: Extent, output: &mut Output) -> Result<()>
+        ensures ok { OnOk result (output.new
+            ≡ with_lines (part_of_drawing self.old.table self.old.infos extent.is_first
+            extent.is_last rows.now) output.old) }
+        ensures err { OnErr result (BeginsWith output.new.text output.old.text) }
+        ensures kept { AreSame self.old self.new }
+    {
+        mem::swap(&mut self.output, output);
+        let written = self.write(rows, extent);
+        mem::swap(&mut self.output, output);
+        written
+    }
+
+    /// Appends the lines of a row of these cells, where each is seen to fit its column. It is told
+    /// whether that is so; else nothing is appended. After `OutOfMemory` the text of the output
+    /// begins with what it was.
+    pub fn draw_cells(
+        &mut self,
+        cells: &[PlainCell<'_>],
+        extent: Extent,
+        output: &mut Output,
+    ) -> Result<bool>
+        ensures drawn { IfOk result (λ is. IsTrue is → (row : RowValue) → IsRowOf cells.now row
+            → output.new ≡ with_lines (part_of_drawing self.old.table self.old.infos
+            extent.is_first extent.is_last (row ∷ [])) output.old) }
+        ensures other { IfOk result (λ is. is ≡ false → output.new ≡ output.old) }
+        ensures err { OnErr result (BeginsWith output.new.text output.old.text) }
+        ensures kept { AreSame self.old self.new }
+    {
+        let table = self.table;
+        if table.custom_styling || !are_fitting(cells, self.columns.as_slice()) {
+            return Ok(false);
+        }
+        mem::swap(&mut self.output, output);
+        let written = self.write_cells(cells, extent);
+        mem::swap(&mut self.output, output);
+        written?;
+        Ok(true)
+    }
+
     // The lines of these rows, and those around them.
-    fn write(&mut self, rows: &'a [Row], extent: Extent) -> Result<()>
+    fn write(&mut self, rows: &[Row], extent: Extent) -> Result<()>
         ensures ok { OnOk result (self.new
             ≡ with_written (part_of_drawing self.old.table self.old.infos extent.is_first
             extent.is_last rows.now) self.old) }
         ensures err { OnErr result (BeginsWith self.new.output.text self.old.output.text) }
+        ensures kept { AreSame self.old self.new }
     {
-        let frame = self.frame;
         self.write_rows_below(rows, extent.is_first)?;
-        if extent.is_last {
-            self.write_line(&frame.bottom)
-        } else {
-            Ok(())
-        }
+        self.write_below(extent.is_last)
     }
 
     // The lines of these rows, below the top border and the header, or below other rows.
-    fn write_rows_below(&mut self, rows: &'a [Row], is_first: bool) -> Result<()>
+    fn write_rows_below(&mut self, rows: &[Row], is_first: bool) -> Result<()>
         ensures ok { OnOk result (self.new
             ≡ with_written (rows_below self.old.table self.old.infos is_first rows.now)
             self.old) }
         ensures err { OnErr result (BeginsWith self.new.output.text self.old.output.text) }
+        ensures kept { AreSame self.old self.new }
     {
         if is_first {
             self.write_above()?;
@@ -146,11 +164,69 @@ impl<'a> Writer<'a> {
         }
     }
 
+    // The bottom border, below the last row.
+    fn write_below(&mut self, is_last: bool) -> Result<()>
+        ensures ok { OnOk result (self.new
+            ≡ with_written (if is_last
+            then optional_frame_line self.old.table.style self.old.table.style.bottom_border
+            (outer_widths self.old.infos)
+            else []) self.old) }
+        ensures err { OnErr result (BeginsWith self.new.output.text self.old.output.text) }
+        ensures kept { AreSame self.old self.new }
+    {
+        let frame = self.frame;
+        if is_last {
+            self.write_line(&frame.bottom)
+        } else {
+            Ok(())
+        }
+    }
+
+    // The line of a row of these cells, which fit their columns, and the lines around it.
+    fn write_cells(&mut self, cells: &[PlainCell<'_>], extent: Extent) -> Result<()>
+        requires unstyled { self.now.table.custom_styling ≡ false }
+        requires some { 0 < length (shown_infos self.now.infos) }
+        requires fitting { All (IsFitting cells.now) (shown_infos self.now.infos) }
+        ensures ok { OnOk result ((row : RowValue) → IsRowOf cells.now row → self.new
+            ≡ with_written (part_of_drawing self.old.table self.old.infos extent.is_first
+            extent.is_last (row ∷ [])) self.old) }
+        ensures err { OnErr result (BeginsWith self.new.output.text self.old.output.text) }
+        ensures kept { AreSame self.old self.new }
+    {
+        let frame = self.frame;
+        if extent.is_first {
+            self.write_above()?;
+        } else {
+            self.write_line(&frame.separator)?;
+        }
+        self.write_cell_line(cells)?;
+        self.write_below(extent.is_last)
+    }
+
+    // The line of a row of these cells, which fit their columns.
+    fn write_cell_line(&mut self, cells: &[PlainCell<'_>]) -> Result<()>
+        requires unstyled { self.now.table.custom_styling ≡ false }
+        requires some { 0 < length (shown_infos self.now.infos) }
+        requires fitting { All (IsFitting cells.now) (shown_infos self.now.infos) }
+        ensures ok { OnOk result ((row : RowValue) → IsRowOf cells.now row → self.new
+            ≡ with_written (drawn_row self.old.table self.old.infos
+            self.old.table.style.content_lines row) self.old) }
+        ensures err { OnErr result (BeginsWith self.new.output.text self.old.output.text) }
+        ensures kept { AreSame self.old self.new }
+    {
+        let frame = self.frame;
+        self.line.clear();
+        let columns = self.columns.as_slice();
+        push_plain_line(&mut self.line, &frame.gaps, cells, columns)?;
+        self.output.push_line(self.line.as_str())
+    }
+
     // The top border and the header.
     fn write_above(&mut self) -> Result<()>
         ensures ok { OnOk result (self.new
             ≡ with_written (lines_above self.old.table self.old.infos) self.old) }
         ensures err { OnErr result (BeginsWith self.new.output.text self.old.output.text) }
+        ensures kept { AreSame self.old self.new }
     {
         let frame = self.frame;
         self.write_line(&frame.top)?;
@@ -162,6 +238,7 @@ impl<'a> Writer<'a> {
         ensures ok { OnOk result (self.new
             ≡ with_written (map string_bytes (option_to_list line.now)) self.old) }
         ensures err { OnErr result (BeginsWith self.new.output.text self.old.output.text) }
+        ensures kept { AreSame self.old self.new }
     {
         if let Some(line) = line {
             self.output.push_line(line.as_str())?;
@@ -175,6 +252,7 @@ impl<'a> Writer<'a> {
             ≡ with_written (drawn_header self.old.table self.old.infos self.old.table.header)
             self.old) }
         ensures err { OnErr result (BeginsWith self.new.output.text self.old.output.text) }
+        ensures kept { AreSame self.old self.new }
     {
         let table = self.table;
         match &table.header {
@@ -184,31 +262,36 @@ impl<'a> Writer<'a> {
     }
 
     // The lines of this header, and the header separator.
-    fn write_header_lines(&mut self, header: &'a Row) -> Result<()>
+    fn write_header_lines(&mut self, header: &Row) -> Result<()>
         ensures ok { OnOk result (self.new
             ≡ with_written (drawn_header self.old.table self.old.infos (Some header.now))
             self.old) }
         ensures err { OnErr result (BeginsWith self.new.output.text self.old.output.text) }
+        ensures kept { AreSame self.old self.new }
     {
         let table = self.table;
         let style = &table.style;
         let gaps = RowGaps::new(table, &style.header_lines)?;
         let columns = self.columns.as_slice();
         let separator = optional_frame_line(table, &style.header_separator, columns)?;
-        self.write_row(&gaps, header)?;
+        let mut drawn = DrawnRow::new(*table.columns.allocator());
+        self.write_row(&mut drawn, &gaps, header)?;
         self.write_line(&separator)
     }
 
     // The lines of these rows, with the row separator between each two rows.
-    fn write_rows(&mut self, rows: &'a [Row]) -> Result<()>
+    fn write_rows(&mut self, rows: &[Row]) -> Result<()>
         ensures ok { OnOk result (self.new
             ≡ with_written (drawn_rows self.old.table self.old.infos rows.now) self.old) }
         ensures err { OnErr result (BeginsWith self.new.output.text self.old.output.text) }
+        ensures kept { AreSame self.old self.new }
     {
         let frame = self.frame;
         match rows.split_first() {
             Some((first, rest)) => {
-                self.write_row(&frame.gaps, first)?;
+                let table = self.table;
+                let mut drawn = DrawnRow::new(*table.columns.allocator());
+                self.write_row(&mut drawn, &frame.gaps, first)?;
                 self.write_further_rows(rest)
             }
             None => Ok(()),
@@ -216,30 +299,37 @@ impl<'a> Writer<'a> {
     }
 
     // The lines of these rows, with the row separator above each of them.
-    fn write_further_rows(&mut self, rows: &'a [Row]) -> Result<()>
+    fn write_further_rows(&mut self, rows: &[Row]) -> Result<()>
         ensures ok { OnOk result (self.new
             ≡ with_written (further_rows self.old.table self.old.infos rows.now) self.old) }
         ensures err { OnErr result (BeginsWith self.new.output.text self.old.output.text) }
+        ensures kept { AreSame self.old self.new }
     {
         let frame = self.frame;
+        let table = self.table;
+        let mut drawn = DrawnRow::new(*table.columns.allocator());
         for row in rows {
             self.write_line(&frame.separator)?;
-            self.write_row(&frame.gaps, row)?;
+            self.write_row(&mut drawn, &frame.gaps, row)?;
         }
         Ok(())
     }
 
-    // The lines of a row.
-    fn write_row(&mut self, gaps: &RowGaps, row: &'a Row) -> Result<()>
+    // The lines of a row, in the memory of rows before it.
+    fn write_row<'r>(
+        &mut self,
+        drawn: &mut DrawnRow<'a, 'r>,
+        gaps: &RowGaps,
+        row: &'r Row,
+    ) -> Result<()>
         ensures ok { OnOk result (self.new
             ≡ with_written (row_between gaps.now self.old.table self.old.infos row.now) self.old) }
         ensures err { OnErr result (BeginsWith self.new.output.text self.old.output.text) }
+        ensures kept { AreSame self.old self.new }
     {
         self.line.clear();
         let columns = self.columns.as_slice();
-        let height = self
-            .row
-            .push_first_line(&mut self.line, gaps, row, columns, self.table)?;
+        let height = drawn.push_first_line(&mut self.line, gaps, row, columns, self.table)?;
         if height == 0 {
             return Ok(());
         }
@@ -247,7 +337,7 @@ impl<'a> Writer<'a> {
             &mut self.output,
             &mut self.line,
             gaps,
-            &self.row,
+            drawn,
             columns,
             height,
         )
@@ -260,7 +350,7 @@ fn push_row<'a>(
     output: &mut Output,
     text: &mut String,
     gaps: &RowGaps,
-    row: &DrawnRow<'a>,
+    row: &DrawnRow<'a, '_>,
     columns: &[ShownColumn<'a>],
     height: usize,
 ) -> Result<()>

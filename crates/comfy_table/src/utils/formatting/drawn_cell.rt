@@ -22,13 +22,13 @@ const KEPT_LINES: usize = 256;
 
 /// A cell of a row as a shown column draws it.
 #[derive(Drop)]
-pub struct DrawnCell<'a> {
+pub struct DrawnCell<'a, 'r> {
     styles: Styles,
     info: &'a ColumnDisplayInfo,
-    lines: CellLines<'a>,
+    lines: CellLines<'r>,
 }
 
-impl<'a> Model for DrawnCell<'a> {
+impl<'a, 'r> Model for DrawnCell<'a, 'r> {
     ghost use Rattle.comfy_table.specs.CellLines.{lines_of};
     ghost use Rattle.comfy_table.specs.DrawnCells.{DrawnCell, pieces_of_content};
 
@@ -40,7 +40,7 @@ impl<'a> Model for DrawnCell<'a> {
     } };
 }
 
-impl<'a> DrawnCell<'a> {
+impl<'a, 'r> DrawnCell<'a, 'r> {
     /// How many lines the cell has. A missing one takes one line.
     pub fn height(&self) -> usize
         ensures { result ≡ length self.now.pieces }
@@ -73,7 +73,7 @@ impl<'a> DrawnCell<'a> {
 
 /// Takes a cell that isn't drawn any more. The list of its lines is kept, unless it is long.
 #[inline(always)]
-pub fn take_list<'a>(cell: DrawnCell<'a>, spare: &mut Vec<Vec<Line<'a>>>) -> Result<()> {
+pub fn take_list<'r>(cell: DrawnCell<'_, 'r>, spare: &mut Vec<Vec<Line<'r>>>) -> Result<()> {
     if let CellLines::Multiple(_, lines) = cell.lines
         && lines.capacity() <= KEPT_LINES
     {
@@ -83,11 +83,11 @@ pub fn take_list<'a>(cell: DrawnCell<'a>, spare: &mut Vec<Vec<Line<'a>>>) -> Res
 }
 
 /// The cells of a row in these columns, each the one at its column's own position.
-pub fn drawn_cells<'a>(
-    row: &'a Row,
+pub fn drawn_cells<'a, 'r>(
+    row: &'r Row,
     columns: &[ShownColumn<'a>],
     table: &Table,
-) -> Result<Vec<DrawnCell<'a>>>
+) -> Result<Vec<DrawnCell<'a, 'r>>>
     ensures { IfOk result (λ cells. cells.items
         ≡ map (drawn_cell table.now row.now) columns.now) }
 {
@@ -136,11 +136,11 @@ pub fn is_any_taller(
 
 // The height of a row in these columns. The lines of its cells stand in spare lists, if there are
 // any.
-fn row_height<'a>(
-    row: &'a Row,
-    columns: &[ShownColumn<'a>],
+fn row_height<'r>(
+    row: &'r Row,
+    columns: &[ShownColumn<'_>],
     table: &Table,
-    spare: &mut Vec<Vec<Line<'a>>>,
+    spare: &mut Vec<Vec<Line<'r>>>,
 ) -> Result<usize>
     ensures { IfOk result (λ height. height
         ≡ greatest_height (map (drawn_cell table.now row.now) columns.now)) }
@@ -157,13 +157,13 @@ fn row_height<'a>(
 
 /// A shown column with the cell that stands at its position in a row. Its lines may stand in a
 /// spare list.
-pub fn drawn_cell<'a>(
-    row: &'a Row,
+pub fn drawn_cell<'a, 'r>(
+    row: &'r Row,
     column: &ShownColumn<'a>,
     table: &Table,
     styles: Styles,
-    spare: &mut Vec<Vec<Line<'a>>>,
-) -> Result<DrawnCell<'a>>
+    spare: &mut Vec<Vec<Line<'r>>>,
+) -> Result<DrawnCell<'a, 'r>>
     requires { styles ≡ styles_of table.now }
     ensures { IfOk result (λ cell. cell ≡ drawn_cell table.now row.now column.now) }
 {

@@ -18,14 +18,14 @@ use std::marker::Model;
 /// further lines are kept: most rows have none. One row after another is drawn by it, in the memory
 /// of those before.
 #[derive(Drop)]
-pub struct DrawnRow<'a> {
+pub struct DrawnRow<'a, 'r> {
     // the cells from the first one on that has more than one line
-    further: Vec<DrawnCell<'a>>,
+    further: Vec<DrawnCell<'a, 'r>>,
     // lists in which the lines of earlier rows stood
-    spare: Vec<Vec<Line<'a>>>,
+    spare: Vec<Vec<Line<'r>>>,
 }
 
-impl<'a> Model for DrawnRow<'a> {
+impl<'a, 'r> Model for DrawnRow<'a, 'r> {
     ghost use Rattle.std.specs.Prelude.{List};
     ghost use Rattle.comfy_table.specs.DrawnCells.{DrawnCell};
 
@@ -34,9 +34,9 @@ impl<'a> Model for DrawnRow<'a> {
     ghost view = { λ r. r.further.items };
 }
 
-impl<'a> DrawnRow<'a> {
+impl<'a, 'r> DrawnRow<'a, 'r> {
     /// No row. It takes no memory.
-    pub fn new(alloc: Global) -> DrawnRow<'a>
+    pub fn new(alloc: Global) -> DrawnRow<'a, 'r>
         ensures { result ≡ [] }
     {
         DrawnRow {
@@ -51,7 +51,7 @@ impl<'a> DrawnRow<'a> {
         &mut self,
         text: &mut String,
         gaps: &RowGaps,
-        row: &'a Row,
+        row: &'r Row,
         columns: &[ShownColumn<'a>],
         table: &Table,
     ) -> Result<usize>
@@ -91,7 +91,7 @@ impl<'a> DrawnRow<'a> {
 
     // Keeps a cell for further lines, if it has any, or stands behind one that has.
     #[inline(always)]
-    fn keep(&mut self, cell: DrawnCell<'a>) -> Result<()>
+    fn keep(&mut self, cell: DrawnCell<'a, 'r>) -> Result<()>
         ensures { OnOk result (self.new ≡ with_further self.old cell.entry) }
     {
         if self.further.is_empty() && cell.height() <= 1 {

@@ -1,7 +1,8 @@
 //! A line of a cell as it stands in its column.
 
-ghost use Rattle.std.specs.Prelude.{◌≡◌, ◌+◌, ◌-◌, ◌≤◌, ◌++◌, [], IfOk, None, OnOk, false, string_bytes};
+ghost use Rattle.std.specs.Prelude.{◌≡◌, ◌+◌, ◌-◌, ◌^◌, ◌≤◌, ◌++◌, [], IfOk, None, OnOk, false, string_bytes, unwrap_or};
 ghost use Rattle.comfy_parts.specs.Text.{spaces};
+ghost use Rattle.comfy_parts.specs.declared.style.cell.CellAlignment.TheVariants.{Left};
 ghost use Rattle.comfy_table.specs.DrawnCells.{piece_with, styles_of};
 ghost use Rattle.comfy_table.specs.Gaps.{spaced};
 ghost use Rattle.comfy_table.specs.Pieces.{blank_piece, cell_alignment, free_before};
@@ -98,16 +99,23 @@ impl<'a> Piece<'a> {
         }
     }
 
+    /// A text between so many spaces, without styles.
+    pub fn bare(left: usize, text: &'a str, right: usize) -> Piece<'a>
+        ensures { result ≡ spaced (left, right) text.now }
+    {
+        Piece {
+            left,
+            text,
+            right,
+            styles: None,
+        }
+    }
+
     /// What stands where a column has no line.
     pub fn blank(info: &ColumnDisplayInfo) -> Piece<'a>
         ensures { result ≡ blank_piece info.now }
     {
-        Piece {
-            left: info.width(),
-            text: "",
-            right: 0,
-            styles: None,
-        }
+        Piece::bare(info.width(), "", 0)
     }
 
     /// Appends a gap, with so many spaces before it, and the piece without the spaces at its end.
@@ -151,8 +159,7 @@ fn push_styled(line: &mut String, text: &str, cell: &Cell, beside: (usize, usize
     push_style_end(line, cell)
 }
 
-// The spaces before and after a line of this measure: those that its alignment leaves, and the
-// paddings.
+// The spaces before and after a line of a cell of this measure.
 fn spaces_beside(cell: &Cell, info: &ColumnDisplayInfo, width: usize) -> (usize, usize)
     ensures left { result.0 ≡ info.now.padding.0
         + free_before (cell_alignment cell.now info.now) (info.now.content_width - width) }
@@ -160,17 +167,35 @@ fn spaces_beside(cell: &Cell, info: &ColumnDisplayInfo, width: usize) -> (usize,
         - free_before (cell_alignment cell.now info.now) (info.now.content_width - width)
         + info.now.padding.1 }
 {
+    let own = cell.cell_alignment();
+    spaces_around(own, info, width)
+}
+
+/// The spaces before and after a line of this measure, with this alignment or else that of the
+/// column: those that it leaves, and the paddings.
+pub fn spaces_around(
+    own: Option<CellAlignment>,
+    info: &ColumnDisplayInfo,
+    width: usize,
+) -> (usize, usize)
+    ensures left { result.0 ≡ info.now.padding.0 + free_before
+        (unwrap_or own (unwrap_or info.now.alignment Left)) (info.now.content_width - width) }
+    ensures right { result.1 ≡ info.now.content_width - width - free_before
+        (unwrap_or own (unwrap_or info.now.alignment Left)) (info.now.content_width - width)
+        + info.now.padding.1 }
+    ensures bound { result.1 + info.now.content_width ≤ 2 ^ 20 }
+{
     let free = (info.content_width as usize).saturating_sub(width);
-    let before = free_before(cell_alignment(cell, info), free);
+    let before = free_before(alignment_in(own, info), free);
     let (left, right) = info.padding;
     (left as usize + before, free - before + right as usize)
 }
 
-// The cell's own alignment, else its column's, else left.
-fn cell_alignment(cell: &Cell, info: &ColumnDisplayInfo) -> CellAlignment
-    ensures { result ≡ cell_alignment cell.now info.now }
+// A cell's own alignment, else its column's, else left.
+fn alignment_in(own: Option<CellAlignment>, info: &ColumnDisplayInfo) -> CellAlignment
+    ensures { result ≡ unwrap_or own (unwrap_or info.now.alignment Left) }
 {
-    match cell.cell_alignment() {
+    match own {
         Some(alignment) => alignment,
         None => info.cell_alignment.unwrap_or(CellAlignment::Left),
     }

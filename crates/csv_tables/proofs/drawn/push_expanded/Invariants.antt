@@ -1,4 +1,5 @@
 use Rattle.std.proofs.Common.{◌≡◌, ◌+◌, ◌++◌, length, string_bytes}
+use Rattle.comfy_table.specs.TableValue.{with_other_rows}
 use Rattle.csv_tables.specs.Contents.{expanded_from}
 use Rattle.csv_tables.proofs.drawn.push_expanded.Given as goal
 
@@ -8,3 +9,5 @@ invariant-loop-fields l =
     (string_bytes l.text ++ expanded_from l.contents.rows l.arranged.table l.arranged.infos l.at l.fields-iterator
     ≡ string_bytes l.initial.text ++ expanded_from l.contents.rows l.arranged.table l.arranged.infos l.place l.next)
     × (l.at + length l.fields-iterator ≡ l.place + length l.next)
+    × (with_other_rows l.arranged.table.rows l.writer.table ≡ l.arranged.table)
+    × (l.writer.infos ≡ l.arranged.infos)

@@ -10,7 +10,7 @@ returns-clause-ok g c =
     let infos = c.self.inside.infos.items in
     let rows = c.args.rows.now in
     let extent = c.args.extent in
-    let same : part_of_drawing c.table.result.now infos extent.is_first extent.is_last rows ≡ part_of_drawing whole infos extent.is_first extent.is_last rows =
-    sym (part_same c.table.result.now whole.rows infos extent.is_first extent.is_last rows)
-    ∙ ap (λ (t : TableValue). part_of_drawing t infos extent.is_first extent.is_last rows) c.table.ensures in
+    let same : part_of_drawing c.table-table.result.now infos extent.is_first extent.is_last rows ≡ part_of_drawing whole infos extent.is_first extent.is_last rows =
+    sym (part_same c.table-table.result.now whole.rows infos extent.is_first extent.is_last rows)
+    ∙ ap (λ (t : TableValue). part_of_drawing t infos extent.is_first extent.is_last rows) c.table-table.ensures in
     grind (arith, same)

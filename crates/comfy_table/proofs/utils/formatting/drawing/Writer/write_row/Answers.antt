@@ -1,4 +1,4 @@
-use Rattle.std.proofs.Common.{◌≡◌, ◌<◌, ◌++◌, ◌∷◌, ◌-◌, ℕ, List, length, map, string_bytes, ap, sym, ◌∙◌, arith}
+use Rattle.std.proofs.Common.{◌≡◌, ◌<◌, ◌++◌, ◌∷◌, ◌-◌, List, length, map, string_bytes, ap, sym, ◌∙◌, arith}
 use Rattle.std.proofs.lemmas.List.{length-map}
 use Rattle.std.proofs.lemmas.Result.{on_ok_weaker}
 use Rattle.std.specs.List.{range_with_len}
@@ -8,7 +8,6 @@ use Rattle.comfy_table.proofs.OutputLemmas.{with_lines-none}
 use Rattle.comfy_table.specs.DrawnCells.{drawn_cell, filled, piece_at}
 use Rattle.comfy_table.specs.Gaps.{gap_line, row_between}
 use Rattle.comfy_table.specs.Output.{OutputValue, WriterValue, with_lines, with_written}
-use Rattle.comfy_table.specs.Pieces.{shown_infos}
 use Rattle.comfy_table.proofs.utils.formatting.drawing.Writer.write_row.Goals as goal
 
 pub push_row-requires-clause-some : goal.push_row-requires-clause-some

@@ -1,9 +1,9 @@
-use Rattle.std.proofs.Common.{◌≡◌, ◌<◌, ◌≤◌, ◌+◌, ◌-◌, ◌++◌, ℕ, List, length, string_bytes, sym, ap, ap₂, ◌∙◌, arith, append_assoc, slice_index_or}
+use Rattle.std.proofs.Common.{◌≡◌, ◌<◌, ◌≤◌, ◌-◌, ◌++◌, ℕ, List, length, string_bytes, sym, ap, ap₂, ◌∙◌, arith, append_assoc, slice_index_or}
 use Rattle.std.proofs.lemmas.Bool.Decides.{nat_tests}
 use Rattle.comfy_parts.specs.CellValue.{ColumnInfo}
 use Rattle.comfy_parts.specs.Text.{Text, spaces}
 use Rattle.comfy_table.proofs.FurtherLineLemmas.{kept-at, length-filled, low-at}
-use Rattle.comfy_table.proofs.RowGapLemmas.{gap_before, gap_more, joined_all, joined_to}
+use Rattle.comfy_table.proofs.RowGapLemmas.{gap_more, joined_all, joined_to}
 use Rattle.comfy_table.proofs.SpaceLemmas.{last-pushed}
 use Rattle.comfy_table.specs.DrawnCells.{DrawnCell, filled, piece_at, without_piece}
 use Rattle.comfy_table.specs.Pieces.{blank_piece}

@@ -2,10 +2,10 @@ use Rattle.std.proofs.Common.{◌≡◌, arith, length, string_bytes}
 use Rattle.std.proofs.lemmas.Str.{IsUtf8-string_bytes}
 use Rattle.comfy_table.proofs.OutputLemmas.{begins-split}
 use Rattle.comfy_table.specs.Output.{BeginsWith}
-use Rattle.comfy_table.proofs.table.arranged.ArrangedTable.push_some_rows.Goals as goal
+use Rattle.comfy_table.proofs.table.row_writer.RowWriter.push_rows.Goals as goal
 
 pub truncate-requires : goal.truncate-requires
-truncate-requires g c within =
+truncate-requires c within =
     let old = c.args.text.now in
     let new = c.into_text.result in
     let size : c.len-had.result ≡ length (string_bytes old) = grind (arith, old.bytes.ok.0) in
