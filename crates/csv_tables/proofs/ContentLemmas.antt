@@ -1,5 +1,5 @@
 -- Tables whose rows stand elsewhere.
-use Rattle.std.proofs.Common.{◌≡◌, ◌<◌, ◌≤◌, ℕ, zero, suc, ◌+◌, ◌-◌, Bool, true, false, List, [], ◌∷◌, ◌++◌, Option, Some, None, flat_map, length, map, max, arith, append-nil, append_assoc, refl, ap, ap₂, sym, subst, ◌∙◌, ⊎_elim}
+use Rattle.std.proofs.Common.{◌≡◌, ◌≤◌, ℕ, zero, suc, ◌+◌, ◌-◌, Bool, true, false, List, [], ◌∷◌, ◌++◌, Option, Some, None, flat_map, length, map, max, arith, append-nil, append_assoc, refl, ap, ap₂, sym, subst, ◌∙◌, ⊎_elim}
 use Rattle.std.proofs.lemmas.Bool.{cases_lt}
 use Rattle.std.proofs.lemmas.List.{get_or_past, length-append, length-map}
 use Rattle.std.proofs.lemmas.List.FromFn.{get_or-map-range_with_len, length-map-range_with_len, length-range_with_len}
@@ -13,10 +13,9 @@ use Rattle.comfy_table.specs.Lines.{longest_line}
 use Rattle.comfy_table.specs.LongestLine.{cell_longest_line}
 use Rattle.comfy_table.specs.TableValue.{TableValue, cell_content_width, cells_at, cells_with_header, column_content_width, max_content_widths, with_other_rows, with_row, with_rows}
 use Rattle.csv_tables.specs.Cells.{counted_from, header_for, row_for}
-use Rattle.csv_tables.specs.Contents.{greatest_at, headed_by, made_by, measured_at, most_cells, pairs_by, rows_at, rows_from, table_by}
+use Rattle.csv_tables.specs.Contents.{greatest_at, headed_by, made_by, measured_at, most_cells, pairs_by, rows_from, table_by}
 use Rattle.csv_tables.specs.Drawn.{SelectedValue, empty_table, headed_table, pairs_in, pairs_table, rows_of, rows_table}
 use Rattle.csv_tables.specs.Unbroken.{cell_unbroken_width, field_width}
-use Rattle.csv_tables.specs.declared.options.DrawnColumn.{DrawnColumn}
 use Rattle.csv_tables.specs.declared.options.Look.{Look}
 use Rattle.csv_tables.specs.declared.rows.RecordRows.{RecordRows}
 

@@ -1,5 +1,5 @@
 -- Texts whose cells need not be made to know their widths.
-use Rattle.std.proofs.Common.{◌≡◌, ◌<◌, ◌≤◌, ℕ, Bool, true, false, not, ◌&&◌, List, [], ◌∷◌, ◌++◌, Option, None, Some, ◌==◌, chars, length, map, max, min, refl, ap, ap₂, sym, ◌∙◌, arith}
+use Rattle.std.proofs.Common.{◌≡◌, ◌≤◌, ℕ, Bool, true, false, not, ◌&&◌, List, [], ◌∷◌, ◌++◌, Option, None, ◌==◌, chars, length, map, max, min, refl, ap, ap₂, sym, ◌∙◌, arith}
 use Rattle.std.proofs.lemmas.Bool.{and_parts, not-true, or_parts}
 use Rattle.std.proofs.lemmas.Bool.Decides.{nat_tests}
 use Rattle.std.specs.List.{flat_map, list_any}
@@ -8,7 +8,7 @@ use Rattle.std.proofs.lemmas.List.Splits.{slice_split_none}
 use Rattle.std.proofs.lemmas.Str.{encodes-chars}
 use Rattle.std.specs.Str.{IsUtf8, NonePass}
 use Rattle.comfy_parts.proofs.CallerLemmas.{All-none, IsUtf8-printable, measure-printable, none_by_characters}
-use Rattle.comfy_parts.specs.CellValue.{CellValue, ColumnInfo, plain_cell}
+use Rattle.comfy_parts.specs.CellValue.{ColumnInfo, plain_cell}
 use Rattle.comfy_parts.specs.Text.{Text, greatest, is_printable_ascii, measure}
 use Rattle.comfy_parts.specs.VisibleText.{visible_text}
 use Rattle.comfy_parts.specs.Wrapping.{lines_of_text}

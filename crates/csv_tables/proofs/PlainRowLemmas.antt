@@ -1,25 +1,23 @@
 -- Rows of which no cell is made before they are drawn.
-use Rattle.std.proofs.Common.{◌≡◌, ◌≤◌, ◌+◌, ℕ, Bool, true, false, ◌&&◌, List, [], ◌∷◌, ◌++◌, Option, Some, None, IfSome, chars, length, map, max, arith, append-nil, decimal, refl, ap, ap₂, sym, subst, ◌∙◌}
+use Rattle.std.proofs.Common.{◌≡◌, ◌≤◌, ◌+◌, ℕ, Bool, true, false, ◌&&◌, List, ◌++◌, Option, Some, None, IfSome, map, max, arith, append-nil, decimal, refl, ap, ap₂, sym, ◌∙◌}
 use Rattle.std.proofs.lemmas.List.Folds.{list_all-append}
 use Rattle.std.proofs.lemmas.Simd.{map-map}
-use Rattle.std.specs.Prelude.{option_map, unwrap_or, if◌then◌else◌}
+use Rattle.std.specs.Prelude.{option_map, if◌then◌else◌}
 use Rattle.comfy_parts.proofs.CallerLemmas.{IsUtf8-printable}
-use Rattle.comfy_parts.specs.CellValue.{CellValue, RowValue}
+use Rattle.comfy_parts.specs.CellValue.{CellValue}
 use Rattle.comfy_parts.specs.Text.{Text, is_printable_ascii, spaces}
 use Rattle.comfy_table.specs.PlainCells.{IsRowOf}
 use Rattle.csv_records.proofs.CleaningLemmas.{none_replaced}
-use Rattle.csv_records.specs.Decimals.{spaces_behind}
 use Rattle.csv_records.specs.declared.decimals.Points.{Points}
 use Rattle.csv_tables.proofs.PlainLemmas.{stays_so}
 use Rattle.csv_tables.proofs.ShownLemmas.{spaces_printable}
-use Rattle.csv_tables.specs.Cells.{Shown, cell_for, columns_within, cut, field_text, is_blank, marked, pair_for, row_for, shown_fields, shown_number, text_in, unless_blank}
+use Rattle.csv_tables.specs.Cells.{Shown, cell_for, columns_within, field_text, is_blank, pair_for, shown_fields, shown_number, text_in}
 use Rattle.csv_tables.specs.Contents.{made_by, spaces_by, spaces_in}
 use Rattle.csv_tables.specs.Decimals.{spaced}
 use Rattle.csv_tables.specs.Fields.{field_or_blank}
 use Rattle.csv_tables.specs.declared.options.DrawnColumn.{DrawnColumn}
 use Rattle.csv_tables.specs.declared.options.Look.{Look}
 use Rattle.csv_tables.specs.declared.rows.RecordRows.{RecordRows}
-use Rattle.csv_records.specs.Cleaning.{cleaned}
 
 -- ---- texts that are what their cells have
 

@@ -1,6 +1,6 @@
 -- The text of records that are drawn one after another is that of their table.
-use Rattle.std.proofs.Common.{◌≡◌, ◌<◌, ◌≤◌, ℕ, zero, suc, ◌+◌, Bool, true, false, List, [], ◌∷◌, ◌++◌, drop, length, map, take, arith, append-nil, refl, ap, ap₂, sym, subst, ◌∙◌}
-use Rattle.std.proofs.Math.Seq.{drop-append-add, take-append_seam}
+use Rattle.std.proofs.Common.{◌≡◌, ℕ, zero, suc, ◌+◌, Bool, true, false, List, [], ◌∷◌, ◌++◌, drop, length, take, arith, refl, ap, ap₂, sym, ◌∙◌}
+use Rattle.std.proofs.Math.Seq.{drop-append-add}
 use Rattle.std.proofs.lemmas.List.{length-map, take-append-le, take_all}
 use Rattle.std.proofs.lemmas.List.Sums.{sum_by-cons}
 use Rattle.std.specs.List.{range_with_len, slice_index_or}
@@ -10,16 +10,16 @@ use Rattle.comfy_parts.specs.Text.{Text}
 use Rattle.comfy_table.proofs.OtherRowLemmas.{part-whole, part_same}
 use Rattle.comfy_table.proofs.PartLemmas.{all_rows_are_the_table}
 use Rattle.comfy_table.specs.Drawing.{drawing_of_infos, part_of_drawing, terminated_text_of}
-use Rattle.comfy_table.specs.Parts.{ArrangedValue, IsArrangedTable, part_text, with_rows_alone}
+use Rattle.comfy_table.specs.Parts.{ArrangedValue, IsArrangedTable}
 use Rattle.comfy_table.specs.TableValue.{TableValue, with_other_rows}
 use Rattle.csv_tables.proofs.ContentLemmas.{pairs_rows}
 use Rattle.csv_tables.proofs.ExpandedLemmas.{at_place}
 use Rattle.csv_tables.proofs.OutputLemmas.{text_of_table}
 use Rattle.csv_tables.specs.Cells.{held, pair_for}
 use Rattle.csv_tables.specs.Columns.{name_at}
-use Rattle.csv_tables.specs.Contents.{AreDrawnContents, drawn_next, expanded_from, expanded_record, fields_text, pairs_by, rows_from}
+use Rattle.csv_tables.specs.Contents.{AreDrawnContents, drawn_next, expanded_from, fields_text, pairs_by, rows_from}
 use Rattle.csv_tables.specs.ContentsValue.{ContentsValue}
-use Rattle.csv_tables.specs.Drawn.{RendersAsTable, SelectedValue, drawn_fields, record_line, record_text, some_lines, table_text}
+use Rattle.csv_tables.specs.Drawn.{RendersAsTable, drawn_fields, record_line, record_text, some_lines, table_text}
 use Rattle.csv_tables.specs.Fields.{field_or_blank}
 use Rattle.csv_tables.specs.declared.options.DrawnColumn.{DrawnColumn}
 use Rattle.csv_tables.specs.declared.options.Look.{Look}

@@ -1,13 +1,13 @@
 -- Rows of which a field is measured before its cell is made.
-use Rattle.std.proofs.Common.{◌≡◌, ◌<◌, ◌≤◌, ℕ, zero, suc, ◌+◌, ◌-◌, Bool, true, false, not, ◌&&◌, List, [], ◌∷◌, ◌++◌, Option, Some, None, length, map, max, min, arith, refl, ap, ap₂, sym, subst, ◌∙◌, ◌⊎◌, inl, inr, append-nil, chars, nat_lt, ◌==◌, ◌≢◌, ⊎_elim}
-use Rattle.std.proofs.lemmas.Bool.{and_parts, cases_lt, eqb-false, eqb-true, not-true}
+use Rattle.std.proofs.Common.{◌≡◌, ◌≤◌, ℕ, zero, suc, ◌+◌, Bool, true, false, not, ◌&&◌, List, [], ◌++◌, Option, Some, None, length, max, min, arith, refl, ap, ap₂, sym, subst, ◌∙◌, ◌⊎◌, inl, inr, append-nil, chars, nat_lt, ◌==◌, ◌≢◌, ⊎_elim}
+use Rattle.std.proofs.lemmas.Bool.{cases_lt, eqb-false, eqb-true}
 use Rattle.std.proofs.lemmas.Bool.Decides.{nat_tests}
 use Rattle.std.proofs.lemmas.List.{length-append, length-map}
 use Rattle.std.proofs.lemmas.List.Folds.{list_all-append}
 use Rattle.std.proofs.lemmas.Option.{slice_get-map, slice_get_past}
 use Rattle.std.specs.List.{list_any, slice_get}
 use Rattle.std.specs.Prelude.{decimal, option_map, unwrap_or, if◌then◌else◌}
-use Rattle.comfy_parts.specs.CellValue.{CellValue, RowValue}
+use Rattle.comfy_parts.specs.CellValue.{CellValue}
 use Rattle.comfy_parts.specs.Text.{Text, is_printable_ascii, spaces}
 use Rattle.comfy_table.specs.TableValue.{TableValue, cell_content_width}
 use Rattle.comfy_parts.proofs.CallerLemmas.{IsUtf8-printable, measure-printable}
@@ -17,7 +17,7 @@ use Rattle.csv_records.specs.Decimals.{spaces_behind}
 use Rattle.csv_records.specs.declared.decimals.Points.{Points}
 use Rattle.csv.specs.Records.{field_at}
 use Rattle.csv_tables.proofs.PlainLemmas.{plain_parts, plain_width}
-use Rattle.csv_tables.specs.Cells.{Shown, cell_for, columns_within, is_blank, shown_cells, shown_fields, shown_number, text_in}
+use Rattle.csv_tables.specs.Cells.{Shown, cell_for, columns_within, is_blank, shown_fields, shown_number, text_in}
 use Rattle.csv_tables.specs.Contents.{IsPlainShown, IsPlainText, made_by, measured_at, shown_by, spaces_by, spaces_in}
 use Rattle.csv_tables.specs.Decimals.{spaced}
 use Rattle.csv_tables.specs.declared.options.DrawnColumn.{DrawnColumn}

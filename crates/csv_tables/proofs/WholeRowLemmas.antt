@@ -1,5 +1,5 @@
 -- Rows of fields that are whole characters keep what all rows keep.
-use Rattle.std.proofs.Common.{◌≡◌, ◌≤◌, ℕ, ◌+◌, Bool, true, false, ◌==◌, List, [], ◌∷◌, ◌++◌, Option, Some, None, IfSome, max, map, arith, append-nil, decimal, ◌&&◌, encode_utf8, encode_utf8_all, eqb-true, refl, ap, ap₂, ◌||◌, sym, subst, ◌∙◌}
+use Rattle.std.proofs.Common.{◌≡◌, ◌≤◌, ℕ, ◌+◌, Bool, true, false, ◌==◌, List, [], ◌∷◌, ◌++◌, Option, Some, None, IfSome, max, arith, append-nil, decimal, ◌&&◌, encode_utf8, encode_utf8_all, eqb-true, refl, ap, ap₂, ◌||◌, sym, subst, ◌∙◌}
 use Rattle.std.proofs.lemmas.Bool.{and_parts}
 use Rattle.std.proofs.lemmas.List.Elements.{All-append, All-cons, All-head, All-map, All-nil, All-tail, All-weaker}
 use Rattle.std.proofs.lemmas.List.Folds.{list_any-append}
@@ -10,7 +10,7 @@ use Rattle.std.specs.Str.{IsUtf8}
 use lib.Utf8.{encode, scalar, scalars}
 use Rattle.comfy_parts.proofs.CallerLemmas.{All-every, IsUtf8-printable, encoded_clear}
 use Rattle.comfy_parts.proofs.PrintableLineLemmas.{some_parts}
-use Rattle.comfy_parts.specs.CellValue.{CellValue, HasTextLines, IsCell, IsRow, RowValue}
+use Rattle.comfy_parts.specs.CellValue.{HasTextLines, IsCell, IsRow}
 use Rattle.comfy_parts.specs.Text.{Text}
 use Rattle.comfy_parts.specs.declared.style.cell.CellAlignment.{CellAlignment}
 use Rattle.csv.specs.Records.{AllText}
@@ -20,7 +20,7 @@ use Rattle.csv_tables.proofs.BuiltLemmas.{each_field, each_name, fields_each, nu
 use Rattle.csv_tables.proofs.FieldLemmas.{IsShortPrintable}
 use Rattle.csv_tables.proofs.FittingLemmas.{text_drawn}
 use Rattle.csv_tables.proofs.OutputControlLemmas.{text_fields}
-use Rattle.csv_tables.proofs.TextLineLemmas.{AreLines, lines-front, lines_of, text_lines}
+use Rattle.csv_tables.proofs.TextLineLemmas.{lines-front, lines_of, text_lines}
 use Rattle.csv_tables.specs.Cells.{Shown, cell_for, columns_within, field_text, is_blank, marked, pair_for, shown_fields, shown_number, text_in, unless_blank, with_weight}
 use Rattle.csv_tables.specs.Columns.{name_at}
 use Rattle.csv_tables.specs.Contents.{made_by, pairs_by, rows_at, rows_from, shown_by}

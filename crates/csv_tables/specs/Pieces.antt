@@ -1,6 +1,6 @@
 -- Private: drawings of which a piece is ready, and others are made later.
 -- Source: this library's own.
-use Rattle.std.specs.Prelude.{List, [], ◌++◌, Option, Some, None, String, true, drop, string_bytes}
+use Rattle.std.specs.Prelude.{[], ◌++◌, Option, Some, None, true, drop, string_bytes}
 use Rattle.comfy_parts.specs.Text.{Text}
 use Rattle.csv_tables.specs.Contents.{drawn_next}
 use Rattle.csv_tables.specs.declared.drawn.OpenDrawing.{OpenDrawing}

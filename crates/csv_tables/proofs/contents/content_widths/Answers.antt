@@ -1,10 +1,10 @@
-use Rattle.std.proofs.Common.{◌≡◌, ◌+◌, ◌++◌, ◌∷◌, [], ℕ, List, ap, ap₂, arith, length, max, subst, sym, ◌∙◌, rules}
+use Rattle.std.proofs.Common.{◌≡◌, ◌+◌, ◌++◌, [], ℕ, List, ap, ap₂, arith, length, max, ◌∙◌, rules}
 use Rattle.std.proofs.lemmas.List.FromFn.{length-map-range_with_len}
 use Rattle.std.specs.Iterator.Adapters.{enumerate_count, enumerate_source}
 use Rattle.std.specs.List.{slice_index_or}
 use Rattle.comfy_parts.specs.CellValue.{RowValue}
 use Rattle.comfy_parts.specs.Text.{Text}
-use Rattle.comfy_table.specs.TableValue.{cell_content_width, column_content_width, max_content_widths, with_other_rows}
+use Rattle.comfy_table.specs.TableValue.{cell_content_width, column_content_width, max_content_widths}
 use Rattle.csv_tables.proofs.ContentLemmas.{greatest_at-append, header_widths, most_cells-append, no_rows, width_below}
 use Rattle.csv_tables.specs.Contents.{greatest_at, most_cells, rows_at, rows_from}
 use Rattle.csv_tables.proofs.contents.content_widths.Goals as goal

@@ -1,4 +1,4 @@
-use Rattle.std.proofs.Common.{◌≡◌, ◌<◌, ◌≤◌, ◌+◌, ◌++◌, ◌==◌, [], ℕ, Bool, List, ap, ap₂, append-nil, append_assoc, arith, drop, false, length, refl, string_bytes, sym, take, true, ◌∙◌, rules}
+use Rattle.std.proofs.Common.{◌≡◌, ◌+◌, ◌++◌, ◌==◌, ℕ, Bool, List, ap, ap₂, append-nil, append_assoc, arith, drop, false, length, refl, string_bytes, sym, take, true, ◌∙◌, rules}
 use Rattle.std.proofs.lemmas.Bool.Decides.{nat_tests}
 use Rattle.std.proofs.lemmas.List.{length-drop}
 use Rattle.comfy_parts.specs.CellValue.{ColumnInfo}

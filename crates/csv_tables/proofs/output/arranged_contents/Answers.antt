@@ -1,7 +1,7 @@
-use Rattle.std.proofs.Common.{◌≡◌, [], All, List, ap, ap₂, false, subst, sym, ◌∙◌, rules}
+use Rattle.std.proofs.Common.{◌≡◌, [], All, List, ap, ap₂, false, subst, sym, ◌∙◌}
 use Rattle.std.specs.Prelude.{unwrap_or}
 use Rattle.comfy_parts.specs.CellValue.{ColumnInfo, IsRow}
-use Rattle.comfy_table.specs.Parts.{ArrangedValue, IsArrangedTable}
+use Rattle.comfy_table.specs.Parts.{IsArrangedTable}
 use Rattle.comfy_table.specs.TableValue.{TableValue}
 use Rattle.csv_tables.proofs.WholeRowLemmas.{rows_whole}
 use Rattle.csv.specs.Records.{AllText}

@@ -1,9 +1,9 @@
-use Rattle.std.proofs.Common.{◌≡◌, ◌++◌, ap, ap₂, false, refl, string_bytes, subst, sym, true, ◌∙◌}
+use Rattle.std.proofs.Common.{◌≡◌, ◌++◌, ap, subst, sym, true, ◌∙◌}
 use Rattle.std.proofs.lemmas.Result.{IfOk-weaker}
 use Rattle.comfy_parts.specs.Text.{Text}
 use Rattle.csv_tables.proofs.RecordTextLemmas.{renders}
 use Rattle.csv_tables.specs.Contents.{AreDrawnContents, drawn_next}
-use Rattle.csv_tables.specs.Drawn.{RendersAsTable, RendersContent, RendersRecords, SelectedValue, note_for}
+use Rattle.csv_tables.specs.Drawn.{RendersAsTable, RendersContent, SelectedValue, note_for}
 use Rattle.csv_tables.proofs.output.drawn_records.Goals as goal
 
 pub returns : goal.returns

@@ -1,10 +1,9 @@
-use Rattle.std.proofs.Common.{◌≡◌, ◌∙◌, ◌&&◌, ◌||◌, Bool, ap, ap₂, false, not, subst, sym, true, rules}
+use Rattle.std.proofs.Common.{◌≡◌, ◌∙◌, ◌&&◌, ◌||◌, Bool, ap, ap₂, false, not, subst, sym, true}
 use Rattle.std.specs.Result.{IfOk}
-use Rattle.comfy_table.specs.TableValue.{TableValue}
 use Rattle.csv_tables.proofs.SpacedLemmas.{fits, without_room}
 use Rattle.csv_tables.specs.Contents.{AreContentsOf}
 use Rattle.csv_tables.specs.Decimals.{has_points}
-use Rattle.csv_tables.specs.Drawn.{SelectedValue, has_room_for, is_aligned_in, rows_table, unbroken_in}
+use Rattle.csv_tables.specs.Drawn.{SelectedValue, has_room_for, rows_table, unbroken_in}
 use Rattle.csv_tables.specs.Unbroken.{has_room, kept_unbroken}
 use Rattle.csv_tables.proofs.output.fitting_contents.Goals as goal
 use Rattle.csv_tables.proofs.output.fitting_contents.Goals.{else-look, then-has_room-via-else-has_room+then-not-is_aligned, then-has_room-via-then-has_room, then-look}

@@ -1,6 +1,5 @@
 use Rattle.std.proofs.Common.{◌≡◌, ◌∙◌, Some, ap, false, sym, true, rules}
 use Rattle.csv_tables.proofs.UnbrokenLemmas.{kept-test}
-use Rattle.csv_tables.specs.ContentsValue.{ContentsValue}
 use Rattle.csv_tables.specs.Drawn.{unbroken_in}
 use Rattle.csv_tables.specs.Unbroken.{has_room, kept_unbroken, with_constrained}
 use Rattle.csv_tables.proofs.unbroken.keep_unbroken.Goals as goal

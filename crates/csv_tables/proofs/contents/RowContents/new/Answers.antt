@@ -1,4 +1,4 @@
-use Rattle.std.proofs.Common.{◌≡◌, ℕ, ap, arith, length, max, sym, ◌∙◌, rules}
+use Rattle.std.proofs.Common.{◌≡◌, ap, arith, length, max, sym, ◌∙◌, rules}
 use Rattle.comfy_parts.specs.CellValue.{columns_grown_to}
 use Rattle.comfy_parts.proofs.ValueLemmas.{no_fewer_columns}
 use Rattle.comfy_table.specs.TableValue.{TableValue, column_content_width, with_other_rows}

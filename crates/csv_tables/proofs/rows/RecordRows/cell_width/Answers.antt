@@ -1,4 +1,4 @@
-use Rattle.std.proofs.Common.{◌≡◌, ap, ap₂, sym, ◌∙◌, rules}
+use Rattle.std.proofs.Common.{◌∙◌}
 use Rattle.csv_tables.proofs.ShownLemmas.{plain_cell_width}
 use Rattle.csv_tables.proofs.rows.RecordRows.cell_width.Goals as goal
 

@@ -1,4 +1,4 @@
-use Rattle.std.proofs.Common.{◌≡◌, ◌≤◌, ℕ, IfSome, Option, Some, None, arith, length, refl, slice_get, true, rules}
+use Rattle.std.proofs.Common.{◌≡◌, ◌≤◌, ℕ, IfSome, Option, Some, None, arith, length, refl, slice_get, rules}
 use Rattle.std.proofs.lemmas.Option.{slice_get_read, slice_get_within}
 use Rattle.std.specs.Prelude.{max, option_map}
 use Rattle.comfy_parts.specs.CellValue.{ColumnInfo}

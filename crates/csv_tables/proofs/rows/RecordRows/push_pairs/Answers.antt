@@ -1,4 +1,4 @@
-use Rattle.std.proofs.Common.{rules, ◌≡◌, ◌==◌, ◌<◌, ◌≤◌, ◌+◌, ◌++◌, ◌∷◌, [], ℕ, Bool, List, true, false, ap, ap₂, append-nil, append_assoc, arith, length, refl, string_bytes, subst, sym, take, ◌∙◌}
+use Rattle.std.proofs.Common.{rules, ◌≡◌, ◌==◌, ◌<◌, ◌≤◌, ◌+◌, ◌++◌, ◌∷◌, [], ℕ, Bool, List, true, false, ap, ap₂, append-nil, append_assoc, arith, length, refl, string_bytes, sym, take, ◌∙◌}
 use Rattle.std.proofs.lemmas.Bool.Decides.{nat_tests}
 use Rattle.std.proofs.lemmas.List.{length-append}
 use Rattle.std.proofs.lemmas.Result.{on_ok_weaker}
@@ -11,7 +11,7 @@ use Rattle.comfy_table.specs.Parts.{ArrangedValue}
 use Rattle.csv.specs.Records.{field_at}
 use Rattle.csv_tables.specs.Cells.{columns_within, pair_for}
 use Rattle.csv_tables.specs.Columns.{name_at}
-use Rattle.csv_tables.specs.Contents.{fields_text, pairs_by}
+use Rattle.csv_tables.specs.Contents.{pairs_by}
 use Rattle.csv_tables.specs.Drawn.{pairs_of}
 use Rattle.csv_tables.specs.declared.options.DrawnColumn.{DrawnColumn}
 use Rattle.csv_tables.proofs.ExpandedLemmas.{pairs-all, pairs-none, pairs-some}

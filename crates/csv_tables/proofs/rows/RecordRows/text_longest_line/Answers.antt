@@ -1,4 +1,4 @@
-use Rattle.std.proofs.Common.{◌≤◌, ap, arith, subst, sym, ◌∙◌, rules}
+use Rattle.std.proofs.Common.{◌≤◌, ap, arith, subst, rules}
 use Rattle.comfy_parts.specs.Text.{measure}
 use Rattle.csv_tables.proofs.PlainLemmas.{plain_longest}
 use Rattle.csv_tables.specs.Contents.{IsPlainText}

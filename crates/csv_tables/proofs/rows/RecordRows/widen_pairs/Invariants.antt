@@ -1,5 +1,4 @@
 use Rattle.std.proofs.Common.{◌≡◌, ℕ, length, max, take}
-use Rattle.std.specs.Prelude.{unwrap_or}
 use Rattle.std.specs.List.{slice_index_or}
 use Rattle.comfy_table.specs.TableValue.{cell_content_width}
 use Rattle.csv_tables.specs.Cells.{columns_within}

@@ -1,4 +1,4 @@
-use Rattle.std.proofs.Common.{All, Bool, List, Option, true, false, ap, subst, sym, [], ◌∷◌}
+use Rattle.std.proofs.Common.{All, Bool, List, Option, true, false, ap, subst, [], ◌∷◌}
 use Rattle.std.proofs.lemmas.List.Elements.{All-head}
 use Rattle.std.specs.Prelude.{unwrap_or}
 use Rattle.csv.specs.Records.{AllText}
