@@ -101,7 +101,3 @@ pub one_gap_less : (gaps at : ℕ) (line : Text) → at < gaps → (length (behi
 one_gap_less gaps at line less some =
     let step : gaps - at ≡ suc (gaps - (at + 1)) = omega arith in
     rw (step, some) refl
-
-pub map_then : (f : Text → Text) (texts : List (Bor (List ℕ))) → map (λ (t : Bor (List ℕ)). f t.now) texts ≡ map f (map (λ (t : Bor (List ℕ)). t.now) texts)
-map_then f [] = refl
-map_then f (t ∷ texts) = ap (λ (more : List Text). f t.now ∷ more) (map_then f texts)

@@ -1,7 +1,7 @@
 -- Texts whose fields stand between runs of spaces and TABs.
 -- Source: this library's own.
-use Rattle.std.specs.Prelude.{ℕ, zero, suc, ◌+◌, ◌-◌, ◌==◌, ◌&&◌, ◌||◌, not, Bool, false, List, [], ◌∷◌, ◌++◌, drop, flat_map, map, max, min, take, if◌then◌else◌, length}
-use Rattle.std.specs.List.{filter, position_or_len, prefix_len, slice_split, suffix_len}
+use Rattle.std.specs.Prelude.{ℕ, zero, suc, ◌+◌, ◌-◌, ◌==◌, ◌&&◌, ◌||◌, not, nat_le, Bool, false, List, [], ◌∷◌, ◌++◌, bytes_eq, codes, drop, flat_map, map, max, min, take, if◌then◌else◌, length}
+use Rattle.std.specs.List.{filter, list_any, position_or_len, prefix_len, slice_split, suffix_len}
 use Rattle.std.specs.Char.{is_ascii_whitespace}
 use Rattle.comfy_parts.specs.Text.{Text}
 
@@ -30,21 +30,59 @@ trimmed_line line =
     let rest = drop (prefix_len is_ascii_whitespace line) line in
     take (length rest - suffix_len is_ascii_whitespace rest) rest
 
--- the lines of a text that aren't blank, without such white space
+-- the lines of a text that aren't blank
 abbrev pub filled_lines : Text → List Text
 filled_lines text =
-    filter (λ line. not (length line == 0)) (map trimmed_line (slice_split (λ b. b == 0x0A) text))
+    filter (λ line. not (length (trimmed_line line) == 0)) (slice_split (λ b. b == 0x0A) text)
+
+-- a line as `total 92`, which `ls -l` writes above its list
+abbrev pub begins_with_digit : Text → Bool
+begins_with_digit [] = false
+begins_with_digit (b ∷ rest) = nat_le 0x30 b && nat_le b 0x39
+
+abbrev pub is_total : Text → Bool
+is_total line =
+    bytes_eq (first_field line) (codes "total") && begins_with_digit (behind_field line)
+
+-- lines without such a first one
+abbrev pub below_total : List Text → List Text
+below_total [] = []
+below_total (line ∷ lines) = if is_total line then lines else line ∷ lines
+
+-- how many gaps a line has
+abbrev pub line_gaps : Text → ℕ
+line_gaps line = gaps_from false (trimmed_line line)
 
 -- how many gaps the fullest of some lines has
 abbrev pub most_gaps : List Text → ℕ
 most_gaps [] = 0
-most_gaps (line ∷ lines) = max (gaps_from false line) (most_gaps lines)
+most_gaps (line ∷ lines) = max (line_gaps line) (most_gaps lines)
+
+-- a line begins with a gap
+abbrev pub is_indented : Text → Bool
+is_indented [] = false
+is_indented (b ∷ rest) = is_gap b
+
+-- the first column has no name, as in what `free` writes: the first line alone begins with a gap,
+-- and the fullest below it has one field more
+abbrev pub lacks_name : List Text → Bool
+lacks_name [] = false
+lacks_name (first ∷ others) =
+    (is_indented first && not (list_any is_indented others))
+    && (most_gaps others - line_gaps first == 1)
+
+-- the gap behind such a name
+abbrev pub name_gap : List Text → Text
+name_gap lines = if lacks_name lines then 0x09 ∷ [] else []
 
 -- how many gaps part columns: as many as the first line has, and no more than the fullest below it
 abbrev pub column_gaps : List Text → ℕ
 column_gaps [] = 0
-column_gaps (first ∷ []) = gaps_from false first
-column_gaps (first ∷ other ∷ others) = min (gaps_from false first) (most_gaps (other ∷ others))
+column_gaps (first ∷ []) = line_gaps first
+column_gaps (first ∷ other ∷ others) =
+    if lacks_name (first ∷ other ∷ others)
+    then most_gaps (other ∷ others)
+    else min (line_gaps first) (most_gaps (other ∷ others))
 
 -- with spaces for its TABs
 abbrev pub spaced : Text → Text
@@ -61,5 +99,6 @@ tabbed_line (suc gaps) line =
 -- a text with TABs between its fields
 abbrev pub tabbed_text : Text → Text
 tabbed_text text =
-    flat_map (λ line. tabbed_line (column_gaps (filled_lines text)) line ++ 0x0A ∷ [])
-    (filled_lines text)
+    let lines = below_total (filled_lines text) in
+    name_gap lines
+    ++ flat_map (λ line. tabbed_line (column_gaps lines) (trimmed_line line) ++ 0x0A ∷ []) lines

@@ -1,43 +1,70 @@
 //! Texts whose fields stand between spaces, as `df -h` and `ls -l` write them.
 
 ghost use Rattle.std.specs.Prelude.{◌≡◌, ◌++◌, IfOk, OnOk, false, length, map, max, not, option_map, string_bytes};
-ghost use Rattle.std.specs.List.{position, position_or_len};
+ghost use Rattle.std.specs.List.{list_any, position, position_or_len};
 ghost use Rattle.csv_records.specs.Number.{halves};
-ghost use Rattle.csv_records.specs.Spaces.{column_gaps, filled_lines, behind_field, first_field, gaps_from, is_gap, most_gaps, spaced, tabbed_line, tabbed_text, trimmed_line};
+ghost use Rattle.csv_records.specs.Spaces.{begins_with_digit, below_total, column_gaps, filled_lines, behind_field, first_field, gaps_from, is_gap, is_indented, is_total, lacks_name, line_gaps, most_gaps, name_gap, spaced, tabbed_line, tabbed_text, trimmed_line};
 
 use std::alloc::{AllocError, Global};
 
 /// The text with TABs between its fields. In a line these stand between runs of spaces and TABs;
-/// white space of ASCII at its ends doesn't count, and a blank line is left out. There are as many
-/// columns as the first line has fields, and no more than the fullest line below it. The last one
-/// takes all that is left of a line, with a space for each TAB.
+/// white space of ASCII at its ends doesn't count, and a blank line is left out, as is a first one
+/// like `total 92`. There are as many columns as the first line has fields, and no more than the
+/// fullest line below it. The last one takes all that is left of a line, with a space for each TAB.
+/// Where the first line alone begins with a gap and has one field less than that fullest line, its
+/// first field is empty.
 pub(crate) fn tabbed_text(alloc: Global, text: &str) -> Result<String, AllocError>
     ensures { IfOk result (λ tabbed. string_bytes tabbed ≡ tabbed_text text.now) }
 {
-    let lines = filled_lines(alloc, text)?;
-    let gaps = column_gaps(lines.as_slice());
-    let mut tabbed = String::new(alloc);
-    for line in &lines {
-        push_tabbed(&mut tabbed, line, gaps)?;
+    let filled = filled_lines(alloc, text)?;
+    let lines = below_total(filled.as_slice());
+    let gaps = column_gaps(lines);
+    let mut tabbed = String::from_str(alloc, name_gap(lines))?;
+    for line in lines {
+        push_tabbed(&mut tabbed, trimmed_line(line), gaps)?;
         tabbed.push('\n')?;
     }
     Ok(tabbed)
 }
 
-// The lines of a text that aren't blank, without the white space of ASCII at their ends.
+// The lines of a text that aren't blank.
 fn filled_lines(alloc: Global, text: &str) -> Result<Vec<&str>, AllocError>
     ensures { IfOk result (λ lines. map (λ line. line.now) lines.items ≡ filled_lines text.now) }
 {
     let mut lines = Vec::new(alloc);
     for line in text.split('\n') {
-        let line = trimmed_line(line);
-        if !line.is_empty() {
+        if !trimmed_line(line).is_empty() {
             lines.push(line)?;
         }
     }
     Ok(lines)
 }
 
+// These lines without a first one like `total 92`.
+fn below_total<'a>(lines: &'a [&'a str]) -> &'a [&'a str]
+    ensures { map (λ line. line.now) result.now
+        ≡ below_total (map (λ line. line.now) lines.now) }
+{
+    match lines {
+        [first, others @ ..] if is_total(first) => others,
+        _ => lines,
+    }
+}
+
+fn is_total(line: &str) -> bool
+    ensures { result ≡ is_total line.now }
+{
+    let (word, rest) = split_field(line);
+    word == "total" && begins_with_digit(rest.as_bytes())
+}
+
+fn begins_with_digit(bytes: &[u8]) -> bool
+    ensures { result ≡ begins_with_digit bytes.now }
+{
+    matches!(bytes, [b'0'..=b'9', ..])
+}
+
+// A line without the white space of ASCII at its ends.
 fn trimmed_line(line: &str) -> &str
     ensures { result.now ≡ trimmed_line line.now }
 {
@@ -50,8 +77,50 @@ fn column_gaps(lines: &[&str]) -> usize
 {
     match lines {
         [] => 0,
-        [first] => gaps_of(first.as_bytes()),
-        [first, others @ ..] => gaps_of(first.as_bytes()).min(most_gaps(others)),
+        [first] => line_gaps(first),
+        [_, others @ ..] if lacks_name(lines) => most_gaps(others),
+        [first, others @ ..] => line_gaps(first).min(most_gaps(others)),
+    }
+}
+
+// The gap behind the first column's name, where it has none.
+fn name_gap(lines: &[&str]) -> &'static str
+    ensures { result.now ≡ name_gap (map (λ line. line.now) lines.now) }
+{
+    if lacks_name(lines) { "\t" } else { "" }
+}
+
+// Whether the first line alone begins with a gap, and the fullest below it has one field more.
+fn lacks_name(lines: &[&str]) -> bool
+    ensures { result ≡ lacks_name (map (λ line. line.now) lines.now) }
+{
+    match lines {
+        [] => false,
+        [first, others @ ..] => {
+            is_indented(first)
+                && !any_indented(others)
+                && most_gaps(others).saturating_sub(line_gaps(first)) == 1
+        }
+    }
+}
+
+fn any_indented(lines: &[&str]) -> bool
+    ensures { result ≡ list_any is_indented (map (λ line. line.now) lines.now) }
+{
+    for line in lines {
+        if is_indented(line) {
+            return true;
+        }
+    }
+    false
+}
+
+fn is_indented(line: &str) -> bool
+    ensures { result ≡ is_indented line.now }
+{
+    match line.as_bytes() {
+        [first, ..] => is_gap(*first),
+        [] => false,
     }
 }
 
@@ -61,9 +130,16 @@ fn most_gaps(lines: &[&str]) -> usize
 {
     let mut most = 0usize;
     for line in lines {
-        most = most.max(gaps_of(line.as_bytes()));
+        most = most.max(line_gaps(line));
     }
     most
+}
+
+// How many gaps a line has.
+fn line_gaps(line: &str) -> usize
+    ensures { result ≡ line_gaps line.now }
+{
+    gaps_of(trimmed_line(line).as_bytes())
 }
 
 // How many gaps stand in a line.

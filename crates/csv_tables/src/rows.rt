@@ -95,7 +95,8 @@ impl RecordRows {
     ) -> Result<bool>
         ensures drawn { IfOk result (λ is. IsTrue is → (at : ℕ) → string_bytes text.new
             ≡ string_bytes text.old ++ terminated_text_of (part_of_drawing writer.old.table
-            writer.old.infos extent.is_first extent.is_last (made_by self.now at fields.now ∷ []))) }
+            writer.old.infos extent.is_first extent.is_last
+            (made_by self.now at fields.now ∷ []))) }
         ensures other { IfOk result (λ is. is ≡ false
             → string_bytes text.new ≡ string_bytes text.old) }
         ensures kept { writer.new ≡ writer.old }
@@ -196,7 +197,7 @@ impl RecordRows {
         writer.push_rows(text, row.as_slice(), extent)
     }
 
-    // The same where both are one line as they are, and fit their columns. Whether it is so is told.
+    // The same where both are one line as they are and fit their columns. Whether it is so is told.
     fn push_plain_pair(
         &self,
         text: &mut String,
