@@ -35,6 +35,7 @@ PATHS |= {it: "comfy_table::presets" for it in ("by_name", "by_position")}
 PATHS |= {it: "super" for it in ("renew", "show")}
 VALUES = {None: "()", "text": "String", "is_so": "bool"}
 NEW_TABLE = "let mut table = Table::new(alloc);\n"
+PARTS = {"row_writer"}  # these go on with what others made, so they stand for themselves alone
 AT_ONCE = 10  # so many calls stand in one function, since a long one takes long to prove
 TRAITS = {f"into_{it}": f"Into{it.capitalize()}" for it in ("cell", "cells", "row")}
 
@@ -115,7 +116,8 @@ def examples_of(crate):
             for block in re.finditer(r"^```(\w*)\n(.*?)^```\n", lines, re.M | re.S):
                 if not block[1]:
                     name = name_of(path, text[: comment.start()], after)
-                    found.append(Example(name, block[2].splitlines()))
+                    if name not in PARTS:
+                        found.append(Example(name, block[2].splitlines()))
     return found
 
 
