@@ -15,15 +15,14 @@ use Rattle.comfy_table.specs.Laws.{least_total}
 use Rattle.comfy_table.specs.TableValue.{TableValue, max_content_widths, shown_columns, with_row, with_rows}
 use Rattle.comfy_table.specs.Widths.{shown_count}
 use Rattle.csv_tables.proofs.BuiltLemmas.{names-length, row-length}
-use Rattle.csv_tables.proofs.KeptWidthLemmas.{same_length}
 use Rattle.csv_tables.proofs.LineLemmas.{Any, any_built, any_drawn}
 use Rattle.csv_tables.proofs.ReachedLemmas.{reached-length}
 use Rattle.csv_tables.proofs.SeparatorLemmas.{separated}
-use Rattle.csv_tables.proofs.WholeColumnLemmas.{HasTwo, IsPaddedColumn, all_shown, both_shown, exactly_two, pairs_are_two, pairs_have_two}
-use Rattle.csv_tables.proofs.WholeTableLemmas.{HasRoom, columns-drawn, fewer_borders, least-fits, room_for, whole_separated}
+use Rattle.csv_tables.proofs.WholeColumnLemmas.{HasTwo, IsPaddedColumn, all_shown, both_shown, exactly_two, leasts-length, leasts_on, pairs_are_two, pairs_have_two}
+use Rattle.csv_tables.proofs.WholeTableLemmas.{HasRoom, columns-drawn, fewer_borders, least-fits, room_for_needed}
 use Rattle.csv_tables.specs.Cells.{cell_for, cells_for, has_field, header_for, columns_within, row_for, with_weight, Shown, counted_from, shown_in, shown_names}
 use Rattle.csv_tables.specs.Drawn.{SelectedValue, empty_table, has_room_for, headed_table, output_table, pairs_in, pairs_table, rows_table, separated_table, unbroken_in, is_aligned_in}
-use Rattle.csv_tables.specs.Unbroken.{constrained_columns, framed_width, has_room, kept_unbroken, kept_unbroken_fields, needed_contents, with_constrained, with_field_width, with_second}
+use Rattle.csv_tables.specs.Unbroken.{by_columns, has_room, kept_at, kept_unbroken, kept_unbroken_fields, with_kept, with_field_width, with_second}
 use Rattle.csv_tables.specs.declared.options.DrawnColumn.{DrawnColumn}
 use Rattle.csv_tables.specs.declared.options.Look.{Look}
 use Rattle.promises.proofs.FrameLemmas.{borders}
@@ -74,8 +73,8 @@ kept-length : (width : Option ℕ) (whole : List Bool) (table : TableValue) → 
 kept-length None whole table = refl
 kept-length (Some w) whole table = by_room (has_room (Some w) whole table)
   where
-    by_room : (b : Bool) → length (if b then with_constrained whole table else table).columns ≡ length table.columns
-    by_room true = same_length whole table.columns
+    by_room : (b : Bool) → length (if b then with_kept (by_columns (kept_at whole table) table) table else table).columns ≡ length table.columns
+    by_room true = leasts-length (by_columns (kept_at whole table) table) table.columns
     by_room false = refl
 
 kept_fields-length : (width : Option ℕ) (table : TableValue) → length (kept_unbroken_fields width table).columns ≡ length table.columns
@@ -138,27 +137,13 @@ module _ (look : Look) (content : SelectedValue) (has : Bool) where
   abbrev whole : List Bool
   whole = unbroken_in content
 
-  new : AllByRecursion IsNewColumn (separated_table has rows).columns
-  new = by_lines has
-    where
-      own : AllByRecursion IsNewColumn rows.columns
-      own = recursion_from_All IsNewColumn rows.columns (any_built false (is_aligned_in look content) look content).columns
-
-      by_lines : (h : Bool) → AllByRecursion IsNewColumn (separated_table h rows).columns
-      by_lines true = own
-      by_lines false = own
-
-  still_fits : (w : ℕ) (h : Bool) → framed_width rows.style (needed_contents whole (max_content_widths rows)) ≤ w → framed_width (separated_table h rows).style (needed_contents whole (max_content_widths (separated_table h rows))) ≤ w
-  still_fits w true fits = fits
-  still_fits w false fits = omega (arith, fits, fewer_borders rows.style (length (needed_contents whole (max_content_widths rows))))
-
   -- it has room for the table
   pub width_has_room : (w : ℕ) → look.width ≡ Some w → has_room_for look content (is_aligned_in look content) ≡ true → least_total (separated_table has (output_table false look content)) ≤ w
   width_has_room w wide test =
+      let new = recursion_from_All IsNewColumn rows.columns (any_built false (is_aligned_in look content) look content).columns in
       let own : has_room (Some w) whole rows ≡ true = ap (λ (width : Option ℕ). has_room width whole rows) (sym wide) ∙ test in
-      let made : output_table false look content ≡ with_constrained whole rows = ap (λ (width : Option ℕ). kept_unbroken width whole rows) wide ∙ ap (λ (b : Bool). if b then with_constrained whole rows else rows) own in
-      let room : HasRoom w (separated_table has (output_table false look content)) =
-      subst (HasRoom w) (sym (ap (separated_table has) made ∙ whole_separated has whole rows)) (room_for w whole (separated_table has rows) new (still_fits w has (leb-true _ w own))) in
+      let made : output_table false look content ≡ with_kept (by_columns (kept_at whole rows) rows) rows = ap (λ (width : Option ℕ). kept_unbroken width whole rows) wide ∙ ap (λ (b : Bool). if b then with_kept (by_columns (kept_at whole rows) rows) rows else rows) own in
+      let room : HasRoom w (separated_table has (output_table false look content)) = subst (HasRoom w) (sym (ap (separated_table has) made)) (room_for_needed w has whole rows new (leb-true _ w own)) in
       least-fits w (separated_table has (output_table false look content)) room
 
 -- ---- columns that are drawn
@@ -212,16 +197,16 @@ rows_shown has look content = by_width look.width
     own : AllByRecursion IsNewColumn table.columns
     own = recursion_from_All IsNewColumn table.columns (any_built false (is_aligned_in look content) look content).columns
 
-    shown : (wholes : List Bool) (h : Bool) → length table.columns ≤ shown_count (separated_table h (with_constrained wholes table))
-    shown wholes true = omega (arith, ap length (all_shown wholes table.columns own), length-enumerate_from 0 (constrained_columns wholes table.columns), same_length wholes table.columns)
-    shown wholes false = omega (arith, ap length (all_shown wholes table.columns own), length-enumerate_from 0 (constrained_columns wholes table.columns), same_length wholes table.columns)
+    shown : (kept : List ℕ) (h : Bool) → length table.columns ≤ shown_count (separated_table h (with_kept kept table))
+    shown kept true = omega (arith, ap length (all_shown kept table.columns own), length-enumerate_from 0 (leasts_on kept table.columns), leasts-length kept table.columns)
+    shown kept false = omega (arith, ap length (all_shown kept table.columns own), length-enumerate_from 0 (leasts_on kept table.columns), leasts-length kept table.columns)
 
     by_width : (width : Option ℕ) → length table.columns ≤ shown_count (separated_table has (kept_unbroken width (unbroken_in content) table))
     by_width None = shown [] has
     by_width (Some w) = by_room (has_room (Some w) (unbroken_in content) table)
       where
-        by_room : (b : Bool) → length table.columns ≤ shown_count (separated_table has (if b then with_constrained (unbroken_in content) table else table))
-        by_room true = shown (unbroken_in content) has
+        by_room : (b : Bool) → length table.columns ≤ shown_count (separated_table has (if b then with_kept (by_columns (kept_at (unbroken_in content) table) table) table else table))
+        by_room true = shown (by_columns (kept_at (unbroken_in content) table) table) has
         by_room false = shown [] has
 
 -- and both columns of expanded records, where one has a field

@@ -17,10 +17,10 @@ use Rattle.comfy_table.specs.TableValue.{TableValue, header_and_rows, is_tty, ma
 use Rattle.csv_tables.proofs.BuiltLemmas.{plain_table}
 use Rattle.csv_tables.proofs.LineLemmas.{Any, any_built, any_drawn, kept_setting, unbroken_lines}
 use Rattle.csv_tables.proofs.SeparatorLemmas.{separated}
-use Rattle.csv_tables.proofs.WholeColumnLemmas.{IsPaddedColumn, all_shown}
+use Rattle.csv_tables.proofs.WholeColumnLemmas.{IsPaddedColumn, all_shown, leasts-length, leasts_on}
 use Rattle.csv_tables.proofs.WholeTableLemmas.{IsDrawn, drawn-is}
 use Rattle.csv_tables.specs.Drawn.{SelectedValue, empty_table, output_table, pairs_table, rows_table, separated_table, unbroken_in, is_aligned_in}
-use Rattle.csv_tables.specs.Unbroken.{constrained_columns, field_width, has_room, kept_unbroken, kept_unbroken_fields, may_break, room_beside, room_for_two, with_constrained, with_field_width, with_second}
+use Rattle.csv_tables.specs.Unbroken.{field_width, has_room, kept_unbroken, kept_unbroken_fields, kept_at, may_break, by_columns, room_beside, room_for_two, with_field_width, with_kept, with_second}
 use Rattle.csv_tables.specs.declared.options.Look.{Look}
 use Rattle.promises.proofs.KeptLemmas.{part_stands}
 use Rattle.promises.specs.Kept.{IsFrame, ShowsRow}
@@ -43,11 +43,6 @@ pub record HasRowsOf (base t : TableValue) : Type 0 where
 with_columns : (base : TableValue) (has : Bool) (columns : List ColumnValue) → length columns ≡ length base.columns → filter is_shown (enumerate_from 0 columns) ≡ enumerate_from 0 columns → HasRowsOf base (separated_table has (record base { columns = columns }))
 with_columns base true columns as_many shown = record { header = refl; rows = refl; as_many = as_many; shown = shown }
 with_columns base false columns as_many shown = record { header = refl; rows = refl; as_many = as_many; shown = shown }
-
-constrained-length : (whole : List Bool) (columns : List ColumnValue) → length (constrained_columns whole columns) ≡ length columns
-constrained-length [] columns = refl
-constrained-length (b ∷ whole) [] = refl
-constrained-length (b ∷ whole) (column ∷ columns) = ap suc (constrained-length whole columns)
 
 second-length : (field : ℕ) (columns : List ColumnValue) → length (with_second field columns) ≡ length columns
 second-length field [] = refl
@@ -110,15 +105,15 @@ module _ (look : Look) (content : SelectedValue) where
       new : AllByRecursion IsNewColumn rows.columns
       new = recursion_from_All IsNewColumn rows.columns (any_built false (is_aligned_in look content) look content).columns
 
-      constrained : (whole : List Bool) → HasRowsOf rows (separated_table has (with_constrained whole rows))
-      constrained whole = with_columns rows has (constrained_columns whole rows.columns) (constrained-length whole rows.columns) (all_shown whole rows.columns new)
+      constrained : (kept : List ℕ) → HasRowsOf rows (separated_table has (with_kept kept rows))
+      constrained kept = with_columns rows has (leasts_on kept rows.columns) (leasts-length kept rows.columns) (all_shown kept rows.columns new)
 
       by_width : (width : Option ℕ) → HasRowsOf rows (separated_table has (kept_unbroken width (unbroken_in content) rows))
       by_width None = constrained []
       by_width (Some w) = by_room (has_room (Some w) (unbroken_in content) rows)
         where
-          by_room : (b : Bool) → HasRowsOf rows (separated_table has (if b then with_constrained (unbroken_in content) rows else rows))
-          by_room true = constrained (unbroken_in content)
+          by_room : (b : Bool) → HasRowsOf rows (separated_table has (if b then with_kept (by_columns (kept_at (unbroken_in content) rows) rows) rows else rows))
+          by_room true = constrained (by_columns (kept_at (unbroken_in content) rows) rows)
           by_room false = constrained []
 
   module _ (is_expanded has : Bool) where

@@ -35,7 +35,7 @@ use Rattle.csv_tables.proofs.WholeColumnLemmas.{HasTwo, all_shown, both_shown, e
 use Rattle.csv_tables.proofs.WholeTableLemmas.{IsDrawn, drawn-is, fewer_borders, field_separated}
 use Rattle.csv_tables.specs.Drawn.{SelectedValue, arrangement_for, empty_table, is_expanded_for, output_table, pairs_in, pairs_table, separated_table}
 use Rattle.csv_tables.specs.Laws.{ExpandedKeepsWhole, StandsWhole}
-use Rattle.csv_tables.specs.Unbroken.{cell_unbroken_width, field_width, framed_width, is_unbroken, kept_unbroken_fields, may_break, needed_content, room_beside, room_for_two, unbroken_width, with_content, with_field_width}
+use Rattle.csv_tables.specs.Unbroken.{cell_unbroken_width, field_width, framed_width, is_unbroken, kept_unbroken_fields, may_break, needed_by_names, room_beside, room_for_two, unbroken_width, with_content, with_field_width}
 use Rattle.csv_tables.specs.declared.options.Look.{Look}
 
 -- ---- two columns without constraints
@@ -46,7 +46,7 @@ record KeepsSecond (m : ℕ) (widths : List ℕ) : Type 0 where
   wide : m ≤ slice_index widths 1
 
 module _ (room : ℕ) (a b : ColumnNeeds) (m : ℕ) (content : m ≤ b.content) (longest : (n : ℕ) → m ≤ n → m ≤ b.longest n)
-    (beside : needed_content false a.content + m ≤ content_room room (a ∷ b ∷ [])) (share : min a.content m + m ≤ content_room room (a ∷ b ∷ [])) where
+    (beside : needed_by_names a.content + m ≤ content_room room (a ∷ b ∷ [])) (share : min a.content m + m ≤ content_room room (a ∷ b ∷ [])) where
   abbrev both : List ColumnNeeds
   both = a ∷ b ∷ []
 
@@ -172,7 +172,7 @@ module _ (base : TableValue) (a b : ColumnValue) (new : AllByRecursion IsNewColu
 
   -- without one, a text line has room that fits beside names, or as wide as they
   shared_wide : (m : ℕ) → m ≤ column_content_width base 1 → ((n : ℕ) → m ≤ n → m ≤ longest_line base 1 b.delimiter n)
-      → needed_content false (column_content_width base 0) + m ≤ w - (border_count base.style 2 + 4) → min (column_content_width base 0) m + m ≤ w - (border_count base.style 2 + 4)
+      → needed_by_names (column_content_width base 0) + m ≤ w - (border_count base.style 2 + 4) → min (column_content_width base 0) m + m ≤ w - (border_count base.style 2 + 4)
       → width_kept base.arrangement (Some w) ≡ Some w → table_width base ≡ Some w → IsArranged pair widths → m ≤ slice_index widths 1
   shared_wide m content longest beside share kept known arranged =
       let wide = dynamic_keeps room names fields m content longest (omega (arith, beside, room_is)) (omega (arith, share, room_is)) plain shown_widths (is_full_width pair.arrangement) layout in
@@ -329,7 +329,7 @@ module _ (w : ℕ) (look : Look) (content : SelectedValue) (small : w ≤ 65535)
         by_lines false = refl
 
     -- a text line has room that is within the widest and fits beside the names
-    line_wide : (m : ℕ) → m ≤ field → m ≤ column_content_width pairs 1 → ((n : ℕ) → m ≤ n → m ≤ longest_line base 1 b.delimiter n) → needed_content false names + m ≤ room → m ≤ slice_index widths 1
+    line_wide : (m : ℕ) → m ≤ field → m ≤ column_content_width pairs 1 → ((n : ℕ) → m ≤ n → m ≤ longest_line base 1 b.delimiter n) → needed_by_names names + m ≤ room → m ≤ slice_index widths 1
     line_wide m within content longest beside = by_break (may_break room names field) refl own
       where
         two_rooms : room ≡ w - (border_count pairs.style 2 + 4)
@@ -350,7 +350,7 @@ module _ (w : ℕ) (look : Look) (content : SelectedValue) (small : w ≤ 65535)
     -- so each number and each date has that fits
     abbrev FieldIsWhole : CellValue → Type 0
     FieldIsWhole cell =
-        All (λ (line : Text). is_unbroken line ≡ true → framed_width look.style (needed_content false (column_content_width table 0) ∷ measure line ∷ []) ≤ w → StandsWhole (slice_index widths 1) line) cell.text_lines
+        All (λ (line : Text). is_unbroken line ≡ true → framed_width look.style (needed_by_names (column_content_width table 0) ∷ measure line ∷ []) ≤ w → StandsWhole (slice_index widths 1) line) cell.text_lines
 
     fields_are_whole : All FieldIsWhole (column_cells pairs 1)
     fields_are_whole k default below j other inside unbroken fits = (enough, λ delimiter. stands (slice_index widths 1) delimiter line enough)
@@ -370,9 +370,9 @@ module _ (w : ℕ) (look : Look) (content : SelectedValue) (small : w ≤ 65535)
         first : column_content_width table 0 ≡ names
         first = ap (λ (cs : List CellValue). greatest (map cell_content_width cs)) (same_cells 0) ∙ sym names_are
 
-        beside : needed_content false names + measure line ≤ room
+        beside : needed_by_names names + measure line ≤ room
         beside =
-            let framed = framed_pair look.style (needed_content false (column_content_width table 0)) (measure line) in
+            let framed = framed_pair look.style (needed_by_names (column_content_width table 0)) (measure line) in
             let both = framed_pair pairs.style 0 0 in
             let same : border_count pairs.style 2 ≡ border_count look.style 2 = ap (λ (s : TableStyle). border_count s 2) style_is in
             omega (arith, fits, framed, both, same, first)
@@ -402,12 +402,12 @@ module _ (w : ℕ) (look : Look) (content : SelectedValue) (small : w ≤ 65535)
         enough : measure line ≤ slice_index widths 1
         enough = line_wide (measure line) within content_width longest beside
 
-  whole_cells : All (λ (cell : CellValue). All (λ (line : Text). is_unbroken line ≡ true → framed_width look.style (needed_content false (column_content_width table 0) ∷ measure line ∷ []) ≤ w → StandsWhole (slice_index widths 1) line) cell.text_lines) (column_cells table 1)
+  whole_cells : All (λ (cell : CellValue). All (λ (line : Text). is_unbroken line ≡ true → framed_width look.style (needed_by_names (column_content_width table 0) ∷ measure line ∷ []) ≤ w → StandsWhole (slice_index widths 1) line) cell.text_lines) (column_cells table 1)
   whole_cells = subst (All IsWhole) (sym (same_cells 1)) (all_cells look (flat_map (pairs_in look content) content.rows) (pairs_are_two look content) IsWhole (λ two. with_both pairs.columns refl two))
     where
       IsWhole : CellValue → Type 0
       IsWhole cell =
-          All (λ (line : Text). is_unbroken line ≡ true → framed_width look.style (needed_content false (column_content_width table 0) ∷ measure line ∷ []) ≤ w → StandsWhole (slice_index widths 1) line) cell.text_lines
+          All (λ (line : Text). is_unbroken line ≡ true → framed_width look.style (needed_by_names (column_content_width table 0) ∷ measure line ∷ []) ≤ w → StandsWhole (slice_index widths 1) line) cell.text_lines
 
       with_both : (columns : List ColumnValue) → pairs.columns ≡ columns → length columns ≡ 2 → All IsWhole (column_cells pairs 1)
       with_both [] are two = absurd (omega (arith, two))

@@ -1,12 +1,12 @@
 -- Columns that are as wide as their contents are drawn no narrower.
-use Rattle.std.proofs.Common.{◌≡◌, ◌==◌, ◌≤◌, ◌<◌, ◌&&◌, ◌||◌, ℕ, zero, suc, ◌+◌, Bool, true, false, not, cond, List, [], ◌∷◌, ◌++◌, Option, Some, None, find, length, map, max, option_map, slice_index, unwrap_or, refl, sym, ap, ◌∙◌, subst, arith}
-use Rattle.std.specs.List.{All, AllByRecursion, cons_option, enumerate_from, slice_get}
+use Rattle.std.proofs.Common.{◌≡◌, ◌==◌, ◌≤◌, ◌<◌, ◌&&◌, ◌||◌, ℕ, zero, suc, ◌+◌, Bool, true, false, not, cond, List, [], ◌∷◌, ◌++◌, Option, Some, None, find, length, map, max, min, nat_le, option_map, slice_index, unwrap_or, refl, sym, ap, ◌∙◌, subst, arith}
+use Rattle.std.specs.List.{All, AllByRecursion, cons_option, enumerate_from, range_with_len, slice_get}
 use Rattle.std.specs.Prelude.{if◌then◌else◌}
 use Rattle.std.proofs.lemmas.Bool.{eq-eqb, le-leb, ne_eqb}
 use Rattle.std.proofs.lemmas.List.FromFn.{length-map-range_with_len}
 use Rattle.std.proofs.lemmas.List.Elements.{All-from_recursion, All-weaker, recursion_from_All}
 use Rattle.comfy_parts.proofs.CallerLemmas.{index-places}
-use Rattle.comfy_parts.specs.CellValue.{CellValue, ColumnValue}
+use Rattle.comfy_parts.specs.CellValue.{CellValue, ColumnValue, column_padding}
 use Rattle.comfy_parts.specs.Text.{Text, greatest, measure}
 use Rattle.comfy_parts.specs.Wrapping.{lines_of_text, wrapped}
 use Rattle.comfy_table.proofs.BudgetLemmas.{length-contents_after}
@@ -16,15 +16,15 @@ use Rattle.comfy_table.proofs.ThreePlacesLemmas.{every-le-greatest}
 use Rattle.comfy_table.specs.Arrangement.{IsArranged, is_full_width, room_beside_borders, width_kept, widths_at}
 use Rattle.comfy_table.specs.Dynamic.{Claim, Steps, added, all_claims, contents_after, even_columns, fixed_claims, room_left, claim_at, widened}
 use Rattle.comfy_table.specs.TableValue.{TableValue, cell_content_width, column_cells, column_content_width, shown_columns, table_width}
-use Rattle.comfy_table.specs.Widths.{ColumnNeeds, even_spread, needs_of, part_of, shown_needs}
+use Rattle.comfy_table.specs.Widths.{ColumnNeeds, even_spread, fixed_by_boundary, needs_of, part_of, shown_needs, without_padding}
 use Rattle.csv_tables.proofs.LineLemmas.{Any, any_built, any_drawn, kept_setting}
 use Rattle.csv_tables.proofs.SeparatorLemmas.{restyled, separated}
 use Rattle.csv_tables.proofs.UnbrokenLemmas.{kept-test}
-use Rattle.csv_tables.proofs.WholeColumnLemmas.{all_shown}
-use Rattle.csv_tables.proofs.WholeTableLemmas.{drawn-is, whole_separated}
+use Rattle.csv_tables.proofs.WholeColumnLemmas.{all_shown, leasts-length, leasts_on}
+use Rattle.csv_tables.proofs.WholeTableLemmas.{drawn-is}
 use Rattle.csv_tables.specs.Drawn.{SelectedValue, arrangement_for, empty_table, is_expanded_for, is_expanded_in, is_table_expanded, output_table, rows_table, separated_table, unbroken_in, is_aligned_in}
 use Rattle.csv_tables.specs.Laws.{AutoKeepsWhole, IsWholeColumn, NeverKeepsWhole, UnbrokenColumnsAreWhole}
-use Rattle.csv_tables.specs.Unbroken.{has_room, kept_unbroken, constrained_columns, with_constrained}
+use Rattle.csv_tables.specs.Unbroken.{by_columns, has_room, kept_at, kept_unbroken, name_in, wide_word, with_kept}
 use Rattle.csv_tables.specs.declared.options.DrawnColumn.{DrawnColumn}
 use Rattle.csv_tables.specs.declared.options.Expansion.TheVariants.{Auto}
 use Rattle.csv_tables.specs.declared.options.Look.{Look}
@@ -92,41 +92,53 @@ fixed_is_kept room columns full steps k x at = by_test (full && (length (even_co
 
 -- ---- columns of a table
 
--- the column at a place is as wide as its content
-whole_need : (table : TableValue) (whole : List Bool) (columns : List ColumnValue) (n i : ℕ) → slice_get whole i ≡ Some true → i < length columns
-    → IsFixedAt (map (needs_of table) (enumerate_from n (constrained_columns whole columns))) i (max 1 (column_content_width table (n + i)))
-whole_need table [] columns n i is below = absurd (cc is)
-whole_need table (b ∷ bs) [] n i is below = absurd (omega (arith, below))
-whole_need table (false ∷ bs) (c ∷ cs) n zero is below = absurd (cc is)
-whole_need table (true ∷ bs) (c ∷ cs) n zero is below = let place : n ≡ n + 0 = omega arith in (_, refl, ap (λ (j : ℕ). Some (max 1 (column_content_width table j))) place)
-whole_need table (b ∷ bs) (c ∷ cs) n (suc i) is below =
-    let place : (n + 1) + i ≡ n + suc i = omega arith in
-    subst (λ (j : ℕ). IsFixedAt (map (needs_of table) (enumerate_from (n + 1) (constrained_columns bs cs))) i (max 1 (column_content_width table j))) place (whole_need table bs cs (n + 1) i is (omega (arith, below)))
+-- a boundary at the content is fixed at once
+fixed_whole : (content padding kept : ℕ) → padding ≡ 2 → kept ≡ content → fixed_by_boundary content padding (Some (kept + 2)) ≡ Some (max 1 content)
+fixed_whole content padding kept two is =
+    ap (λ (b : Bool). if b then Some (without_padding padding (kept + 2)) else None) (le-leb (content + padding) (kept + 2) (omega (arith, two, is)))
+    ∙ ap (λ (n : ℕ). Some n) (omega (arith, two, is))
 
-pub same_length : (whole : List Bool) (columns : List ColumnValue) → length (constrained_columns whole columns) ≡ length columns
-same_length [] columns = refl
-same_length (b ∷ bs) [] = refl
-same_length (b ∷ bs) (c ∷ cs) = ap suc (same_length bs cs)
+-- the column at a place is as wide as its content, where it keeps all of it
+whole_need : (table : TableValue) (kept : ℕ → ℕ) (columns : List ColumnValue) (n i : ℕ) → AllByRecursion IsNewColumn columns → kept (n + i) ≡ column_content_width table (n + i) → i < length columns
+    → IsFixedAt (map (needs_of table) (enumerate_from n (leasts_on (map kept (range_with_len n (length columns))) columns))) i (max 1 (column_content_width table (n + i)))
+whole_need table kept [] n i new is below = absurd (omega (arith, below))
+whole_need table kept (c ∷ cs) n zero new is below =
+    let place : n ≡ n + 0 = omega arith in
+    let own : kept n ≡ column_content_width table n = ap kept place ∙ is ∙ ap (column_content_width table) (sym place) in
+    let one : c.padding.0 ≡ 1 = ap (λ (x : ℕ × ℕ). x.0) new.0.padding in
+    let other : c.padding.1 ≡ 1 = ap (λ (x : ℕ × ℕ). x.1) new.0.padding in
+    (_, refl, fixed_whole (column_content_width table n) (column_padding c) (kept n) (omega (arith, one, other)) own ∙ ap (λ (j : ℕ). Some (max 1 (column_content_width table j))) place)
+whole_need table kept (c ∷ cs) n (suc i) new is below =
+    let place : (n + 1) + i ≡ n + suc i = omega arith in
+    subst (λ (j : ℕ). IsFixedAt (map (needs_of table) (enumerate_from (n + 1) (leasts_on (map kept (range_with_len (n + 1) (length cs))) cs))) i (max 1 (column_content_width table j))) place
+    (whole_need table kept cs (n + 1) i new.1 (ap kept place ∙ is ∙ ap (column_content_width table) (sym place)) (omega (arith, below)))
 
 module _ (table : TableValue) (new : AllByRecursion IsNewColumn table.columns) (whole : List Bool) (w : ℕ) (widths : List ℕ) (i : ℕ) where
+  abbrev kept_on : List ℕ
+  kept_on = by_columns (kept_at whole table) table
+
   abbrev with : TableValue
-  with = with_constrained whole table
+  with = with_kept kept_on table
+
+  keeps_all : slice_get whole i ≡ Some true → kept_at whole table i ≡ column_content_width table i
+  keeps_all is = ap (λ (o : Option Bool). if unwrap_or o false || nat_le (column_content_width table i) 8 then column_content_width table i else min (column_content_width table i) (wide_word table (name_in table i))) is
 
   pub whole_is_kept : width_kept with.arrangement (Some w) ≡ Some w → table_width with ≡ Some w → slice_get whole i ≡ Some true → i < length table.columns → IsArranged with widths → column_content_width table i ≤ slice_index widths i
   whole_is_kept kept known is below arranged =
-      let columns = constrained_columns whole table.columns in
-      let all = all_shown whole table.columns new in
+      let columns = leasts_on kept_on table.columns in
+      let all = all_shown kept_on table.columns new in
       let found = dynamic_widths with with.arrangement w widths kept refl known arranged in
-      let fixed = subst (λ (ps : List (ℕ × ColumnValue)). IsFixedAt (map (needs_of with) ps) i (max 1 (column_content_width with (0 + i)))) (sym all) (whole_need with whole table.columns 0 i is below) in
+      let place : 0 + i ≡ i = omega arith in
+      let own : kept_at whole table (0 + i) ≡ column_content_width table (0 + i) = subst (λ (j : ℕ). kept_at whole table j ≡ column_content_width table j) (sym place) (keeps_all is) in
+      let fixed = subst (λ (ps : List (ℕ × ColumnValue)). IsFixedAt (map (needs_of with) ps) i (max 1 (column_content_width with (0 + i)))) (sym all) (whole_need with (kept_at whole table) table.columns 0 i new own below) in
       let room = room_beside_borders with w in
       let full = is_full_width with.arrangement in
       let wide : max 1 (column_content_width with (0 + i)) ≤ slice_index (widened room (shown_needs with) full found.0) i = fixed_is_kept room (shown_needs with) full found.0 i (max 1 (column_content_width with (0 + i))) fixed in
-      let place : 0 + i ≡ i = omega arith in
       let drawn : slice_index (widths_at widths (shown_columns with)) i ≡ slice_index widths i =
-      ap (λ (ps : List (ℕ × ColumnValue)). slice_index (widths_at widths ps) i) all ∙ index-places (slice_index widths) 0 columns i 0 (omega (arith, below, same_length whole table.columns)) ∙ ap (slice_index widths) place in
-      let own : slice_index (widened room (shown_needs with) full found.0) i ≡ slice_index widths i = ap (λ (xs : List ℕ). slice_index xs i) (sym found.1.widths_are) ∙ drawn in
+      ap (λ (ps : List (ℕ × ColumnValue)). slice_index (widths_at widths ps) i) all ∙ index-places (slice_index widths) 0 columns i 0 (omega (arith, below, leasts-length kept_on table.columns)) ∙ ap (slice_index widths) place in
+      let same : slice_index (widened room (shown_needs with) full found.0) i ≡ slice_index widths i = ap (λ (xs : List ℕ). slice_index xs i) (sym found.1.widths_are) ∙ drawn in
       let content : column_content_width with (0 + i) ≡ column_content_width table i = ap (column_content_width table) place in
-      omega (arith, wide, own, content)
+      omega (arith, wide, same, content)
 
 pub kept_arrangement : (w : ℕ) (fills : Bool) → width_kept (arrangement_for (Some w) fills) (Some w) ≡ Some w
 kept_arrangement w true = refl
@@ -174,8 +186,15 @@ room_keeps_whole w look content wide room none table widths i is_drawn arranged 
     own : table ≡ drawn
     own = is_drawn.1 ∙ ap (λ (e : Bool). separated_table has (output_table e look content)) none
 
-    same : table ≡ with_constrained whole (separated_table has rows)
-    same = own ∙ ap (separated_table has) (ap (λ o. kept_unbroken o whole rows) wide ∙ kept-test w whole rows true room) ∙ whole_separated has whole rows
+    kept_on : TableValue → List ℕ
+    kept_on t = by_columns (kept_at whole t) t
+
+    kept_in : (h : Bool) → separated_table h (with_kept (kept_on rows) rows) ≡ with_kept (kept_on (separated_table h rows)) (separated_table h rows)
+    kept_in true = refl
+    kept_in false = refl
+
+    same : table ≡ with_kept (kept_on (separated_table has rows)) (separated_table has rows)
+    same = own ∙ ap (separated_table has) (ap (λ o. kept_unbroken o whole rows) wide ∙ kept-test w whole rows true room) ∙ kept_in has
 
     looks : drawn ≡ record (empty_table (separated has look)) { columns = drawn.columns; header = drawn.header; rows = drawn.rows }
     looks = drawn-is (separated has look) Any content drawn (any_drawn look content false has)
@@ -192,11 +211,11 @@ room_keeps_whole w look content wide room none table widths i is_drawn arranged 
     new : AllByRecursion IsNewColumn (separated_table has rows).columns
     new = subst (λ (t : TableValue). AllByRecursion IsNewColumn t.columns) (restyled look content false (is_aligned_in look content) has) (recursion_from_All IsNewColumn _ (any_built false (is_aligned_in look content) (separated has look) content).columns)
 
-    with : drawn ≡ with_constrained whole (separated_table has rows)
+    with : drawn ≡ with_kept (kept_on (separated_table has rows)) (separated_table has rows)
     with = sym own ∙ same
 
     count : length table.columns ≡ length (separated_table has rows).columns
-    count = ap (λ (t : TableValue). length t.columns) same ∙ same_length whole (separated_table has rows).columns
+    count = ap (λ (t : TableValue). length t.columns) same ∙ leasts-length (kept_on (separated_table has rows)) (separated_table has rows).columns
 
     kept : column_content_width (separated_table has rows) i ≤ slice_index widths i
     kept =

@@ -15,6 +15,7 @@ mod PlainRowLemmas
 pub mod FittingLemmas
 pub mod KeptFieldLemmas
 pub mod KeptWidthLemmas
+pub mod LeastLemmas
 pub mod LineLemmas
 pub mod MarkdownDrawingLemmas
 pub mod MarkdownLineLemmas

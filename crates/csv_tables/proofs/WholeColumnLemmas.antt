@@ -1,150 +1,116 @@
 -- Columns that have a width of their own, and the room that they need.
-use Rattle.std.proofs.Common.{◌≡◌, ◌≤◌, ◌&&◌, nat_le, ℕ, suc, ◌+◌, Bool, true, false, not, List, [], ◌∷◌, Option, Some, None, filter, flat_map, is_none, length, map, option_map, sum_by, unwrap_or, refl, sym, ap, subst, arith}
-use Rattle.std.specs.List.{All, AllByRecursion, cons_option, enumerate_from, range_with_len}
+use Rattle.std.proofs.Common.{◌≡◌, ◌≤◌, ◌&&◌, nat_le, ℕ, suc, ◌+◌, Bool, true, false, not, List, [], ◌∷◌, Option, Some, None, filter, flat_map, length, map, max, sum_by, unwrap_or, refl, sym, ap, subst, arith}
+use Rattle.std.specs.List.{All, AllByRecursion, enumerate_from, range_with_len}
 use Rattle.std.specs.Prelude.{if◌then◌else◌}
 use Rattle.std.proofs.lemmas.Bool.{leb-true}
 use Rattle.std.proofs.lemmas.List.Elements.{All-head, All-map, All-tail}
 use Rattle.std.proofs.lemmas.List.Sums.{sum_by-cons}
-use Rattle.comfy_parts.proofs.CallerLemmas.{All-every, All-flat_map, every-filter, every-places, filter_all, no_fewer_columns}
+use Rattle.comfy_parts.proofs.CallerLemmas.{All-every, All-flat_map, every-places, filter_all, no_fewer_columns}
 use Rattle.comfy_parts.specs.CellValue.{CellValue, ColumnValue, RowValue, column_padding, is_hidden_column, is_hidden_constraint}
 use Rattle.comfy_parts.specs.Text.{Text, greatest, measure}
+use Rattle.comfy_parts.specs.declared.style.column.ColumnConstraint.{ColumnConstraint}
 use Rattle.comfy_table.proofs.BuiltTableLemmas.{IsNewColumn}
-use Rattle.comfy_table.proofs.ClaimLemmas.{without_claims-nil}
-use Rattle.comfy_table.proofs.TakingLemmas.{next_taken-where}
-use Rattle.comfy_table.specs.Dynamic.{IsTakenAfter, Positioned, Claim, average, content_room, fixed_claims, lower_of_boundary, lower_offer, places_of, total, undecided}
-use Rattle.comfy_table.specs.TableValue.{TableValue, column_cells, column_content_width, with_row, with_rows}
-use Rattle.comfy_table.specs.Widths.{ColumnNeeds, fixed_by_constraint, lower_boundary, needs_of, shown_count}
+use Rattle.comfy_table.specs.TableValue.{TableValue, column_cells, column_content_width, constrained, with_row, with_rows}
+use Rattle.comfy_table.specs.Widths.{ColumnNeeds, fixed_by_boundary, fixed_by_constraint, lower_boundary, needs_of, shown_count, without_padding}
+use Rattle.csv_tables.proofs.LeastLemmas.{least_of, lower_or_one}
 use Rattle.csv_tables.specs.Cells.{held, pair_for}
 use Rattle.csv_tables.specs.Fields.{field_or_blank}
 use Rattle.csv_tables.specs.Columns.{name_at}
 use Rattle.csv_tables.specs.Drawn.{SelectedValue, empty_table, pairs_in, pairs_table}
-use Rattle.csv_tables.specs.Unbroken.{cell_unbroken_width, constrained_column, constrained_columns, field_width, is_unbroken, needed_content, needed_contents, unbroken_width, with_content, with_second}
+use Rattle.csv_tables.specs.Unbroken.{at_least, cell_unbroken_width, field_width, is_unbroken, unbroken_width, with_content, with_second}
 use Rattle.csv_tables.specs.declared.options.DrawnColumn.{DrawnColumn}
 use Rattle.csv_tables.specs.declared.options.Look.{Look}
 
 -- ---- what columns need
 
-abbrev HasNoLower : ColumnNeeds → Type 0
-HasNoLower column = column.lower ≡ None
-
--- no column takes a lower boundary where none has one
-pub lower-none : (room : ℕ) (columns : List ColumnNeeds) → AllByRecursion HasNoLower columns → (order : List Claim) → IsTakenAfter (undecided room columns) (lower_offer (content_room room columns) (undecided room columns)) 0 [] order → order ≡ []
-lower-none room columns none [] goes = refl
-lower-none room columns none (t ∷ more) goes =
-    let free = every-filter (λ (p : Positioned). HasNoLower p.1) (λ (p : Positioned). is_none p.1.fixed) (places_of columns) (every-places HasNoLower 0 columns none) in
-    let left = subst (AllByRecursion (λ (p : Positioned). HasNoLower p.1)) (sym (without_claims-nil (undecided room columns))) free in
-    let next = next_taken-where (undecided room columns) (lower_offer (content_room room columns) (undecided room columns)) (λ (p : Positioned). HasNoLower p.1) 0 [] t left goes.0 in
-    let nothing = ap (lower_of_boundary (average (content_room room columns) (undecided room columns) []) next.column.padding) next.left in
-    absurd (cc (nothing, next.offered))
-
--- a fixed width, or one terminal column
-abbrev pub fixed_or_one : ColumnNeeds → ℕ
-fixed_or_one column = unwrap_or column.fixed 1
-
--- the fixed widths, and one terminal column for each other column
-pub record AreFixed (n : ℕ) (columns : List ColumnNeeds) : Type 0 where
-  pub no_more : length (fixed_claims (enumerate_from n columns)) ≤ length columns
-  pub widths : total (fixed_claims (enumerate_from n columns)) + length columns ≡ sum_by fixed_or_one columns + length (fixed_claims (enumerate_from n columns))
-
-pub are_fixed : (n : ℕ) (columns : List ColumnNeeds) → AreFixed n columns
-are_fixed n [] = record { no_more = omega arith; widths = refl }
-are_fixed n (column ∷ more) = by_fixed column.fixed refl (are_fixed (n + 1) more)
-  where
-    rest : List Claim
-    rest = fixed_claims (enumerate_from (n + 1) more)
-
-    by_fixed : (o : Option ℕ) → column.fixed ≡ o → AreFixed (n + 1) more → AreFixed n (column ∷ more)
-    by_fixed None is own =
-        let claims : fixed_claims (enumerate_from n (column ∷ more)) ≡ rest = ap (λ (o : Option ℕ). cons_option (option_map (λ (width : ℕ). (n, width)) o) rest) is in
-        let one : fixed_or_one column ≡ 1 = ap (λ (o : Option ℕ). unwrap_or o 1) is in
-        let sums = sum_by-cons fixed_or_one column more in
-        record { no_more = rw claims (omega (arith, own.no_more)); widths = rw claims (omega (arith, own.widths, sums, one)) }
-    by_fixed (Some width) is own =
-        let claims : fixed_claims (enumerate_from n (column ∷ more)) ≡ (n, width) ∷ rest = ap (λ (o : Option ℕ). cons_option (option_map (λ (width : ℕ). (n, width)) o) rest) is in
-        let one : fixed_or_one column ≡ width = ap (λ (o : Option ℕ). unwrap_or o 1) is in
-        let sums = sum_by-cons fixed_or_one column more in
-        let shared = sum_by-cons (λ (t : Claim). t.1) (n, width) rest in
-        record { no_more = rw claims (omega (arith, own.no_more)); widths = rw claims (omega (arith, own.widths, sums, one, shared)) }
-
 -- these columns need no more than their paddings and these contents, and no less than one terminal column each
 pub record AreNeeds (columns : List ColumnNeeds) (contents : List ℕ) : Type 0 where
   pub count : length columns ≡ length contents
-  pub room : sum_by (λ (column : ColumnNeeds). column.padding) columns + sum_by fixed_or_one columns ≤ sum_by (λ content. 2 + content) contents
-  pub least : length columns ≤ sum_by fixed_or_one columns
-  pub no_lower : AllByRecursion HasNoLower columns
+  pub room : sum_by (λ (column : ColumnNeeds). column.padding) columns + sum_by least_of columns ≤ sum_by (λ content. 2 + content) contents
+  pub least : length columns ≤ sum_by least_of columns
 
 record IsNeed (column : ColumnNeeds) (content : ℕ) : Type 0 where
   padding : column.padding ≡ 2
-  least : 1 ≤ fixed_or_one column
-  most : fixed_or_one column ≤ content
-  no_lower : HasNoLower column
+  least : 1 ≤ least_of column
+  most : least_of column ≤ content
 
 needs-cons : (column : ColumnNeeds) (content : ℕ) (columns : List ColumnNeeds) (contents : List ℕ) → IsNeed column content → AreNeeds columns contents → AreNeeds (column ∷ columns) (content ∷ contents)
 needs-cons column content columns contents own more =
     let paddings = sum_by-cons (λ (c : ColumnNeeds). c.padding) column columns in
-    let fixed = sum_by-cons fixed_or_one column columns in
+    let fixed = sum_by-cons least_of column columns in
     let all = sum_by-cons (λ (n : ℕ). 2 + n) content contents in
     record {
       count = ap suc more.count;
       room = omega (arith, paddings, fixed, all, own.padding, own.most, more.room);
       least = omega (arith, fixed, own.least, more.least);
-      no_lower = (own.no_lower, more.no_lower);
     }
 
 -- ---- columns of a table
 
-module _ (table : TableValue) where
-  -- a column that is as wide as its content, or a new one
-  need : (is_whole : Bool) (i : ℕ) (column : ColumnValue) → IsNewColumn column → IsNeed (needs_of table (i, constrained_column is_whole column)) (needed_content is_whole (column_content_width table i))
-  need true i column new =
-      let one : column.padding.0 ≡ 1 = ap (λ (x : ℕ × ℕ). x.0) new.padding in
-      let other : column.padding.1 ≡ 1 = ap (λ (x : ℕ × ℕ). x.1) new.padding in
-      record { padding = omega (arith, one, other); least = omega arith; most = omega arith; no_lower = refl }
-  need false i column new =
-      let one : column.padding.0 ≡ 1 = ap (λ (x : ℕ × ℕ). x.0) new.padding in
-      let other : column.padding.1 ≡ 1 = ap (λ (x : ℕ × ℕ). x.1) new.padding in
-      let free : fixed_or_one (needs_of table (i, column)) ≡ 1 = ap (λ c. unwrap_or (fixed_by_constraint table (shown_count table) (column_content_width table i) (column_padding column) c) 1) new.no_constraint in
-      record { padding = omega (arith, one, other); least = omega (arith, free); most = omega (arith, free); no_lower = ap (lower_boundary table (shown_count table)) new.no_constraint }
+-- columns that have at least these contents
+abbrev pub leasts_on : List ℕ → List ColumnValue → List ColumnValue
+leasts_on kept columns = constrained (map at_least kept) columns
 
-  pub needs : (whole : List Bool) (columns : List ColumnValue) (n : ℕ) → AllByRecursion IsNewColumn columns
-      → AreNeeds (map (needs_of table) (enumerate_from n (constrained_columns whole columns))) (needed_contents whole (map (column_content_width table) (range_with_len n (length columns))))
-  needs [] [] n new = record { count = refl; room = omega arith; least = omega arith; no_lower = tt }
-  needs [] (column ∷ columns) n new = needs-cons _ _ _ _ (need false n column new.0) (needs [] columns (n + 1) new.1)
-  needs (is_whole ∷ more) [] n new = record { count = refl; room = omega arith; least = omega arith; no_lower = tt }
-  needs (is_whole ∷ more) (column ∷ columns) n new = needs-cons _ _ _ _ (need is_whole n column new.0) (needs more columns (n + 1) new.1)
+-- a boundary that is fixed at once takes as much as one that isn't
+as_much : (content padding l : ℕ) → unwrap_or (fixed_by_boundary content padding (Some l)) (without_padding padding l) ≡ without_padding padding l
+as_much content padding l = by_test (nat_le (content + padding) l)
+  where
+    by_test : (b : Bool) → unwrap_or (if b then Some (without_padding padding l) else None) (without_padding padding l) ≡ without_padding padding l
+    by_test true = refl
+    by_test false = refl
+
+module _ (table : TableValue) where
+  need : (kept needed i : ℕ) (column : ColumnValue) → max 1 kept ≤ needed → IsNewColumn column → IsNeed (needs_of table (i, record column { constraint = Some (at_least kept) })) needed
+  need kept needed i column within new =
+      let one : column.padding.0 ≡ 1 = ap (λ (x : ℕ × ℕ). x.0) new.padding in
+      let other : column.padding.1 ≡ 1 = ap (λ (x : ℕ × ℕ). x.1) new.padding in
+      let takes : least_of (needs_of table (i, record column { constraint = Some (at_least kept) })) ≡ without_padding (column_padding column) (kept + 2) = as_much (column_content_width table i) (column_padding column) (kept + 2) in
+      record { padding = omega (arith, one, other); least = omega (arith, takes, one, other); most = omega (arith, takes, one, other, within) }
+
+  pub needs : (kept needed : ℕ → ℕ) → ((i : ℕ) → max 1 (kept i) ≤ needed i) → (columns : List ColumnValue) (n : ℕ) → AllByRecursion IsNewColumn columns
+      → AreNeeds (map (needs_of table) (enumerate_from n (leasts_on (map kept (range_with_len n (length columns))) columns))) (map needed (range_with_len n (length columns)))
+  needs kept needed within [] n new = record { count = refl; room = omega arith; least = omega arith }
+  needs kept needed within (column ∷ columns) n new = needs-cons _ _ _ _ (need (kept n) (needed n) n column (within n) new.0) (needs kept needed within columns (n + 1) new.1)
 
 -- none of them is hidden
-shown : (is_whole : Bool) (column : ColumnValue) → IsNewColumn column → not (is_hidden_column (constrained_column is_whole column)) ≡ true
-shown true column new = refl
-shown false column new = ap (λ c. not (is_hidden_constraint c)) new.no_constraint
+shown : (column : ColumnValue) → IsNewColumn column → not (is_hidden_column column) ≡ true
+shown column new = ap (λ c. not (is_hidden_constraint c)) new.no_constraint
 
-each_shown : (whole : List Bool) (columns : List ColumnValue) → AllByRecursion IsNewColumn columns → AllByRecursion (λ (column : ColumnValue). not (is_hidden_column column) ≡ true) (constrained_columns whole columns)
+each_shown : (kept : List ℕ) (columns : List ColumnValue) → AllByRecursion IsNewColumn columns → AllByRecursion (λ (column : ColumnValue). not (is_hidden_column column) ≡ true) (leasts_on kept columns)
 each_shown [] [] new = tt
-each_shown [] (column ∷ columns) new = (shown false column new.0, each_shown [] columns new.1)
-each_shown (is_whole ∷ more) [] new = tt
-each_shown (is_whole ∷ more) (column ∷ columns) new = (shown is_whole column new.0, each_shown more columns new.1)
+each_shown [] (column ∷ columns) new = (shown column new.0, each_shown [] columns new.1)
+each_shown (least ∷ more) [] new = tt
+each_shown (least ∷ more) (column ∷ columns) new = (refl, each_shown more columns new.1)
 
 -- so all of them are shown
-pub all_shown : (whole : List Bool) (columns : List ColumnValue) → AllByRecursion IsNewColumn columns
-    → filter (λ (p : ℕ × ColumnValue). not (is_hidden_column p.1)) (enumerate_from 0 (constrained_columns whole columns)) ≡ enumerate_from 0 (constrained_columns whole columns)
-all_shown whole columns new =
-    filter_all (λ (p : ℕ × ColumnValue). not (is_hidden_column p.1)) (enumerate_from 0 (constrained_columns whole columns))
-    (every-places (λ (column : ColumnValue). not (is_hidden_column column) ≡ true) 0 (constrained_columns whole columns) (each_shown whole columns new))
+pub all_shown : (kept : List ℕ) (columns : List ColumnValue) → AllByRecursion IsNewColumn columns
+    → filter (λ (p : ℕ × ColumnValue). not (is_hidden_column p.1)) (enumerate_from 0 (leasts_on kept columns)) ≡ enumerate_from 0 (leasts_on kept columns)
+all_shown kept columns new =
+    filter_all (λ (p : ℕ × ColumnValue). not (is_hidden_column p.1)) (enumerate_from 0 (leasts_on kept columns))
+    (every-places (λ (column : ColumnValue). not (is_hidden_column column) ≡ true) 0 (leasts_on kept columns) (each_shown kept columns new))
+
+-- they are as many
+pub constrained-length : (constraints : List ColumnConstraint) (columns : List ColumnValue) → length (constrained constraints columns) ≡ length columns
+constrained-length [] columns = refl
+constrained-length (first ∷ more) [] = refl
+constrained-length (first ∷ more) (column ∷ columns) = ap suc (constrained-length more columns)
+
+pub leasts-length : (kept : List ℕ) (columns : List ColumnValue) → length (leasts_on kept columns) ≡ length columns
+leasts-length kept columns = constrained-length (map at_least kept) columns
 
 -- their paddings and their delimiter are those of new columns
 pub record IsPaddedColumn (column : ColumnValue) : Type 0 where
   pub padding : column.padding ≡ (1, 1)
   pub no_delimiter : column.delimiter ≡ None
 
-padded_column : (is_whole : Bool) (column : ColumnValue) → IsNewColumn column → IsPaddedColumn (constrained_column is_whole column)
-padded_column true column new = record { padding = new.padding; no_delimiter = new.no_delimiter }
-padded_column false column new = record { padding = new.padding; no_delimiter = new.no_delimiter }
+padded_column : (column : ColumnValue) → IsNewColumn column → IsPaddedColumn column
+padded_column column new = record { padding = new.padding; no_delimiter = new.no_delimiter }
 
-pub padded_columns : (whole : List Bool) (columns : List ColumnValue) → AllByRecursion IsNewColumn columns → AllByRecursion IsPaddedColumn (constrained_columns whole columns)
+pub padded_columns : (kept : List ℕ) (columns : List ColumnValue) → AllByRecursion IsNewColumn columns → AllByRecursion IsPaddedColumn (leasts_on kept columns)
 padded_columns [] [] new = tt
-padded_columns [] (column ∷ columns) new = (padded_column false column new.0, padded_columns [] columns new.1)
-padded_columns (is_whole ∷ more) [] new = tt
-padded_columns (is_whole ∷ more) (column ∷ columns) new = (padded_column is_whole column new.0, padded_columns more columns new.1)
+padded_columns [] (column ∷ columns) new = (padded_column column new.0, padded_columns [] columns new.1)
+padded_columns (least ∷ more) [] new = tt
+padded_columns (least ∷ more) (column ∷ columns) new = (record { padding = new.0.padding; no_delimiter = new.0.no_delimiter }, padded_columns more columns new.1)
 
 -- ---- names and fields
 
@@ -205,31 +171,32 @@ pairs_have_two look content = two_at_most (flat_map (pairs_in look content) cont
 -- fields of a width, beside new names
 pub padded_second : (field : ℕ) (columns : List ColumnValue) → AllByRecursion IsNewColumn columns → AllByRecursion IsPaddedColumn (with_second field columns)
 padded_second field [] new = tt
-padded_second field (a ∷ []) new = (padded_column false a new.0, tt)
-padded_second field (a ∷ b ∷ more) new = (padded_column false a new.0, (record { padding = new.1.0.padding; no_delimiter = new.1.0.no_delimiter }, padded_columns [] more new.1.1))
+padded_second field (a ∷ []) new = (padded_column a new.0, tt)
+padded_second field (a ∷ b ∷ more) new = (padded_column a new.0, (record { padding = new.1.0.padding; no_delimiter = new.1.0.no_delimiter }, padded_columns [] more new.1.1))
 
 module _ (table : TableValue) (field : ℕ) (a b : ColumnValue) (new : AllByRecursion IsNewColumn (a ∷ b ∷ [])) where
   -- both are shown
   pub both_shown : filter (λ (p : ℕ × ColumnValue). not (is_hidden_column p.1)) (enumerate_from 0 (with_second field (a ∷ b ∷ []))) ≡ (0, a) ∷ (1, with_content field b) ∷ []
   both_shown =
       filter_all (λ (p : ℕ × ColumnValue). not (is_hidden_column p.1)) (enumerate_from 0 (with_second field (a ∷ b ∷ [])))
-      (every-places (λ (column : ColumnValue). not (is_hidden_column column) ≡ true) 0 (with_second field (a ∷ b ∷ [])) (shown false a new.0, (refl, tt)))
+      (every-places (λ (column : ColumnValue). not (is_hidden_column column) ≡ true) 0 (with_second field (a ∷ b ∷ [])) (shown a new.0, (refl, tt)))
 
-  need_second : IsNeed (needs_of table (1, with_content field b)) (needed_content true field)
+  need_second : IsNeed (needs_of table (1, with_content field b)) (max 1 field)
   need_second =
       let one : b.padding.0 ≡ 1 = ap (λ (x : ℕ × ℕ). x.0) new.1.0.padding in
       let other : b.padding.1 ≡ 1 = ap (λ (x : ℕ × ℕ). x.1) new.1.0.padding in
-      record { padding = omega (arith, one, other); least = omega arith; most = omega (arith, one, other); no_lower = refl }
+      record { padding = omega (arith, one, other); least = omega arith; most = omega (arith, one, other) }
 
   -- names may be broken
   need_first : (n : ℕ) → 1 ≤ n → IsNeed (needs_of table (0, a)) n
   need_first n some =
       let one : a.padding.0 ≡ 1 = ap (λ (x : ℕ × ℕ). x.0) new.0.padding in
       let other : a.padding.1 ≡ 1 = ap (λ (x : ℕ × ℕ). x.1) new.0.padding in
-      let free : fixed_or_one (needs_of table (0, a)) ≡ 1 = ap (λ c. unwrap_or (fixed_by_constraint table (shown_count table) (column_content_width table 0) (column_padding a) c) 1) new.0.no_constraint in
-      record { padding = omega (arith, one, other); least = omega (arith, free); most = omega (arith, free, some); no_lower = ap (lower_boundary table (shown_count table)) new.0.no_constraint }
+      let free : least_of (needs_of table (0, a)) ≡ 1 =
+      ap (λ c. unwrap_or (fixed_by_constraint table (shown_count table) (column_content_width table 0) (column_padding a) c) (lower_or_one (column_padding a) (lower_boundary table (shown_count table) c))) new.0.no_constraint in
+      record { padding = omega (arith, one, other); least = omega (arith, free); most = omega (arith, free, some) }
 
-  pub second_needs : (n : ℕ) → 1 ≤ n → AreNeeds (map (needs_of table) (filter (λ (p : ℕ × ColumnValue). not (is_hidden_column p.1)) (enumerate_from 0 (with_second field (a ∷ b ∷ []))))) (n ∷ needed_content true field ∷ [])
+  pub second_needs : (n : ℕ) → 1 ≤ n → AreNeeds (map (needs_of table) (filter (λ (p : ℕ × ColumnValue). not (is_hidden_column p.1)) (enumerate_from 0 (with_second field (a ∷ b ∷ []))))) (n ∷ max 1 field ∷ [])
   second_needs n some =
-      subst (λ (ps : List (ℕ × ColumnValue)). AreNeeds (map (needs_of table) ps) (n ∷ needed_content true field ∷ [])) (sym both_shown)
-      (needs-cons _ _ _ _ (need_first n some) (needs-cons _ _ _ _ need_second (record { count = refl; room = omega arith; least = omega arith; no_lower = tt })))
+      subst (λ (ps : List (ℕ × ColumnValue)). AreNeeds (map (needs_of table) ps) (n ∷ max 1 field ∷ [])) (sym both_shown)
+      (needs-cons _ _ _ _ (need_first n some) (needs-cons _ _ _ _ need_second (record { count = refl; room = omega arith; least = omega arith })))

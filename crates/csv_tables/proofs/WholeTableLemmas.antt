@@ -1,7 +1,7 @@
 -- Tables that are drawn: some of their columns are as wide as their contents, where there is room for them.
-use Rattle.std.proofs.Common.{◌≡◌, ◌≤◌, ◌<◌, ◌⊎◌, ◌||◌, ℕ, ◌+◌, ◌-◌, inl, inr, Bool, true, false, min, not, List, [], ◌∷◌, Option, Some, None, is_some, length, map, sum_by, refl, sym, ap, ◌∙◌, subst, arith}
+use Rattle.std.proofs.Common.{◌≡◌, ◌≤◌, ◌<◌, ◌⊎◌, ◌||◌, ℕ, ◌+◌, ◌-◌, inl, inr, Bool, true, false, max, min, not, List, [], ◌∷◌, Option, Some, None, is_some, length, map, sum_by, refl, sym, ap, ◌∙◌, subst, arith}
 use Rattle.std.specs.Prelude.{if◌then◌else◌, slice_index}
-use Rattle.std.specs.List.{All, AllByRecursion}
+use Rattle.std.specs.List.{All, AllByRecursion, range_with_len}
 use Rattle.std.proofs.lemmas.Bool.{leb-true, ltb-true}
 use Rattle.std.proofs.lemmas.List.{length-map}
 use Rattle.std.proofs.lemmas.List.Elements.{All-filter, All-from_recursion, All-weaker, recursion_from_All}
@@ -12,23 +12,24 @@ use Rattle.comfy_table.proofs.BuiltTableLemmas.{IsNewColumn, measured_known, row
 use Rattle.comfy_table.proofs.DrawnWidthLemmas.{paddings_of_needs}
 use Rattle.comfy_table.proofs.MeasuredLemmas.{row_measured}
 use Rattle.comfy_table.specs.Arrangement.{room_beside_borders}
-use Rattle.comfy_table.specs.Dynamic.{Steps, IsArrangedBy, total}
+use Rattle.comfy_table.specs.Dynamic.{Steps, IsArrangedBy}
 use Rattle.comfy_table.specs.Frame.{border_count}
 use Rattle.comfy_table.specs.Laws.{NoConstraints, least_total}
 use Rattle.comfy_table.specs.TableLaws.{wider_total}
-use Rattle.comfy_table.specs.TableValue.{TableValue, max_content_widths, measured_rows, shown_columns}
+use Rattle.comfy_table.specs.TableValue.{TableValue, column_content_width, max_content_widths, measured_rows, shown_columns}
 use Rattle.comfy_table.specs.Widths.{ColumnNeeds, needs_of, shown_count, shown_needs}
 use Rattle.csv_tables.proofs.BuiltLemmas.{Built, plain_table}
+use Rattle.csv_tables.proofs.LeastLemmas.{least_of, steps_within}
 use Rattle.csv_tables.proofs.SeparatorLemmas.{restyled, separated}
 use Rattle.csv_tables.proofs.UnbrokenLemmas.{framed_pair}
-use Rattle.csv_tables.proofs.WholeColumnLemmas.{AreNeeds, IsPaddedColumn, all_shown, are_fixed, field_width-within, fixed_or_one, lower-none, needs, padded_columns, padded_second, pairs_have_two, second_needs}
+use Rattle.csv_tables.proofs.WholeColumnLemmas.{AreNeeds, IsPaddedColumn, all_shown, field_width-within, leasts_on, needs, padded_columns, padded_second, pairs_have_two, second_needs}
 use Rattle.csv_tables.specs.Drawn.{SelectedValue, condensed_style, empty_table, is_aligned_in, output_table, pairs_table, rows_table, separated_table, unbroken_in}
-use Rattle.csv_tables.specs.Unbroken.{constrained_columns, field_width, framed_width, has_room, kept_unbroken, kept_unbroken_fields, may_break, needed_content, needed_contents, room_beside, room_for_two, with_constrained, with_field_width, with_second}
+use Rattle.csv_tables.specs.Unbroken.{field_width, framed_width, has_room, kept_unbroken, kept_unbroken_fields, kept_at, least_width, may_break, by_columns, needed_at, needed_by_names, needed_content, room_beside, room_for_two, with_field_width, with_kept, with_second}
 use Rattle.csv_tables.specs.declared.options.Look.{Look}
 
 -- ---- room
 
--- a width has room for the fixed widths of a table, and for one terminal column of each other column
+-- a width has room for the fixed widths and the lower boundaries of a table, and for one terminal column of each other column
 pub record HasRoom (w : ℕ) (table : TableValue) : Type 0 where
   pub contents : List ℕ
   pub needs : AreNeeds (shown_needs table) contents
@@ -38,7 +39,7 @@ module _ (w : ℕ) (table : TableValue) (room : HasRoom w table) where
   count : shown_count table ≡ length room.contents
   count = sym (length-map (shown_columns table) (needs_of table)) ∙ room.needs.count
 
-  framed : border_count table.style (shown_count table) + (sum_by (λ (column : ColumnNeeds). column.padding) (shown_needs table) + sum_by fixed_or_one (shown_needs table)) ≤ w
+  framed : border_count table.style (shown_count table) + (sum_by (λ (column : ColumnNeeds). column.padding) (shown_needs table) + sum_by least_of (shown_needs table)) ≤ w
   framed = rw count (omega (arith, room.fits, room.needs.room))
 
   -- so it has room for one terminal column of each column
@@ -47,17 +48,14 @@ module _ (w : ℕ) (table : TableValue) (room : HasRoom w table) where
 
   -- and no column takes more than it needs
   pub wider-fits : (full : Bool) (steps : Steps) (widths : List ℕ) → IsArrangedBy (room_beside_borders table w) (shown_needs table) full steps widths → wider_total table steps ≤ w
-  wider-fits full steps widths arranged =
-      let none = lower-none (room_beside_borders table w) (shown_needs table) room.needs.no_lower steps.lower arranged.lower_taken in
-      let fixed = are_fixed 0 (shown_needs table) in
-      omega (arith, framed, fixed.no_more, fixed.widths, ap total none, ap length none)
+  wider-fits full steps widths arranged = omega (arith, framed, steps_within (room_beside_borders table w) (shown_needs table) full steps widths arranged)
 
--- columns that are new, or as wide as their contents, need no more than that
-pub room_for : (w : ℕ) (whole : List Bool) (table : TableValue) → AllByRecursion IsNewColumn table.columns → framed_width table.style (needed_contents whole (max_content_widths table)) ≤ w → HasRoom w (with_constrained whole table)
-room_for w whole table new fits =
+-- new columns that keep so much need no more than they need
+pub room_for : (w : ℕ) (kept needed : ℕ → ℕ) (table : TableValue) → ((i : ℕ) → max 1 (kept i) ≤ needed i) → AllByRecursion IsNewColumn table.columns → framed_width table.style (by_columns needed table) ≤ w → HasRoom w (with_kept (by_columns kept table) table)
+room_for w kept needed table within new fits =
     record {
-      contents = needed_contents whole (max_content_widths table);
-      needs = subst (λ (ps : List (ℕ × ColumnValue)). AreNeeds (map (needs_of (with_constrained whole table)) ps) (needed_contents whole (max_content_widths table))) (sym (all_shown whole table.columns new)) (needs (with_constrained whole table) whole table.columns 0 new);
+      contents = by_columns needed table;
+      needs = subst (λ (ps : List (ℕ × ColumnValue)). AreNeeds (map (needs_of (with_kept (by_columns kept table) table)) ps) (by_columns needed table)) (sym (all_shown (by_columns kept table) table.columns new)) (needs (with_kept (by_columns kept table) table) kept needed within table.columns 0 new);
       fits = fits;
     }
 
@@ -81,14 +79,25 @@ fewer_borders style n =
     let between = fewer (n - 1) (is_some style.top_border.junction) (is_some style.header_lines.junction) (is_some style.header_separator.junction) (is_some style.content_lines.junction) (is_some style.row_separator.junction) (is_some style.bottom_border.junction) in
     omega (arith, left, right, between)
 
-still_fits : (w : ℕ) (has : Bool) (table : TableValue) (whole : List Bool) → framed_width table.style (needed_contents whole (max_content_widths table)) ≤ w
-    → framed_width (separated_table has table).style (needed_contents whole (max_content_widths (separated_table has table))) ≤ w
-still_fits w true table whole fits = fits
-still_fits w false table whole fits = omega (arith, fits, fewer_borders table.style (length (needed_contents whole (max_content_widths table))))
+pub still_fits : (w : ℕ) (has : Bool) (table : TableValue) (needed : List ℕ) → framed_width table.style needed ≤ w → framed_width (separated_table has table).style needed ≤ w
+still_fits w true table needed fits = fits
+still_fits w false table needed fits = omega (arith, fits, fewer_borders table.style (length needed))
 
-pub whole_separated : (has : Bool) (whole : List Bool) (table : TableValue) → separated_table has (with_constrained whole table) ≡ with_constrained whole (separated_table has table)
-whole_separated true whole table = refl
-whole_separated false whole table = refl
+pub kept_separated : (has : Bool) (kept : List ℕ) (table : TableValue) → separated_table has (with_kept kept table) ≡ with_kept kept (separated_table has table)
+kept_separated true kept table = refl
+kept_separated false kept table = refl
+
+-- what is kept is needed
+needs_more : (kept content : ℕ) → max 1 kept ≤ needed_content kept content
+needs_more kept content = omega arith
+
+-- what columns need has room, without lines between rows too
+pub room_for_needed : (w : ℕ) (has : Bool) (whole : List Bool) (table : TableValue) → AllByRecursion IsNewColumn table.columns → least_width whole table ≤ w → HasRoom w (separated_table has (with_kept (by_columns (kept_at whole table) table) table))
+room_for_needed w has whole table new fits = by_lines has
+  where
+    by_lines : (h : Bool) → HasRoom w (separated_table h (with_kept (by_columns (kept_at whole table) table) table))
+    by_lines true = room_for w (kept_at whole table) (needed_at whole table) table (λ i. needs_more (kept_at whole table i) (column_content_width table i)) new fits
+    by_lines false = room_for w (kept_at whole table) (needed_at whole table) (separated_table false table) (λ i. needs_more (kept_at whole table i) (column_content_width table i)) new (still_fits w false table (by_columns (needed_at whole table) table) fits)
 
 pub field_separated : (has : Bool) (field : ℕ) (table : TableValue) → separated_table has (with_field_width field table) ≡ with_field_width field (separated_table has table)
 field_separated true field table = refl
@@ -96,18 +105,18 @@ field_separated false field table = refl
 
 -- names and a field that may be broken beside them fit a width, without lines between rows too
 pair_still_fits : (w : ℕ) (has : Bool) (table : TableValue) (names field : ℕ) → field ≤ room_beside names (room_for_two w table.style) → room_for_two w table.style < min names field + field
-    → framed_width (separated_table has table).style (needed_content false names ∷ needed_content true field ∷ []) ≤ w
+    → framed_width (separated_table has table).style (needed_by_names names ∷ max 1 field ∷ []) ≤ w
 pair_still_fits w has table names field below broken = by_lines has
   where
-    own : framed_width table.style (needed_content false names ∷ needed_content true field ∷ []) ≤ w
-    own = let framed = framed_pair table.style (needed_content false names) (needed_content true field) in let both = framed_pair table.style 0 0 in omega (arith, below, broken, framed, both)
+    own : framed_width table.style (needed_by_names names ∷ max 1 field ∷ []) ≤ w
+    own = let framed = framed_pair table.style (needed_by_names names) (max 1 field) in let both = framed_pair table.style 0 0 in omega (arith, below, broken, framed, both)
 
-    by_lines : (h : Bool) → framed_width (separated_table h table).style (needed_content false names ∷ needed_content true field ∷ []) ≤ w
+    by_lines : (h : Bool) → framed_width (separated_table h table).style (needed_by_names names ∷ max 1 field ∷ []) ≤ w
     by_lines true = own
     by_lines false = omega (arith, own, fewer_borders table.style 2)
 
 -- a table of names and fields, whose fields have a width, needs no more than that and what the names need
-second_room : (w field names : ℕ) (table : TableValue) → AllByRecursion IsNewColumn table.columns → length table.columns ≤ 2 → framed_width table.style (needed_content false names ∷ needed_content true field ∷ []) ≤ w
+second_room : (w field names : ℕ) (table : TableValue) → AllByRecursion IsNewColumn table.columns → length table.columns ≤ 2 → framed_width table.style (needed_by_names names ∷ max 1 field ∷ []) ≤ w
     → (with_second field table.columns ≡ table.columns) ⊎ HasRoom w (with_field_width field table)
 second_room w field names table new as_many fits = by_columns table.columns refl new as_many
   where
@@ -117,8 +126,8 @@ second_room w field names table new as_many fits = by_columns table.columns refl
     by_columns (a ∷ b ∷ []) is new as_many =
         inr
         (record {
-          contents = needed_content false names ∷ needed_content true field ∷ [];
-          needs = second_needs (record table { columns = with_second field (a ∷ b ∷ []) }) field a b new (needed_content false names) (omega arith);
+          contents = needed_by_names names ∷ max 1 field ∷ [];
+          needs = second_needs (record table { columns = with_second field (a ∷ b ∷ []) }) field a b new (needed_by_names names) (omega arith);
           fits = fits;
         })
     by_columns (a ∷ b ∷ c ∷ more) is new as_many = absurd (omega (arith, as_many))
@@ -227,8 +236,8 @@ drawn_table-is look Q content true has known = by_width look.width refl
             below : field ≤ room_beside names room
             below = field_width-within (room_beside names room) pairs
 
-            fits : framed_width plain.style (needed_content false names ∷ needed_content true field ∷ []) ≤ w
-            fits = subst (λ (t : TableValue). framed_width t.style (needed_content false names ∷ needed_content true field ∷ []) ≤ w) (sym same) (pair_still_fits w has pairs names field below (ltb-true room (min names field + field) test))
+            fits : framed_width plain.style (needed_by_names names ∷ max 1 field ∷ []) ≤ w
+            fits = subst (λ (t : TableValue). framed_width t.style (needed_by_names names ∷ max 1 field ∷ []) ≤ w) (sym same) (pair_still_fits w has pairs names field below (ltb-true room (min names field + field) test))
 
             kept : (b : Bool) → {o : Option ℕ} → (separated b look).width ≡ o → look.width ≡ o
             kept true wide = wide
@@ -253,32 +262,36 @@ drawn_table-is look Q content false has known = by_width look.width refl
     own : IsDrawn (separated has look) Q content (separated_table has rows)
     own = subst (IsDrawn (separated has look) Q content) same (drawn_plain (separated has look) Q content plain known)
 
-    new : AllByRecursion IsNewColumn (separated_table has rows).columns
-    new = subst (λ (t : TableValue). AllByRecursion IsNewColumn t.columns) same (recursion_from_All IsNewColumn plain.columns known.columns)
+    kept : List ℕ
+    kept = by_columns (kept_at whole rows) rows
 
-    with_room : (w : ℕ) → framed_width rows.style (needed_contents whole (max_content_widths rows)) ≤ w → HasRoom w (separated_table has (with_constrained whole rows))
-    with_room w fits = subst (HasRoom w) (sym (whole_separated has whole rows)) (room_for w whole (separated_table has rows) new (still_fits w has rows whole fits))
+    new : AllByRecursion IsNewColumn rows.columns
+    new = by_lines has (subst (λ (t : TableValue). AllByRecursion IsNewColumn t.columns) same (recursion_from_All IsNewColumn plain.columns known.columns))
+      where
+        by_lines : (h : Bool) → AllByRecursion IsNewColumn (separated_table h rows).columns → AllByRecursion IsNewColumn rows.columns
+        by_lines true own = own
+        by_lines false own = own
 
     by_width : (o : Option ℕ) → look.width ≡ o → IsDrawn (separated has look) Q content (separated_table has (kept_unbroken o whole rows))
     by_width None is = own
     by_width (Some w) is = by_test (has_room (Some w) whole rows) refl
       where
-        by_test : (b : Bool) → has_room (Some w) whole rows ≡ b → IsDrawn (separated has look) Q content (separated_table has (if b then with_constrained whole rows else rows))
+        by_test : (b : Bool) → has_room (Some w) whole rows ≡ b → IsDrawn (separated has look) Q content (separated_table has (if b then with_kept kept rows else rows))
         by_test false test = own
         by_test true test =
             record {
               plain = plain;
               known = known;
-              columns = constrained_columns whole plain.columns;
-              is_plain = whole_separated has whole rows ∙ ap (with_constrained whole) (sym same);
-              padded = padded_columns whole plain.columns (recursion_from_All IsNewColumn plain.columns known.columns);
-              no_width = λ none. absurd (cc (kept has none, is));
-              room = λ v wide. inr (subst (λ n. HasRoom n (separated_table has (with_constrained whole rows))) (same_width v wide) (with_room w (leb-true _ w test)));
+              columns = leasts_on kept plain.columns;
+              is_plain = kept_separated has kept rows ∙ ap (with_kept kept) (sym same);
+              padded = padded_columns kept plain.columns (recursion_from_All IsNewColumn plain.columns known.columns);
+              no_width = λ none. absurd (cc (own_width has none, is));
+              room = λ v wide. inr (subst (λ n. HasRoom n (separated_table has (with_kept kept rows))) (same_width v wide) (room_for_needed w has whole rows new (leb-true _ w test)));
             }
           where
-            kept : (b : Bool) → {o : Option ℕ} → (separated b look).width ≡ o → look.width ≡ o
-            kept true wide = wide
-            kept false wide = wide
+            own_width : (b : Bool) → {o : Option ℕ} → (separated b look).width ≡ o → look.width ≡ o
+            own_width true wide = wide
+            own_width false wide = wide
 
             same_width : (v : ℕ) → (separated has look).width ≡ Some v → w ≡ v
-            same_width v wide = cc (kept has wide, is)
+            same_width v wide = cc (own_width has wide, is)

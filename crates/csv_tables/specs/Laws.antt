@@ -23,7 +23,7 @@ use Rattle.csv_records.specs.Number.{halves, is_neutral}
 use Rattle.csv_records.specs.declared.decimals.Points.{Points}
 use Rattle.csv_tables.specs.Controls.{HasNoStrayControl, IsStyleWithoutControls}
 use Rattle.csv_tables.specs.Drawn.{SelectedValue, RendersRecords, selected_of, is_expanded_for, note_for, output_table, record_line, separated_table, unbroken_in}
-use Rattle.csv_tables.specs.Unbroken.{framed_width, is_unbroken, needed_content}
+use Rattle.csv_tables.specs.Unbroken.{framed_width, is_unbroken, needed_by_names}
 use Rattle.csv.specs.Records.{AllText}
 use Rattle.csv_tables.specs.declared.options.Expansion.TheVariants.{Auto, Never}
 use Rattle.csv_tables.specs.declared.options.Look.{Look}
@@ -145,7 +145,7 @@ UnbrokenFieldsAreWhole w look content =
     → IsArranged table widths
     → All (λ (cell : CellValue). All (λ (line : Text). is_unbroken line ≡ true
     → framed_width look.style
-    (needed_content false (column_content_width table 0) ∷ measure line ∷ []) ≤ w
+    (needed_by_names (column_content_width table 0) ∷ measure line ∷ []) ≤ w
     → StandsWhole (slice_index widths 1) line) cell.text_lines) (column_cells table 1)
 
 -- under each width that can be set

@@ -1,6 +1,5 @@
 pub mod Cells
 pub mod Columns
-pub mod ConstrainedAt
 pub mod Contents
 pub mod ContentsValue
 pub mod Controls

@@ -1,16 +1,17 @@
 -- Columns and fields that aren't broken over lines: which they are, and where a width has room for
 -- them.
 -- Source: this library's own.
-use Rattle.std.specs.Prelude.{ℕ, ◌+◌, ◌-◌, Bool, ◌==◌, ◌&&◌, ◌||◌, true, false, List, [], ◌∷◌, Option, Some, None, chars, codes, length, map, max, min, nat_le, nat_lt, slice_index, sum_by, if◌then◌else◌}
+use Rattle.std.specs.Prelude.{ℕ, ◌+◌, ◌-◌, Bool, ◌==◌, ◌&&◌, ◌||◌, true, false, List, [], ◌∷◌, Option, Some, None, chars, codes, length, map, max, min, nat_le, nat_lt, option_and_then, slice_get, slice_index, sum_by, unwrap_or, if◌then◌else◌}
 use Rattle.std.specs.Char.{is_ascii_digit}
-use Rattle.std.specs.List.{list_all, list_any}
-use Rattle.comfy_parts.specs.CellValue.{CellValue, ColumnValue}
+use Rattle.std.specs.List.{list_all, list_any, range_with_len, slice_split}
+use Rattle.comfy_parts.specs.CellValue.{CellValue, ColumnValue, RowValue}
 use Rattle.comfy_parts.specs.Text.{Text, greatest, measure}
-use Rattle.comfy_parts.specs.declared.style.column.ColumnConstraint.TheVariants.{Absolute, ContentWidth}
+use Rattle.comfy_parts.specs.declared.style.column.ColumnConstraint.{ColumnConstraint}
+use Rattle.comfy_parts.specs.declared.style.column.ColumnConstraint.TheVariants.{Absolute, LowerBoundary}
 use Rattle.comfy_parts.specs.declared.style.column.Width.TheVariants.{Fixed}
 use Rattle.comfy_parts.specs.declared.style.table_style.TableStyle.{TableStyle}
 use Rattle.comfy_table.specs.Frame.{border_count}
-use Rattle.comfy_table.specs.TableValue.{TableValue, column_cells, max_content_widths}
+use Rattle.comfy_table.specs.TableValue.{TableValue, column_cells, column_content_width, constrained, max_content_widths, measured_cell}
 use Rattle.csv_records.specs.Number.{is_neutral, is_number}
 
 -- ---- which columns
@@ -32,49 +33,71 @@ abbrev pub framed_width : TableStyle → List ℕ → ℕ
 framed_width style contents =
     border_count style (length contents) + sum_by (λ content. 2 + content) contents
 
--- what a column needs of its content: all, or at most four terminal columns where it may be
--- broken; at least one
-abbrev pub needed_content : Bool → ℕ → ℕ
-needed_content is_unbroken content = max 1 (if is_unbroken then content else min content 4)
+-- the widest word of a text line: words stand between spaces
+abbrev pub word_width : Text → ℕ
+word_width line = greatest (map measure (slice_split (λ b. b == 0x20) line))
 
--- so each column; columns past the list may be broken
-abbrev pub needed_contents : List Bool → List ℕ → List ℕ
-needed_contents [] contents = map (needed_content false) contents
-needed_contents (is_unbroken ∷ more) [] = []
-needed_contents (is_unbroken ∷ more) (content ∷ contents) =
-    needed_content is_unbroken content ∷ needed_contents more contents
+-- a width of more than eight terminal columns, 20 at most; of others nothing
+abbrev pub if_wide : ℕ → ℕ
+if_wide width = if nat_lt 8 width then min 20 width else 0
+
+-- so the widest word of a name
+abbrev pub wide_word : TableValue → Option CellValue → ℕ
+wide_word table None = 0
+wide_word table (Some name) =
+    if_wide (greatest (map word_width (measured_cell table name).text_lines))
+
+-- the name of the column at a position
+abbrev pub name_in : TableValue → ℕ → Option CellValue
+name_in table i = option_and_then (λ (row : RowValue). slice_get row.cells i) table.header
+
+-- how much of its content the column at a position keeps in any case: all where it isn't broken,
+-- or has up to eight terminal columns; else as much as a wide word of its name
+abbrev pub kept_at : List Bool → TableValue → ℕ → ℕ
+kept_at unbroken table i =
+    let content = column_content_width table i in
+    if unwrap_or (slice_get unbroken i) false || nat_le content 8
+    then content
+    else min content (wide_word table (name_in table i))
+
+-- what is needed of a content of which so much is kept: at least one of it, or eight
+abbrev pub needed_content : ℕ → ℕ → ℕ
+needed_content kept content = max 1 (max kept (min 8 content))
+
+-- what the column at a position needs
+abbrev pub needed_at : List Bool → TableValue → ℕ → ℕ
+needed_at unbroken table i =
+    needed_content (kept_at unbroken table i) (column_content_width table i)
+
+-- so each column
+abbrev pub by_columns : (ℕ → ℕ) → TableValue → List ℕ
+by_columns f table = map f (range_with_len 0 (length table.columns))
 
 -- the least width of a table of rows: its borders, its paddings, and what its columns need
 abbrev pub least_width : List Bool → TableValue → ℕ
 least_width unbroken table =
-    framed_width table.style (needed_contents unbroken (max_content_widths table))
+    framed_width table.style (by_columns (needed_at unbroken table) table)
 
 -- whether a width that is kept has room for that
 abbrev pub has_room : Option ℕ → List Bool → TableValue → Bool
 has_room None unbroken table = true
 has_room (Some width) unbroken table = nat_le (least_width unbroken table) width
 
--- a column that is as wide as its content
-abbrev pub constrained_column : Bool → ColumnValue → ColumnValue
-constrained_column is_unbroken column =
-    if is_unbroken then record column { constraint = Some ContentWidth } else column
+-- a column has at least this content, with its paddings
+abbrev pub at_least : ℕ → ColumnConstraint
+at_least content = LowerBoundary (Fixed (content + 2))
 
-abbrev pub constrained_columns : List Bool → List ColumnValue → List ColumnValue
-constrained_columns [] columns = columns
-constrained_columns (is_unbroken ∷ more) [] = []
-constrained_columns (is_unbroken ∷ more) (column ∷ columns) =
-    constrained_column is_unbroken column ∷ constrained_columns more columns
+-- so the columns of a table
+abbrev pub with_kept : List ℕ → TableValue → TableValue
+with_kept kept table = record table { columns = constrained (map at_least kept) table.columns }
 
--- a table with such columns
-abbrev pub with_constrained : List Bool → TableValue → TableValue
-with_constrained unbroken table =
-    record table { columns = constrained_columns unbroken table.columns }
-
--- so is a table where a width is kept that has room for all of them; else it stays
+-- so it is where a width is kept that has room for what its columns need; else it stays
 abbrev pub kept_unbroken : Option ℕ → List Bool → TableValue → TableValue
 kept_unbroken None unbroken table = table
 kept_unbroken (Some width) unbroken table =
-    if has_room (Some width) unbroken table then with_constrained unbroken table else table
+    if has_room (Some width) unbroken table
+    then with_kept (by_columns (kept_at unbroken table) table) table
+    else table
 
 -- ---- fields of expanded records
 
@@ -82,9 +105,13 @@ kept_unbroken (Some width) unbroken table =
 abbrev pub room_for_two : ℕ → TableStyle → ℕ
 room_for_two width style = width - framed_width style (0 ∷ 0 ∷ [])
 
--- what names of a content leave of a room where they have what they need
+-- what names of a content need: at most four terminal columns, at least one
+abbrev pub needed_by_names : ℕ → ℕ
+needed_by_names names = max 1 (min names 4)
+
+-- what they leave of a room
 abbrev pub room_beside : ℕ → ℕ → ℕ
-room_beside names room = room - needed_content false names
+room_beside names room = room - needed_by_names names
 
 -- the width of a text line that is a number or a date and has room; else nothing
 abbrev pub unbroken_width : ℕ → Text → ℕ

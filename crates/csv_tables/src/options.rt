@@ -68,7 +68,8 @@ pub enum RowSeparators {
 #[derive(Clone, Copy, Debug, PartialEq, Eq)]
 pub enum Expansion {
     /// Where a width is kept that has no room for a table of rows: for its columns of numbers and
-    /// dates whole, and of each other column for its content, or for four terminal columns of it.
+    /// dates whole, and of each other column for its content, or for as much of it as the longest
+    /// word of its name has, from 8 to 20 terminal columns.
     Auto,
     /// Always.
     Always,

@@ -1,12 +1,11 @@
 //! Numbers and dates, which aren't broken over lines where there is room.
 
-ghost use Rattle.std.specs.Prelude.{◌≡◌, ◌||◌, ◌-◌, ◌≤◌, ◌^◌, IfOk, None, OnOk, Some, chars, false, length, min, nat_le, slice_get, true, unwrap_or};
+ghost use Rattle.std.specs.Prelude.{◌≡◌, ◌||◌, ◌-◌, ◌≤◌, ◌^◌, All, IfOk, None, OnOk, Some, chars, false, if◌then◌else◌, length, map, min, nat_le, option_copied, slice_get, true, unwrap_or};
 ghost use Rattle.std.specs.List.{list_all};
 ghost use Rattle.csv_records.specs.Number.{is_neutral, is_number};
-ghost use Rattle.comfy_table.specs.TableValue.{measured_cell};
-ghost use Rattle.csv_tables.specs.Unbroken.{cell_unbroken_width, constrained_column, field_width, framed_width, has_room, is_of_dates, is_unbroken, kept_unbroken, kept_unbroken_fields, may_break, needed_content, needed_contents, room_beside, room_for_two, unbroken_width, with_constrained, with_content, with_field_width};
+ghost use Rattle.comfy_table.specs.TableValue.{constrained, measured_cell};
+ghost use Rattle.csv_tables.specs.Unbroken.{at_least, by_columns, cell_unbroken_width, field_width, has_room, if_wide, is_of_dates, is_unbroken, kept_at, kept_unbroken, kept_unbroken_fields, least_width, may_break, name_in, needed_content, room_beside, room_for_two, unbroken_width, wide_word, with_content, with_field_width, word_width};
 ghost use Rattle.csv_tables.specs.Cells.{cell_for};
-ghost use Rattle.csv_tables.specs.ConstrainedAt.{constrained_at};
 ghost use Rattle.csv_tables.specs.Contents.{greatest_at, pairs_by};
 ghost use Rattle.csv_tables.specs.Drawn.{unbroken_in};
 
@@ -24,12 +23,17 @@ use std::alloc::{AllocError, Global};
 // How many characters a field has at most that isn't broken.
 const LONGEST: usize = 25;
 
-// How many terminal columns of its content another column needs at most.
-const NEEDED_CONTENT: u16 = 4;
+// How many terminal columns a column of text needs at most for a word of its name, and how many
+// of its content whatever its name.
+const LONGEST_WORD: u16 = 20;
+const NEEDED_CONTENT: u16 = 8;
 
-/// Lets the columns of numbers and dates be as wide as their contents, where a width is kept that
-/// has room for all of them and for what the other columns need. Returns whether there is room, as
-/// there is where no width is kept.
+// How many terminal columns the names of expanded records need at most.
+const NEEDED_NAMES: u16 = 4;
+
+/// Lets the columns keep what they need, where a width is kept that has room for that: those of
+/// numbers and dates their whole contents. Returns whether there is room, as there is where no
+/// width is kept.
 pub(crate) fn keep_unbroken(contents: &mut RowContents) -> std::result::Result<bool, AllocError>
     ensures contents { OnOk result (contents.new ≡ record contents.old {
       table = kept_unbroken contents.old.rows.look.width (unbroken_in contents.old.rows.selected)
@@ -38,13 +42,26 @@ pub(crate) fn keep_unbroken(contents: &mut RowContents) -> std::result::Result<b
     ensures has_room { IfOk result (λ has. has ≡ has_room contents.old.rows.look.width
         (unbroken_in contents.old.rows.selected) contents.old.table) }
 {
-    let Some(width) = contents.rows.look.width else {
-        return Ok(true);
-    };
+    match contents.rows.look.width {
+        Some(width) => keep_within(contents, width),
+        None => Ok(true),
+    }
+}
+
+fn keep_within(contents: &mut RowContents, width: u16) -> std::result::Result<bool, AllocError>
+    ensures contents { OnOk result (contents.new ≡ record contents.old {
+      table = kept_unbroken (Some width) (unbroken_in contents.old.rows.selected)
+          contents.old.table;
+    }) }
+    ensures has_room { IfOk result (λ has. has
+        ≡ has_room (Some width) (unbroken_in contents.old.rows.selected) contents.old.table) }
+{
     let unbroken = unbroken_columns(&contents.rows.selected)?;
-    let has_room = has_room(contents, unbroken.as_slice(), width)?;
+    let (kept, least) = kept_contents(contents, unbroken.as_slice())?;
+    let has_room = least <= usize::from(width);
     if has_room {
-        constrain_contents(contents, unbroken.as_slice());
+        let constraints = constraints_of(contents.rows.selected.alloc, kept.as_slice())?;
+        constrain_contents(contents, constraints);
     }
     Ok(has_room)
 }
@@ -64,33 +81,26 @@ fn unbroken_columns(selected: &SelectedRecords) -> std::result::Result<Vec<bool>
     Ok(unbroken)
 }
 
-// Whether a width has room for a table of rows, whose columns these are.
-fn has_room(
+// What the columns of a table of rows keep of their contents, and the least width of the table.
+fn kept_contents(
     contents: &RowContents,
     unbroken: &[bool],
-    width: u16,
-) -> std::result::Result<bool, AllocError>
-    ensures { IfOk result (λ has. has
-        ≡ has_room (Some width) unbroken.now contents.now.table) }
+) -> std::result::Result<(Vec<u16>, usize), AllocError>
+    ensures kept { IfOk result (λ x. x.0.items
+        ≡ by_columns (kept_at unbroken.now contents.now.table) contents.now.table) }
+    ensures least { IfOk result (λ x. x.1
+        ≡ min (2 ^ 64 - 1) (least_width unbroken.now contents.now.table)) }
 {
-    let alloc = contents.rows.selected.alloc;
-    let needed = needed_contents(alloc, unbroken, contents.widths())?;
-    Ok(framed_width(&contents.table, needed.as_slice()) <= usize::from(width))
-}
-
-// What the columns need of these contents.
-fn needed_contents(
-    alloc: Global,
-    unbroken: &[bool],
-    contents: &[u16],
-) -> std::result::Result<Vec<u16>, AllocError>
-    ensures { IfOk result (λ needed. needed.items ≡ needed_contents unbroken.now contents.now) }
-{
-    let mut needed = Vec::with_capacity(alloc, contents.len())?;
-    for (at, content) in contents.iter().enumerate() {
-        needed.push(needed_content(may_not_break(unbroken, at), *content))?;
+    let table = &contents.table;
+    let widths = contents.widths();
+    let mut kept = Vec::with_capacity(contents.rows.selected.alloc, widths.len())?;
+    let mut least = count_border_columns(table, widths.len());
+    for (at, content) in widths.iter().enumerate() {
+        let keeps = kept_content(table, may_not_break(unbroken, at), at, *content);
+        least = least.saturating_add(2 + usize::from(needed_content(keeps, *content)));
+        kept.push(keeps)?;
     }
-    Ok(needed)
+    Ok((kept, least))
 }
 
 fn may_not_break(unbroken: &[bool], at: usize) -> bool
@@ -102,58 +112,102 @@ fn may_not_break(unbroken: &[bool], at: usize) -> bool
     }
 }
 
-fn needed_content(is_unbroken: bool, content: u16) -> u16
-    ensures { result ≡ needed_content is_unbroken content }
+// What the column at a position keeps of its content.
+fn kept_content(table: &Table, is_unbroken: bool, at: usize, content: u16) -> u16
+    ensures { result ≡ (if is_unbroken || nat_le content 8
+        then content
+        else min content (wide_word table.now (name_in table.now at))) }
 {
-    if is_unbroken {
-        content.max(1)
+    if is_unbroken || content <= NEEDED_CONTENT {
+        content
     } else {
-        content.min(NEEDED_CONTENT).max(1)
+        content.min(wide_word(table, name_in(table, at)))
     }
 }
 
-// The width of a line of a table over columns of these contents: borders, contents and paddings.
-fn framed_width(table: &Table, contents: &[u16]) -> usize
-    ensures { result ≡ min (2 ^ 64 - 1) (framed_width table.now.style contents.now) }
+fn needed_content(kept: u16, content: u16) -> u16
+    ensures { result ≡ needed_content kept content }
 {
-    let mut width = count_border_columns(table, contents.len());
-    for content in contents {
-        width = width.saturating_add(2 + usize::from(*content));
-    }
-    width
+    content.min(NEEDED_CONTENT).max(kept).max(1)
 }
 
-fn constrain_contents(contents: &mut RowContents, unbroken: &[bool])
+// The name of the column at a position.
+fn name_in(table: &Table, at: usize) -> Option<&Cell>
+    ensures { option_copied result ≡ name_in table.now at }
+{
+    match table.header() {
+        Some(header) => header.cell_iter().as_slice().get(at),
+        None => None,
+    }
+}
+
+// The width of the widest word of a name, where that is wide.
+fn wide_word(table: &Table, name: Option<&Cell>) -> u16
+    ensures { result ≡ wide_word table.now (option_copied name.entry) }
+{
+    let Some(cell) = name else {
+        return 0;
+    };
+    let (lines, _) = measured_lines(cell, table.has_custom_styling());
+    let mut widest = 0;
+    for line in lines {
+        widest = word_width(line.as_str()).max(widest);
+    }
+    if_wide(widest)
+}
+
+fn if_wide(width: usize) -> u16
+    ensures { result ≡ if_wide width }
+{
+    if width > usize::from(NEEDED_CONTENT) {
+        width.min(usize::from(LONGEST_WORD)) as u16
+    } else {
+        0
+    }
+}
+
+// The width of the widest word of a text line.
+fn word_width(line: &str) -> usize
+    ensures { result ≡ word_width line.now }
+{
+    let mut widest = 0;
+    for word in line.split(' ') {
+        widest = measure_text_width(word).max(widest);
+    }
+    widest
+}
+
+fn constrain_contents(contents: &mut RowContents, constraints: Vec<ColumnConstraint>)
     ensures { contents.new ≡ record contents.old {
-      table = with_constrained unbroken.now contents.old.table;
+      table = record contents.old.table {
+        columns = constrained constraints.items contents.old.table.columns;
+      };
     } }
 {
-    constrain_columns(&mut contents.table, unbroken);
+    constrain_columns(&mut contents.table, constraints);
 }
 
-// Lets these columns be as wide as their contents.
-fn constrain_columns(table: &mut Table, unbroken: &[bool])
-    ensures { table.new ≡ with_constrained unbroken.now table.old }
+fn constrain_columns(table: &mut Table, constraints: Vec<ColumnConstraint>)
+    ensures { table.new ≡ record table.old {
+      columns = constrained constraints.items table.old.columns;
+    } }
 {
-    for (at, is_unbroken) in unbroken.iter().enumerate() {
-        if *is_unbroken {
-            constrain_at(table, at);
-        }
+    table.set_constraints(constraints);
+}
+
+// The constraints of columns that have at least these contents.
+fn constraints_of(
+    alloc: Global,
+    kept: &[u16],
+) -> std::result::Result<Vec<ColumnConstraint>, AllocError>
+    requires { All (λ content. content ≤ 65533) kept.now }
+    ensures { IfOk result (λ constraints. constraints.items ≡ map at_least kept.now) }
+{
+    let mut constraints = Vec::with_capacity(alloc, kept.len())?;
+    for content in kept {
+        constraints.push(ColumnConstraint::LowerBoundary(Width::Fixed(*content + 2)))?;
     }
-}
-
-fn constrain_at(table: &mut Table, at: usize)
-    ensures { table.new ≡ record table.old { columns = constrained_at at table.old.columns } }
-{
-    if let Some(column) = table.column_mut(at) {
-        constrain_column(column);
-    }
-}
-
-fn constrain_column(column: &mut Column)
-    ensures { column.new ≡ constrained_column true column.old }
-{
-    column.set_constraint(ColumnConstraint::ContentWidth);
+    Ok(constraints)
 }
 
 /// Lets the fields of expanded records be as wide as the widest number or date of them that has
@@ -183,15 +237,15 @@ fn room_for_two(table: &Table, width: u16) -> u16
     ensures value { result ≡ room_for_two width table.now.style }
     ensures below { result ≤ 65531 }
 {
-    let beside = framed_width(table, &[0, 0]).min(65535) as u16;
+    let beside = count_border_columns(table, 2).saturating_add(4).min(65535) as u16;
     width.saturating_sub(beside)
 }
 
-// What names leave of a room where they have what they need.
+// What names leave of a room.
 fn room_beside(names: u16, room: u16) -> u16
     ensures { result ≡ room_beside names room }
 {
-    room.saturating_sub(needed_content(false, names))
+    room.saturating_sub(names.min(NEEDED_NAMES).max(1))
 }
 
 // The width of the widest number or date of the fields that has room.

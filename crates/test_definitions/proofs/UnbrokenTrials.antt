@@ -10,15 +10,15 @@ use Rattle.comfy_parts.specs.CellValue.{ColumnValue, plain_cell, plain_row}
 use Rattle.comfy_parts.specs.Presets.{ascii_full}
 use Rattle.comfy_parts.specs.Text.{Text}
 use Rattle.comfy_parts.specs.declared.style.column.ColumnConstraint.{ColumnConstraint}
-use Rattle.comfy_parts.specs.declared.style.column.ColumnConstraint.TheVariants.{Absolute, ContentWidth}
+use Rattle.comfy_parts.specs.declared.style.column.ColumnConstraint.TheVariants.{Absolute, LowerBoundary}
 use Rattle.comfy_parts.specs.declared.style.column.Width.TheVariants.{Fixed}
 use Rattle.csv_tables.specs.Summaries.{column_fields}
 use Rattle.csv_records.specs.Number.{is_neutral, is_number}
-use Rattle.comfy_table.specs.TableValue.{TableValue, new_table, with_rows}
+use Rattle.comfy_table.specs.TableValue.{TableValue, new_table, with_header, with_rows}
 use Rattle.comfy_parts.specs.Wrapping.{lines_of_text}
 use Rattle.csv_tables.specs.Drawn.{is_expanded_in}
 use Rattle.csv_tables.specs.Laws.{IsWholeColumn, StandsWhole}
-use Rattle.csv_tables.specs.Unbroken.{framed_width, has_room, is_unbroken, kept_unbroken, kept_unbroken_fields, least_width, may_break, needed_contents, room_beside, room_for_two, unbroken_width}
+use Rattle.csv_tables.specs.Unbroken.{by_columns, framed_width, has_room, is_unbroken, kept_at, kept_unbroken, kept_unbroken_fields, least_width, may_break, needed_at, needed_content, room_beside, room_for_two, unbroken_width}
 use Rattle.csv_tables.specs.declared.options.Expansion.TheVariants.{Always, Auto, Never}
 
 abbrev texts : List String → List Text
@@ -39,31 +39,50 @@ columns : map (λ position. list_all is_unbroken (column_fields (texts ("1" ∷ 
 unfolding chars lib.Utf8.encode ucd_category field_at is_neutral is_number
 columns = refl
 
--- all of the first content, four of the second, and columns past the list
-needed : needed_contents (true ∷ false ∷ []) (10 ∷ 14 ∷ 3 ∷ 0 ∷ []) ≡ 10 ∷ 4 ∷ 3 ∷ 1 ∷ []
+-- names, and a long text below each
+abbrev names : List Text
+names = texts ("id" ∷ "id" ∷ "shipping address" ∷ "fulfillment status" ∷ "internationalization_and_more" ∷ [])
+
+abbrev named : TableValue
+named =
+    with_rows (plain_row (map (λ (name : Text). plain_cell (codes "letters and letters and letters")) names) ∷ [])
+    (with_header (plain_row (map plain_cell names)) (new_table ascii_full))
+
+-- all of the first content is kept; of the others a wide word of the name, up to 20 of it
+kept : by_columns (kept_at (true ∷ false ∷ []) named) named ≡ 31 ∷ 0 ∷ 0 ∷ 11 ∷ 20 ∷ []
+unfolding wrapping
+kept = refl
+
+-- at least eight of it are needed
+needed : by_columns (needed_at (true ∷ false ∷ []) named) named ≡ 31 ∷ 8 ∷ 8 ∷ 11 ∷ 20 ∷ []
+unfolding wrapping
 needed = refl
+
+-- but no more than the content, and at least one
+needed_of_contents : map (needed_content 0) (0 ∷ 3 ∷ 14 ∷ []) ≡ 1 ∷ 3 ∷ 8 ∷ []
+needed_of_contents = refl
 
 -- four borders, and two paddings each
 framed : framed_width ascii_full (10 ∷ 9 ∷ 8 ∷ []) ≡ 37
 framed = refl
 
--- a column of seven letters, with two borders and two paddings
-abbrev seven : TableValue
-seven = with_rows (plain_row (plain_cell (codes "letters") ∷ []) ∷ []) (new_table ascii_full)
+-- a column of nineteen letters without a name, with two borders and two paddings
+abbrev text : TableValue
+text = with_rows (plain_row (plain_cell (codes "letters and letters") ∷ []) ∷ []) (new_table ascii_full)
 
--- it is needed whole, or four of it
-least : map (λ unbroken. least_width (unbroken ∷ []) seven) (true ∷ false ∷ []) ≡ 11 ∷ 8 ∷ []
+-- it is needed whole, or eight of it
+least : map (λ unbroken. least_width (unbroken ∷ []) text) (true ∷ false ∷ []) ≡ 23 ∷ 12 ∷ []
 unfolding wrapping
 least = refl
 
 abbrev constraints : Option ℕ → List (Option ColumnConstraint)
-constraints width = map (λ (column : ColumnValue). column.constraint) (kept_unbroken width (true ∷ []) seven).columns
+constraints width = map (λ (column : ColumnValue). column.constraint) (kept_unbroken width (true ∷ []) text).columns
 
-room : constraints (Some 11) ≡ Some ContentWidth ∷ []
+room : constraints (Some 23) ≡ Some (LowerBoundary (Fixed 21)) ∷ []
 unfolding wrapping
 room = refl
 
-no_room : constraints (Some 10) ≡ None ∷ []
+no_room : constraints (Some 22) ≡ None ∷ []
 unfolding wrapping
 no_room = refl
 
@@ -71,22 +90,22 @@ no_width : constraints None ≡ None ∷ []
 no_width = refl
 
 -- records are expanded below that width: where the column isn't broken, and where it may be
-narrow : map (λ width. is_expanded_in Auto (has_room width (true ∷ []) seven)) (Some 10 ∷ Some 11 ∷ None ∷ []) ≡ true ∷ false ∷ false ∷ []
+narrow : map (λ width. is_expanded_in Auto (has_room width (true ∷ []) text)) (Some 22 ∷ Some 23 ∷ None ∷ []) ≡ true ∷ false ∷ false ∷ []
 unfolding wrapping
 narrow = refl
 
-narrower : map (λ width. is_expanded_in Auto (has_room width (false ∷ []) seven)) (Some 7 ∷ Some 8 ∷ None ∷ []) ≡ true ∷ false ∷ false ∷ []
+narrower : map (λ width. is_expanded_in Auto (has_room width (false ∷ []) text)) (Some 11 ∷ Some 12 ∷ None ∷ []) ≡ true ∷ false ∷ false ∷ []
 unfolding wrapping
 narrower = refl
 
 by_word : map (λ expansion. map (is_expanded_in expansion) (true ∷ false ∷ [])) (Always ∷ Never ∷ Auto ∷ []) ≡ (true ∷ true ∷ []) ∷ (false ∷ false ∷ []) ∷ (false ∷ true ∷ []) ∷ []
 by_word = refl
 
--- a column of six for its seven letters is narrower than its content, and breaks them
+-- a column of six for nineteen letters is narrower than its content, and breaks a word of them
 -- false: csv_tables::laws::auto_keeps_numbers_and_dates_whole
-narrower_than_its_content : ¬ (IsWholeColumn seven 0 (slice_index (6 ∷ []) 0))
+narrower_than_its_content : ¬ (IsWholeColumn text 0 (slice_index (6 ∷ []) 0))
 unfolding wrapping
-narrower_than_its_content whole = let is : 7 ≤ 6 = whole.content in omega (arith, is)
+narrower_than_its_content whole = let is : 19 ≤ 6 = whole.content in omega (arith, is)
 
 broken_over_lines : ¬ (lines_of_text 6 0x20 (codes "letters") ≡ codes "letters" ∷ [])
 unfolding wrapping
@@ -94,7 +113,7 @@ broken_over_lines same = cc same
 
 -- ---- fields of expanded records
 
--- three borders and four paddings leave 23 of 30; names need four of it, or all of a shorter one
+-- three borders and four paddings leave 23 of 30; names have four of it, or all of a shorter one
 rooms : room_for_two 30 ascii_full ≡ 23
 rooms = refl
 
