@@ -50,7 +50,7 @@ VALUES = {"When": names_in("WHENS"), "Encoding": names_in("ENCODINGS"), "Style":
 
 def escaped(text):
     """A text for man: hyphens are those of a terminal, and code stands in bold."""
-    text = text.replace("\\", "\\e").replace("-", "\\-").replace("'", "\\(aq")
+    text = text.replace("\\", "\\e").replace("-", "\\-").replace("'", "\\(aq").replace("…", "\\[u2026]")
     text = re.sub(r"`(.+?)`", r"\\fB\1\\fR", text)
     return "\n".join(textwrap.wrap(text, 78, break_long_words=False, break_on_hyphens=False))
 

@@ -70,7 +70,7 @@ RUNS = [
     Run("dates.csv", "day,time,host,version\n02.05.2026,07:49,192.168.0.1,1.2.3\n", drawn=["│ 02.05.2026 ┆ 07:49 ┆ 192.168.0.1 ┆ 1.2.3   │"]),
     Run("tabs.tsv", TSV, drawn=['│ screw 5" ┆ 5" long │'], delimiter="\t"),
     Run("mixed.csv", MIXED, drawn=["│ refund ┆ ($3.00) ┆                  n/a │"]),
-    Run("ragged.csv", "a,b\n1\n1,2,3\n", drawn=["│ 1 ┆ 2 ┆ 3 │"], said='ragged.csv: took "," for the delimiter; -d names another'),
+    Run("ragged.csv", "a,b\n1\n1,2,3\n", drawn=["│ 1 ┆ 2 ┆ 3 │"], said="ragged.csv: line 3 has 3 fields, the header has 2\n"),
     Run("quote.csv", 'a,b\n1,"open\n2,3\n', "", 1, said="quote.csv: a quote that opens in line 2 is never closed; try --no-quotes"),
     Run("quote.csv", 'a,b\n1,"open\n2,3\n', "--no-quotes", drawn=['│ 1 ┆ "open │', "│ 2 ┆ 3     │"]),
     Run("empty.csv", "", drawn=[""]),

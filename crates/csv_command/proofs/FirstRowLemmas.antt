@@ -1,5 +1,5 @@
 -- What is drawn of the first records of an input, as many as are drawn at most, is what is drawn of all of them.
-use Rattle.std.proofs.Common.{◌≡◌, ◌≢◌, ◌<◌, ◌≤◌, ◌+◌, ◌-◌, ◌^◌, ℕ, suc, Bool, true, false, List, [], ◌∷◌, Option, Some, None, IfSome, Result, drop, length, map, option_map, take, refl, sym, ap, ap₂, ◌∙◌, subst, arith, unwrap_or}
+use Rattle.std.proofs.Common.{◌≡◌, ◌≢◌, ◌<◌, ◌≤◌, ◌+◌, ◌-◌, ◌^◌, ℕ, suc, Bool, true, false, List, [], ◌∷◌, Option, Some, None, IfNone, IfSome, Result, drop, length, map, option_map, take, refl, sym, ap, ap₂, ◌∙◌, subst, arith, unwrap_or}
 use Rattle.std.specs.List.{slice_get}
 use Rattle.std.specs.Prelude.{if◌then◌else◌}
 use Rattle.std.proofs.lemmas.List.{length-take}
@@ -13,13 +13,15 @@ use Rattle.csv_records.specs.Encoding.{IsDecoded}
 use Rattle.csv_records.specs.Reading.{AreRecordsFor, AreRecordsIn, IsDecodedBy}
 use Rattle.csv_records.specs.declared.encoding.Encoding.{Encoding}
 use Rattle.csv_command.specs.Columns.{ColumnFault, IsColumnsRefusal, columns_by, columns_for}
-use Rattle.csv_command.specs.Doubt.{IsDoubtOfBeginning, doubt_for}
 use Rattle.csv_tables.specs.Drawn.{SelectedValue, selected_of, drawn_rows, limited, names_of, records_below}
 use Rattle.csv_tables.specs.Columns.{ColumnsValue, count_of, drawn_columns, seen}
 use Rattle.csv_tables.specs.declared.selection.Selection.{Selection}
 use Rattle.csv_tables.proofs.CountLemmas.{below_header}
 use Rattle.csv_command.specs.Drawn.{AreEnough, HasLimit, IsNotEnough, RendersBeginning, RendersChosen, RendersCounted, layout_with, most_drawn}
 use Rattle.csv_command.specs.Errors.{of_columns}
+use Rattle.csv_command.specs.Told.{IsToldOfBeginning, IsToldOfInput, drawn_records}
+use Rattle.csv_records.specs.Longer.{longer_records}
+use Rattle.csv_records.specs.declared.longer.LongerRecords.{LongerRecords}
 use Rattle.csv_command.specs.Run.{IsInputRefusal, IsRefusal}
 use Rattle.csv_command.specs.declared.error.ColumnsError.{ColumnsError}
 use Rattle.csv_command.specs.declared.error.ColumnsError.TheVariants.{NoColumn, NoneLeft, OutOfMemory, TwoSides}
@@ -91,6 +93,16 @@ pub drawn_alike : (selection : Selection) (first all : List (List Text)) (most :
 drawn_alike selection first all None own is few = let same : first ≡ all = is ∙ all_of_few (2 ^ 64 - 1) all (omega (arith, few)) in rw same (record { names = refl; rows = refl })
 drawn_alike selection first all (Some most) own is few = limited_alike selection first all most own is
 
+-- the first records are those that are drawn
+pub first_drawn : (selection : Selection) (first all : List (List Text)) (most : Option ℕ) → IfSome most (λ (m : ℕ). option_map (most_drawn selection.has_header) selection.limit ≡ Some m)
+    → IfNone most (IfSome selection.limit (λ limit. 2 ^ 64 ≤ most_drawn selection.has_header limit)) → first ≡ take (unwrap_or most (2 ^ 64 - 1)) all → length all < 2 ^ 64 → first ≡ drawn_records selection all
+first_drawn selection first all (Some most) own none is few = is ∙ sym (ap (λ (o : Option ℕ). limited o all) own)
+first_drawn selection first all None own none is few = is ∙ all_of_few (2 ^ 64 - 1) all (omega (arith, few)) ∙ by_limit selection.limit none
+  where
+    by_limit : (limit : Option ℕ) → IfSome limit (λ limit. 2 ^ 64 ≤ most_drawn selection.has_header limit) → all ≡ limited (option_map (most_drawn selection.has_header) limit) all
+    by_limit None none = refl
+    by_limit (Some limit) none = sym (all_of_few (most_drawn selection.has_header limit) all (omega (arith, few, none)))
+
 -- ---- outputs
 
 module _ (options : Options) where
@@ -155,8 +167,10 @@ module _ (options : Options) where
           is_output = same_output options first found.records alike None output made;
         }
 
-    pub beginning_doubt : (doubt : Option ℕ) → doubt ≡ doubt_for options.input found.is_enough.text → IsDoubtOfBeginning options (whole_lines read) doubt
-    beginning_doubt doubt is = record { records = found.records; are_enough = are_enough; is = is }
+    pub beginning_told : (longer told : Option LongerRecords) → longer ≡ longer_records options.input found.is_enough.text first → told ≡ (if options.selection.has_header then longer else None) → IsToldOfBeginning options (whole_lines read) told
+    beginning_told longer told are is =
+        let drawn : first ≡ drawn_records options.selection found.records = found.are_first ∙ sym (ap (λ (o : Option ℕ). limited o found.records) enough) in
+        record { records = found.records; are_enough = are_enough; is = is ∙ ap (λ (l : Option LongerRecords). if options.selection.has_header then l else None) (are ∙ ap (longer_records options.input found.is_enough.text) drawn) }
 
     pub beginning_refused : (e : ColumnsError) → IsColumnsRefusal e (columns_for options first) → IsRefusal options Beginning read (of_columns e)
     beginning_refused (NoColumn word hint) why = ((λ is. cc is), found.records, are_enough, same_refusal options first found.records alike (NoColumn word hint) why)
@@ -167,6 +181,16 @@ module _ (options : Options) where
   -- there is no memory where an input is read as text
   pub whole_no_memory : (input text : Text) → IsDecodedBy options.input input text → IsInputRefusal options input err.OutOfMemory
   whole_no_memory input text is_text = λ wanted. (subst (λ (encoding : Encoding). IsDecoded encoding options.input.skip input text) wanted is_text.is_decoded).0
+
+  -- what is told of the first records is told of the input
+  pub whole_told : (input text : Text) (first all : List (List Text)) (longer told : Option LongerRecords) → first ≡ drawn_records options.selection all → IsDecodedBy options.input input text → AreRecordsIn options.input text all
+      → longer ≡ longer_records options.input text first → told ≡ (if options.selection.has_header then longer else None) → IsToldOfInput options input told
+  whole_told input text first all longer told drawn is_text are_records are is =
+      record {
+        records = all;
+        are_records = record { text = text; is_text = is_text; are_records = are_records };
+        is = is ∙ ap (λ (l : Option LongerRecords). if options.selection.has_header then l else None) (are ∙ ap (longer_records options.input text) drawn);
+      }
 
   -- columns of an input's records can't be drawn so
   pub whole_refused : (input text : Text) (first all : List (List Text)) → AreDrawnAlike options.selection first all → IsDecodedBy options.input input text → AreRecordsIn options.input text all → (length all ≡ 0 → ⊥)

@@ -1,7 +1,6 @@
 -- How the program ends: its status, and what it says.
 -- Source: this library's own.
 use Rattle.std.specs.Prelude.{◌≡◌, ℕ, ◌==◌, Bool, true, false, ◌++◌, [], MatchResult, Option, Some, None, chars, codes, decimal, if◌then◌else◌, option_map, string_bytes}
-use Rattle.std.specs.Char.{encode_utf8}
 use Rattle.std.specs.List.{list_any}
 use Rattle.std.specs.declared.io.ErrorKind.{ErrorKind as IoErrorKind}
 use Rattle.std.specs.declared.io.ErrorKind.TheVariants as io
@@ -14,6 +13,7 @@ use Rattle.csv_command.specs.declared.arguments.Invocation.{Invocation}
 use Rattle.csv_records.specs.declared.encoding.Encoding.{Encoding}
 use Rattle.csv_records.specs.declared.error.DecodeError.{DecodeError}
 use Rattle.csv_records.specs.declared.error.DecodeError.TheVariants as decode
+use Rattle.csv_records.specs.declared.longer.LongerRecords.{LongerRecords}
 use Rattle.csv_records.specs.declared.not_text.NotText.{NotText}
 use Rattle.csv_records.specs.declared.not_text.NotText.TheVariants as not_text
 use Rattle.csv_records.specs.declared.error.RecordsError.{RecordsError}
@@ -48,11 +48,14 @@ abbrev pub encoding_hint : Option Encoding → Bool → Text
 encoding_hint None may_be_cp1252 = if may_be_cp1252 then codes "; try -e cp1252" else []
 encoding_hint (Some encoding) may_be_cp1252 = []
 
--- what an input is that is no text in UTF-8, and what helps
+-- what an input is that is no CSV in UTF-8, and what helps
 abbrev pub not_text_reason : NotText → Text
 not_text_reason not_text.Gzip = codes "compressed by gzip; try zcat FILE | csvtable"
 not_text_reason not_text.Zip =
     codes "a zip archive; try unzip -p FILE | csvtable, or save a spreadsheet as CSV"
+not_text_reason not_text.Json =
+    codes "looks like JSON; try jq -r '.[] | [.a, .b] | @csv' FILE | csvtable -n"
+    ++ codes "; -e utf-8 reads it anyway"
 not_text_reason not_text.Utf16 = codes "looks like UTF-16; try -e utf-16"
 not_text_reason (not_text.Binary number) =
     (codes "line " ++ decimal number)
@@ -113,18 +116,21 @@ message_for invocation fault e =
     (about (is_of_input e) (option_map string_bytes invocation.file)
     ++ reason_for invocation.options.input.encoding fault e) ++ codes "\n"
 
--- what a delimiter is called
-abbrev pub delimiter_name : ℕ → Text
-delimiter_name delimiter =
-    if delimiter == 0x09
-    then codes "TAB"
-    else (codes "\"" ++ encode_utf8 delimiter) ++ codes "\""
+-- how many other records have more fields
+abbrev pub others_told : ℕ → Text
+others_told others =
+    if others == 0 then []
+    else if others == 1 then codes " (and 1 more line)"
+    else (codes " (and " ++ decimal others) ++ codes " more lines)"
 
--- the line on a delimiter that is doubtful
-abbrev pub doubt_line : Option Text → ℕ → Text
-doubt_line file delimiter =
-    ((about true file ++ codes "took ") ++ delimiter_name delimiter)
-    ++ codes " for the delimiter; -d names another\n"
+-- the line on records that have more fields than the header
+abbrev pub longer_line : Option Text → LongerRecords → Text
+longer_line file longer =
+    ((about true file
+    ++ ((((codes "line " ++ decimal longer.line) ++ codes " has ") ++ decimal longer.fields)
+    ++ codes " fields, the header has ") ++ decimal longer.first_fields)
+    ++ others_told longer.others)
+    ++ codes "\n"
 
 -- what is said before the input is read: that it's waited for, where a terminal is to give it
 abbrev pub waiting_notice : Option Text → Bool → Text
@@ -196,18 +202,19 @@ IsEndOfError drawing err.OutOfMemory ending = IsLine 1 said.OutOfMemory ending
 IsEndOfError drawing e ending =
     IsMessage 1 (λ text. text ≡ message_for drawing.invocation.now drawing.fault e) ending
 
--- the end where a drawing was written: nothing is said but of a delimiter that is doubtful
-abbrev pub IsEndOfDrawing : Outcome → Option ℕ → Ending → Type 0
+-- the end where a drawing was written: nothing is said but of records with more fields than the
+-- header
+abbrev pub IsEndOfDrawing : Outcome → Option LongerRecords → Ending → Type 0
 IsEndOfDrawing drawing None ending = IsSilent 0 ending
-IsEndOfDrawing drawing (Some delimiter) ending =
+IsEndOfDrawing drawing (Some longer) ending =
     IsMessage 0
-    (λ text. text ≡ doubt_line (option_map string_bytes drawing.invocation.now.file) delimiter)
+    (λ text. text ≡ longer_line (option_map string_bytes drawing.invocation.now.file) longer)
     ending
 
 -- the end of a drawing, by its result
 abbrev pub IsEndOfOutcome : Outcome → Ending → Type 0
 IsEndOfOutcome drawing ending =
-    MatchResult drawing.result (λ doubt. IsEndOfDrawing drawing doubt ending)
+    MatchResult drawing.result (λ told. IsEndOfDrawing drawing told ending)
     (λ e. IsEndOfError drawing e ending)
 
 -- no control character but line feeds, and none that turns the direction of text

@@ -1,6 +1,5 @@
 pub mod Arguments
 pub mod Columns
-pub mod Doubt
 pub mod Drawn
 pub mod Ending
 pub mod Errors
@@ -13,3 +12,4 @@ pub mod Refusals
 pub mod Rules
 pub mod Run
 pub mod Styles
+pub mod Told

@@ -1,6 +1,7 @@
--- What is said of words that are to be numbers or a delimiter, and are none.
+-- What is said of words that are to be numbers or a delimiter, and are none, and of options that
+-- are meant otherwise.
 -- Source: this library's own.
-use Rattle.std.specs.Prelude.{ℕ, ◌-◌, ◌^◌, Bool, false, ◌==◌, ◌||◌, nat_le, List, [], ◌∷◌, ◌++◌, Option, Some, None, bytes_eq, codes, decimal, length, option_and_then, if◌then◌else◌}
+use Rattle.std.specs.Prelude.{ℕ, ◌-◌, ◌^◌, Bool, false, ◌==◌, ◌||◌, ◌&&◌, nat_le, List, [], ◌∷◌, ◌++◌, Option, Some, None, bytes_eq, codes, decimal, length, option_and_then, if◌then◌else◌}
 use Rattle.std.specs.List.{after_first, before_first}
 use Rattle.std.specs.Option.{option_map_or, option_or}
 use Rattle.std.specs.Str.Parse.{without_leading_plus}
@@ -39,13 +40,31 @@ abbrev pub number_reason : Text → ℕ → Text → Text
 number_reason option greatest word =
     ((option ++ allowed_numbers greatest) ++ word) ++ codes "'"
 
+-- what is said of a number behind `-n`
+abbrev pub header_reason : Text → Text
+header_reason word = codes "-n means no header; for the first records type --limit " ++ word
+
+-- what sorts
+abbrev pub sort_reason : Text
+sort_reason = codes "csvtable doesn't sort; try mlr --csv sort -nr COLUMN FILE | csvtable"
+
+-- what is said of other options, by the word behind them
+abbrev pub reason_without_number : Text → Text → Option Text
+reason_without_number option word =
+    if bytes_eq option (codes "-n") && is_number_to (2 ^ 64 - 1) word
+    then Some (header_reason word)
+    else if bytes_eq option (codes "--sort")
+    then Some sort_reason
+    else None
+
 -- what is said of a word behind an option, where it's to be a number and is none
 abbrev pub reason_behind : Text → Text → Option Text
 reason_behind option word =
-    option_and_then
+    option_map_or
     (λ greatest.
     if is_number_to greatest word then None else Some (number_reason option greatest word))
     (greatest_behind option)
+    (reason_without_number option word)
 
 -- an option and what stands behind it, where that isn't empty
 abbrev pub with_value : Text → Text → Option (Text × Text)
@@ -55,7 +74,8 @@ with_value option value = if length value == 0 then None else Some (option, valu
 abbrev pub behind_letter : Text → Option (Text × Text)
 behind_letter rest =
     option_map_or (with_value (codes "-w")) (strip_byte 0x77 rest)
-    (option_and_then (with_value (codes "-m")) (strip_byte 0x6D rest))
+    (option_map_or (with_value (codes "-m")) (strip_byte 0x6D rest)
+    (option_and_then (with_value (codes "-n")) (strip_byte 0x6E rest)))
 
 -- an option and its value in one word, as `--width=5`, `-w=5` and `-w5`
 abbrev pub in_one_word : Text → Option (Text × Text)

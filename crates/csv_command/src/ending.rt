@@ -3,12 +3,12 @@
 ghost use Rattle.std.specs.Prelude.{◌≡◌, ◌++◌, IfErr, IfOk, OnOk, option_map, string_bytes, true};
 ghost use Rattle.clap.specs.Words.{kind_of};
 ghost use Rattle.csv_command.specs.declared.ending.Message.TheVariants.{OutOfMemory, Text};
-ghost use Rattle.csv_command.specs.Ending.{IsEndOfOutcome, IsEndOfRefusal, IsEndOfUnwritten, IsEndWithoutArguments, IsHarmless, IsSilent, about, columns_reason, decoding_reason, delimiter_name, doubt_line, encoding_hint, is_of_input, message_for, reading_reason, reason_for, records_reason, text_of, not_text_reason, waiting_notice};
+ghost use Rattle.csv_command.specs.Ending.{IsEndOfOutcome, IsEndOfRefusal, IsEndOfUnwritten, IsEndWithoutArguments, IsHarmless, IsSilent, about, columns_reason, decoding_reason, encoding_hint, is_of_input, longer_line, message_for, others_told, reading_reason, reason_for, records_reason, text_of, not_text_reason, waiting_notice};
 
 use crate::arguments::Invocation;
 use crate::error::{ColumnsError, CsvError};
 use clap::error::{Error, ErrorKind};
-use csv_records::{DecodeError, Encoding, NotText, RecordsError, shown_text};
+use csv_records::{DecodeError, Encoding, LongerRecords, NotText, RecordsError, shown_text};
 use std::alloc::{AllocError, Global};
 use std::io;
 
@@ -21,6 +21,10 @@ const MISUSED: u8 = 2;
 const GZIP: &str = "compressed by gzip; try zcat FILE | csvtable";
 
 const ZIP: &str = "a zip archive; try unzip -p FILE | csvtable, or save a spreadsheet as CSV";
+
+// What makes CSV of JSON.
+const JSON: &str = "looks like JSON; try jq -r '.[] | [.a, .b] | @csv' FILE | csvtable -n; \
+    -e utf-8 reads it anyway";
 
 // Why there is no drawing where memory ran out.
 const OUT_OF_MEMORY: &str = "out of memory";
@@ -75,8 +79,8 @@ impl Message {
 pub(crate) struct Outcome<'a> {
     /// What arguments asked for.
     pub invocation: &'a Invocation,
-    /// Whether it was written, and then the delimiter that is doubtful.
-    pub result: Result<Option<u8>, CsvError>,
+    /// Whether it was written, and then what is told of its records.
+    pub result: Result<Option<LongerRecords>, CsvError>,
     /// With which error the input couldn't be opened or read.
     pub fault: Option<io::ErrorKind>,
     /// With which error the output couldn't be written.
@@ -89,8 +93,8 @@ pub(crate) fn ending_of_outcome(alloc: Global, drawing: &Outcome<'_>) -> Ending
 {
     match &drawing.result {
         Ok(None) => silent(0),
-        Ok(Some(delimiter)) => {
-            let text = doubt_line(alloc, &drawing.invocation.file, *delimiter);
+        Ok(Some(longer)) => {
+            let text = longer_line(alloc, &drawing.invocation.file, *longer);
             ending_with(0, message_of_text(text))
         }
         Err(CsvError::Write) => ending_of_unwritten(drawing.output_fault),
@@ -172,29 +176,43 @@ fn message_of_text(text: Result<String, AllocError>) -> Message
     }
 }
 
-// The line on a delimiter that is doubtful.
-fn doubt_line(alloc: Global, file: &Option<String>, delimiter: u8) -> Result<String, AllocError>
+// The line on records that have more fields than the header.
+fn longer_line(
+    alloc: Global,
+    file: &Option<String>,
+    longer: LongerRecords,
+) -> Result<String, AllocError>
     ensures { IfOk result (λ text. string_bytes text
-        ≡ doubt_line (option_map string_bytes file.now) delimiter) }
+        ≡ longer_line (option_map string_bytes file.now) longer) }
 {
+    let LongerRecords {
+        line,
+        fields,
+        first_fields,
+        others,
+    } = longer;
     let mut text = about(alloc, true, file)?;
-    text.push_str("took ")?;
-    push_delimiter(&mut text, delimiter)?;
-    text.push_str(" for the delimiter; -d names another\n")?;
+    let counts = format!(in alloc;
+        "line {line} has {fields} fields, the header has {first_fields}"
+    )?;
+    text.push_str(counts.as_str())?;
+    push_others(alloc, &mut text, others)?;
+    text.push('\n')?;
     Ok(text)
 }
 
-// Appends what a delimiter is called.
-fn push_delimiter(text: &mut String, delimiter: u8) -> Result<(), AllocError>
-    ensures { OnOk result (string_bytes text.new
-        ≡ string_bytes text.old ++ delimiter_name delimiter) }
+// Appends how many other records have more.
+fn push_others(alloc: Global, text: &mut String, others: usize) -> Result<(), AllocError>
+    ensures { OnOk result (string_bytes text.new ≡ string_bytes text.old ++ others_told others) }
 {
-    if delimiter == b'\t' {
-        return text.push_str("TAB");
+    if others == 0 {
+        return Ok(());
     }
-    text.push('"')?;
-    text.push(char::from(delimiter))?;
-    text.push('"')
+    if others == 1 {
+        return text.push_str(" (and 1 more line)");
+    }
+    let told = format!(in alloc; " (and {others} more lines)")?;
+    text.push_str(told.as_str())
 }
 
 /// The line on an error. The fault is that of the input where it can't be opened or read.
@@ -295,6 +313,7 @@ fn not_text_reason(alloc: Global, other: NotText) -> Result<String, AllocError>
     match other {
         NotText::Gzip => String::from_str(alloc, GZIP),
         NotText::Zip => String::from_str(alloc, ZIP),
+        NotText::Json => String::from_str(alloc, JSON),
         NotText::Utf16 => String::from_str(alloc, "looks like UTF-16; try -e utf-16"),
         NotText::Binary(line) => {
             format!(in alloc;

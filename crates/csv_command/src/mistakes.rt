@@ -1,7 +1,8 @@
-//! What is said of words that are to be numbers or a delimiter, and are none.
+//! What is said of words that are to be numbers or a delimiter, and are none, and of options that
+//! are meant otherwise.
 
 ghost use Rattle.std.specs.Prelude.{◌≡◌, IfOk, Some, map, option_map, string_bytes};
-ghost use Rattle.csv_command.specs.Mistakes.{allowed_numbers, behind_letter, given, greatest_behind, in_one_word, is_number_to, number_reason, reason_behind, reason_of, with_value, wrong_delimiter, wrong_number};
+ghost use Rattle.csv_command.specs.Mistakes.{allowed_numbers, behind_letter, given, greatest_behind, header_reason, in_one_word, is_number_to, number_reason, reason_behind, reason_of, with_value, wrong_delimiter, wrong_number};
 
 use std::alloc::{AllocError, Global};
 
@@ -69,10 +70,15 @@ fn in_one_word(word: &str) -> Option<(&str, &str)>
 fn behind_letter(rest: &str) -> Option<(&str, &str)>
     ensures { option_map (λ it. (it.0.now, it.1.now)) result ≡ behind_letter rest.now }
 {
-    match (rest.strip_prefix('w'), rest.strip_prefix('m')) {
-        (Some(value), _) => with_value("-w", value),
-        (None, Some(value)) => with_value("-m", value),
-        (None, None) => None,
+    match (
+        rest.strip_prefix('w'),
+        rest.strip_prefix('m'),
+        rest.strip_prefix('n'),
+    ) {
+        (Some(value), _, _) => with_value("-w", value),
+        (None, Some(value), _) => with_value("-m", value),
+        (None, None, Some(value)) => with_value("-n", value),
+        (None, None, None) => None,
     }
 }
 
@@ -98,7 +104,8 @@ fn reason_of(alloc: Global, given: Option<(&str, &str)>) -> Result<Option<String
     }
 }
 
-// What is said of a word behind an option, where it's to be a number and is none.
+// What is said of an option and a word behind it: where that is to be a number and is none, where
+// it is one behind `-n`, and where `csvtable` is to sort.
 fn reason_behind(alloc: Global, option: &str, word: &str) -> Result<Option<String>, AllocError>
     ensures { IfOk result (λ reason. option_map string_bytes reason
         ≡ reason_behind option.now word.now) }
@@ -107,8 +114,26 @@ fn reason_behind(alloc: Global, option: &str, word: &str) -> Result<Option<Strin
         Some(greatest) if !is_number_to(greatest, word) => {
             Ok(Some(number_reason(alloc, option, greatest, word)?))
         }
+        None if option == "-n" && is_number_to(usize::MAX, word) => {
+            Ok(Some(header_reason(alloc, word)?))
+        }
+        None if option == "--sort" => Ok(Some(String::from_str(alloc, SORT)?)),
         _ => Ok(None),
     }
+}
+
+// What sorts.
+const SORT: &str = "csvtable doesn't sort; try mlr --csv sort -nr COLUMN FILE | csvtable";
+
+fn header_reason(alloc: Global, word: &str) -> Result<String, AllocError>
+    ensures { IfOk result (λ text. string_bytes text ≡ header_reason word.now) }
+{
+    let mut text = String::from_str(
+        alloc,
+        "-n means no header; for the first records type --limit ",
+    )?;
+    text.push_str(word)?;
+    Ok(text)
 }
 
 // The greatest number that may stand behind an option.

@@ -19,6 +19,8 @@ struct OptionSpec {
     // what help calls its value
     value: &'static str,
     help: &'static str,
+    // the word below which help has it
+    heading: &'static str,
 }
 
 #[derive(Clone, Copy)]
@@ -44,6 +46,7 @@ static OPTIONS: [OptionSpec; 26] = [
         kind: Kind::File,
         value: "FILE",
         help: "The file to read; `-` or none for standard input",
+        heading: "Input",
     },
     OptionSpec {
         name: "delimiter",
@@ -52,6 +55,7 @@ static OPTIONS: [OptionSpec; 26] = [
         value: "CHAR",
         help: "What stands between fields: a character, `tab`,\n\
             `spaces`, or `auto`, which finds it [default: auto]",
+        heading: "Input",
     },
     OptionSpec {
         name: "tabs",
@@ -59,15 +63,16 @@ static OPTIONS: [OptionSpec; 26] = [
         kind: Kind::Letter,
         value: "",
         help: "As `-d tab`",
+        heading: "Input",
     },
     OptionSpec {
         name: "encoding",
         letter: Some('e'),
         kind: Kind::Encoding,
         value: "NAME",
-        help: "How the file is written: utf-8, utf-16, or cp1252\n\
-            (windows-1252, latin1, iso-8859-1) [default: utf-16\n\
-            behind its mark, else utf-8]",
+        help: "How the file is written: utf-8, utf-16 or cp1252\n\
+            [default: utf-16 behind its mark, else utf-8]",
+        heading: "Input",
     },
     OptionSpec {
         name: "no-quotes",
@@ -75,6 +80,7 @@ static OPTIONS: [OptionSpec; 26] = [
         kind: Kind::Flag,
         value: "",
         help: "Read quotes as characters like others",
+        heading: "Input",
     },
     OptionSpec {
         name: "skip",
@@ -82,6 +88,7 @@ static OPTIONS: [OptionSpec; 26] = [
         kind: Kind::Count,
         value: "N",
         help: "Leave out the first N lines",
+        heading: "Input",
     },
     OptionSpec {
         name: "no-header",
@@ -89,6 +96,7 @@ static OPTIONS: [OptionSpec; 26] = [
         kind: Kind::Flag,
         value: "",
         help: "Draw the first record as a row, not as the header",
+        heading: "Input",
     },
     OptionSpec {
         name: "limit",
@@ -96,6 +104,7 @@ static OPTIONS: [OptionSpec; 26] = [
         kind: Kind::Count,
         value: "N",
         help: "Draw the first N records, and say if there are more",
+        heading: "Input",
     },
     OptionSpec {
         name: "count",
@@ -103,6 +112,7 @@ static OPTIONS: [OptionSpec; 26] = [
         kind: Kind::Flag,
         value: "",
         help: "With --limit: read on, and say how many there are",
+        heading: "Input",
     },
     OptionSpec {
         name: "number",
@@ -110,6 +120,7 @@ static OPTIONS: [OptionSpec; 26] = [
         kind: Kind::Flag,
         value: "",
         help: "Draw the number of each record in a first column, #",
+        heading: "Columns",
     },
     OptionSpec {
         name: "columns",
@@ -117,6 +128,7 @@ static OPTIONS: [OptionSpec; 26] = [
         kind: Kind::Text,
         value: "LIST",
         help: "Draw these columns in this order, by number, name or\nrange, as `name,3-5,7-`",
+        heading: "Columns",
     },
     OptionSpec {
         name: "drop",
@@ -124,6 +136,7 @@ static OPTIONS: [OptionSpec; 26] = [
         kind: Kind::Text,
         value: "LIST",
         help: "Leave these columns out",
+        heading: "Columns",
     },
     OptionSpec {
         name: "right",
@@ -131,6 +144,7 @@ static OPTIONS: [OptionSpec; 26] = [
         kind: Kind::Text,
         value: "LIST",
         help: "Right-align these columns, as those of numbers are",
+        heading: "Columns",
     },
     OptionSpec {
         name: "left",
@@ -138,6 +152,7 @@ static OPTIONS: [OptionSpec; 26] = [
         kind: Kind::Text,
         value: "LIST",
         help: "Left-align these columns, numbers or not",
+        heading: "Columns",
     },
     OptionSpec {
         name: "no-decimal",
@@ -145,6 +160,7 @@ static OPTIONS: [OptionSpec; 26] = [
         kind: Kind::Flag,
         value: "",
         help: "Don't put decimal points below each other",
+        heading: "Columns",
     },
     OptionSpec {
         name: "width",
@@ -152,6 +168,7 @@ static OPTIONS: [OptionSpec; 26] = [
         kind: Kind::Width,
         value: "N",
         help: "The width to keep to, 0 for none [default: that of\nthe terminal, else none]",
+        heading: "Layout",
     },
     OptionSpec {
         name: "full",
@@ -159,6 +176,7 @@ static OPTIONS: [OptionSpec; 26] = [
         kind: Kind::Flag,
         value: "",
         help: "Fill the width",
+        heading: "Layout",
     },
     OptionSpec {
         name: "all-expanded",
@@ -166,6 +184,7 @@ static OPTIONS: [OptionSpec; 26] = [
         kind: Kind::Letter,
         value: "",
         help: "As `--expanded always`",
+        heading: "Layout",
     },
     OptionSpec {
         name: "expanded",
@@ -174,6 +193,7 @@ static OPTIONS: [OptionSpec; 26] = [
         value: "WHEN",
         help: "Records as names and fields: always, never, or auto,\n\
             where columns would be too narrow [default: auto]",
+        heading: "Layout",
     },
     OptionSpec {
         name: "style",
@@ -181,6 +201,7 @@ static OPTIONS: [OptionSpec; 26] = [
         kind: Kind::Style,
         value: "NAME",
         help: "How the frame looks, see below [default: rounded]",
+        heading: "Output",
     },
     OptionSpec {
         name: "rows",
@@ -188,6 +209,7 @@ static OPTIONS: [OptionSpec; 26] = [
         kind: Kind::Flag,
         value: "",
         help: "Draw lines between rows, in each style that has them",
+        heading: "Output",
     },
     OptionSpec {
         name: "no-rows",
@@ -195,13 +217,16 @@ static OPTIONS: [OptionSpec; 26] = [
         kind: Kind::Flag,
         value: "",
         help: "Draw no lines between rows",
+        heading: "Output",
     },
     OptionSpec {
         name: "max-height",
         letter: Some('m'),
         kind: Kind::Count,
         value: "N",
-        help: "Cut rows after N lines",
+        help: "Cut rows after N lines, with `…` where more is left;\n\
+            `-m 1` draws one line for each record",
+        heading: "Layout",
     },
     OptionSpec {
         name: "markdown",
@@ -209,6 +234,7 @@ static OPTIONS: [OptionSpec; 26] = [
         kind: Kind::Flag,
         value: "",
         help: "Draw a table for Markdown",
+        heading: "Output",
     },
     OptionSpec {
         name: "color",
@@ -217,6 +243,7 @@ static OPTIONS: [OptionSpec; 26] = [
         value: "WHEN",
         help: "The header in bold: always, never, or auto, in a\n\
             terminal unless NO_COLOR is set [default: auto]",
+        heading: "Output",
     },
     OptionSpec {
         name: "ansi",
@@ -224,20 +251,20 @@ static OPTIONS: [OptionSpec; 26] = [
         kind: Kind::Flag,
         value: "",
         help: "Keep the colours of fields; they take no room",
+        heading: "Output",
     },
 ];
 
 static AFTER_HELP: &str = "\
+Examples:
+  csvtable -e cp1252 --skip 4 bank.csv        what a bank sends
+  csvtable -c name,3-5 --limit 20 big.csv     some columns of the first records
+  csvtable -m 1 -w 100 notes.csv              one line for each record
+  csvtable --markdown list.csv                a table for a README
+
 Styles: rounded, box, grid, ascii, plain, markdown, and NOTHING, ASCII_MARKDOWN,
 ASCII_BORDERS_ONLY_CONDENSED; ASCII_ or UTF8_ before FULL, FULL_CONDENSED,
-NO_BORDERS, BORDERS_ONLY or HORIZONTAL_ONLY; all in any case of letters.
-
-Examples:
-  csvtable -r price list.csv                  one column right-aligned
-  csvtable -c name,3-5 --limit 20 big.csv     some columns of the first records
-  csvtable -e cp1252 --skip 4 bank.csv        what a bank sends
-
-Without FILE it reads standard input; from a terminal, up to Ctrl-D.";
+NO_BORDERS, BORDERS_ONLY or HORIZONTAL_ONLY; all in any case of letters.";
 
 static WHENS: [&str; 3] = ["auto", "always", "never"];
 
@@ -280,7 +307,9 @@ fn arg_of<'a>(
     ensures { IfOk result (λ arg. bare (rule_of arg) ≡ rule_for option.now) }
 {
     let arg = with_letter(
-        Arg::new(alloc, option.name).help(option.help),
+        Arg::new(alloc, option.name)
+            .help(option.help)
+            .help_heading(option.heading),
         option.letter,
     );
     match option.kind {

@@ -5,7 +5,7 @@ use crate::ending::{
     Ending, Outcome, ending_of_outcome, ending_of_refusal, ending_without_arguments, waiting_notice,
 };
 use crate::error::{ColumnsError, CsvError};
-use csv_records::{DecodeError, NotText, RecordsError};
+use csv_records::{DecodeError, LongerRecords, NotText, RecordsError};
 use std::alloc::{Alloc, Global};
 use std::io::ErrorKind;
 use std::process::Abort;
@@ -159,6 +159,11 @@ fn an_input_that_is_something_else(rt: HostRuntime) {
                 or save a spreadsheet as CSV\n",
         ),
         (
+            NotText::Json,
+            "csvtable: a: looks like JSON; try jq -r '.[] | [.a, .b] | @csv' FILE | csvtable -n; \
+                -e utf-8 reads it anyway\n",
+        ),
+        (
             NotText::Utf16,
             "csvtable: a: looks like UTF-16; try -e utf-16\n",
         ),
@@ -219,33 +224,42 @@ fn a_drawing_that_ends(rt: HostRuntime) {
     assert_unwritten(&rt, &invocation, ErrorKind::BrokenPipe, "");
 }
 
-// What is said where these arguments' drawing was written, and this delimiter is doubtful.
+// What is said where these arguments' drawing was written, and this is told of its records.
 fn assert_drawn<'a>(
     rt: &(impl Abort + Alloc<A = Global>),
     arguments: &'a [&'a str],
-    doubt: Option<u8>,
+    told: Option<LongerRecords>,
     text: &str,
 ) {
     let invocation = parse_by(rt, arguments);
     let drawing = Outcome {
         invocation: &invocation,
-        result: Ok(doubt),
+        result: Ok(told),
         fault: None,
         output_fault: None,
     };
     assert_says(rt, &ending_of_outcome(rt.alloc(), &drawing), 0, true, text);
 }
 
-// Nothing is said of a drawing that was written, but of a delimiter that few records agree on.
+// Nothing is said of a drawing that was written, but of records with more fields than the header.
 #[test]
 fn a_drawing_that_was_written(rt: HostRuntime) {
+    let one = LongerRecords {
+        line: 3,
+        fields: 4,
+        first_fields: 3,
+        others: 0,
+    };
+    let two = LongerRecords { others: 1, ..one };
+    let three = LongerRecords { others: 2, ..one };
     assert_drawn(&rt, &["csvtable", "a.csv"], None, "");
-    let text = "csvtable: a.csv: took \";\" for the delimiter; -d names another\n";
-    assert_drawn(&rt, &["csvtable", "a.csv"], Some(b';'), text);
-    let text = "csvtable: standard input: took TAB for the delimiter; -d names another\n";
-    assert_drawn(&rt, &["csvtable", "-"], Some(b'\t'), text);
-    let text = "csvtable: \u{fffd}[2J: took \"|\" for the delimiter; -d names another\n";
-    assert_drawn(&rt, &["csvtable", "\u{1b}[2J"], Some(b'|'), text);
+    let text = "csvtable: a.csv: line 3 has 4 fields, the header has 3\n";
+    assert_drawn(&rt, &["csvtable", "a.csv"], Some(one), text);
+    let text =
+        "csvtable: standard input: line 3 has 4 fields, the header has 3 (and 1 more line)\n";
+    assert_drawn(&rt, &["csvtable", "-"], Some(two), text);
+    let text = "csvtable: \u{fffd}[2J: line 3 has 4 fields, the header has 3 (and 2 more lines)\n";
+    assert_drawn(&rt, &["csvtable", "\u{1b}[2J"], Some(three), text);
 }
 
 // How the program ends where clap has something to say of these arguments.
@@ -268,11 +282,11 @@ fn help_is_an_output(rt: HostRuntime) {
         assert!(rt;
             text.starts_with(
                 "Draws the records of a CSV file as a table\n\n\
-                 Usage: csvtable [OPTIONS] [FILE]\n\nArguments:\n"
+                 Usage: csvtable [OPTIONS] [FILE]\n\nOptions:\n"
             )
         );
-        assert!(rt; text.contains("\n  -h, --help              Print help\n"));
-        assert!(rt; text.ends_with("reads standard input; from a terminal, up to Ctrl-D.\n"));
+        assert!(rt; text.contains("\n  -h, --help     Print help\n"));
+        assert!(rt; text.ends_with("all in any case of letters.\n"));
     }
     for argument in ["-V", "--version"] {
         let arguments = ["csvtable", argument];
@@ -318,7 +332,8 @@ fn assert_refused<'a>(
     assert_eq!(rt; line.strip_prefix("error: ").unwrap_or(""), reason);
 }
 
-// The numbers that an option takes are named. A word behind `--` is none of an option's.
+// The numbers that an option takes are named, and what to type where another one is meant. A word
+// behind `--` is none of an option's.
 #[test]
 fn words_that_are_no_numbers(rt: HostRuntime) {
     let cases = [
@@ -358,10 +373,21 @@ fn words_that_are_no_numbers(rt: HostRuntime) {
             ["csvtable", "--unknown", "-w"],
             "unexpected argument '--unknown' found",
         ),
+        (
+            ["csvtable", "a.csv", "-n5"],
+            "-n means no header; for the first records type --limit 5",
+        ),
+        (
+            ["csvtable", "a.csv", "--sort=a"],
+            "csvtable doesn't sort; try mlr --csv sort -nr COLUMN FILE | csvtable",
+        ),
     ];
     for (arguments, reason) in &cases {
         assert_refused(&rt, arguments.as_slice(), reason);
     }
+    let arguments = ["csvtable", "-n", "5", "a.csv"];
+    let reason = "-n means no header; for the first records type --limit 5";
+    assert_refused(&rt, &arguments, reason);
     let arguments = ["csvtable", "--", "-w", "-5"];
     assert_refused(&rt, &arguments, "unexpected argument '-5' found");
 }

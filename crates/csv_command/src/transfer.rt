@@ -1,9 +1,9 @@
 //! Reads an input, draws the table of its records, and writes the drawing.
 
-ghost use Rattle.std.specs.Prelude.{◌≡◌, ◌≤◌, ◌^◌, ◌⊎◌, OnOk, IfErr, IfNone, IfOk, IfSome, Some, false, option_map, string_bytes, true};
+ghost use Rattle.std.specs.Prelude.{◌≡◌, ◌≤◌, ◌^◌, ◌⊎◌, OnOk, IfErr, IfNone, IfOk, IfSome, None, Some, false, if◌then◌else◌, option_map, string_bytes, true};
 ghost use Rattle.csv_command.specs.Columns.{IsColumnsRefusal, columns_for};
-ghost use Rattle.csv_command.specs.Doubt.{IsDoubtOf, IsDoubtOfInput};
 ghost use Rattle.csv_command.specs.Drawn.{HasLimit, IsNotEnough, RendersChosen, RendersExtent, RendersInput, most_drawn};
+ghost use Rattle.csv_command.specs.Told.{IsToldOf, IsToldOfInput};
 ghost use Rattle.csv_command.specs.Run.{IsAfter, IsInputRefusal, IsRefusal, is_read_fault, is_write_fault};
 ghost use Rattle.devices.specs.Outcome.{Between};
 ghost use Rattle.devices.specs.Run.{IsNoted};
@@ -11,7 +11,9 @@ ghost use Rattle.devices.specs.Run.{IsNoted};
 use crate::arguments::Options;
 use crate::columns::columns_of;
 use crate::error::{ColumnsError, CsvError};
-use csv_records::{Records, decoded, read_beginning, read_first_records};
+use csv_records::{
+    FirstRecords, LongerRecords, Records, decoded, read_beginning, read_first_records,
+};
 use csv_tables::{DrawnRecords, Layout, Selection, drawn_records};
 use devices::{Render, Rendered, Sink, Source, joined};
 use std::alloc::Global;
@@ -26,8 +28,7 @@ use std::alloc::Global;
 ///
 /// An input without records has an empty output.
 ///
-/// Returns the delimiter that was taken although fewer than half of the first records agree on it,
-/// where there is one to doubt.
+/// Returns which of the drawn records have more fields than the header, where some have.
 ///
 /// The drawing is written in pieces. Where the input can't be read, is no text, isn't in its
 /// encoding or has a quote that is never closed, or columns can't be chosen so, nothing is written.
@@ -44,33 +45,33 @@ pub fn draw<R: Source, W: Sink>(
     source: &mut R,
     sink: &mut W,
     options: &Options,
-) -> Result<Option<u8>, CsvError>
+) -> Result<Option<LongerRecords>, CsvError>
     ensures ended { OnOk result ((R.end_was_read source.new ≡ true) ⊎ HasLimit options.now) }
     ensures source { R.has_failed source.new ≡ is_read_fault result }
     ensures sink { W.has_failed sink.old ≡ false → W.has_failed sink.new ≡ is_write_fault result }
     ensures known { Between R.Source W.Sink (source.old, sink.old) (source.new, sink.new)
         (IsAfter options.now result) }
-    ensures doubt { Between R.Source W.Sink (source.old, sink.old) (source.new, sink.new)
-        (IsNoted (IsNotEnough options.now) (IsDoubtOf options.now) result) }
+    ensures told { Between R.Source W.Sink (source.old, sink.old) (source.new, sink.new)
+        (IsNoted (IsNotEnough options.now) (IsToldOf options.now) result) }
 {
     Ok(devices::run(alloc, source, sink, options)?)
 }
 
-// A drawing, and the delimiter that is doubtful.
-type Drawing = Rendered<DrawnRecords, Option<u8>>;
+// A drawing, and what is told of its records.
+type Drawing = Rendered<DrawnRecords, Option<LongerRecords>>;
 
 impl Render for Options {
     type Error = CsvError;
 
     type Output = DrawnRecords;
 
-    type Note = Option<u8>;
+    type Note = Option<LongerRecords>;
 
     ghost is_not_enough = { IsNotEnough };
 
     ghost is_output = { RendersExtent };
 
-    ghost is_note = { IsDoubtOf };
+    ghost is_note = { IsToldOf };
 
     ghost is_refusal = { IsRefusal };
 
@@ -87,7 +88,7 @@ impl Render for Options {
             return Some(Err(CsvError::OutOfMemory));
         };
         let first = found?;
-        let note = first.doubt;
+        let note = told_of(&self.selection, &first);
         match output_of(alloc, first.records, None, self) {
             Ok(pieces) => Some(Ok(Rendered { pieces, note })),
             Err(error) => Some(Err(CsvError::from(error))),
@@ -107,6 +108,17 @@ fn most_drawn(selection: &Selection) -> Option<usize>
         limit.checked_add(1)
     } else {
         Some(limit)
+    }
+}
+
+// What is told of the first records: those that have more fields than the header.
+fn told_of(selection: &Selection, first: &FirstRecords) -> Option<LongerRecords>
+    ensures { result ≡ (if selection.now.has_header then first.now.longer else None) }
+{
+    if selection.has_header {
+        first.longer
+    } else {
+        None
     }
 }
 
@@ -141,12 +153,12 @@ pub fn output_of_input(alloc: Global, input: Vec<u8>, options: &Options) -> Resu
     Ok(joined(alloc, rendered_input(alloc, input, options)?.pieces)?)
 }
 
-// The same, with the delimiter that is doubtful.
+// The same, with what is told of its records.
 fn rendered_input(alloc: Global, input: Vec<u8>, options: &Options) -> Result<Drawing, CsvError>
     ensures output { IfOk result (λ rendered.
         RendersInput options.now input.items rendered.pieces) }
-    ensures doubt { IfOk result (λ rendered.
-        IsDoubtOfInput options.now input.items rendered.note) }
+    ensures told { IfOk result (λ rendered.
+        IsToldOfInput options.now input.items rendered.note) }
     ensures refused { IfErr result (λ e. IsInputRefusal options.now input.items e) }
 {
     let text = decoded(alloc, input, &options.input)?;
@@ -155,7 +167,7 @@ fn rendered_input(alloc: Global, input: Vec<u8>, options: &Options) -> Result<Dr
     let first = read_first_records(alloc, text.as_str(), &options.input, most)?;
     // The records have texts of their own.
     drop(text);
-    let note = first.doubt;
+    let note = told_of(&options.selection, &first);
     if first.count == 0 {
         let pieces = DrawnRecords::nothing();
         return Ok(Rendered { pieces, note });

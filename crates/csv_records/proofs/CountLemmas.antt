@@ -1,6 +1,6 @@
 -- How many fields a record has, as csv's reader finds them.
 use Rattle.std.proofs.Common.{◌≡◌, ◌≢◌, ◌≤◌, ◌⊎◌, inl, inr, ◌+◌, ◌++◌, ◌∷◌, ◌||◌, ◌&&◌, ◌==◌, [], ℕ, zero, suc, Bool, true, false, List, add-zero, ap, arith, length, length-append, map, refl, sym, unwrap_or, ◌∙◌}
-use Rattle.std.specs.Option.{option_map}
+use Rattle.std.specs.Option.{option_map, option_map_or}
 use Rattle.std.specs.Prelude.{Option, Some, None, IfSome, if◌then◌else◌}
 use Rattle.comfy_parts.specs.Text.{Text}
 use Rattle.csv.specs.Machine.{Read as FoundRecord, ends_at_end, field_after, fields_after, in_field, is_end, next_record, start_field, start_record, step}
@@ -13,6 +13,7 @@ use Rattle.csv.specs.declared.parser.State.TheVariants as st
 use Rattle.csv_records.specs.Counting.{count_behind, count_from, state_at, told_of}
 use Rattle.csv_records.specs.Counting as own_step
 use Rattle.csv_records.specs.Input.{config_for}
+use Rattle.csv_records.specs.Longer.{behind_record}
 use Rattle.csv_records.specs.declared.counting.State.{State as OwnState}
 use Rattle.csv_records.specs.declared.counting.State.TheVariants as own
 
@@ -74,6 +75,14 @@ counted cfg s fields field (b ∷ rest) = by_action (step cfg s b).1 (λ fields 
     by_action act.EndField more = more (fields ++ (field ∷ [])) [] ∙ ap (λ (n : ℕ). count_from cfg to (n + 1) rest) (length-append fields (field ∷ []))
     by_action act.Skip more = more fields field ∙ ap (λ (n : ℕ). count_from cfg to n rest) (sym (add-zero (length fields + 1)))
     by_action act.Copy more = more fields (field ++ (b ∷ [])) ∙ ap (λ (n : ℕ). count_from cfg to n rest) (sym (add-zero (length fields + 1)))
+
+-- what follows a record that is counted
+pub behind_counted : (cfg : Config) (text : Text) (found : Option (ℕ × Text)) → found ≡ count_from cfg st.StartRecord 1 text → option_map_or (λ it. it.1) found [] ≡ behind_record cfg text
+behind_counted cfg text found is = ap (λ (o : Option (ℕ × Text)). option_map_or (λ it. it.1) o []) (is ∙ sym (counted cfg st.StartRecord [] [] text)) ∙ by_next (next_record cfg st.StartRecord [] [] text)
+  where
+    by_next : (next : Option FoundRecord) → option_map_or (λ it. it.1) (option_map count_of next) [] ≡ option_map_or (λ it. it.2) next []
+    by_next None = refl
+    by_next (Some found) = refl
 
 -- ---- the next record
 

@@ -11,6 +11,7 @@ pub mod FigureLemmas
 pub mod FirstLemmas
 pub mod NotTextLemmas
 pub mod LineLemmas
+pub mod LongerLemmas
 pub mod NoneEnoughLemmas
 pub mod NumberLemmas
 pub mod NumeralLemmas

@@ -1,10 +1,12 @@
 -- What is read of a text where spaces don't stand between fields: the text, with quotes or without.
-use Rattle.std.proofs.Common.{◌≡◌, ◌≢◌, Bool, true, refl}
+use Rattle.std.proofs.Common.{◌≡◌, ◌≢◌, ◌∙◌, Bool, Option, ap, true, refl}
 use Rattle.comfy_parts.specs.Text.{Text}
-use Rattle.csv_records.specs.Delimiter.{shows_delimiter}
-use Rattle.csv_records.specs.Reading.{counts_quotes, read_text}
+use Rattle.csv_records.specs.Delimiter.{delimited, shows_delimiter}
+use Rattle.csv_records.specs.Longer.{unless_spaces}
+use Rattle.csv_records.specs.Reading.{counts_quotes, parted, read_text}
 use Rattle.csv_records.specs.declared.delimiter.Delimiter.{Delimiter}
 use Rattle.csv_records.specs.declared.delimiter.Delimiter.TheVariants.{Auto, Byte, NamedOrTab, Spaces}
+use Rattle.csv_records.specs.declared.options.InputOptions.{InputOptions}
 
 pub plain_text : (d : Delimiter) (text : Text) → d ≢ Spaces → read_text d text ≡ text
 plain_text (Byte b) text other = refl
@@ -17,6 +19,19 @@ plain_quotes (Byte b) q other = refl
 plain_quotes Auto q other = refl
 plain_quotes NamedOrTab q other = refl
 plain_quotes Spaces q other = absurd (other refl)
+
+-- and its parts
+pub plain_parted : (options : InputOptions) (text : Text) → options.delimiter ≢ Spaces → parted options text ≡ delimited options.delimiter options.has_quotes text
+plain_parted options text other =
+    let d = options.delimiter in
+    ap (λ (q : Bool). delimited d q (read_text d text)) (plain_quotes d options.has_quotes other)
+    ∙ ap (λ (t : Text). delimited d options.has_quotes t) (plain_text d text other)
+
+pub plain_told : {T : Type 0} (d : Delimiter) (told : Option T) → d ≢ Spaces → unless_spaces d told ≡ told
+plain_told (Byte b) told other = refl
+plain_told Auto told other = refl
+plain_told NamedOrTab told other = refl
+plain_told Spaces told other = absurd (other refl)
 
 -- no beginning of a text with spaces between its fields is enough
 pub no_spaces : (d : Delimiter) (q : Bool) (text : Text) → shows_delimiter d q text ≡ true → d ≢ Spaces

@@ -3,8 +3,9 @@
 use Rattle.std.specs.Prelude.{ℕ, ◌≡◌, ◌≢◌, ◌<◌, ◌==◌, Bool, true, List, [], ◌∷◌, ◌++◌, length, take, if◌then◌else◌}
 use Rattle.std.specs.List.{count_by, list_any}
 use Rattle.comfy_parts.specs.Text.{Text}
-use Rattle.csv_records.specs.Delimiter.{doubtful_delimiter, shows_delimiter}
+use Rattle.csv_records.specs.Delimiter.{shows_delimiter}
 use Rattle.csv_records.specs.Lines.{below_lines}
+use Rattle.csv_records.specs.Longer.{longer_records}
 use Rattle.csv_records.specs.Encoding.{encoding_of}
 use Rattle.csv_records.specs.Reading.{AreRecordsFor, AreRecordsIn, IsDecodedBy}
 use Rattle.csv_records.specs.declared.encoding.Encoding.TheVariants.{Utf16}
@@ -45,15 +46,13 @@ pub record AreFirstByBeginning (options : InputOptions) (most : ℕ) (read : Tex
   pub is_enough : IsEnough options most (whole_lines read) records
   pub are_first : first ≡ take most records
 
--- these are found in them: the first records, how many they have, and the delimiter that is
--- doubtful
+-- these are found in them: the first records, how many they have, and which have more fields than
+-- the first
 pub record IsFoundInBeginning (options : InputOptions) (most : ℕ) (read : Text)
     (found : FirstRecords) : Type 0 where
   pub are_first : AreFirstByBeginning options most read found.records
   pub count : found.count ≡ length are_first.records
-  pub doubt :
-      found.doubt
-      ≡ doubtful_delimiter options.delimiter options.has_quotes are_first.is_enough.text
+  pub longer : found.longer ≡ longer_records options are_first.is_enough.text found.records
 
 -- the whole lines of these bytes aren't enough, whatever their records are
 abbrev pub NoneAreEnough : InputOptions → ℕ → Text → Type 0

@@ -66,16 +66,6 @@ best_delimiter agree delimiters =
 abbrev pub found_delimiter : Bool → Text → ℕ
 found_delimiter has_quotes text = best_delimiter (agreement_by has_quotes text) tried_delimiters
 
--- some records agree, but fewer than half
-abbrev pub is_poor : List ℕ → Bool
-is_poor counts = nat_lt 0 (agreement counts) && nat_lt (2 * agreement counts) (length counts)
-
--- the delimiter that is found, where fewer than half of the first ten records agree
-abbrev pub poor_delimiter : Bool → Text → Option ℕ
-poor_delimiter has_quotes text =
-    let found = found_delimiter has_quotes text in
-    if is_poor (field_counts has_quotes text found 10) then Some found else None
-
 -- a delimiter gives a text more records than the ten that are looked at, so that these are whole,
 -- however the text goes on
 abbrev pub has_first_records : Bool → Text → ℕ → Bool
@@ -108,11 +98,3 @@ shows_delimiter Auto has_quotes text =
     is_some (named_delimiter text) || list_all (has_first_records has_quotes text) tried_delimiters
 shows_delimiter NamedOrTab has_quotes text = true
 shows_delimiter Spaces has_quotes text = false
-
--- the delimiter that is doubtful: none that is asked for or that a first line names
-abbrev pub doubtful_delimiter : Delimiter → Bool → Text → Option ℕ
-doubtful_delimiter (Byte b) has_quotes text = None
-doubtful_delimiter Auto has_quotes text =
-    if is_some (named_delimiter text) then None else poor_delimiter has_quotes text
-doubtful_delimiter NamedOrTab has_quotes text = None
-doubtful_delimiter Spaces has_quotes text = None

@@ -9,6 +9,7 @@ pub mod First
 pub mod NotText
 pub mod Input
 pub mod Lines
+pub mod Longer
 pub mod Number
 pub mod Numerals
 pub mod Pieces

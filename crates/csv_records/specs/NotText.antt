@@ -1,14 +1,15 @@
--- Signs that an input is another thing than a text in UTF-8.
+-- Signs that an input is another thing than CSV in UTF-8.
 -- Source: this library's own; RFC 1952 for gzip, PKWARE's APPNOTE for zip.
-use Rattle.std.specs.Prelude.{ℕ, Bool, ◌==◌, ◌||◌, [], ◌∷◌, Option, Some, None, bytes_eq, is_some, map, option_map, take, if◌then◌else◌}
-use Rattle.std.specs.List.{position}
+use Rattle.std.specs.Prelude.{ℕ, Bool, false, ◌==◌, ◌&&◌, ◌||◌, [], ◌∷◌, Option, Some, None, bytes_eq, drop, is_some, map, option_map, take, if◌then◌else◌}
+use Rattle.std.specs.Char.{is_ascii_whitespace}
+use Rattle.std.specs.List.{position, prefix_len}
 use Rattle.comfy_parts.specs.Text.{Text}
 use Rattle.csv_records.specs.Lines.{below_lines}
 use Rattle.csv_records.specs.Encoding.{marked_order}
 use Rattle.csv_records.specs.Input.{line_number}
 use Rattle.csv_records.specs.declared.encoding.Encoding.{Encoding}
 use Rattle.csv_records.specs.declared.not_text.NotText.{NotText}
-use Rattle.csv_records.specs.declared.not_text.NotText.TheVariants.{Binary, Gzip, Utf16, Zip}
+use Rattle.csv_records.specs.declared.not_text.NotText.TheVariants.{Binary, Gzip, Json, Utf16, Zip}
 
 -- a file of gzip begins so
 abbrev pub is_gzip : Text → Bool
@@ -35,12 +36,34 @@ abbrev pub not_text_by_nuls : ℕ → Text → Option NotText
 not_text_by_nuls above bytes =
     if is_like_utf16 bytes then Some Utf16 else option_map Binary (nul_line above bytes)
 
--- what an input is by its first bytes, or by its NULs below the lines that are left out
+-- a text without the white space of ASCII in front
+abbrev pub without_front : Text → Text
+without_front text = drop (prefix_len is_ascii_whitespace text) text
+
+-- JSON begins with two such bytes, and no header does: `{"`, `[{`, `[[` or `["`
+abbrev pub begins_json : Text → Text → Bool
+begins_json (a ∷ _) (b ∷ _) =
+    ((a == 0x7B) && (b == 0x22))
+    || ((a == 0x5B) && (((b == 0x7B) || (b == 0x5B)) || (b == 0x22)))
+begins_json _ _ = false
+
+-- the first bytes of a text that are no white space are those
+abbrev pub is_like_json : Text → Bool
+is_like_json text =
+    let first = without_front text in
+    begins_json first (without_front (drop 1 first))
+
+-- what bytes below so many lines are
+abbrev pub not_text_below : ℕ → Text → Option NotText
+not_text_below above bytes =
+    if is_like_json bytes then Some Json else not_text_by_nuls above bytes
+
+-- what an input is by its first bytes, or by what stands below the lines that are left out
 abbrev pub not_text_in : ℕ → Text → Option NotText
 not_text_in skip input =
     if is_gzip input then Some Gzip
     else if is_zip input then Some Zip
-    else not_text_by_nuls skip (below_lines skip input)
+    else not_text_below skip (below_lines skip input)
 
 -- what it is for all that is asked for: such signs count where no encoding is asked for, and no
 -- mark says that it is UTF-16

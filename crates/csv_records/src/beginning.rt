@@ -2,8 +2,8 @@
 
 ghost use Rattle.std.specs.Prelude.{◌≡◌, ◌↔◌, List, ℕ, IfNone, IfOk, IfSome, IsTrue, string_bytes};
 ghost use Rattle.csv_records.specs.Beginning.{EndsWithLine, IsFoundInBeginning, NoneAreEnough, whole_lines};
-ghost use Rattle.csv_records.specs.Delimiter.{doubtful_delimiter};
 ghost use Rattle.csv_records.specs.First.{AreFirst};
+ghost use Rattle.csv_records.specs.Longer.{longer_records};
 ghost use Rattle.csv_records.specs.Reading.{AreRecordsIn, IsDecodedBy};
 
 use crate::delimiter::shows_delimiter;
@@ -86,8 +86,8 @@ fn found_records(
 ) -> Result<Option<FirstRecords>, AllocError>
     ensures some { IfOk result (λ found.
         IfSome found (AreFirst (AreRecordsIn options.now text.now) most)) }
-    ensures doubt { IfOk result (λ found. IfSome found (λ first. first.doubt
-        ≡ doubtful_delimiter options.now.delimiter options.now.has_quotes text.now)) }
+    ensures longer { IfOk result (λ found. IfSome found (λ first. first.longer
+        ≡ longer_records options.now text.now first.records)) }
     ensures none { IfOk result (λ found. IfNone found
         ((records : List (List (List ℕ))) → ¬ (AreRecordsIn options.now text.now records))) }
 {

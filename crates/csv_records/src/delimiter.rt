@@ -3,12 +3,11 @@
 ghost use Rattle.std.specs.Prelude.{◌≡◌, ◌==◌, IfOk, option_map};
 ghost use Rattle.std.specs.List.{count_by, list_all};
 ghost use Rattle.csv.specs.Reading.{strip_bom};
-ghost use Rattle.csv_records.specs.Delimiter.{IsAsciiUnlessAsked, agreement, delimited, delimiter_in, doubtful_delimiter, found_delimiter, has_first_records, is_poor, named_delimiter, only_ascii, shows_delimiter, tried_delimiters};
+ghost use Rattle.csv_records.specs.Delimiter.{IsAsciiUnlessAsked, agreement, delimited, delimiter_in, found_delimiter, has_first_records, named_delimiter, only_ascii, shows_delimiter, tried_delimiters};
 ghost use Rattle.csv_records.specs.Lines.{EndsIn};
 
 use crate::counting::field_counts;
 use crate::lines::split_line;
-use crate::options::InputOptions;
 use crate::text::without_mark;
 use std::alloc::{AllocError, Global};
 
@@ -59,31 +58,6 @@ pub(crate) fn delimited<'a>(
         },
         // Its text has TABs between fields by then.
         Delimiter::Spaces => Ok((b'\t', text)),
-    }
-}
-
-/// This delimiter of a text, where it was taken although fewer than half of the first ten records
-/// have one same number of fields; none where it was asked for or named, or where no record is
-/// parted.
-pub(crate) fn doubtful_delimiter(
-    alloc: Global,
-    text: &str,
-    options: &InputOptions,
-    delimiter: u8,
-) -> Result<Option<u8>, AllocError>
-    requires { delimiter
-        ≡ (delimited options.now.delimiter options.now.has_quotes text.now).0 }
-    ensures { IfOk result (λ doubt. doubt
-        ≡ doubtful_delimiter options.now.delimiter options.now.has_quotes text.now) }
-{
-    if !matches!(options.delimiter, Delimiter::Auto) || named_delimiter(text).is_some() {
-        return Ok(None);
-    }
-    let counts = field_counts(alloc, text, options.has_quotes, delimiter, FIRST_RECORDS)?;
-    if is_poor(counts.as_slice()) {
-        Ok(Some(delimiter))
-    } else {
-        Ok(None)
     }
 }
 
@@ -160,15 +134,6 @@ fn found_delimiter(alloc: Global, text: &str, has_quotes: bool) -> Result<u8, Al
         }
     }
     Ok(found)
-}
-
-// Some records agree, but fewer than half.
-fn is_poor(counts: &[usize]) -> bool
-    ensures { result ≡ is_poor counts.now }
-{
-    let agreement = agreement(counts);
-    let others = counts.len().saturating_sub(agreement);
-    agreement > 0 && agreement < others
 }
 
 // How many records have the commonest number of fields, of those above 1.

@@ -1,8 +1,8 @@
-//! Signs that an input is another thing than a text in UTF-8.
+//! Signs that an input is another thing than CSV in UTF-8.
 
 ghost use Rattle.std.specs.Prelude.{◌≡◌, ◌==◌};
 ghost use Rattle.std.specs.List.{position};
-ghost use Rattle.csv_records.specs.NotText.{not_text_by_nuls, not_text_for, not_text_in, is_gzip, is_like_utf16, is_zip, nul_line};
+ghost use Rattle.csv_records.specs.NotText.{not_text_below, not_text_by_nuls, not_text_for, not_text_in, begins_json, is_gzip, is_like_json, is_like_utf16, is_zip, nul_line, without_front};
 
 use crate::encoding::{Encoding, is_marked};
 use crate::lines::below_lines;
@@ -10,7 +10,7 @@ use crate::text::line_number;
 use memchr::memchr;
 use thiserror::Error;
 
-/// What an input is that is no text in UTF-8, as its bytes show.
+/// What an input is that is no CSV in UTF-8, as its bytes show.
 #[derive(Clone, Copy, Debug, PartialEq, Eq, Error)]
 pub enum NotText {
     /// A file of gzip: it begins with the bytes 0x1F and 0x8B.
@@ -19,6 +19,9 @@ pub enum NotText {
     /// A zip archive, as many spreadsheets are: it begins with `PK` and the bytes 3 and 4.
     #[error("a zip archive")]
     Zip,
+    /// JSON: the first two bytes that are no white space are `{"`, `[{`, `[[` or `["`.
+    #[error("JSON")]
+    Json,
     /// UTF-16 without a byte-order mark: of the first four bytes every second one is NUL, and no
     /// other.
     #[error("UTF-16 without a mark")]
@@ -29,7 +32,7 @@ pub enum NotText {
 }
 
 /// What an input is seen to be, where no encoding is asked for and no mark says that it is UTF-16.
-/// NULs count below the lines that are left out.
+/// JSON and NULs count below the lines that are left out.
 pub(crate) fn not_text_for(encoding: Option<Encoding>, skip: usize, input: &[u8]) -> Option<NotText>
     ensures { result ≡ not_text_for encoding skip input.now }
 {
@@ -40,7 +43,7 @@ pub(crate) fn not_text_for(encoding: Option<Encoding>, skip: usize, input: &[u8]
     }
 }
 
-// What an input is by its first bytes, or by its NULs.
+// What an input is by its first bytes, or by what stands below the lines that are left out.
 fn not_text_in(skip: usize, input: &[u8]) -> Option<NotText>
     ensures { result ≡ not_text_in skip input.now }
 {
@@ -49,8 +52,42 @@ fn not_text_in(skip: usize, input: &[u8]) -> Option<NotText>
     } else if is_zip(input) {
         Some(NotText::Zip)
     } else {
-        not_text_by_nuls(skip, below_lines(input, skip))
+        not_text_below(skip, below_lines(input, skip))
     }
+}
+
+// What bytes below so many lines are.
+fn not_text_below(above: usize, bytes: &[u8]) -> Option<NotText>
+    ensures { result ≡ not_text_below above bytes.now }
+{
+    if is_like_json(bytes) {
+        return Some(NotText::Json);
+    }
+    not_text_by_nuls(above, bytes)
+}
+
+fn is_like_json(bytes: &[u8]) -> bool
+    ensures { result ≡ is_like_json bytes.now }
+{
+    let first = without_front(bytes);
+    begins_json(first, without_front(&first[first.len().min(1)..]))
+}
+
+// These bytes without the white space of ASCII in front.
+fn without_front(bytes: &[u8]) -> &[u8]
+    ensures { result.now ≡ without_front bytes.now }
+{
+    bytes.trim_ascii_start()
+}
+
+// Whether JSON begins with the first bytes of both, and no header does.
+fn begins_json(first: &[u8], second: &[u8]) -> bool
+    ensures { result ≡ begins_json first.now second.now }
+{
+    matches!(
+        (first, second),
+        ([b'{', ..], [b'"', ..]) | ([b'[', ..], [b'{' | b'[' | b'"', ..])
+    )
 }
 
 fn is_gzip(input: &[u8]) -> bool

@@ -11,6 +11,7 @@ ghost use Rattle.csv_records.specs.Started.{IsStarted};
 
 use crate::error::RecordsError;
 use crate::fields::Fields;
+use crate::longer::LongerRecords;
 use csv::{ByteRecord, Reader, ReaderBuilder, StringRecord};
 use std::alloc::{AllocError, Global};
 use std::marker::Model;
@@ -179,6 +180,17 @@ impl<'a> Rows<'a> {
         })
     }
 
+    /// The record at a position, which is counted from 0.
+    pub fn get(&self, position: usize) -> Option<Record<'a>>
+        ensures { result ≡ slice_get self.now position }
+    {
+        let place = self.places.get(position)?;
+        Some(Record {
+            fields: self.fields,
+            place: *place,
+        })
+    }
+
     /// A record without fields.
     pub fn blank(&self) -> Record<'a>
         ensures { result ≡ [] }
@@ -333,9 +345,8 @@ pub struct FirstRecords {
     pub records: Records,
     /// How many records it has.
     pub count: usize,
-    /// The delimiter that was taken although fewer than half of the first ten records have one same
-    /// number of fields; none where it was asked for or named, or where no record is parted.
-    pub doubt: Option<u8>,
+    /// Those of the first records that have more fields than the first of all.
+    pub longer: Option<LongerRecords>,
 }
 
 /// The first records of a text, at most so many. All of it is read.
@@ -350,7 +361,7 @@ pub(crate) fn first_records_of(
 ) -> Result<FirstRecords, RecordsError>
     ensures all { IfOk result (AreFirst (AreRecordsOf delimiter has_quotes text.now) most) }
     ensures count { IfOk result (λ first. first.count < 2 ^ 64) }
-    ensures doubt { IfOk result (λ first. first.doubt ≡ None) }
+    ensures longer { IfOk result (λ first. first.longer ≡ None) }
     ensures refused { IfErr result (λ e. IsReadingRefusal delimiter has_quotes text.now e) }
 {
     let mut reader = reader_of(alloc, text, delimiter, has_quotes);
@@ -367,7 +378,7 @@ pub(crate) fn first_records_of(
             return Ok(FirstRecords {
                 records,
                 count,
-                doubt: None,
+                longer: None,
             });
         }
         if is_split(delimiter, &record)? {

@@ -1,6 +1,6 @@
 //! The text of an input.
 
-ghost use Rattle.std.specs.Prelude.{◌≡◌, ◌+◌, ◌||◌, IfErr, IfOk, IsUtf8};
+ghost use Rattle.std.specs.Prelude.{◌≡◌, ◌+◌, ◌-◌, ◌||◌, IfErr, IfOk, IsUtf8, length, take};
 ghost use Rattle.csv.specs.Reading.{strip_bom};
 ghost use Rattle.csv_records.specs.Input.{IsTextRefusal, is_like_cp1252, is_open_in_cp1252, is_stray_control, line_breaks, line_number};
 
@@ -48,6 +48,14 @@ pub(crate) fn line_number(above: usize, bytes: &[u8]) -> u64
     ensures { result ≡ line_number above bytes.now }
 {
     (above as u64).saturating_add(line_after(bytes))
+}
+
+/// The number of the line where the last bytes of a text begin, this being how many they are. So
+/// many lines stand above the text.
+pub(crate) fn line_before(above: usize, text: &str, last: usize) -> u64
+    ensures { result ≡ line_number above (take (length text.now - last) text.now) }
+{
+    line_number(above, &text.as_bytes()[..text.len().saturating_sub(last)])
 }
 
 // The number of the line in which the end of these bytes stands, among them.

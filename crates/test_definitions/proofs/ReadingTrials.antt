@@ -7,21 +7,24 @@ use Rattle.std.specs.Str.{chars}
 use Rattle.std.specs.declared.io.ErrorKind.TheVariants as io
 use Rattle.csv.specs.Machine.{next_record}
 use Rattle.csv.specs.Reading.{records_from, strip_bom}
+use Rattle.csv.specs.declared.parser.State.TheVariants as st
 use Rattle.ucd_category.proofs.Computing.{ucd_category}
 use Rattle.comfy_parts.specs.Text.{Text}
 use Rattle.csv_command.specs.Ending.{input_name, reading_reason, reason_for}
 use Rattle.csv_records.specs.Number.{is_neutral, is_number}
 use Rattle.csv_records.specs.Lines.{below_lines}
-use Rattle.csv_records.specs.Delimiter.{agreement, delimited, delimiter_in, doubtful_delimiter, is_poor}
+use Rattle.csv_records.specs.Longer.{longer_records}
+use Rattle.csv_records.specs.Delimiter.{agreement, delimited, delimiter_in}
 use Rattle.csv_tables.specs.Unbroken.{is_unbroken}
 use Rattle.csv_command.specs.Arguments.{delimiter_for, encoding_for}
 use Rattle.csv_records.specs.NotText.{not_text_for}
-use Rattle.csv_records.specs.Input.{is_like_cp1252}
+use Rattle.csv_records.specs.Input.{config_for, is_like_cp1252}
 use Rattle.csv_records.specs.declared.delimiter.Delimiter.{Delimiter}
 use Rattle.csv_records.specs.declared.delimiter.Delimiter.TheVariants.{Auto, Byte, NamedOrTab}
 use Rattle.csv_records.specs.declared.encoding.Encoding.TheVariants.{Cp1252, Utf16, Utf8}
 use Rattle.csv_records.specs.declared.error.DecodeError.TheVariants as decode
-use Rattle.csv_records.specs.declared.not_text.NotText.TheVariants.{Binary, Gzip, Utf16 as UnmarkedUtf16, Zip}
+use Rattle.csv_records.specs.declared.not_text.NotText.TheVariants.{Binary, Gzip, Json, Utf16 as UnmarkedUtf16, Zip}
+use Rattle.csv_records.specs.declared.options.InputOptions.{InputOptions}
 use Rattle.csv_command.specs.declared.error.CsvError.TheVariants as err
 
 abbrev texts : List String → List Text
@@ -62,18 +65,17 @@ none_found : map (λ (input : String). (delimited Auto true (codes input)).0) ("
 unfolding strip_bom records_from next_record
 none_found = refl
 
--- some agree, but fewer than half
-poor_ones : map is_poor ([] ∷ (1 ∷ 1 ∷ []) ∷ (2 ∷ []) ∷ (2 ∷ 2 ∷ 1 ∷ 1 ∷ []) ∷ (2 ∷ 1 ∷ 1 ∷ []) ∷ (2 ∷ 3 ∷ 4 ∷ []) ∷ []) ≡ false ∷ false ∷ false ∷ false ∷ true ∷ true ∷ []
-poor_ones = refl
+-- ---- records with more fields than the first
 
--- a delimiter is doubtful where it was found so, and neither asked for nor named
-doubtful_ones : map (λ (input : String). doubtful_delimiter Auto true (codes input)) ("a\nb\nc;d\n" ∷ "a\nb;c\n" ∷ "a\nb\n" ∷ "sep=;\na\nb\nc;d\n" ∷ "" ∷ []) ≡ Some 0x3B ∷ None ∷ None ∷ None ∷ None ∷ []
-unfolding strip_bom records_from next_record
-doubtful_ones = refl
+abbrev below_two : InputOptions
+below_two = record { encoding = None; skip = 2; delimiter = Auto; has_quotes = true }
 
-asked_ones : map (λ (delimiter : Delimiter). doubtful_delimiter delimiter true (codes "a\nb\nc\td\n")) (Auto ∷ NamedOrTab ∷ Byte 0x09 ∷ []) ≡ Some 0x09 ∷ None ∷ None ∷ []
+-- of the first of them the line, also behind quoted lines and empty ones, and how many others there are
+longer_ones : map (λ (input : String). longer_records below_two (codes input) (records_from (config_for 0x2C true) 9 st.StartRecord (strip_bom (codes input))))
+    ("a,b\n\"x\ny\",1\n\r\n2,b,c\n" ∷ "a,b\n1\n2,3\n" ∷ "a\r\n1\r\n2,3\r\n4,5,6" ∷ "" ∷ [])
+    ≡ Some (record { line = 7; fields = 3; first_fields = 2; others = 0 }) ∷ None ∷ Some (record { line = 5; fields = 2; first_fields = 1; others = 1 }) ∷ None ∷ []
 unfolding strip_bom records_from next_record
-asked_ones = refl
+longer_ones = refl
 
 -- quotes as csv reads them, and as characters
 with_quotes : map (λ (has_quotes : Bool). (delimited Auto has_quotes (codes "\"a;b\",c\n1,2\n")).0) (true ∷ false ∷ []) ≡ 0x2C ∷ 0x2C ∷ []
@@ -134,6 +136,11 @@ not_text_inputs :
     map (not_text_for None 0) ((0x1F ∷ 0x8B ∷ []) ∷ (0x50 ∷ 0x4B ∷ 3 ∷ 4 ∷ []) ∷ (0x61 ∷ 0 ∷ 0x2C ∷ 0 ∷ []) ∷ (0 ∷ 0x61 ∷ 0 ∷ 0x2C ∷ []) ∷ (0x61 ∷ 0x0A ∷ 0 ∷ []) ∷ (0 ∷ 0 ∷ 0 ∷ 0 ∷ []) ∷ [])
     ≡ Some Gzip ∷ Some Zip ∷ Some UnmarkedUtf16 ∷ Some UnmarkedUtf16 ∷ Some (Binary 2) ∷ Some (Binary 1) ∷ []
 not_text_inputs = refl
+
+-- JSON, and headers that look a little like it
+json_inputs : map (λ (input : String). not_text_for None 1 (codes input)) ("\n[\n  {\n" ∷ "\n{ \"a\": 1}\n" ∷ "\n[[1]]" ∷ "\n[\"a\"]" ∷ "\n\"{\"\"a\"\": 1}\"" ∷ "\n[a],b\n" ∷ "\n{" ∷ "[{" ∷ [])
+    ≡ Some Json ∷ Some Json ∷ Some Json ∷ Some Json ∷ None ∷ None ∷ None ∷ None ∷ []
+json_inputs = refl
 
 -- words that begin so, a mark of UTF-16, and an encoding that is asked for
 no_signs : map (not_text_for None 0) ((0x1F ∷ []) ∷ (0x50 ∷ 0x4B ∷ 0x2C ∷ 4 ∷ []) ∷ (0xFF ∷ 0xFE ∷ 0x61 ∷ 0 ∷ []) ∷ []) ≡ None ∷ None ∷ None ∷ []

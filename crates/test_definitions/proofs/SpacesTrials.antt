@@ -18,5 +18,16 @@ mounts = refl
 header : tabbed_text (codes " a  b c\n \n") ≡ codes "a\tb\tc\n"
 header = refl
 
+-- the first column has no name where the first line alone begins with a blank, and has a field less
+memory : tabbed_text (codes "      total  used\nMem:     15     4\nSwap:     2\n") ≡ codes "\ttotal\tused\nMem:\t15\t4\nSwap:\t2\n"
+memory = refl
+
+-- a first line like `total 92` is left out, and a name stays
+sizes_of_files : tabbed_text (codes "total 4.0K\n-rw 1 a b\ndrw 2 c\n") ≡ codes "-rw\t1\ta b\ndrw\t2\tc\n"
+sizes_of_files = refl
+
+total_as_a_name : tabbed_text (codes "total used\n1 2\n") ≡ codes "total\tused\n1\t2\n"
+total_as_a_name = refl
+
 blank : tabbed_text (codes " \n\t\n") ≡ []
 blank = refl

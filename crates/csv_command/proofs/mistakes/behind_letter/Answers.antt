@@ -1,14 +1,17 @@
-use Rattle.std.proofs.Common.{None, Option, ap₂, arith, codes, option_and_then}
+use Rattle.std.proofs.Common.{None, Option, ap, ap₂, arith, codes, option_and_then, ◌∙◌}
 use Rattle.std.proofs.lemmas.Str.Pattern.{strip_prefix_char}
 use Rattle.std.specs.Option.{option_map_or}
 use Rattle.clap.proofs.LexerLemmas.{strip_byte-from}
+use Rattle.clap.specs.Lexer.{strip_byte}
 use Rattle.comfy_parts.specs.Text.{Text}
 use Rattle.csv_command.specs.Mistakes.{with_value}
 use Rattle.csv_command.proofs.mistakes.behind_letter.Goals as goal
 
-pub returns-in-None-None : goal.returns-in-None-None
-returns-in-None-None c =
+pub returns-in-None-None-None : goal.returns-in-None-None-None
+returns-in-None-None-None c =
     let rest = c.args.rest.now in
-    let no_w = strip_byte-from 0x77 rest None (strip_prefix_char 0x77 rest None c.in-None-None.ensures.cases (omega arith)) in
-    let no_m = strip_byte-from 0x6D rest None (strip_prefix_char 0x6D rest None c.in-None-None.ensures'.cases (omega arith)) in
-    ap₂ (λ (w m : Option Text). option_map_or (with_value (codes "-w")) w (option_and_then (with_value (codes "-m")) m)) no_w no_m
+    let no_w = strip_byte-from 0x77 rest None (strip_prefix_char 0x77 rest None c.in-None-None-None.ensures.cases (omega arith)) in
+    let no_m = strip_byte-from 0x6D rest None (strip_prefix_char 0x6D rest None c.in-None-None-None.ensures'.cases (omega arith)) in
+    let no_n = strip_byte-from 0x6E rest None (strip_prefix_char 0x6E rest None c.in-None-None-None.ensures''.cases (omega arith)) in
+    ap (λ (n : Option Text). option_and_then (with_value (codes "-n")) n) no_n
+    ∙ ap₂ (λ (w m : Option Text). option_map_or (with_value (codes "-w")) w (option_map_or (with_value (codes "-m")) m (option_and_then (with_value (codes "-n")) (strip_byte 0x6E rest)))) no_w no_m

@@ -24,7 +24,7 @@ pub returns-in-File : goal.returns-in-File
 unfolding rule_for
 returns-in-File c =
     let option = c.args.option.now in
-    let begun = c.with_letter-arg.ensures ∙ ap (λ a. lettered option.letter (rule_of a)) c.help.ensures ∙ ap (lettered option.letter) c.new.ensures.rule in
+    let begun = c.with_letter-arg.ensures ∙ ap (λ a. lettered option.letter (rule_of a)) c.help_heading.ensures ∙ ap (λ a. lettered option.letter (rule_of a)) c.help.ensures ∙ ap (lettered option.letter) c.new.ensures.rule in
     ap (λ a. bare (rule_of a)) c.value_name.ensures ∙ ap (λ (rule : Rule). bare (record rule { value_names = 1 })) begun
     ∙ ap (λ k. with_values k (bare (of_kind k option.name.now (lettered option.letter (new_rule option.name.now))))) (sym c.in-File.is)
 
@@ -32,7 +32,7 @@ pub returns-in-Flag : goal.returns-in-Flag
 unfolding rule_for
 returns-in-Flag c =
     let option = c.args.option.now in
-    let begun = c.with_letter-arg.ensures ∙ ap (λ a. lettered option.letter (rule_of a)) c.help.ensures ∙ ap (lettered option.letter) c.new.ensures.rule in
+    let begun = c.with_letter-arg.ensures ∙ ap (λ a. lettered option.letter (rule_of a)) c.help_heading.ensures ∙ ap (λ a. lettered option.letter (rule_of a)) c.help.ensures ∙ ap (lettered option.letter) c.new.ensures.rule in
     ap (λ a. bare (rule_of a)) c.action.ensures ∙ ap (λ a. bare (record (rule_of a) { action = Some SetTrue })) c.long.ensures
     ∙ ap (λ (rule : Rule). bare (record rule { long = Some option.name.now; action = Some SetTrue })) begun
     ∙ ap (λ k. with_values k (bare (of_kind k option.name.now (lettered option.letter (new_rule option.name.now))))) (sym c.in-Flag.is)
@@ -41,7 +41,7 @@ pub returns-in-Letter : goal.returns-in-Letter
 unfolding rule_for
 returns-in-Letter c =
     let option = c.args.option.now in
-    let begun = c.with_letter-arg.ensures ∙ ap (λ a. lettered option.letter (rule_of a)) c.help.ensures ∙ ap (lettered option.letter) c.new.ensures.rule in
+    let begun = c.with_letter-arg.ensures ∙ ap (λ a. lettered option.letter (rule_of a)) c.help_heading.ensures ∙ ap (λ a. lettered option.letter (rule_of a)) c.help.ensures ∙ ap (lettered option.letter) c.new.ensures.rule in
     ap (λ a. bare (rule_of a)) c.action-in-Letter.ensures ∙ ap (λ (rule : Rule). bare (record rule { action = Some SetTrue })) begun
     ∙ ap (λ k. with_values k (bare (of_kind k option.name.now (lettered option.letter (new_rule option.name.now))))) (sym c.in-Letter.is)
 
@@ -49,7 +49,7 @@ pub returns-in_default : goal.returns-in_default
 unfolding rule_for
 returns-in_default c =
     let option = c.args.option.now in
-    let begun = c.with_letter-arg.ensures ∙ ap (λ a. lettered option.letter (rule_of a)) c.help.ensures ∙ ap (lettered option.letter) c.new.ensures.rule in
+    let begun = c.with_letter-arg.ensures ∙ ap (λ a. lettered option.letter (rule_of a)) c.help_heading.ensures ∙ ap (λ a. lettered option.letter (rule_of a)) c.help.ensures ∙ ap (lettered option.letter) c.new.ensures.rule in
     c.with_value.ensures
     ∙ ap (λ a. with_values option.kind (bare (rule_of a))) (c.value_name-in_default.ensures)
     ∙ ap (λ a. with_values option.kind (bare (record (rule_of a) { value_names = 1 }))) c.long-in_default.ensures

@@ -61,5 +61,5 @@ returns-clause-some c =
             are_first = first.records;
           };
       count = first.count;
-      doubt = rw (c.as_str-2.ensures.value, c.in-Some-2.is) at c.in_ok-first.ensures.doubt;
+      longer = rw (c.as_str-2.ensures.value, c.in-Some-2.is) at c.in_ok-first.ensures.longer;
     }

@@ -3,12 +3,11 @@ use Rattle.std.proofs.Math.Seq.{take-append-add}
 use Rattle.std.proofs.lemmas.List.{length-drop, take-append-drop}
 use Rattle.csv.specs.Reading.{strip_bom}
 use Rattle.comfy_parts.specs.Text.{Text}
-use Rattle.csv_records.specs.Delimiter.{delimited}
 use Rattle.csv_records.specs.Lines.{EndsIn}
 use Rattle.csv_records.specs.Quotes.{IsUnclosed}
-use Rattle.csv_records.specs.Reading.{parted, read_text}
+use Rattle.csv_records.specs.Reading.{parted}
 use Rattle.csv_records.specs.declared.delimiter.Delimiter.TheVariants.{Spaces}
-use Rattle.csv_records.proofs.ReadTextLemmas.{plain_quotes, plain_text}
+use Rattle.csv_records.proofs.ReadTextLemmas.{plain_parted, plain_quotes}
 use Rattle.csv_records.proofs.reading.read_first_records.Goals as goal
 
 -- the bytes before the last ones, and these
@@ -31,8 +30,7 @@ returns-in-Some-clause-refused c =
     let d = c.args.options.now.delimiter in
     let q = c.args.options.now.has_quotes in
     let other : d ≢ Spaces = c.in_default.not-Spaces in
-    let same : parted c.args.options.now c.args.text.now ≡ delimited d q c.args.text.now =
-    ap (λ (b : Bool). delimited d b (read_text d c.args.text.now)) (plain_quotes d q other) ∙ ap (λ (t : Text). delimited d q t) (plain_text d c.args.text.now other) in
+    let same = plain_parted c.args.options.now c.args.text.now other in
     let is : IsUnclosed c.in_ok-delimiter.delimiter (strip_bom rest) (drop at rest) = c.in-Some.ensures.some in
     let byte : c.in_ok-delimiter.delimiter ≡ (parted c.args.options.now c.args.text.now).0 = c.in_ok-delimiter.ensures.byte ∙ ap (λ (p : ℕ × Text). p.0) (sym same) in
     let records : rest ≡ (parted c.args.options.now c.args.text.now).1 = c.in_ok-delimiter.ensures.records ∙ ap (λ (p : ℕ × Text). p.1) (sym same) in

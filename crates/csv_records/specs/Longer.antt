@@ -1,0 +1,76 @@
+-- Records that have more fields than the first one.
+-- Source: this library's own.
+use Rattle.std.specs.Prelude.{ℕ, zero, suc, ◌-◌, nat_lt, Bool, List, [], Option, None, drop, length, option_map, slice_get, take, not, unwrap_or}
+use Rattle.std.specs.List.{count_by, position, position_or_len}
+use Rattle.std.specs.Option.{option_map_or}
+use Rattle.comfy_parts.specs.Text.{Text}
+use Rattle.csv.specs.Machine.{next_record}
+use Rattle.csv.specs.Reading.{strip_bom}
+use Rattle.csv.specs.declared.parser.Config.{Config}
+use Rattle.csv.specs.declared.parser.State.TheVariants as st
+use Rattle.csv_records.specs.Input.{config_for, line_number}
+use Rattle.csv_records.specs.Lines.{ends_line}
+use Rattle.csv_records.specs.Reading.{parted, reads_quotes}
+use Rattle.csv_records.specs.declared.delimiter.Delimiter.{Delimiter}
+use Rattle.csv_records.specs.declared.delimiter.Delimiter.TheVariants.{Spaces}
+use Rattle.csv_records.specs.declared.longer.LongerRecords.{LongerRecords}
+use Rattle.csv_records.specs.declared.options.InputOptions.{InputOptions}
+
+-- ---- where a record begins
+
+-- a text without the line ends in front
+abbrev pub below_line_ends : Text → Text
+below_line_ends text = drop (position_or_len (λ b. not (ends_line b)) text) text
+
+-- what follows the first record of a text
+abbrev pub behind_record : Config → Text → Text
+behind_record config text =
+    option_map_or (λ found. found.2) (next_record config st.StartRecord [] [] text) []
+
+-- a text from the record on before which so many stand
+abbrev pub from_record : Config → ℕ → Text → Text
+from_record config zero text = below_line_ends text
+from_record config (suc before) text = from_record config before (behind_record config text)
+
+-- the number of the line in which that record of a text begins, which stands below the lines that
+-- are left out
+abbrev pub line_of_record : InputOptions → Text → ℕ → ℕ
+line_of_record options text before =
+    let config = config_for (parted options text).0 (reads_quotes options) in
+    let rest = from_record config before (strip_bom (parted options text).1) in
+    line_number options.skip (take (length text - length rest) text)
+
+-- ---- records with more fields
+
+-- how many fields the record at a position has
+abbrev pub field_count : List (List Text) → ℕ → ℕ
+field_count records at = length (unwrap_or (slice_get records at) [])
+
+-- a record has more fields than the first of some
+abbrev pub is_longer : List (List Text) → List Text → Bool
+is_longer records fields = nat_lt (field_count records 0) (length fields)
+
+-- what is told of those: the line and the fields of the first of them, and how many others there
+-- are
+abbrev pub longer_at : (ℕ → ℕ) → List (List Text) → ℕ → LongerRecords
+longer_at line_of records at =
+    record {
+      line = line_of at;
+      fields = field_count records at;
+      first_fields = field_count records 0;
+      others = count_by (is_longer records) records - 1;
+    }
+
+abbrev pub longer_by : (ℕ → ℕ) → List (List Text) → Option LongerRecords
+longer_by line_of records =
+    option_map (longer_at line_of records) (position (is_longer records) records)
+
+-- what is told of records of a text; where spaces stand between fields, none has more: the last
+-- column takes all that is left of a line
+abbrev pub unless_spaces : {T : Type 0} → Delimiter → Option T → Option T
+unless_spaces Spaces told = None
+unless_spaces _ told = told
+
+abbrev pub longer_records : InputOptions → Text → List (List Text) → Option LongerRecords
+longer_records options text records =
+    unless_spaces options.delimiter (longer_by (line_of_record options text) records)
