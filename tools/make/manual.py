@@ -12,7 +12,7 @@ import textwrap
 
 from project import TOP, text_of
 
-SPEC = r'name: "(.+?)",\s+letter: (?:None|Some\(\'(.)\'\)),\s+kind: Kind::(\w+),\s+value: "(.*?)",\s+help: "((?:[^"\\]|\\[\s\S])*)"'
+SPEC = r'^    "\w+", "(.+?)", (?:None|Some\(\'(.)\'\)), (\w+), "(.*?)",\s+"((?:[^"\\]|\\[\s\S])*)";'
 
 
 class Option:
@@ -27,7 +27,7 @@ class Option:
 
 
 SOURCE = text_of("crates/csv_command/src/options.rt")
-SPECS = [Option(*it) for it in re.findall(SPEC, SOURCE)]
+SPECS = [Option(*it) for it in re.findall(SPEC, SOURCE, re.M)]
 OPTIONS = [it for it in SPECS if it.kind != "File"]
 VERSION = re.search(r'\.version\("(.+?)"\)', SOURCE)[1]
 DATE = "2026-11-27"  # of this version

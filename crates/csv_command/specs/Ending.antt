@@ -127,8 +127,8 @@ others_told others =
 abbrev pub longer_line : Option Text → LongerRecords → Text
 longer_line file longer =
     ((about true file
-    ++ ((((codes "line " ++ decimal longer.line) ++ codes " has ") ++ decimal longer.fields)
-    ++ codes " fields, the header has ") ++ decimal longer.first_fields)
+    ++ (((codes "line " ++ decimal longer.line) ++ (codes " has " ++ decimal longer.fields))
+    ++ (codes " fields, the header has " ++ decimal longer.first_fields)))
     ++ others_told longer.others)
     ++ codes "\n"
 

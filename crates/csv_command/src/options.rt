@@ -39,221 +39,63 @@ enum Kind {
     Encoding,
 }
 
-static OPTIONS: [OptionSpec; 26] = [
-    OptionSpec {
-        name: "file",
-        letter: None,
-        kind: Kind::File,
-        value: "FILE",
-        help: "The file to read; `-` or none for standard input",
-        heading: "Input",
-    },
-    OptionSpec {
-        name: "delimiter",
-        letter: Some('d'),
-        kind: Kind::Text,
-        value: "CHAR",
-        help: "What stands between fields: a character, `tab`,\n\
-            `spaces`, or `auto`, which finds it [default: auto]",
-        heading: "Input",
-    },
-    OptionSpec {
-        name: "tabs",
-        letter: Some('t'),
-        kind: Kind::Letter,
-        value: "",
-        help: "As `-d tab`",
-        heading: "Input",
-    },
-    OptionSpec {
-        name: "encoding",
-        letter: Some('e'),
-        kind: Kind::Encoding,
-        value: "NAME",
-        help: "How the file is written: utf-8, utf-16 or cp1252\n\
-            [default: utf-16 behind its mark, else utf-8]",
-        heading: "Input",
-    },
-    OptionSpec {
-        name: "no-quotes",
-        letter: None,
-        kind: Kind::Flag,
-        value: "",
-        help: "Read quotes as characters like others",
-        heading: "Input",
-    },
-    OptionSpec {
-        name: "skip",
-        letter: None,
-        kind: Kind::Count,
-        value: "N",
-        help: "Leave out the first N lines",
-        heading: "Input",
-    },
-    OptionSpec {
-        name: "no-header",
-        letter: Some('n'),
-        kind: Kind::Flag,
-        value: "",
-        help: "Draw the first record as a row, not as the header",
-        heading: "Input",
-    },
-    OptionSpec {
-        name: "limit",
-        letter: None,
-        kind: Kind::Count,
-        value: "N",
-        help: "Draw the first N records, and say if there are more",
-        heading: "Input",
-    },
-    OptionSpec {
-        name: "count",
-        letter: None,
-        kind: Kind::Flag,
-        value: "",
-        help: "With --limit: read on, and say how many there are",
-        heading: "Input",
-    },
-    OptionSpec {
-        name: "number",
-        letter: Some('l'),
-        kind: Kind::Flag,
-        value: "",
-        help: "Draw the number of each record in a first column, #",
-        heading: "Columns",
-    },
-    OptionSpec {
-        name: "columns",
-        letter: Some('c'),
-        kind: Kind::Text,
-        value: "LIST",
-        help: "Draw these columns in this order, by number, name or\nrange, as `name,3-5,7-`",
-        heading: "Columns",
-    },
-    OptionSpec {
-        name: "drop",
-        letter: None,
-        kind: Kind::Text,
-        value: "LIST",
-        help: "Leave these columns out",
-        heading: "Columns",
-    },
-    OptionSpec {
-        name: "right",
-        letter: Some('r'),
-        kind: Kind::Text,
-        value: "LIST",
-        help: "Right-align these columns, as those of numbers are",
-        heading: "Columns",
-    },
-    OptionSpec {
-        name: "left",
-        letter: None,
-        kind: Kind::Text,
-        value: "LIST",
-        help: "Left-align these columns, numbers or not",
-        heading: "Columns",
-    },
-    OptionSpec {
-        name: "no-decimal",
-        letter: None,
-        kind: Kind::Flag,
-        value: "",
-        help: "Don't put decimal points below each other",
-        heading: "Columns",
-    },
-    OptionSpec {
-        name: "width",
-        letter: Some('w'),
-        kind: Kind::Width,
-        value: "N",
-        help: "The width to keep to, 0 for none [default: that of\nthe terminal, else none]",
-        heading: "Layout",
-    },
-    OptionSpec {
-        name: "full",
-        letter: None,
-        kind: Kind::Flag,
-        value: "",
-        help: "Fill the width",
-        heading: "Layout",
-    },
-    OptionSpec {
-        name: "all-expanded",
-        letter: Some('x'),
-        kind: Kind::Letter,
-        value: "",
-        help: "As `--expanded always`",
-        heading: "Layout",
-    },
-    OptionSpec {
-        name: "expanded",
-        letter: None,
-        kind: Kind::When,
-        value: "WHEN",
-        help: "Records as names and fields: always, never, or auto,\n\
-            where columns would be too narrow [default: auto]",
-        heading: "Layout",
-    },
-    OptionSpec {
-        name: "style",
-        letter: Some('s'),
-        kind: Kind::Style,
-        value: "NAME",
-        help: "How the frame looks, see below [default: rounded]",
-        heading: "Output",
-    },
-    OptionSpec {
-        name: "rows",
-        letter: None,
-        kind: Kind::Flag,
-        value: "",
-        help: "Draw lines between rows, in each style that has them",
-        heading: "Output",
-    },
-    OptionSpec {
-        name: "no-rows",
-        letter: None,
-        kind: Kind::Flag,
-        value: "",
-        help: "Draw no lines between rows",
-        heading: "Output",
-    },
-    OptionSpec {
-        name: "max-height",
-        letter: Some('m'),
-        kind: Kind::Count,
-        value: "N",
-        help: "Cut rows after N lines, with `…` where more is left;\n\
-            `-m 1` draws one line for each record",
-        heading: "Layout",
-    },
-    OptionSpec {
-        name: "markdown",
-        letter: None,
-        kind: Kind::Flag,
-        value: "",
-        help: "Draw a table for Markdown",
-        heading: "Output",
-    },
-    OptionSpec {
-        name: "color",
-        letter: None,
-        kind: Kind::When,
-        value: "WHEN",
-        help: "The header in bold: always, never, or auto, in a\n\
-            terminal unless NO_COLOR is set [default: auto]",
-        heading: "Output",
-    },
-    OptionSpec {
-        name: "ansi",
-        letter: None,
-        kind: Kind::Flag,
-        value: "",
-        help: "Keep the colours of fields; they take no room",
-        heading: "Output",
-    },
-];
+// The options of some rows, each a heading, a name, a letter, a kind, a value and a help.
+macro_rules! option_table {
+    ($($heading:literal, $name:literal, $letter:expr, $kind:ident, $value:literal,
+        $help:literal;)*) => {
+        [$(OptionSpec {
+            name: $name,
+            letter: $letter,
+            kind: Kind::$kind,
+            value: $value,
+            help: $help,
+            heading: $heading,
+        }),*]
+    };
+}
+
+static OPTIONS: [OptionSpec; 26] = option_table! {
+    "Input", "file", None, File, "FILE", "The file to read; `-` or none for standard input";
+    "Input", "delimiter", Some('d'), Text, "CHAR",
+        "What stands between fields: a character, `tab`,\n\
+         `spaces`, or `auto`, which finds it [default: auto]";
+    "Input", "tabs", Some('t'), Letter, "", "As `-d tab`";
+    "Input", "encoding", Some('e'), Encoding, "NAME",
+        "How the file is written: utf-8, utf-16 or cp1252\n\
+         [default: utf-16 behind its mark, else utf-8]";
+    "Input", "no-quotes", None, Flag, "", "Read quotes as characters like others";
+    "Input", "skip", None, Count, "N", "Leave out the first N lines";
+    "Input", "no-header", Some('n'), Flag, "", "Draw the first record as a row, not as the header";
+    "Input", "limit", None, Count, "N", "Draw the first N records, and say if there are more";
+    "Input", "count", None, Flag, "", "With --limit: read on, and say how many there are";
+    "Columns", "number", Some('l'), Flag, "", "Draw the number of each record in a first column, #";
+    "Columns", "columns", Some('c'), Text, "LIST",
+        "Draw these columns in this order, by number, name or\nrange, as `name,3-5,7-`";
+    "Columns", "drop", None, Text, "LIST", "Leave these columns out";
+    "Columns", "right", Some('r'), Text, "LIST",
+        "Right-align these columns, as those of numbers are";
+    "Columns", "left", None, Text, "LIST", "Left-align these columns, numbers or not";
+    "Columns", "no-decimal", None, Flag, "", "Don't put decimal points below each other";
+    "Layout", "width", Some('w'), Width, "N",
+        "The width to keep to, 0 for none [default: that of\nthe terminal, else none]";
+    "Layout", "full", None, Flag, "", "Fill the width";
+    "Layout", "all-expanded", Some('x'), Letter, "", "As `--expanded always`";
+    "Layout", "expanded", None, When, "WHEN",
+        "Records as names and fields: always, never, or auto,\n\
+         where columns would be too narrow [default: auto]";
+    "Output", "style", Some('s'), Style, "NAME",
+        "How the frame looks, see below [default: rounded]";
+    "Output", "rows", None, Flag, "", "Draw lines between rows, in each style that has them";
+    "Output", "no-rows", None, Flag, "", "Draw no lines between rows";
+    "Layout", "max-height", Some('m'), Count, "N",
+        "Cut rows after N lines, with `…` where more is left;\n\
+         `-m 1` draws one line for each record";
+    "Output", "markdown", None, Flag, "", "Draw a table for Markdown";
+    "Output", "color", None, When, "WHEN",
+        "The header in bold: always, never, or auto, in a\n\
+         terminal unless NO_COLOR is set [default: auto]";
+    "Output", "ansi", None, Flag, "", "Keep the colours of fields; they take no room";
+};
 
 static AFTER_HELP: &str = "\
 Examples:

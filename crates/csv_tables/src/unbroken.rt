@@ -23,9 +23,10 @@ use std::alloc::{AllocError, Global};
 // How many characters a field has at most that isn't broken.
 const LONGEST: usize = 25;
 
-// How many terminal columns a column of text needs at most for a word of its name, and how many
-// of its content whatever its name.
+// How many terminal columns a column of text needs at most for a word of its name.
 const LONGEST_WORD: u16 = 20;
+
+// How many of its content it needs at most, whatever its name.
 const NEEDED_CONTENT: u16 = 8;
 
 // How many terminal columns the names of expanded records need at most.
@@ -145,10 +146,10 @@ fn name_in(table: &Table, at: usize) -> Option<&Cell>
 fn wide_word(table: &Table, name: Option<&Cell>) -> u16
     ensures { result ≡ wide_word table.now (option_copied name.entry) }
 {
-    let Some(cell) = name else {
+    let Some(name) = name else {
         return 0;
     };
-    let (lines, _) = measured_lines(cell, table.has_custom_styling());
+    let (lines, _) = measured_lines(name, table.has_custom_styling());
     let mut widest = 0;
     for line in lines {
         widest = word_width(line.as_str()).max(widest);
