@@ -161,7 +161,7 @@ same '-V'
 # With a limit the input is read no further than it needs.
 yes 1,2,3 | timeout 20 "$program" --limit 3 > "$work/first" 2> "$work/err"
 printf '╭───┬───┬───╮\n│ 1 ┆ 2 ┆ 3 │\n╞═══╪═══╪═══╡\n' > "$work/second"
-printf '│ 1 ┆ 2 ┆ 3 │\n│ 1 ┆ 2 ┆ 3 │\n│ 1 ┆ 2 ┆ 3 │\n╰───┴───┴───╯\n3 of more records\n' >> "$work/second"
+printf '│ 1 ┆ 2 ┆ 3 │\n│ 1 ┆ 2 ┆ 3 │\n│ 1 ┆ 2 ┆ 3 │\n╰───┴───┴───╯\nfirst 3 records; there are more\n' >> "$work/second"
 same 'three records of an input that never ends'
 yes 1,2 | timeout 20 "$program" --limit 3 -c 3 > "$work/out" 2> "$work/err"
 compare 'a column that is not there in an input that never ends' $? 1 \
@@ -172,7 +172,7 @@ echo '3 of 49999 records' > "$work/second"
 same 'all records counted'
 { echo a,b; yes 1,2 | head -n 20; echo '3,"'; yes long | head -n 50000; echo '"'; yes 1,2 | head -n 50000; } > "$work/input"
 "$program" --limit 2 "$work/input" | tail -n 1 > "$work/first"
-echo '2 of more records' > "$work/second"
+echo 'first 2 records; there are more' > "$work/second"
 same 'a quote that is closed behind the first 64 kB'
 { yes 1,2 | head -n 50000; printf '\377\n'; } > "$work/input"
 "$program" --limit 2 "$work/input" | tail -n 1 > "$work/first"

@@ -127,7 +127,7 @@ class Recipe:
 
 RECIPES = [
     Recipe("csvtable -r price list.csv", "list.csv", "item,price\nnut,3 for 1\nbolt,2\n", ["│ nut  ┆ 3 for 1 │", "│ bolt ┆       2 │"]),
-    Recipe("csvtable -c name,3-5 --limit 20 big.csv", "big.csv", BIG, ["│ name ┆ x ┆ y ┆ z │", "│ n19  ┆ 1 ┆ 2 ┆ 3 │\n╰", "20 of more records\n"]),
+    Recipe("csvtable -c name,3-5 --limit 20 big.csv", "big.csv", BIG, ["│ name ┆ x ┆ y ┆ z │", "│ n19  ┆ 1 ┆ 2 ┆ 3 │\n╰", "first 20 records; there are more\n"]),
     Recipe("csvtable -e cp1252 --skip 4 bank.csv", "bank.csv", ("1\n2\n3\n4\n" + BANK).encode("latin-1"), ["│ Buchungstag ┆ Verwendungszweck ┆   Betrag │", "Bäckerei Müller"]),
     Recipe(
         "csvtable ledger.csv | less -S",
@@ -137,7 +137,7 @@ RECIPES = [
         before="export LESS=-EX TERM=xterm LC_ALL=C.UTF-8",
         columns=40,
     ),
-    Recipe("csvtable --limit 20 big.csv", "big.csv", BIG, ["│ id ┆ name ┆ x ┆ y ┆ z ┆ last │", "│ 19 ┆ n19  ┆ 1 ┆ 2 ┆ 3 ┆    4 │\n╰", "20 of more records\n"]),
+    Recipe("csvtable --limit 20 big.csv", "big.csv", BIG, ["│ id ┆ name ┆ x ┆ y ┆ z ┆ last │", "│ 19 ┆ n19  ┆ 1 ┆ 2 ┆ 3 ┆    4 │\n╰", "first 20 records; there are more\n"]),
     Recipe("jq -r '.[] | [.name, .size] | @csv' files.json | csvtable -n", "files.json", FILES, ["│ a, b.txt ┆   12 │", "│ c        ┆ 3000 │"]),
     Recipe(
         "git config diff.csv.textconv csvtable",

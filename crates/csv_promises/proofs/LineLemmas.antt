@@ -11,13 +11,13 @@ use Rattle.comfy_parts.specs.VisibleText.{visible_text}
 use Rattle.comfy_table.specs.Drawing.{terminated_text_of}
 use Rattle.comfy_table.specs.Laws.{AreLinesOf, HasNoBreak, HasNoControl}
 use Rattle.csv_tables.proofs.FieldLemmas.{printable_unbroken}
-use Rattle.csv_tables.proofs.OutputControlLemmas.{counts_are_printable}
-use Rattle.csv_tables.specs.Drawn.{SelectedValue, are_more, count_text, note_for, record_line}
+use Rattle.csv_tables.proofs.OutputControlLemmas.{heading_is_printable, note_is_printable}
+use Rattle.csv_tables.specs.Drawn.{SelectedValue, are_more, note_for, note_text, record_heading, record_line}
 use Rattle.csv_tables.specs.Laws.{HasLines, IsOutputWith, IsStraightOutput, numbered_lines}
 use Rattle.csv_tables.specs.declared.options.Layout.{Layout}
 use Rattle.promises.proofs.ShownLemmas.{shows_visible}
 use Rattle.promises.specs.Shown.{ShowsColumns}
-use Rattle.csv_promises.specs.Straight.{CountsRecords, IsStraight, counted}
+use Rattle.csv_promises.specs.Straight.{CountsRecords, IsStraight}
 
 -- ---- lines of texts
 
@@ -33,9 +33,6 @@ one_line line none = record { joined = sym (append-nil (line ++ 0x0A ∷ [])); u
 
 pub no_lines : AreLinesOf [] []
 no_lines = record { joined = refl; unbroken = All-nil HasNoBreak }
-
-counted_unbroken : (before : Text) (n : ℕ) (m : Option ℕ) (behind : Text) → is_printable_ascii before ≡ true → is_printable_ascii behind ≡ true → HasNoBreak (counted before n m behind)
-counted_unbroken before n m behind first last = printable_unbroken (counted before n m behind) (counts_are_printable before behind n m first last)
 
 -- ---- lines of outputs
 
@@ -54,10 +51,10 @@ module _ (IsGood : Text → Type 0) (counts : (line : Text) → CountsRecords li
   -- the line on a record
   record_counts : (n : ℕ) (m : Option ℕ) → HasGoodLines (record_line n m)
   record_counts n m =
-      let line = counted (codes "record ") n m [] in
+      let line = record_heading n m in
       record {
         lines = line ∷ [];
-        are = subst (λ (t : Text). AreLinesOf (t ++ 0x0A ∷ []) (line ∷ [])) (append-nil (((codes "record " ++ decimal n) ++ codes " of ") ++ count_text m)) (one_line line (counted_unbroken (codes "record ") n m [] refl refl));
+        are = one_line line (printable_unbroken line (heading_is_printable n m));
         good = All-cons IsGood line [] (counts line (n, m, inl refl)) (All-nil IsGood);
       }
 
@@ -67,17 +64,17 @@ module _ (IsGood : Text → Type 0) (counts : (line : Text) → CountsRecords li
   note_counts (Some limit) count = by_test (are_more limit count)
     where
       line : Text
-      line = counted [] limit count (codes " records")
+      line = note_text limit count
 
-      note : HasGoodLines (((decimal limit ++ codes " of ") ++ count_text count) ++ codes " records\n")
+      note : HasGoodLines (line ++ codes "\n")
       note =
           record {
             lines = line ∷ [];
-            are = subst (λ (t : Text). AreLinesOf t (line ∷ [])) (append_assoc ((decimal limit ++ codes " of ") ++ count_text count) (codes " records") (0x0A ∷ [])) (one_line line (counted_unbroken [] limit count (codes " records") refl refl));
+            are = one_line line (printable_unbroken line (note_is_printable limit count));
             good = All-cons IsGood line [] (counts line (limit, count, inr refl)) (All-nil IsGood);
           }
 
-      by_test : (b : Bool) → HasGoodLines (if b then [] ++ (((decimal limit ++ codes " of ") ++ count_text count) ++ codes " records\n") else [])
+      by_test : (b : Bool) → HasGoodLines (if b then [] ++ (line ++ codes "\n") else [])
       by_test true = note
       by_test false = record { lines = []; are = no_lines; good = All-nil IsGood }
 

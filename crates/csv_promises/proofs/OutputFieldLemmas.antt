@@ -28,7 +28,7 @@ use Rattle.csv_command.proofs.RunLemmas.{beginning_parts}
 use Rattle.csv_tables.specs.Cells.{row_for, counted_from}
 use Rattle.csv_tables.specs.Columns.{ColumnsValue, count_of, seen}
 use Rattle.csv_command.specs.Columns.{columns_for}
-use Rattle.csv_tables.specs.Drawn.{SelectedValue, RendersAsTable, RendersTable, columns_of, count_below, count_text, drawn_fields, drawn_rows, empty_table, has_room_for, headed_table, is_expanded_in, limited, names_of, note_for, output_table, pairs_in, record_line, record_text, records_below, rows_table, separated_table, some_lines, table_text, is_aligned_in}
+use Rattle.csv_tables.specs.Drawn.{SelectedValue, RendersAsTable, RendersTable, columns_of, count_below, drawn_fields, drawn_rows, empty_table, has_room_for, headed_table, is_expanded_in, limited, names_of, note_for, note_text, output_table, pairs_in, record_line, record_text, records_below, rows_table, separated_table, some_lines, table_text, is_aligned_in}
 use Rattle.csv_command.specs.Drawn.{IsDrawnOf, RendersChosen, RendersCounted, layout_with, most_drawn}
 use Rattle.csv_tables.specs.declared.options.DrawnColumn.{DrawnColumn}
 use Rattle.csv_tables.specs.declared.options.Expansion.{Expansion}
@@ -257,7 +257,7 @@ module _ (arguments : List Text) (context : OutputContext) (invocation : Invocat
       nothing None = refl
       nothing (Some n) = by_test (nat_lt n 0) (grind arith)
         where
-          by_test : (b : Bool) → b ≡ false → [] ≡ (if b then [] ++ (((decimal n ++ codes " of ") ++ count_text (Some 0)) ++ codes " records\n") else [])
+          by_test : (b : Bool) → b ≡ false → [] ≡ (if b then [] ++ (note_text n (Some 0) ++ codes "\n") else [])
           by_test true is = absurd (cc is)
           by_test false is = refl
 

@@ -88,7 +88,7 @@ pairs_at names positions fields =
     (filter (λ position. nat_lt position (length fields)) positions)
 
 -- a text shows expanded records, from that of this number on: below a line `record 2 of 7`, or
--- `record 2 of more`, stand the names and fields of each
+-- `record 2`, stand the names and fields of each
 abbrev pub ShowsExpanded :
     Look → List Text → List ℕ → Option ℕ → ℕ → List (List Text) → Text → Type 0
 ShowsExpanded look names positions count number [] text = text ≡ []

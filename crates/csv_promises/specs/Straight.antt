@@ -1,12 +1,12 @@
 -- Lines that show the same number of terminal columns.
 -- Source: this library's own.
-use Rattle.std.specs.Prelude.{◌≡◌, ◌⊎◌, ◌||◌, ◌≤◌, ℕ, false, List, [], ◌++◌, Option, All, chars, codes, decimal}
+use Rattle.std.specs.Prelude.{◌≡◌, ◌⊎◌, ◌||◌, ◌≤◌, ℕ, false, List, Option, All, chars}
 use Rattle.std.specs.Char.{is_control}
 use Rattle.std.specs.List.{list_any}
 use Rattle.comfy_parts.specs.Text.{Text, measure}
 use Rattle.comfy_table.specs.Laws.{AreLinesOf}
 use Rattle.csv_records.specs.Cleaning.{turns_direction}
-use Rattle.csv_tables.specs.Drawn.{count_text}
+use Rattle.csv_tables.specs.Drawn.{note_text, record_heading}
 use Rattle.promises.specs.Shown.{ShowsColumns}
 
 -- P holds of each field of each record
@@ -19,15 +19,10 @@ pub record IsPlainField (field : Text) : Type 0 where
   pub plain : list_any (λ c. is_control c || turns_direction c) (chars field) ≡ false
   pub short : measure field ≤ 65535
 
--- `2 of 7`, or `2 of more`, with what stands before it and behind it
-abbrev pub counted : Text → ℕ → Option ℕ → Text → Text
-counted before n m behind = (((before ++ decimal n) ++ codes " of ") ++ count_text m) ++ behind
-
 -- a line counts records: above one that is drawn alone, or below all that are drawn
 abbrev pub CountsRecords : Text → Type 0
 CountsRecords line =
-    (n : ℕ) × (m : Option ℕ)
-    × ((line ≡ counted (codes "record ") n m []) ⊎ (line ≡ counted [] n m (codes " records")))
+    (n : ℕ) × (m : Option ℕ) × ((line ≡ record_heading n m) ⊎ (line ≡ note_text n m))
 
 -- all lines of a text show the same number of terminal columns, but those that count records
 pub record IsStraight (text : Text) : Type 0 where

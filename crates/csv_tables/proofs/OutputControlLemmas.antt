@@ -40,7 +40,7 @@ use Rattle.csv_tables.proofs.OutputLemmas.{markdown_unbroken}
 use Rattle.csv_tables.proofs.SeparatorLemmas.{condensed-all, separated}
 use Rattle.csv_tables.proofs.TextTableLemmas.{EachLine, MakesRows, cells_each, pair_each, rows_of_texts, table_of_texts}
 use Rattle.csv_tables.proofs.WholeTableLemmas.{IsDrawn, drawn-is, drawn_plain, drawn_table-is, measured-drawn}
-use Rattle.csv_tables.specs.Drawn.{SelectedValue, RendersAsMarkdown, RendersRecords, RendersAsTable, RendersContent, are_more, below_first, condensed_style, count_text, markdown_content, markdown_look, markdown_table, note_for, output_table, record_line, rows_table, separated_table, sides, is_aligned_in}
+use Rattle.csv_tables.specs.Drawn.{SelectedValue, RendersAsMarkdown, RendersRecords, RendersAsTable, RendersContent, are_more, below_first, condensed_style, markdown_content, markdown_look, markdown_table, note_for, output_table, record_line, rows_table, separated_table, sides, is_aligned_in, note_text, record_heading}
 use Rattle.csv_tables.specs.Laws.{HasLines, IsOutputWith, OutputHoldsNoControls}
 
 -- ---- rows
@@ -210,21 +210,32 @@ after_printable line rest all more = after_line line rest (subst HasNoControl (s
 both_printable : (xs ys : Text) → is_printable_ascii xs ≡ true → is_printable_ascii ys ≡ true → is_printable_ascii (xs ++ ys) ≡ true
 both_printable xs ys one other = list_all-append (is_in_range 0x20 0x7E) xs ys ∙ ap₂ (λ a b. a && b) one other
 
-count_is_printable : (count : Option ℕ) → is_printable_ascii (count_text count) ≡ true
-count_is_printable None = refl
-count_is_printable (Some count) = number_is_printable count
+pub heading_is_printable : (n : ℕ) (m : Option ℕ) → is_printable_ascii (record_heading n m) ≡ true
+heading_is_printable n None = both_printable (codes "record ") (decimal n) refl (number_is_printable n)
+heading_is_printable n (Some m) =
+    both_printable ((codes "record " ++ decimal n) ++ codes " of ") (decimal m)
+    (both_printable (codes "record " ++ decimal n) (codes " of ") (heading_is_printable n None) refl) (number_is_printable m)
 
--- `n of m`, and what stands around it
-pub counts_are_printable : (before after : Text) (n : ℕ) (m : Option ℕ) → is_printable_ascii before ≡ true → is_printable_ascii after ≡ true → is_printable_ascii ((((before ++ decimal n) ++ codes " of ") ++ count_text m) ++ after) ≡ true
-counts_are_printable before after n m first last =
-    both_printable (((before ++ decimal n) ++ codes " of ") ++ count_text m) after
-    (both_printable ((before ++ decimal n) ++ codes " of ") (count_text m) (both_printable (before ++ decimal n) (codes " of ") (both_printable before (decimal n) first (number_is_printable n)) refl) (count_is_printable m)) last
+pub note_is_printable : (n : ℕ) (m : Option ℕ) → is_printable_ascii (note_text n m) ≡ true
+note_is_printable n None = by_noun (n == 1)
+  where
+    front : Text
+    front = (codes "first " ++ decimal n) ++ codes " "
+
+    first : is_printable_ascii front ≡ true
+    first = both_printable (codes "first " ++ decimal n) (codes " ") (both_printable (codes "first ") (decimal n) refl (number_is_printable n)) refl
+
+    by_noun : (b : Bool) → is_printable_ascii ((front ++ (if b then codes "record" else codes "records")) ++ codes "; there are more") ≡ true
+    by_noun true = both_printable (front ++ codes "record") (codes "; there are more") (both_printable front (codes "record") first refl) refl
+    by_noun false = both_printable (front ++ codes "records") (codes "; there are more") (both_printable front (codes "records") first refl) refl
+note_is_printable n (Some m) =
+    both_printable ((decimal n ++ codes " of ") ++ decimal m) (codes " records")
+    (both_printable (decimal n ++ codes " of ") (decimal m) (both_printable (decimal n) (codes " of ") (number_is_printable n) refl) (number_is_printable m)) refl
 
 after_record_line : (n : ℕ) (m : Option ℕ) (rest : Text) → HasNoStrayControl (visible_text rest) → HasNoStrayControl (visible_text (record_line n m ++ rest))
 after_record_line n m rest more =
-    let line = ((codes "record " ++ decimal n) ++ codes " of ") ++ count_text m in
-    subst (λ (t : Text). HasNoStrayControl (visible_text t)) (sym (append_assoc line (codes "\n") rest))
-    (after_printable line rest (subst (λ (t : Text). is_printable_ascii t ≡ true) (append-nil line) (counts_are_printable (codes "record ") [] n m refl refl)) more)
+    let line = record_heading n m in
+    subst (λ (t : Text). HasNoStrayControl (visible_text t)) (sym (append_assoc line (codes "\n") rest)) (after_printable line rest (heading_is_printable n m) more)
 
 -- the line on records that aren't drawn
 note_is_seen : (is_markdown : Bool) (limit : Option ℕ) (count : Option ℕ) → HasNoStrayControl (visible_text (note_for is_markdown limit count))
@@ -232,18 +243,16 @@ note_is_seen is_markdown None count = NoCharPasses-nil is_stray_control
 note_is_seen is_markdown (Some limit) count = by_test (are_more limit count)
   where
     note : Text
-    note = ((decimal limit ++ codes " of ") ++ count_text count) ++ codes " records"
+    note = note_text limit count ++ codes "\n"
 
-    seen : HasNoStrayControl (visible_text (((decimal limit ++ codes " of ") ++ count_text count) ++ codes " records\n"))
-    seen =
-        subst (λ (t : Text). HasNoStrayControl (visible_text t)) (append_assoc ((decimal limit ++ codes " of ") ++ count_text count) (codes " records") (0x0A ∷ []))
-        (after_printable note [] (counts_are_printable [] (codes " records") limit count refl refl) (NoCharPasses-nil is_stray_control))
+    seen : HasNoStrayControl (visible_text note)
+    seen = after_printable (note_text limit count) [] (note_is_printable limit count) (NoCharPasses-nil is_stray_control)
 
-    by_markdown : (b : Bool) → HasNoStrayControl (visible_text ((if b then codes "\n" else []) ++ (((decimal limit ++ codes " of ") ++ count_text count) ++ codes " records\n")))
-    by_markdown true = after_printable [] (((decimal limit ++ codes " of ") ++ count_text count) ++ codes " records\n") refl seen
+    by_markdown : (b : Bool) → HasNoStrayControl (visible_text ((if b then codes "\n" else []) ++ note))
+    by_markdown true = after_printable [] note refl seen
     by_markdown false = seen
 
-    by_test : (b : Bool) → HasNoStrayControl (visible_text (if b then (if is_markdown then codes "\n" else []) ++ (((decimal limit ++ codes " of ") ++ count_text count) ++ codes " records\n") else []))
+    by_test : (b : Bool) → HasNoStrayControl (visible_text (if b then (if is_markdown then codes "\n" else []) ++ note else []))
     by_test true = by_markdown is_markdown
     by_test false = NoCharPasses-nil is_stray_control
 

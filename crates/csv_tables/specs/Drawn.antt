@@ -223,15 +223,14 @@ is_table_expanded look content =
 abbrev pub is_expanded_for : Look → SelectedValue → Bool
 is_expanded_for look content = not look.is_markdown && is_table_expanded look content
 
--- how many records there are, in words: `more` where that isn't known
-abbrev pub count_text : Option ℕ → Text
-count_text None = codes "more"
-count_text (Some count) = decimal count
+-- what stands above a record: its number, and how many there are where that is known
+abbrev pub record_heading : ℕ → Option ℕ → Text
+record_heading number None = codes "record " ++ decimal number
+record_heading number (Some count) =
+    ((codes "record " ++ decimal number) ++ codes " of ") ++ decimal count
 
--- the line above a record
 abbrev pub record_line : ℕ → Option ℕ → Text
-record_line number count =
-    (((codes "record " ++ decimal number) ++ codes " of ") ++ count_text count) ++ codes "\n"
+record_line number count = record_heading number count ++ codes "\n"
 
 -- how many fields of an expanded record are drawn
 abbrev pub drawn_fields : SelectedValue → List Text → ℕ
@@ -332,13 +331,21 @@ abbrev pub are_more : ℕ → Option ℕ → Bool
 are_more limit None = true
 are_more limit (Some count) = nat_lt limit count
 
+-- what is said of records that aren't drawn, where so many are
+abbrev pub note_text : ℕ → Option ℕ → Text
+note_text limit None =
+    (((codes "first " ++ decimal limit) ++ codes " ")
+    ++ (if limit == 1 then codes "record" else codes "records")) ++ codes "; there are more"
+note_text limit (Some count) =
+    ((decimal limit ++ codes " of ") ++ decimal count) ++ codes " records"
+
 -- the line on records that aren't drawn, in Markdown below an empty one
 abbrev pub note_for : Bool → Option ℕ → Option ℕ → Text
 note_for is_markdown None count = []
 note_for is_markdown (Some limit) count =
     if are_more limit count
     then (if is_markdown then codes "\n" else [])
-    ++ (((decimal limit ++ codes " of ") ++ count_text count) ++ codes " records\n")
+    ++ (note_text limit count ++ codes "\n")
     else []
 
 -- the output for some records, of which so many stand below the header, where that is known: the

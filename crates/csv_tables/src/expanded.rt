@@ -4,7 +4,6 @@ ghost use Rattle.std.specs.Prelude.{◌≡◌, ◌+◌, ◌++◌, OnOk, string_b
 ghost use Rattle.csv_tables.specs.Drawn.{is_expanded_in, record_line};
 
 use crate::options::Expansion;
-use crate::output::push_count;
 use comfy_table::Result;
 use std::fmt::Write;
 
@@ -24,8 +23,10 @@ pub(crate) fn push_record_line(text: &mut String, at: usize, count: Option<usize
     ensures { OnOk result (string_bytes text.new
         ≡ string_bytes text.old ++ record_line (at + 1) count) }
 {
-    write!(text, "record {} of ", at as u128 + 1)?;
-    push_count(text, count)?;
-    text.push('\n')?;
+    let number = at as u128 + 1;
+    match count {
+        Some(count) => write!(text, "record {number} of {count}\n")?,
+        None => write!(text, "record {number}\n")?,
+    }
     Ok(())
 }

@@ -4,7 +4,7 @@ ghost use Rattle.std.specs.Prelude.{◌≡◌, ◌∷◌, ◌++◌, IfOk, OnOk, 
 ghost use Rattle.comfy_table.specs.Parts.{IsArrangedTable};
 ghost use Rattle.csv_tables.specs.Markdown.{rule_line};
 ghost use Rattle.csv_tables.specs.Contents.{AreContentsOf, AreDrawnAs, AreDrawnContents, rows_from};
-ghost use Rattle.csv_tables.specs.Drawn.{RendersAnyRecords, RendersAsMarkdown, RendersRecords, are_more, count_text, has_room_for, is_aligned_in, note_for, output_table, rows_table, sides, unbroken_in};
+ghost use Rattle.csv_tables.specs.Drawn.{RendersAnyRecords, RendersAsMarkdown, RendersRecords, are_more, note_text, has_room_for, is_aligned_in, note_for, output_table, rows_table, sides, unbroken_in};
 ghost use Rattle.csv_tables.specs.Unbroken.{kept_unbroken};
 
 use crate::contents::RowContents;
@@ -207,9 +207,8 @@ fn note_of(
     match limit {
         Some(limit) if are_more(limit, count) => {
             note.push_str(if is_markdown { "\n" } else { "" })?;
-            write!(note, "{limit} of ")?;
-            push_count(&mut note, count)?;
-            note.push_str(" records\n")?;
+            push_note(&mut note, limit, count)?;
+            note.push('\n')?;
         }
         _ => {}
     }
@@ -227,15 +226,20 @@ fn are_more(limit: usize, count: Option<usize>) -> bool
     }
 }
 
-/// Appends how many records there are, or that it isn't known.
-pub(crate) fn push_count(
-    text: &mut String,
+// Appends how many records are drawn, and how many there are.
+fn push_note(
+    note: &mut String,
+    limit: usize,
     count: Option<usize>,
 ) -> std::result::Result<(), AllocError>
-    ensures { OnOk result (string_bytes text.new ≡ string_bytes text.old ++ count_text count) }
+    ensures { OnOk result (string_bytes note.new
+        ≡ string_bytes note.old ++ note_text limit count) }
 {
     match count {
-        Some(count) => write!(text, "{count}"),
-        None => text.push_str("more"),
+        Some(count) => write!(note, "{limit} of {count} records"),
+        None => {
+            let drawn = if limit == 1 { "record" } else { "records" };
+            write!(note, "first {limit} {drawn}; there are more")
+        }
     }
 }

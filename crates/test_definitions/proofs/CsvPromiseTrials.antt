@@ -2,7 +2,7 @@
 use Rattle.std.proofs.Common.{◌≡◌, ◌==◌, ◌⊎◌, inl, inr, ◌+◌, ◌≤◌, ℕ, Bool, List, [], None, Some, Option, ◌∷◌, ◌++◌, arith, codes, append-nil, decimal, length, length-append, drop, map, refl, reverse, slice_index_or, sym, ap, ◌∙◌, subst, true, false}
 use Rattle.std.specs.Fmt.{digits}
 use Rattle.std.specs.List.{All, AllZip, concat, list_any}
-use Rattle.std.specs.Prelude.{MatchOption, ◌<◌, encode_utf8_all}
+use Rattle.std.specs.Prelude.{MatchOption, ◌<◌, encode_utf8_all, if◌then◌else◌}
 use Rattle.std.specs.Str.{NonePass, chars}
 use Rattle.std.proofs.lemmas.Bool.{and_parts, true≢false}
 use Rattle.std.proofs.lemmas.Bool.Decides.{nat_tests}
@@ -21,38 +21,41 @@ use Rattle.csv_command.specs.declared.arguments.Options.{Options}
 use Rattle.csv_tables.specs.declared.options.RowSeparators.TheVariants.{Styled}
 use Rattle.promises.specs.Shown.{IsStyled, ShowsColumns}
 use Rattle.promises.specs.Tables.{HasCharactersWithin}
-use Rattle.csv_tables.specs.Drawn.{count_text, note_for, record_line}
+use Rattle.csv_tables.specs.Drawn.{note_for, note_text, record_line}
 use Rattle.comfy_table.specs.Drawing.{terminated_text_of}
 use Rattle.comfy_table.specs.Laws.{AreLinesOf}
 use Rattle.csv_promises.specs.Fields.{AreFields, MayExpand, ShowsDrawn, ShowsExpanded, ShowsFields, ShowsRecords, ShowsRows, StaysAsItIs, all_rows, fields_at, filled, positions_in}
 use Rattle.csv_promises.specs.Messages.{IsTameLine}
 use Rattle.csv_records.specs.Cleaning.{cleaned, is_replaced}
 use Rattle.promises.specs.Kept.{IsFrame, StandAmong}
-use Rattle.csv_promises.specs.Straight.{CountsRecords, IsPlainField, IsStraight, counted}
+use Rattle.csv_promises.specs.Straight.{CountsRecords, IsPlainField, IsStraight}
 use Rattle.test_definitions.proofs.OutputLineTrials.{found, one_line, two_lines}
 use Rattle.test_definitions.proofs.PromiseTrials.{none_in_nothing, shows_itself, spaces_alone}
 use Rattle.test_definitions.proofs.TrialTables.{utf8}
 
 -- ---- straight edges
 
--- a line that counts has more than ten characters
-long_count : (before : Text) (n : ℕ) (m : Option ℕ) (behind : Text) → length before + 4 + length behind ≤ length (counted before n m behind)
-long_count before n m behind =
-    let whole = length-append (((before ++ decimal n) ++ codes " of ") ++ count_text m) behind in
-    let third = length-append ((before ++ decimal n) ++ codes " of ") (count_text m) in
-    let second = length-append (before ++ decimal n) (codes " of ") in
-    let first = length-append before (decimal n) in
-    omega (arith, whole, third, second, first)
+-- a line that counts records begins with `record`, or has more than eleven characters
+long_note : (n : ℕ) (m : Option ℕ) → 12 ≤ length (note_text n m)
+long_note n None = let whole = length-append (((codes "first " ++ decimal n) ++ codes " ") ++ (if n == 1 then codes "record" else codes "records")) (codes "; there are more") in omega (arith, whole)
+long_note n (Some m) =
+    let whole = length-append ((decimal n ++ codes " of ") ++ decimal m) (codes " records") in
+    let third = length-append (decimal n ++ codes " of ") (decimal m) in
+    let second = length-append (decimal n) (codes " of ") in
+    omega (arith, whole, third, second)
 
-pub no_count : (line : Text) → length line ≤ 10 → ¬ (CountsRecords line)
-no_count line short (n, m, inl is) = let same = ap length is in let long = long_count (codes "record ") n m [] in absurd (omega (arith, same, long, short))
-no_count line short (n, m, inr is) = let same = ap length is in let long = long_count [] n m (codes " records") in absurd (omega (arith, same, long, short))
+pub no_count : (line : Text) → length line ≤ 11 → ¬ (slice_index_or line 0 0 ≡ 0x72) → ¬ (CountsRecords line)
+no_count line short other (n, None, inl is) = other (ap (λ (t : Text). slice_index_or t 0 0) is)
+no_count line short other (n, Some m, inl is) = other (ap (λ (t : Text). slice_index_or t 0 0) is)
+no_count line short other (n, m, inr is) = let same = ap length is in let long = long_note n m in absurd (omega (arith, same, long, short))
 
 -- nor is a line that counts columns
 counted_columns : ¬ (CountsRecords (codes "2 of 7 columns"))
-counted_columns (n, m, inl is) = let letter : ◌≡◌ {A = ℕ} 0x32 0x72 = cc is in absurd (omega (arith, letter))
-counted_columns (n, m, inr is) =
-    let letter : 0x6E ≡ 0x64 = ap (λ (t : Text). slice_index_or t 1 0) (ap reverse is ∙ reverse-append (((decimal n) ++ codes " of ") ++ count_text m) (codes " records")) in
+counted_columns (n, None, inl is) = let letter : ◌≡◌ {A = ℕ} 0x32 0x72 = cc is in absurd (omega (arith, letter))
+counted_columns (n, Some m, inl is) = let letter : ◌≡◌ {A = ℕ} 0x32 0x72 = cc is in absurd (omega (arith, letter))
+counted_columns (n, None, inr is) = let letter : ◌≡◌ {A = ℕ} 0x32 0x66 = cc is in absurd (omega (arith, letter))
+counted_columns (n, Some m, inr is) =
+    let letter : 0x6E ≡ 0x64 = ap (λ (t : Text). slice_index_or t 1 0) (ap reverse is ∙ reverse-append ((decimal n ++ codes " of ") ++ decimal m) (codes " records")) in
     absurd (omega (arith, letter))
 
 pub one_column : measure (codes "a") ≡ 1
@@ -72,15 +75,15 @@ two_widths_are_not_straight is =
     Good : Text → Type 0
     Good line = CountsRecords line ⊎ ShowsColumns is.columns line
 
-    columns_of : (line : Text) → length line ≤ 10 → Good line → ShowsColumns is.columns line
-    columns_of line short (inl counts) = absurd (no_count line short counts)
-    columns_of line short (inr shows) = shows
+    columns_of : (line : Text) → length line ≤ 11 → ¬ (slice_index_or line 0 0 ≡ 0x72) → Good line → ShowsColumns is.columns line
+    columns_of line short other (inl counts) = absurd (no_count line short other counts)
+    columns_of line short other (inr shows) = shows
 
     by_lines : ¬ (is.lines ≡ codes "ba" ∷ codes "a" ∷ [])
     by_lines are =
         let all : All Good (codes "ba" ∷ codes "a" ∷ []) = subst (All Good) are is.show in
-        let first = columns_of (codes "ba") (omega arith) (All-head Good (codes "ba") (codes "a" ∷ []) all) in
-        let second = columns_of (codes "a") (omega arith) (All-head Good (codes "a") [] (All-tail Good (codes "ba") (codes "a" ∷ []) all)) in
+        let first = columns_of (codes "ba") (omega arith) (λ same. let letter : ◌≡◌ {A = ℕ} 0x62 0x72 = same in absurd (omega (arith, letter))) (All-head Good (codes "ba") (codes "a" ∷ []) all) in
+        let second = columns_of (codes "a") (omega arith) (λ same. let letter : ◌≡◌ {A = ℕ} 0x61 0x72 = same in absurd (omega (arith, letter))) (All-head Good (codes "a") [] (All-tail Good (codes "ba") (codes "a" ∷ []) all)) in
         let wide : is.columns ≡ 2 =
         sym first.2 ∙ ap measure (shows_itself first.1 refl) ∙ two_columns in
         let narrow : is.columns ≡ 1 =
@@ -281,19 +284,19 @@ rows_behind_numbers = refl
 abbrev first_of_two : Options → Text → Type 0
 first_of_two options text = ShowsRecords (asked Never (Some 1) options) ((codes "a" ∷ []) ∷ (codes "b" ∷ []) ∷ []) text
 
--- before its last nine characters stands `2`, or the end of `more`
+-- before its last nine characters stands `2`, or a space
 abbrev the_count : Text → ℕ
 the_count text = slice_index_or (reverse text) 9 0
 
-counts_two : (options : Options) (text : Text) → first_of_two options text → (the_count text ≡ 0x32) ⊎ (the_count text ≡ 0x65)
+counts_two : (options : Options) (text : Text) → first_of_two options text → (the_count text ≡ 0x32) ⊎ (the_count text ≡ 0x20)
 unfolding digits
 counts_two options text is = by_count is.count is.is_count is.joined
   where
-    by_count : (count : Option ℕ) → MatchOption count (1 < 2) (λ n. n ≡ 2) → text ≡ is.drawn ++ note_for false (Some 1) count → (the_count text ≡ 0x32) ⊎ (the_count text ≡ 0x65)
+    by_count : (count : Option ℕ) → MatchOption count (1 < 2) (λ n. n ≡ 2) → text ≡ is.drawn ++ note_for false (Some 1) count → (the_count text ≡ 0x32) ⊎ (the_count text ≡ 0x20)
     by_count None more made = inr (ap (λ (t : Text). slice_index_or t 9 0) (ap reverse made ∙ reverse-append is.drawn (note_for false (Some 1) None)))
     by_count (Some n) two made = inl (ap (λ (t : Text). slice_index_or t 9 0) (ap reverse (made ∙ ap (λ (m : ℕ). is.drawn ++ note_for false (Some 1) (Some m)) two) ∙ reverse-append is.drawn (note_for false (Some 1) (Some 2))))
 
-neither : (n : ℕ) → ¬ (n ≡ 0x32) → ¬ (n ≡ 0x65) → ¬ ((n ≡ 0x32) ⊎ (n ≡ 0x65))
+neither : (n : ℕ) → ¬ (n ≡ 0x32) → ¬ (n ≡ 0x20) → ¬ ((n ≡ 0x32) ⊎ (n ≡ 0x20))
 neither n two more (inl is) = two is
 neither n two more (inr is) = more is
 

@@ -1,5 +1,5 @@
 -- Lines that the promise on a width refuses, lines that it allows, and the columns of frames.
-use Rattle.std.proofs.Common.{◌≡◌, ◌⊎◌, inl, inr, ◌≤◌, ◌+◌, ℕ, Bool, true, false, List, [], ◌∷◌, None, Some, arith, codes, length, refl, sym, ap, ◌∙◌, subst}
+use Rattle.std.proofs.Common.{◌≡◌, ◌⊎◌, inl, inr, ◌≤◌, ◌+◌, ℕ, Bool, true, false, List, [], ◌∷◌, None, Some, arith, codes, length, refl, slice_index_or, sym, ap, ◌∙◌, subst}
 use Rattle.std.specs.List.{All, slice_split}
 use Rattle.std.specs.Prelude.{◌==◌, String, string_bytes}
 use Rattle.std.proofs.lemmas.List.Elements.{All-from_recursion, All-head}
@@ -19,30 +19,30 @@ use Rattle.test_definitions.proofs.PromiseTrials.{shows_itself, ten}
 
 -- ---- lines
 
--- the only line of a text keeps to the width, where it is too short to count records
-kept : (width frame : ℕ) (is_filled : Bool) (text line : Text) → slice_split (λ b. b == 0x0A) text ≡ line ∷ [] ∷ [] → length line ≤ 10 → KeepToWidth width frame is_filled text → KeepsTo width frame is_filled line
-kept width frame is_filled text line cut short is =
+-- the only line of a text keeps to the width, where it is too short to count records, and begins with no `r`
+kept : (width frame : ℕ) (is_filled : Bool) (text line : Text) → slice_split (λ b. b == 0x0A) text ≡ line ∷ [] ∷ [] → length line ≤ 11 → ¬ (slice_index_or line 0 0 ≡ 0x72) → KeepToWidth width frame is_filled text → KeepsTo width frame is_filled line
+kept width frame is_filled text line cut short other is =
     by_cases (All-head Good line [] (subst (All Good) (one_line line is.lines (sym cut ∙ found text is.lines is.are)) is.keep))
   where
     Good : Text → Type 0
     Good l = CountsRecords l ⊎ KeepsTo width frame is_filled l
 
     by_cases : Good line → KeepsTo width frame is_filled line
-    by_cases (inl counts) = absurd (no_count line short counts)
+    by_cases (inl counts) = absurd (no_count line short other counts)
     by_cases (inr keeps) = keeps
 
 -- ten columns are more than a width of eight, and more than nine, which a name and a field take
 -- false: csv_promises::output_within
 wide_line : (options : Options) → ¬ (KeepsItsWidth (record options { look = record bold { expansion = Always; width = Some 8 } }) [] (codes "0123456789\n"))
 wide_line options is =
-    let own = kept 8 9 false (codes "0123456789\n") (codes "0123456789") refl (omega arith) (is 8 refl (All-from_recursion (All (HasCharactersWithin 1)) [] tt)) in
+    let own = kept 8 9 false (codes "0123456789\n") (codes "0123456789") refl (omega arith) (λ same. let letter : ◌≡◌ {A = ℕ} 0x30 0x72 = same in absurd (omega (arith, letter))) (is 8 refl (All-from_recursion (All (HasCharactersWithin 1)) [] tt)) in
     let wide : own.columns ≡ 10 = sym own.shows.2 ∙ ap measure (shows_itself own.shows.1 refl) ∙ ten in
     absurd (omega (arith, own.within, wide))
 
 -- where the width is filled, one column is less than two
 narrow_line : ¬ (KeepToWidth 2 1 true (codes "a\n"))
 narrow_line is =
-    let own = kept 2 1 true (codes "a\n") (codes "a") refl (omega arith) is in
+    let own = kept 2 1 true (codes "a\n") (codes "a") refl (omega arith) (λ same. let letter : ◌≡◌ {A = ℕ} 0x61 0x72 = same in absurd (omega (arith, letter))) is in
     let one : own.columns ≡ 1 = sym own.shows.2 ∙ ap measure (shows_itself own.shows.1 refl) ∙ one_column in
     let two = own.exact refl (omega arith) in
     absurd (omega (arith, one, two))
@@ -57,7 +57,7 @@ open_line is = unended is.lines is.are
 
 -- a line that only looks as one that counts
 uncounted : ¬ (CountsRecords (codes "2 records"))
-uncounted = no_count (codes "2 records") (omega arith)
+uncounted = no_count (codes "2 records") (omega arith) (λ same. let letter : ◌≡◌ {A = ℕ} 0x32 0x72 = same in absurd (omega (arith, letter)))
 
 -- ---- frames
 

@@ -281,9 +281,13 @@ chosen_alignments = refl
 
 -- ---- the line on records that aren't drawn
 
-notes : map (note_for false (Some 2)) (Some 1 ∷ Some 2 ∷ Some 3 ∷ None ∷ []) ≡ [] ∷ [] ∷ codes "2 of 3 records\n" ∷ codes "2 of more records\n" ∷ []
+notes : map (note_for false (Some 2)) (Some 1 ∷ Some 2 ∷ Some 3 ∷ None ∷ []) ≡ [] ∷ [] ∷ codes "2 of 3 records\n" ∷ codes "first 2 records; there are more\n" ∷ []
 unfolding digits
 notes = refl
+
+note_on_one : note_for false (Some 1) None ≡ codes "first 1 record; there are more\n"
+unfolding digits
+note_on_one = refl
 
 -- in Markdown below an empty line
 note_in_markdown : note_for true (Some 2) (Some 3) ≡ codes "\n2 of 3 records\n"
@@ -300,9 +304,9 @@ unfolding digits
 third_record = refl
 
 -- and where it isn't known how many there are
-third_of_more : record_line 3 None ≡ codes "record 3 of more\n"
+third_uncounted : record_line 3 None ≡ codes "record 3\n"
 unfolding digits
-third_of_more = refl
+third_uncounted = refl
 
 first_rows : limited {A = ℕ} (Some 2) (1 ∷ 2 ∷ 3 ∷ []) ≡ 1 ∷ 2 ∷ []
 first_rows = refl

@@ -88,4 +88,4 @@ lines = refl
 -- false: csv_tables::laws::outputs_are_one, csv_command::laws::outputs_are_one
 two_notes : ¬ (note_for false (Some 3) (Some 12) ≡ note_for false (Some 3) None)
 unfolding digits
-two_notes is = let differ : 16 ≡ 18 = ap length is in absurd (omega (arith, differ))
+two_notes is = let differ : 16 ≡ 32 = ap length is in absurd (omega (arith, differ))

@@ -67,7 +67,7 @@ const THREE: &str = "\
 |---+----|
 | x | 12 |
 +---+----+
-3 of more records
+first 3 records; there are more
 ";
 
 #[test]
