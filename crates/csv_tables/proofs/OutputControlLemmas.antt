@@ -211,10 +211,16 @@ both_printable : (xs ys : Text) → is_printable_ascii xs ≡ true → is_printa
 both_printable xs ys one other = list_all-append (is_in_range 0x20 0x7E) xs ys ∙ ap₂ (λ a b. a && b) one other
 
 pub heading_is_printable : (n : ℕ) (m : Option ℕ) → is_printable_ascii (record_heading n m) ≡ true
-heading_is_printable n None = both_printable (codes "record ") (decimal n) refl (number_is_printable n)
-heading_is_printable n (Some m) =
-    both_printable ((codes "record " ++ decimal n) ++ codes " of ") (decimal m)
-    (both_printable (codes "record " ++ decimal n) (codes " of ") (heading_is_printable n None) refl) (number_is_printable m)
+heading_is_printable n m = by_count m
+  where
+    front : is_printable_ascii (codes "record " ++ decimal n) ≡ true
+    front = both_printable (codes "record ") (decimal n) refl (number_is_printable n)
+
+    by_count : (m : Option ℕ) → is_printable_ascii (record_heading n m) ≡ true
+    by_count None = front
+    by_count (Some m) =
+        both_printable ((codes "record " ++ decimal n) ++ codes " of ") (decimal m)
+        (both_printable (codes "record " ++ decimal n) (codes " of ") front refl) (number_is_printable m)
 
 pub note_is_printable : (n : ℕ) (m : Option ℕ) → is_printable_ascii (note_text n m) ≡ true
 note_is_printable n None = by_noun (n == 1)
