@@ -1,5 +1,5 @@
 -- Lines whose fields stand between spaces, and where they are cut.
-use Rattle.std.proofs.Common.{◌≡◌, ◌∙◌, ◌⊎◌, Bor, List, Option, append_assoc, eqb-true, sym, inl, inr, ◌<◌, ◌≤◌, ◌==◌, ◌+◌, ◌-◌, ℕ, zero, suc, Bool, true, false, [], ◌∷◌, ◌++◌, Some, None, arith, drop, get_or, length, map, nat_lt, refl, subst, take, tests, ap}
+use Rattle.std.proofs.Common.{◌≡◌, ◌∙◌, ◌⊎◌, Option, append_assoc, eqb-true, sym, inl, inr, ◌<◌, ◌≤◌, ◌==◌, ◌+◌, ◌-◌, ℕ, zero, suc, Bool, true, false, [], ◌∷◌, ◌++◌, Some, None, arith, drop, get_or, length, nat_lt, refl, subst, take, tests, ap}
 use Rattle.std.proofs.Math.Seq.{take-length}
 use Rattle.std.proofs.lemmas.Bool.{cases_lt}
 use Rattle.std.proofs.lemmas.List.{drop_more, length-drop, map-append, take-append-drop}

@@ -1,4 +1,5 @@
 pub mod Beginning
+pub mod BelowNames
 pub mod Cleaning
 pub mod Counting
 pub mod CutLists

@@ -1,9 +1,10 @@
 -- Texts whose fields stand between runs of spaces and TABs.
 -- Source: this library's own.
-use Rattle.std.specs.Prelude.{ℕ, zero, suc, ◌+◌, ◌-◌, ◌==◌, ◌&&◌, ◌||◌, not, nat_le, Bool, false, List, [], ◌∷◌, ◌++◌, bytes_eq, codes, drop, flat_map, map, max, min, take, if◌then◌else◌, length}
+use Rattle.std.specs.Prelude.{ℕ, zero, suc, ◌+◌, ◌-◌, ◌==◌, ◌&&◌, ◌||◌, not, nat_le, Bool, false, List, [], ◌∷◌, ◌++◌, Option, Some, None, bytes_eq, codes, drop, flat_map, map, max, min, take, if◌then◌else◌, length}
 use Rattle.std.specs.List.{filter, list_any, position_or_len, prefix_len, slice_split, suffix_len}
 use Rattle.std.specs.Char.{is_ascii_whitespace}
 use Rattle.comfy_parts.specs.Text.{Text}
+use Rattle.csv_records.specs.BelowNames.{columns_text, name_starts}
 
 -- a space or a TAB
 abbrev pub is_gap : ℕ → Bool
@@ -96,9 +97,18 @@ tabbed_line (suc gaps) line =
     then spaced line
     else first_field line ++ 0x09 ∷ tabbed_line gaps (behind_field line)
 
--- a text with TABs between its fields
+-- lines with TABs for these gaps
+abbrev pub gaps_text : List Text → Text
+gaps_text lines =
+    name_gap lines
+    ++ flat_map (λ line. tabbed_line (column_gaps lines) (trimmed_line line) ++ 0x0A ∷ []) lines
+
+-- a text with TABs between its fields: below the names of its first line, where all stand there
+abbrev pub tabbed_by : Option (List ℕ) → List Text → Text
+tabbed_by (Some starts) lines = columns_text starts lines
+tabbed_by None lines = gaps_text lines
+
 abbrev pub tabbed_text : Text → Text
 tabbed_text text =
     let lines = below_total (filled_lines text) in
-    name_gap lines
-    ++ flat_map (λ line. tabbed_line (column_gaps lines) (trimmed_line line) ++ 0x0A ∷ []) lines
+    tabbed_by (name_starts lines) lines

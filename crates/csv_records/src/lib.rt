@@ -3,6 +3,7 @@
 #![tactic(auto)]
 
 mod beginning;
+mod below_names;
 mod characters;
 mod cleaning;
 mod counting;

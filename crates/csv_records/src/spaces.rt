@@ -3,21 +3,34 @@
 ghost use Rattle.std.specs.Prelude.{◌≡◌, ◌++◌, IfOk, OnOk, false, length, map, max, not, option_map, string_bytes};
 ghost use Rattle.std.specs.List.{list_any, position, position_or_len};
 ghost use Rattle.csv_records.specs.Number.{halves};
-ghost use Rattle.csv_records.specs.Spaces.{begins_with_digit, below_total, column_gaps, filled_lines, behind_field, first_field, gaps_from, is_gap, is_indented, is_total, lacks_name, line_gaps, most_gaps, name_gap, spaced, tabbed_line, tabbed_text, trimmed_line};
+ghost use Rattle.csv_records.specs.Spaces.{begins_with_digit, below_total, column_gaps, filled_lines, behind_field, first_field, gaps_from, is_gap, is_indented, gaps_text, is_total, lacks_name, line_gaps, most_gaps, name_gap, spaced, tabbed_line, tabbed_text, trimmed_line};
 
+use crate::below_names::{columns_text, name_starts};
 use std::alloc::{AllocError, Global};
 
-/// The text with TABs between its fields. In a line these stand between runs of spaces and TABs;
-/// white space of ASCII at its ends doesn't count, and a blank line is left out, as is a first one
-/// like `total 92`. There are as many columns as the first line has fields, and no more than the
-/// fullest line below it. The last one takes all that is left of a line, with a space for each TAB.
-/// Where the first line alone begins with a gap and has one field less than that fullest line, its
-/// first field is empty.
+/// The text with TABs between its fields. A blank line is left out, as is a first one like
+/// `total 92`. Where all fields stand below the names of the first line (`name_starts`), these are
+/// the columns. Otherwise fields stand between runs of spaces and TABs; white space of ASCII at the
+/// ends of a line doesn't count. There are as many columns as the first line has fields, and no more
+/// than the fullest line below it. The last one takes all that is left of a line, with a space for
+/// each TAB. Where the first line alone begins with a gap and has one field less than that fullest
+/// line, its first field is empty.
 pub(crate) fn tabbed_text(alloc: Global, text: &str) -> Result<String, AllocError>
     ensures { IfOk result (λ tabbed. string_bytes tabbed ≡ tabbed_text text.now) }
 {
     let filled = filled_lines(alloc, text)?;
     let lines = below_total(filled.as_slice());
+    match name_starts(alloc, lines)? {
+        Some(starts) => columns_text(alloc, lines, starts.as_slice()),
+        None => gaps_text(alloc, lines),
+    }
+}
+
+// Lines with TABs for the gaps that part columns.
+fn gaps_text(alloc: Global, lines: &[&str]) -> Result<String, AllocError>
+    ensures { IfOk result (λ tabbed. string_bytes tabbed
+        ≡ gaps_text (map (λ line. line.now) lines.now)) }
+{
     let gaps = column_gaps(lines);
     let mut tabbed = String::from_str(alloc, name_gap(lines))?;
     for line in lines {

@@ -1,6 +1,6 @@
 use Rattle.std.proofs.Common.{◌≡◌, ◌++◌, ◌∷◌, [], drop, flat_map, map, string_bytes}
 use Rattle.csv_records.specs.Spaces.{name_gap, tabbed_line, trimmed_line}
-use Rattle.csv_records.proofs.spaces.tabbed_text.Given as goal
+use Rattle.csv_records.proofs.spaces.gaps_text.Given as goal
 
 abbrev pub invariant-loop-line : goal.invariant-loop-line
 invariant-loop-line l =
