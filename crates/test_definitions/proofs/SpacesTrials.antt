@@ -29,5 +29,15 @@ sizes_of_files = refl
 total_as_a_name : tabbed_text (codes "total used\n1 2\n") ≡ codes "total\tused\n1\t2\n"
 total_as_a_name = refl
 
+-- fields stand below names that three spaces part: names and fields have spaces, and a field is empty
+containers : tabbed_text (codes "ID X   PORTS    NAMES\na b             c\nd      80/tcp   e\tf\n") ≡ codes "ID X\tPORTS\tNAMES\na b\t\tc\nd\t80/tcp\te f\n"
+unfolding chars encode
+containers = refl
+
+-- where one stands elsewhere, each space parts fields
+elsewhere : tabbed_text (codes "A B   C   D\n1 2   3    4\n") ≡ codes "A\tB\tC\tD\n1\t2\t3\t4\n"
+unfolding chars encode
+elsewhere = refl
+
 blank : tabbed_text (codes " \n\t\n") ≡ []
 blank = refl
