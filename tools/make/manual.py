@@ -71,9 +71,9 @@ def man_page():
     lines += [".SH NAME", f"csvtable \\- {ABOUT[0].lower()}{ABOUT[1:]}"]
     lines += [".SH SYNOPSIS", ".B csvtable", "[\\fIoptions\\fR]", "[\\fIFILE\\fR]"]
     lines += [".SH DESCRIPTION", "Each record is a row.", "Columns of numbers are right-aligned."]
-    lines += [escaped("In a terminal the table keeps to its width; where columns would be too narrow, each record is drawn as names and fields.")]
-    lines += [escaped("Without FILE, or with `-`, it reads standard input; where that is a terminal, a line on standard error says so.")]
-    lines += [escaped("Nothing that a file holds is sent to the terminal but text, unless it is asked for.")]
+    lines += [escaped("In a terminal the table keeps to its width. If columns would be too narrow, each record is drawn as names and fields.")]
+    lines += [escaped("Without FILE, or with `-`, it reads standard input. If that is a terminal, a line on standard error says so.")]
+    lines += [escaped("No control character of a file is sent to the terminal, except in the colours that `--ansi` keeps.")]
     lines += [".SH OPTIONS"]
     for option in OPTIONS:
         value = f" \\fI{option.value}\\fR" if option.value else ""
@@ -82,11 +82,11 @@ def man_page():
             lines += [".br", escaped(", ".join(VALUES[option.kind]))]
     lines += [".TP", "\\fB\\-h\\fR, \\fB\\-\\-help\\fR", "Print help", ".TP", "\\fB\\-V\\fR, \\fB\\-\\-version\\fR", "Print version"]
     lines += [".SH EXIT STATUS", ".TP", "0", "The drawing was written.", ".TP", "1"]
-    lines += [escaped("The input or the output failed, the input is no text, isn't in its encoding or has a quote that is never closed, there is no such column, or no memory.")]
-    lines += [".TP", "2", escaped("The arguments aren't known.")]
+    lines += [escaped("The input or the output failed, the input isn't text, isn't in its encoding or has a quote that is never closed, a column doesn't exist, or memory ran out.")]
+    lines += [".TP", "2", escaped("The arguments are unknown.")]
     lines += [".SH ENVIRONMENT", ".TP", ".B COLUMNS"]
-    lines += ["The width of a terminal.", escaped("Where it isn't set, csvtable asks the terminal by stty; where that tells nothing either, the width is 80.")]
-    lines += [".TP", ".B NO_COLOR", escaped("Where it is set and isn't empty, the header isn't in bold unless that is asked for.")]
+    lines += ["The width of a terminal.", escaped("If it isn't set, csvtable asks the terminal by stty. If that tells nothing either, the width is 80.")]
+    lines += [".TP", ".B NO_COLOR", escaped("If it is set and isn't empty, the header isn't bold unless `--color always` is given.")]
     lines += [".SH EXAMPLES"]
     for example, what in examples():
         lines += [".TP", command(example), escaped(what[0].upper() + what[1:])]
