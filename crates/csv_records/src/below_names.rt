@@ -8,13 +8,10 @@ ghost use Rattle.csv_records.specs.BelowNames.{columns_from, columns_text, fits_
 use crate::characters::split_first;
 use std::alloc::{AllocError, Global};
 
-/// The places, counted in characters, at which the names of the first line begin, but for the first
-/// name. There are none unless these are two or more, each behind three spaces, and in all lines two
-/// spaces stand before each place, and nothing begins behind two spaces elsewhere.
-pub(crate) fn name_starts(
-    alloc: Global,
-    lines: &[&str],
-) -> Result<Option<Vec<usize>>, AllocError>
+/// The places, counted in characters, at which the names of the first line begin, except the first
+/// name. There are none unless there are two such names, three spaces precede each, and in all lines
+/// two spaces precede each place, and nothing begins after two spaces elsewhere.
+pub(crate) fn name_starts(alloc: Global, lines: &[&str]) -> Result<Option<Vec<usize>>, AllocError>
     ensures { IfOk result (λ found. option_map (λ starts. starts.items) found
         ≡ name_starts (map (λ line. line.now) lines.now)) }
 {

@@ -9,12 +9,12 @@ use crate::below_names::{columns_text, name_starts};
 use std::alloc::{AllocError, Global};
 
 /// The text with TABs between its fields. A blank line is left out, as is a first one like
-/// `total 92`. Where all fields stand below the names of the first line (`name_starts`), these are
-/// the columns. Otherwise fields stand between runs of spaces and TABs; white space of ASCII at the
-/// ends of a line doesn't count. There are as many columns as the first line has fields, and no more
-/// than the fullest line below it. The last one takes all that is left of a line, with a space for
-/// each TAB. Where the first line alone begins with a gap and has one field less than that fullest
-/// line, its first field is empty.
+/// `total 92`. If all fields stand below the names of the first line (`name_starts`), they are cut
+/// there. Otherwise runs of spaces and TABs part them; white space of ASCII at the ends of a line
+/// doesn't count. There are as many columns as the first line has fields, and no more than the
+/// fullest line below it. The last one takes all that is left of a line, with a space for each TAB.
+/// Where the first line alone begins with a gap and has one field less than that fullest line, its
+/// first field is empty.
 pub(crate) fn tabbed_text(alloc: Global, text: &str) -> Result<String, AllocError>
     ensures { IfOk result (λ tabbed. string_bytes tabbed ≡ tabbed_text text.now) }
 {
