@@ -9,8 +9,8 @@ use crate::characters::split_first;
 use std::alloc::{AllocError, Global};
 
 /// The places, counted in characters, at which the names of the first line begin, except the first
-/// name. There are none unless there are two such names, three spaces precede each, and in all lines
-/// two spaces precede each place, and nothing begins after two spaces elsewhere.
+/// name. There are none unless there are two such names, three spaces precede each, and in all
+/// lines two spaces precede each place, and nothing begins after two spaces elsewhere.
 pub(crate) fn name_starts(alloc: Global, lines: &[&str]) -> Result<Option<Vec<usize>>, AllocError>
     ensures { IfOk result (λ found. option_map (λ starts. starts.items) found
         ≡ name_starts (map (λ line. line.now) lines.now)) }
