@@ -57,12 +57,12 @@ macro_rules! option_table {
 static OPTIONS: [OptionSpec; 26] = option_table! {
     "Input", "file", None, File, "FILE", "The file to read; `-` or none for standard input";
     "Input", "delimiter", Some('d'), Text, "CHAR",
-        "What stands between fields: a character, `tab`,\n\
-         `spaces`, or `auto`, which finds it [default: auto]";
+        "The field delimiter: a character, `tab`, `spaces`,\n\
+         or `auto`, which finds it [default: auto]";
     "Input", "tabs", Some('t'), Letter, "", "As `-d tab`";
     "Input", "encoding", Some('e'), Encoding, "NAME",
         "How the file is written: utf-8, utf-16 or cp1252\n\
-         [default: utf-16 behind its mark, else utf-8]";
+         [default: utf-16 after its mark, else utf-8]";
     "Input", "no-quotes", None, Flag, "", "Read quotes as characters like others";
     "Input", "skip", None, Count, "N", "Leave out the first N lines";
     "Input", "no-header", Some('n'), Flag, "", "Draw the first record as a row, not as the header";
@@ -75,7 +75,7 @@ static OPTIONS: [OptionSpec; 26] = option_table! {
     "Columns", "right", Some('r'), Text, "LIST",
         "Right-align these columns, as those of numbers are";
     "Columns", "left", None, Text, "LIST", "Left-align these columns, numbers or not";
-    "Columns", "no-decimal", None, Flag, "", "Don't put decimal points below each other";
+    "Columns", "no-decimal", None, Flag, "", "Don't align decimal points";
     "Layout", "width", Some('w'), Width, "N",
         "The width to keep to, 0 for none [default: that of\nthe terminal, else none]";
     "Layout", "full", None, Flag, "", "Fill the width";
