@@ -1,5 +1,5 @@
 -- Lines that the promises on files refuse, and records for which one is made.
-use Rattle.std.proofs.Common.{◌≡◌, ◌==◌, ◌⊎◌, inl, inr, ◌+◌, ◌≤◌, ℕ, Bool, List, [], None, Some, Option, ◌∷◌, ◌++◌, arith, codes, append-nil, decimal, length, length-append, drop, map, refl, reverse, slice_index_or, sym, ap, ◌∙◌, subst, true, false}
+use Rattle.std.proofs.Common.{◌≡◌, ◌==◌, ◌⊎◌, inl, inr, ◌≤◌, ℕ, Bool, List, [], None, Some, Option, ◌∷◌, ◌++◌, arith, codes, append-nil, decimal, length, length-append, drop, map, refl, reverse, slice_index_or, sym, ap, ◌∙◌, subst, true, false}
 use Rattle.std.specs.Fmt.{digits}
 use Rattle.std.specs.List.{All, AllZip, concat, list_any}
 use Rattle.std.specs.Prelude.{MatchOption, ◌<◌, encode_utf8_all, if◌then◌else◌}

@@ -1,8 +1,8 @@
-use Rattle.std.proofs.Common.{◌≡◌, ◌<◌, ◌==◌, ◌∷◌, ◌∙◌, [], ap, arith, drop, false, get_or, length, refl, rules, subst, sym, tests, true}
+use Rattle.std.proofs.Common.{◌≡◌, ◌<◌, ◌==◌, ◌∙◌, ap, drop, false, get_or, length, refl, rules, subst, sym, tests, true}
 use Rattle.comfy_parts.specs.Text.{Text}
 use Rattle.csv_records.proofs.DecimalLemmas.{comma_says, first_there, nothing_there, point_says, whole_says_nothing}
 use Rattle.csv_records.proofs.SimpleLemmas.{comma_there, fraction_so}
-use Rattle.csv_records.specs.Simple.{fraction_in, is_simple_fraction}
+use Rattle.csv_records.specs.Simple.{is_simple_fraction}
 use Rattle.csv_records.proofs.decimals.ColumnMarks.add_fraction.Goals as goal
 
 pub returns-then-is_empty : goal.returns-then-is_empty
