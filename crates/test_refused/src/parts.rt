@@ -2,18 +2,24 @@
 
 use crate::fixtures::fill_worked;
 use crate::outcome::{Outcome, succeeded};
-use comfy_table::{ArrangedTable, Result, Table};
+use comfy_table::{ArrangedTable, Result, Row, Table};
 use std::alloc::Global;
 
 /// What came of the call of this name on a new table that `fill_worked` fills.
 pub fn outcome_of(alloc: Global, table: &mut Table, call: &str) -> Result<Outcome> {
     fill_worked(alloc, table)?;
-    outcome_on(alloc, &table.arranged()?, call)
+    let rows = table.row_iter().as_slice();
+    outcome_on(alloc, &table.arranged()?, rows, call)
 }
 
-fn outcome_on(alloc: Global, arranged: &ArrangedTable, call: &str) -> Result<Outcome> {
+fn outcome_on(
+    alloc: Global,
+    arranged: &ArrangedTable,
+    rows: &[Row],
+    call: &str,
+) -> Result<Outcome> {
     match call {
-        "has_taller_row" => Ok(Outcome::of(succeeded(arranged.has_taller_row(2)))),
+        "is_any_taller" => Ok(Outcome::of(succeeded(arranged.is_any_taller(rows, 2)))),
         "push_rows" => outcome_of_pushing(alloc, arranged),
         _ => Ok(Outcome::Unknown),
     }

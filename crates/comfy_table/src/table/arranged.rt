@@ -8,7 +8,7 @@ ghost use Rattle.comfy_table.specs.Drawing.{part_of_drawing, terminated_text_of}
 ghost use Rattle.comfy_table.specs.Output.{BeginsWith, with_lines};
 ghost use Rattle.comfy_table.specs.Pieces.{row_height};
 ghost use Rattle.comfy_table.specs.TableValue.{with_other_rows};
-ghost use Rattle.comfy_table.specs.Parts.{IsArrangedTable, part_text, row_heights};
+ghost use Rattle.comfy_table.specs.Parts.{IsArrangedTable, part_text};
 
 use crate::table::Table;
 use crate::table::row_writer::RowWriter;
@@ -53,7 +53,6 @@ impl<'a, C: Contents> Model for ArrangedTable<'a, C> {
     ghost use Rattle.std.specs.Prelude.{◌≡◌};
     ghost use Rattle.comfy_table.specs.Drawing.{outer_widths};
     ghost use Rattle.comfy_table.specs.Gaps.{frame_of};
-    ghost use Rattle.comfy_table.specs.Pieces.{row_height};
     ghost use Rattle.comfy_table.specs.Parts.{ArrangedValue};
 
     ghost Value = { ArrangedValue };
@@ -157,18 +156,6 @@ impl<'a, C: Contents> ArrangedTable<'a, C> {
 }
 
 impl<'a> ArrangedTable<'a, Table> {
-    /// Whether a row is drawn in more lines than these. The header doesn't count.
-    ///
-    /// ```
-    /// let has_tall_row = table.arranged()?.has_taller_row(1)?;
-    /// ```
-    pub fn has_taller_row(&self, lines: usize) -> Result<bool>
-        ensures { IfOk result (λ has. has ≡ list_any (nat_lt lines) (row_heights self.now)) }
-    {
-        let table = self.contents;
-        self.is_any_taller(table.rows.as_slice(), lines)
-    }
-
     /// Appends a part: the drawing of the table with `count` of its rows alone, from the one at
     /// position `first` on. Each line is followed by a line feed. Rows beyond the last are none, so
     /// a part may have no row, but a header and borders. After `OutOfMemory` the text is as it was.

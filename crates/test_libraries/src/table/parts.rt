@@ -176,7 +176,8 @@ fn hide(table: &mut Table, count: usize) {
 
 fn is_taller(rt: &impl Abort, table: &Table, lines: usize) -> bool {
     let arranged = table.arranged().expect(rt, "memory");
-    arranged.has_taller_row(lines).expect(rt, "memory")
+    let rows = table.row_iter().as_slice();
+    arranged.is_any_taller(rows, lines).expect(rt, "memory")
 }
 
 // The highest row is drawn in so many lines.
