@@ -40,11 +40,11 @@ flat_line t custom row high info cell text texts fits =
     omega (arith, pieces, cut)
 
 -- so is the cell of a plain text
-pub flat_cell : (look : Look) (table : TableValue) (text : Text) (width : ℕ) → IsPlainText look table width text → (t : TableValue) → t.custom_styling ≡ table.custom_styling → (row : RowValue) → IfSome row.max_height (λ h. 1 ≤ h)
-    → (info : ColumnInfo) → width ≤ info.content_width → (alignment : Option CellAlignment) → length (cell_pieces t row info (cell_for look alignment text)) ≤ 1
-flat_cell look table text width plain t same row high info fits alignment =
+pub flat_cell : (look : Look) (table : TableValue) (text : Text) (width : ℕ) → IsPlainText look table width text → (row : RowValue) → IfSome row.max_height (λ h. 1 ≤ h)
+    → (info : ColumnInfo) → width ≤ info.content_width → (alignment : Option CellAlignment) → length (cell_pieces table row info (cell_for look alignment text)) ≤ 1
+flat_cell look table text width plain row high info fits alignment =
     let parts = plain_parts look table text plain.0 plain.2 in
-    flat_line t (same ∙ parts.1) row high info (cell_for look alignment text) text (lines_are look table text plain.0 plain.2) (omega (arith, fits, plain.1))
+    flat_line table parts.1 row high info (cell_for look alignment text) text (lines_are look table text plain.0 plain.2) (omega (arith, fits, plain.1))
 
 -- so is the cell of a row that shows it
 pub flat_at : (look : Look) (text : Text) (t : TableValue) (row : RowValue) (info : ColumnInfo) → ((alignment : Option CellAlignment) → length (cell_pieces t row info (cell_for look alignment text)) ≤ 1)

@@ -9,7 +9,7 @@ use Rattle.comfy_table.proofs.PlacedWidthLemmas.{without_claims-append}
 use Rattle.comfy_table.proofs.ClaimLemmas.{without_claims-nil}
 use Rattle.comfy_table.proofs.StepLemmas.{length-others}
 use Rattle.comfy_table.proofs.TakingLemmas.{next_taken-where}
-use Rattle.comfy_table.specs.Dynamic.{Claim, IsArrangedBy, IsTakenAfter, Positioned, Steps, average, content_room, fixed_claims, lower_of_boundary, lower_offer, others, places_of, total, undecided, without_claims}
+use Rattle.comfy_table.specs.Dynamic.{Claim, IsArrangedBy, IsTakenAfter, Positioned, Steps, average, content_room, fixed_claims, lower_of_boundary, lower_offer, others, total, undecided, without_claims}
 use Rattle.comfy_table.specs.Laws.{least_with_steps}
 use Rattle.comfy_table.specs.Widths.{ColumnNeeds, without_padding}
 

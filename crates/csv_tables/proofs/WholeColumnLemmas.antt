@@ -1,5 +1,5 @@
 -- Columns that have a width of their own, and the room that they need.
-use Rattle.std.proofs.Common.{◌≡◌, ◌≤◌, ◌&&◌, nat_le, ℕ, suc, ◌+◌, Bool, true, false, not, List, [], ◌∷◌, Option, Some, None, filter, flat_map, length, map, max, sum_by, unwrap_or, refl, sym, ap, subst, arith}
+use Rattle.std.proofs.Common.{◌≡◌, ◌≤◌, ◌&&◌, nat_le, ℕ, suc, ◌+◌, Bool, true, false, not, List, [], ◌∷◌, Some, None, filter, flat_map, length, map, max, sum_by, unwrap_or, refl, sym, ap, subst, arith}
 use Rattle.std.specs.List.{All, AllByRecursion, enumerate_from, range_with_len}
 use Rattle.std.specs.Prelude.{if◌then◌else◌}
 use Rattle.std.proofs.lemmas.Bool.{leb-true}

@@ -1,13 +1,15 @@
 //! The rows of records, before they are made.
 
-ghost use Rattle.std.specs.Prelude.{◌≡◌, ◌<◌, ◌≤◌, ◌+◌, ◌⊎◌, ◌++◌, ◌==◌, ◌∷◌, [], ℕ, IfOk, IfSome, IsTrue, None, OnOk, Some, false, if◌then◌else◌, length, max, nat_lt, option_map, slice_get, string_bytes};
+ghost use Rattle.std.specs.Prelude.{◌≡◌, ◌<◌, ◌≤◌, ◌+◌, ◌⊎◌, ◌++◌, ◌==◌, ◌∷◌, [], ℕ, IfOk, IfSome, IsTrue, None, OnOk, Some, chars, false, if◌then◌else◌, length, max, nat_lt, option_map, slice_get, string_bytes};
 ghost use Rattle.std.specs.Cow.{cow_str_bytes};
-ghost use Rattle.std.specs.List.{slice_index_or};
+ghost use Rattle.std.specs.List.{list_any, slice_index_or};
+ghost use Rattle.comfy_parts.specs.CellValue.{plain_cell};
 ghost use Rattle.comfy_parts.specs.Text.{Text, spaces};
 ghost use Rattle.comfy_table.specs.LongestLine.{cell_longest_line};
-ghost use Rattle.comfy_table.specs.TableValue.{TableValue, cell_content_width, measured_cell};
+ghost use Rattle.comfy_table.specs.TableValue.{cell_content_width, measured_cell};
 ghost use Rattle.comfy_table.specs.Drawing.{part_of_drawing, terminated_text_of};
 ghost use Rattle.comfy_table.specs.Pieces.{pieces_of_optional, row_height};
+ghost use Rattle.csv_records.specs.Cleaning.{is_replaced};
 ghost use Rattle.csv_tables.specs.Cells.{Shown, cell_for, columns_within, is_blank, pair_for, text_in};
 ghost use Rattle.csv_tables.specs.declared.options.Look.{Look};
 ghost use Rattle.csv_tables.specs.Contents.{IsPlainText, fields_text, greatest_at, headed_by, made_by, measured_at, most_cells, pairs_by, rows_at, shown_by, spaces_in};
@@ -19,7 +21,7 @@ use crate::selected::SelectedRecords;
 use crate::table::empty_table;
 use comfy_parts::content_split::{ColumnDisplayInfo, is_printable, measure_text_width};
 use comfy_parts::style::CellAlignment;
-use comfy_table::{ArrangedTable, Contents, Extent, PlainCell, Result, Row, RowWriter, Table};
+use comfy_table::{Extent, PlainCell, Result, Row, RowWriter, Table, is_any_taller};
 use csv_records::{Record, is_clean_line};
 use std::alloc::AllocError;
 use std::borrow::CowStr;
@@ -128,6 +130,7 @@ impl RecordRows {
     }
 
     // The cell of a column in the row of a record, where it is one line as it is.
+    #[inline(always)]
     fn cell_in<'r>(&self, column: &DrawnColumn, fields: &Record<'r>) -> Option<PlainCell<'r>>
         ensures { IfSome result (λ cell. cell ≡ cell_for self.now.look column.now.alignment
             (text_in self.now.look self.now.is_aligned column.now fields.now)) }
@@ -515,22 +518,21 @@ impl RecordRows {
     // ---- heights
 
     /// Whether the row of a record is drawn in more than one line, where records aren't expanded.
-    pub fn is_tall<C: Contents>(
+    pub fn is_tall(
         &self,
         table: &Table,
-        arranged: &ArrangedTable<'_, C>,
+        infos: &[ColumnDisplayInfo],
         at: usize,
         fields: &Record<'_>,
     ) -> Result<bool>
-        requires { table.now.custom_styling ≡ arranged.now.table.custom_styling }
-        ensures { IfOk result (λ is. is ≡ nat_lt 1 (row_height arranged.now.table
-            arranged.now.infos (made_by self.now at fields.now))) }
+        ensures { IfOk result (λ is. is
+            ≡ nat_lt 1 (row_height table.now infos.now (made_by self.now at fields.now))) }
     {
-        if self.is_flat(table, arranged.infos(), at, fields)? {
+        if self.is_flat(table, infos, at, fields)? {
             return Ok(false);
         }
         let row = [self.row_at(at, fields)?];
-        arranged.is_any_taller(row.as_slice(), 1)
+        is_any_taller(table, infos, row.as_slice(), 1)
     }
 
     // Whether all texts of a row are seen to fit these columns. Where they aren't, the row may yet
@@ -542,9 +544,8 @@ impl RecordRows {
         at: usize,
         fields: &Record<'_>,
     ) -> Result<bool>
-        ensures { (rows : TableValue) → rows.custom_styling ≡ table.now.custom_styling
-            → IfOk result (λ is. IsTrue is
-            → row_height rows infos.now (made_by self.now at fields.now) ≤ 1) }
+        ensures { IfOk result (λ is. IsTrue is
+            → row_height table.now infos.now (made_by self.now at fields.now) ≤ 1) }
     {
         let selected = &self.selected;
         let columns = selected.columns_within(fields);
@@ -567,8 +568,7 @@ impl RecordRows {
         info: &ColumnDisplayInfo,
     ) -> Result<bool>
         requires { columns.now ≡ columns_within fields.now self.now.selected.columns }
-        ensures { (rows : TableValue) → rows.custom_styling ≡ table.now.custom_styling
-            → IfOk result (λ is. IsTrue is → length (pieces_of_optional rows
+        ensures { IfOk result (λ is. IsTrue is → length (pieces_of_optional table.now
             (made_by self.now at fields.now) info.now
             (slice_get (made_by self.now at fields.now).cells position)) ≤ 1) }
     {
@@ -586,7 +586,9 @@ impl RecordRows {
     }
 }
 
-// The cell of a field with so many spaces behind it, where it is one line as it is.
+// The cell of a field with so many spaces behind it, where it is one line as it is. Most fields are
+// printable ASCII.
+#[inline(always)]
 fn plain_cell<'r>(
     look: &Look,
     field: &'r str,
@@ -602,10 +604,25 @@ fn plain_cell<'r>(
     if let Some(cell) = PlainCell::of_printable(field, behind, alignment) {
         return Some(cell);
     }
-    if behind > 0 || !is_clean_line(field) {
+    if behind > 0 {
         return None;
     }
-    PlainCell::of_line(field, alignment)
+    let cell = clean_cell(field, alignment)?;
+    Some(cell)
+}
+
+// The cell of a text that is one line, and of which no character is replaced.
+#[inline(never)]
+fn clean_cell(field: &str, alignment: Option<CellAlignment>) -> Option<PlainCell<'_>>
+    ensures cell { IfSome result (λ cell. cell
+        ≡ record (plain_cell field.now) { alignment = alignment }) }
+    ensures clean { IfSome result (λ cell. list_any is_replaced (chars field.now) ≡ false) }
+{
+    if !is_clean_line(field) {
+        return None;
+    }
+    let cell = PlainCell::of_line(field, alignment)?;
+    Some(cell)
 }
 
 // Whether a field with so many spaces behind it is blank, but not empty.

@@ -1,12 +1,11 @@
 //! A table whose widths are found, and its parts.
 
-ghost use Rattle.std.specs.Prelude.{◌≡◌, ◌++◌, IfOk, IfSome, OnErr, OnOk, drop, map, nat_lt, string_bytes, take};
-ghost use Rattle.std.specs.List.{All, list_any};
+ghost use Rattle.std.specs.Prelude.{◌≡◌, ◌++◌, IfOk, IfSome, OnErr, OnOk, drop, string_bytes, take};
+ghost use Rattle.std.specs.List.{All};
 ghost use Rattle.comfy_parts.specs.CellValue.{IsColumn, IsRow};
 ghost use Rattle.comfy_table.specs.Arrangement.{AreInfosOf};
 ghost use Rattle.comfy_table.specs.Drawing.{part_of_drawing, terminated_text_of};
 ghost use Rattle.comfy_table.specs.Output.{BeginsWith, with_lines};
-ghost use Rattle.comfy_table.specs.Pieces.{row_height};
 ghost use Rattle.comfy_table.specs.TableValue.{with_other_rows};
 ghost use Rattle.comfy_table.specs.Parts.{IsArrangedTable, part_text};
 
@@ -14,7 +13,7 @@ use crate::table::Table;
 use crate::table::row_writer::RowWriter;
 use crate::utils::arrangement::arrange;
 use crate::utils::arrangement::contents::Contents;
-use crate::utils::formatting::{DrawnFrame, Extent, Output, Writer, is_any_taller};
+use crate::utils::formatting::{DrawnFrame, Extent, Output, Writer};
 use comfy_parts::content_split::ColumnDisplayInfo;
 use comfy_parts::{Column, Result, Row};
 use std::marker::Model;
@@ -83,13 +82,24 @@ impl<'a, C: Contents> ArrangedTable<'a, C> {
         ensures infos { IfOk result (λ arranged.
             AreInfosOf (C.whole contents.now) arranged.infos) }
     {
+        let infos = ArrangedTable::infos_of(contents)?;
+        ArrangedTable::with_infos(contents, infos)
+    }
+
+    /// What each column of such a table is drawn by.
+    pub fn infos_of(contents: &C) -> Result<Vec<ColumnDisplayInfo>>
+        ensures drawing { IfOk result (λ infos. All IsRow (C.whole contents.now).rows
+            → IsArrangedTable (C.whole contents.now)
+            (record { table = C.whole contents.now; infos = infos.items })) }
+        ensures infos { IfOk result (λ infos. AreInfosOf (C.whole contents.now) infos.items) }
+    {
         let table = contents.table();
         look_at_columns(table.columns.as_slice());
         look_at_header(&table.header);
         // Read for the proof: what was looked at is known to be UTF-8.
         let _ = &table.indicator;
         let infos = arrange(contents)?;
-        ArrangedTable::with_infos(contents, infos)
+        Ok(infos)
     }
 
     /// The same with infos that were found before, as `into_infos` gives them back.
@@ -130,15 +140,6 @@ impl<'a, C: Contents> ArrangedTable<'a, C> {
         ensures { result.now ≡ self.now.infos }
     {
         self.infos.as_slice()
-    }
-
-    /// Whether one of these rows is drawn in more lines than these. No row behind the first such
-    /// one is looked at.
-    pub fn is_any_taller(&self, rows: &[Row], lines: usize) -> Result<bool>
-        ensures { IfOk result (λ is. is ≡ list_any (nat_lt lines)
-            (map (row_height self.now.table self.now.infos) rows.now)) }
-    {
-        is_any_taller(self.contents.table(), self.infos.as_slice(), rows, lines)
     }
 
     // Appends the lines of some of the rows. After `OutOfMemory` the text of the output begins with

@@ -1,8 +1,6 @@
-use Rattle.std.proofs.Common.{rules, ◌≡◌, ◌⊎◌, ◌++◌, [], IfSome, false, chars, ap, arith, subst, sym, ◌∙◌, append-nil}
-use Rattle.std.specs.List.{list_any}
-use Rattle.comfy_parts.specs.CellValue.{CellValue, plain_cell}
+use Rattle.std.proofs.Common.{rules, ◌≡◌, ◌⊎◌, ◌++◌, [], false, ap, arith, subst, sym, ◌∙◌, append-nil}
+use Rattle.comfy_parts.specs.CellValue.{plain_cell}
 use Rattle.comfy_parts.specs.Text.{Text, spaces}
-use Rattle.csv_records.specs.Cleaning.{is_replaced}
 use Rattle.csv_tables.proofs.PlainRowLemmas.{clean_stays, spaced_stays}
 use Rattle.csv_tables.specs.Cells.{cell_for, field_text, is_blank}
 use Rattle.csv_tables.proofs.rows.plain_cell.Goals as goal
@@ -23,8 +21,6 @@ returns c =
     let unmarked : look.is_markdown ≡ false = search rules in
     let none : c.args.behind ≡ 0 = omega (arith, c.if-behind-gt0.false) in
     let filled : (is_blank field ≡ false) ⊎ (field ++ spaces c.args.behind ≡ []) = search rules in
-    let clean : list_any is_replaced (chars field) ≡ false = search rules in
-    let stays : field_text look field ≡ field = clean_stays look field unmarked (subst (λ n. (is_blank field ≡ false) ⊎ (field ++ spaces n ≡ [])) none filled) c.utf8.field clean in
+    let stays : field_text look field ≡ field = clean_stays look field unmarked (subst (λ n. (is_blank field ≡ false) ⊎ (field ++ spaces n ≡ [])) none filled) c.utf8.field c.in_ok-cell.ensures.clean in
     let same : field ++ spaces c.args.behind ≡ field = ap (λ n. field ++ spaces n) none ∙ append-nil field in
-    subst (λ (own : CellValue). IfSome c.of_line.result (λ cell. cell ≡ own))
-    (ap (λ (t : Text). record (plain_cell t) { alignment = c.args.alignment }) (sym stays) ∙ ap (cell_for look c.args.alignment) (sym same)) c.of_line.ensures
+    c.in_ok-cell.ensures.cell ∙ ap (λ (t : Text). record (plain_cell t) { alignment = c.args.alignment }) (sym stays) ∙ ap (cell_for look c.args.alignment) (sym same)

@@ -1,4 +1,4 @@
-use Rattle.std.proofs.Common.{◌≡◌, ◌≤◌, ◌-◌, ◌+◌, ◌^◌, ◌∙◌, List, ℕ, All, Some, ap, arith, false, length, min, nat_le, refl, rules, subst, sum_by, sym, true}
+use Rattle.std.proofs.Common.{◌≡◌, ◌≤◌, ◌-◌, ◌+◌, ◌^◌, ◌∙◌, All, Some, ap, arith, false, length, min, nat_le, refl, rules, subst, sum_by, sym, true}
 use Rattle.std.proofs.lemmas.Bool.Decides.{nat_tests}
 use Rattle.comfy_table.specs.TableValue.{column_content_width, constrained}
 use Rattle.comfy_table.specs.Frame.{border_count}

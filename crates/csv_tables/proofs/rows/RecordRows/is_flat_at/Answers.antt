@@ -9,7 +9,7 @@ high_by None = tt
 high_by (Some h) = omega arith
 
 pub returns : goal.returns
-returns c = λ t same yes.
+returns c = λ yes.
     let own = c.args.self.now in
     let look = own.look in
     let row = made_by own c.args.at c.args.fields.now in
@@ -20,4 +20,4 @@ returns c = λ t same yes.
     let plain : IsPlainText look c.args.table.now width text = search rules in
     let fits : width ≤ info.content_width = search rules in
     let shows : Some text ≡ option_map (λ s. s.text) (slice_get shown c.args.position) = search rules in
-    flat_at look text t row info (flat_cell look c.args.table.now text width plain t same row (high_by look.max_height) info fits) shown c.args.position shows
+    flat_at look text c.args.table.now row info (flat_cell look c.args.table.now text width plain row (high_by look.max_height) info fits) shown c.args.position shows
