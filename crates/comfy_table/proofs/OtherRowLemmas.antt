@@ -44,9 +44,9 @@ module _ (table : TableValue) (rows : List RowValue) (infos : List ColumnInfo) w
   part_same is_first is_last drawn =
       ap (λ (lines : List Text). lines ++ (if is_last then optional_frame_line table.style table.style.bottom_border (outer_widths infos) else [])) (rows_below_same is_first drawn)
 
-  -- rows are as high
-  pub heights_same : (drawn : List RowValue) → map (row_height other infos) drawn ≡ map (row_height table infos) drawn
-  heights_same drawn = λ i. map (λ (row : RowValue). of_pieces (λ (p : ℕ × ColumnInfo). pieces_same row p.1 (slice_get row.cells p.0) i)) drawn
+  -- a row is as high
+  pub height_same : (row : RowValue) → row_height other infos row ≡ row_height table infos row
+  height_same row = λ i. of_pieces (λ (p : ℕ × ColumnInfo). pieces_same row p.1 (slice_get row.cells p.0) i)
     where
       of_pieces : (ℕ × ColumnInfo → List Text) → ℕ
       of_pieces pieces = greatest (map (λ (p : ℕ × ColumnInfo). length (pieces p)) (shown_infos infos))

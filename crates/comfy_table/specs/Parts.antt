@@ -1,13 +1,12 @@
 -- A table whose widths are found, and its parts: some of its rows, drawn at the widths of the
 -- whole.
 -- Source: this library's own.
-use Rattle.std.specs.Prelude.{◌≡◌, ◌≤◌, ℕ, List, All, Contains, drop, length, map, take}
+use Rattle.std.specs.Prelude.{◌≡◌, ◌≤◌, ℕ, List, All, Contains, drop, length, take}
 use Rattle.comfy_parts.specs.CellValue.{ColumnInfo}
 use Rattle.comfy_parts.specs.Text.{Text}
 use Rattle.comfy_table.specs.Drawing.{drawing_of_infos, infos_of, terminated_text_of}
 use Rattle.comfy_table.specs.Headline.{IsTableDrawing}
 use Rattle.comfy_table.specs.Laws.{unstyled}
-use Rattle.comfy_table.specs.Pieces.{row_height}
 use Rattle.comfy_table.specs.TableValue.{TableValue, with_other_rows}
 
 -- a table, and what its columns are drawn by
@@ -20,10 +19,6 @@ pub record IsArrangedTable (table : TableValue) (arranged : ArrangedValue) : Typ
   pub of_table : arranged.table ≡ table
   pub headline : IsTableDrawing table (drawing_of_infos table arranged.infos)
   pub infos : arranged.infos ≡ infos_of table headline.widths
-
--- how many lines each row is drawn in
-abbrev pub row_heights : ArrangedValue → List ℕ
-row_heights arranged = map (row_height arranged.table arranged.infos) arranged.table.rows
 
 -- the table with so many of its rows alone, from a position on; rows beyond the last are none
 abbrev pub with_rows_alone : ℕ → ℕ → TableValue → TableValue

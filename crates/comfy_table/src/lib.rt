@@ -26,6 +26,7 @@ pub use table::row_writer::RowWriter;
 pub use table::terminal::Terminal;
 pub use utils::arrangement::contents::Contents;
 pub use utils::formatting::drawing::Extent;
+pub use utils::formatting::drawn_cell::is_any_taller;
 pub use utils::formatting::plain_cell::PlainCell;
 
 /// A row of values of several types, as an array of their cells: of each value that a cell can be

@@ -1,19 +1,20 @@
 -- Rows of which each text is seen to fit its column.
-use Rattle.std.proofs.Common.{◌≡◌, ◌<◌, ◌≤◌, ◌+◌, ℕ, suc, false, List, [], ◌∷◌, All, IfSome, Option, Some, None, length, map, slice_get, refl, ap, sym, subst, ◌∙◌, arith, ⊎_elim}
+use Rattle.std.proofs.Common.{◌≡◌, ◌<◌, ◌≤◌, ◌+◌, ℕ, suc, Bool, false, List, [], ◌∷◌, ◌++◌, All, IfSome, Option, Some, None, length, map, slice_get, refl, ap, sym, subst, ◌∙◌, arith, ⊎_elim}
 use Rattle.std.proofs.lemmas.Bool.{cases_lt}
 use Rattle.std.proofs.lemmas.Bool.Decides.{nat_tests}
 use Rattle.std.proofs.lemmas.List.{length-map}
 use Rattle.std.proofs.lemmas.Option.{slice_get-map}
 use Rattle.std.proofs.lemmas.List.Elements.{All-cons, All-filter, All-head, All-nil, All-tail}
-use Rattle.std.specs.List.{enumerate_from}
+use Rattle.std.specs.List.{enumerate_from, flat_map}
 use Rattle.std.specs.Prelude.{not, option_map}
 use Rattle.comfy_parts.specs.CellValue.{CellValue, ColumnInfo, RowValue}
-use Rattle.comfy_parts.specs.Text.{Text, greatest}
+use Rattle.comfy_parts.specs.Text.{Text, greatest, measure}
 use Rattle.comfy_parts.specs.declared.style.cell.CellAlignment.{CellAlignment}
-use Rattle.comfy_table.specs.Lines.{cell_delimiter, cut_line, cut_to_limit, uncut_lines}
+use Rattle.comfy_parts.specs.Wrapping.{lines_of_text}
+use Rattle.comfy_table.specs.Lines.{as_measured, cell_delimiter, cut_line, cut_to_limit, uncut_lines}
 use Rattle.comfy_table.specs.Pieces.{cell_pieces, piece, pieces_at, pieces_of_optional, row_cell_lines, row_height, shown_infos}
 use Rattle.comfy_table.specs.TableValue.{TableValue}
-use Rattle.csv_tables.proofs.PlainLemmas.{plain_lines}
+use Rattle.csv_tables.proofs.PlainLemmas.{lines_are, plain_parts}
 use Rattle.csv_tables.specs.Cells.{Shown, cell_for, shown_cells}
 use Rattle.csv_tables.specs.Contents.{IsPlainText}
 use Rattle.csv_tables.specs.declared.options.Look.{Look}
@@ -23,15 +24,27 @@ uncut : {A : Type 0} (cut : A → A) (limit : Option ℕ) (lines : List A) → l
 uncut cut None lines one high = one
 uncut cut (Some h) lines one high = grind (arith, nat_tests, one, high)
 
--- the cell of such a text is one piece
-pub flat_cell : (look : Look) (table : TableValue) (text : Text) (width : ℕ) → IsPlainText look table width text → (t : TableValue) → t.custom_styling ≡ table.custom_styling → (row : RowValue) → IfSome row.max_height (λ h. 1 ≤ h)
-    → (info : ColumnInfo) → width ≤ info.content_width → (alignment : Option CellAlignment) → length (cell_pieces t row info (cell_for look alignment text)) ≤ 1
-flat_cell look table text width plain t same row high info fits alignment =
-    let cell = cell_for look alignment text in
-    let lines = uncut_lines t.custom_styling info.content_width (cell_delimiter t info.delimiter cell) cell in
-    let one : length (row_cell_lines t row info cell) ≡ 1 = uncut (cut_line t.custom_styling info.content_width t.indicator) row.max_height lines (plain_lines look table text plain.0 plain.2 t same info (omega (arith, fits, plain.1)) alignment) high in
+-- a cell of one text line that fits is one piece
+pub flat_line : (t : TableValue) → t.custom_styling ≡ false → (row : RowValue) → IfSome row.max_height (λ h. 1 ≤ h)
+    → (info : ColumnInfo) (cell : CellValue) (text : Text) → cell.text_lines ≡ text ∷ [] → measure text ≤ info.content_width → length (cell_pieces t row info cell) ≤ 1
+flat_line t custom row high info cell text texts fits =
+    let w = info.content_width in
+    let d = cell_delimiter t info.delimiter cell in
+    let one : lines_of_text w d text ≡ text ∷ [] = grind (arith, nat_tests, fits) in
+    let lines : length (uncut_lines t.custom_styling w d cell) ≡ 1 =
+    ap (λ (b : Bool). length (uncut_lines b w d cell)) custom
+    ∙ ap (λ (ls : List Text). length (map as_measured (flat_map (lines_of_text w d) ls))) texts
+    ∙ ap (λ (ls : List Text). length (map as_measured (ls ++ []))) one in
+    let cut : length (row_cell_lines t row info cell) ≡ 1 = uncut (cut_line t.custom_styling w t.indicator) row.max_height (uncut_lines t.custom_styling w d cell) lines high in
     let pieces = length-map (row_cell_lines t row info cell) (piece t cell info) in
-    omega (arith, pieces, one)
+    omega (arith, pieces, cut)
+
+-- so is the cell of a plain text
+pub flat_cell : (look : Look) (table : TableValue) (text : Text) (width : ℕ) → IsPlainText look table width text → (row : RowValue) → IfSome row.max_height (λ h. 1 ≤ h)
+    → (info : ColumnInfo) → width ≤ info.content_width → (alignment : Option CellAlignment) → length (cell_pieces table row info (cell_for look alignment text)) ≤ 1
+flat_cell look table text width plain row high info fits alignment =
+    let parts = plain_parts look table text plain.0 plain.2 in
+    flat_line table parts.1 row high info (cell_for look alignment text) text (lines_are look table text plain.0 plain.2) (omega (arith, fits, plain.1))
 
 -- so is the cell of a row that shows it
 pub flat_at : (look : Look) (text : Text) (t : TableValue) (row : RowValue) (info : ColumnInfo) → ((alignment : Option CellAlignment) → length (cell_pieces t row info (cell_for look alignment text)) ≤ 1)

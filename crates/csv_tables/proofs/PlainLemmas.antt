@@ -1,8 +1,8 @@
 -- Texts whose cells need not be made to know their widths.
-use Rattle.std.proofs.Common.{◌≡◌, ◌≤◌, ℕ, Bool, true, false, not, ◌&&◌, List, [], ◌∷◌, ◌++◌, Option, None, ◌==◌, chars, length, map, max, min, refl, ap, ap₂, sym, ◌∙◌, arith}
+use Rattle.std.proofs.Common.{◌≡◌, ◌≤◌, ℕ, Bool, true, false, not, ◌&&◌, List, [], ◌∷◌, None, ◌==◌, chars, length, map, max, min, refl, ap, ap₂, sym, ◌∙◌, arith}
 use Rattle.std.proofs.lemmas.Bool.{and_parts, not-true, or_parts}
 use Rattle.std.proofs.lemmas.Bool.Decides.{nat_tests}
-use Rattle.std.specs.List.{flat_map, list_any}
+use Rattle.std.specs.List.{list_any}
 use Rattle.std.specs.Prelude.{if◌then◌else◌}
 use Rattle.std.proofs.lemmas.List.Splits.{slice_split_none}
 use Rattle.std.proofs.lemmas.Str.{encodes-chars}
@@ -12,8 +12,7 @@ use Rattle.comfy_parts.specs.CellValue.{ColumnInfo, plain_cell}
 use Rattle.comfy_parts.specs.Text.{Text, greatest, is_printable_ascii, measure}
 use Rattle.comfy_parts.specs.VisibleText.{visible_text}
 use Rattle.comfy_parts.specs.Wrapping.{lines_of_text}
-use Rattle.comfy_parts.specs.declared.style.cell.CellAlignment.{CellAlignment}
-use Rattle.comfy_table.specs.Lines.{as_measured, cell_delimiter, uncut_lines}
+use Rattle.comfy_table.specs.Lines.{cell_delimiter}
 use Rattle.comfy_table.specs.LongestLine.{cell_longest_line, text_longest_line}
 use Rattle.comfy_table.specs.TableValue.{TableValue, cell_content_width, measured_cell}
 use Rattle.csv_records.proofs.CleaningLemmas.{drawn_so, none_replaced}
@@ -74,7 +73,7 @@ module _ (look : Look) (table : TableValue) (text : Text) (plain : is_plain look
   stays : field_text look text ≡ text
   stays = stays_so look text unmarked filled utf8 clean
 
-  lines_are : (plain_cell (field_text look text)).text_lines ≡ text ∷ []
+  pub lines_are : (plain_cell (field_text look text)).text_lines ≡ text ∷ []
   lines_are = ap (λ (t : Text). (plain_cell t).text_lines) stays ∙ one_text_line text utf8 clean
 
   -- has one text line, as it is
@@ -97,16 +96,3 @@ module _ (look : Look) (table : TableValue) (text : Text) (plain : is_plain look
       let one : lines_of_text info.content_width d text ≡ text ∷ [] = grind (arith, nat_tests, fits) in
       let lines = ap (λ (ls : List Text). greatest (map (text_longest_line info.content_width d) ls)) one_line ∙ ap (λ (ls : List Text). max (greatest (map measure ls)) 0) one in
       omega (arith, lines)
-
-  -- and is drawn in it, where it fits
-  pub plain_lines : (t : TableValue) → t.custom_styling ≡ table.custom_styling → (info : ColumnInfo) → measure text ≤ info.content_width → (alignment : Option CellAlignment)
-      → length (uncut_lines t.custom_styling info.content_width (cell_delimiter t info.delimiter (cell_for look alignment text)) (cell_for look alignment text)) ≡ 1
-  plain_lines t same info fits alignment =
-      let cell = cell_for look alignment text in
-      let w = info.content_width in
-      let d = cell_delimiter t info.delimiter cell in
-      let texts : cell.text_lines ≡ text ∷ [] = lines_are in
-      let one : lines_of_text w d text ≡ text ∷ [] = grind (arith, nat_tests, fits) in
-      ap (λ (b : Bool). length (uncut_lines b w d cell)) (same ∙ custom)
-      ∙ ap (λ (ls : List Text). length (map as_measured (flat_map (lines_of_text w d) ls))) texts
-      ∙ ap (λ (ls : List Text). length (map as_measured (ls ++ []))) one

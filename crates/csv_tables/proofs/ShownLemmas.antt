@@ -1,27 +1,17 @@
 -- Rows of which a field is measured before its cell is made.
-use Rattle.std.proofs.Common.{◌≡◌, ◌≤◌, ℕ, zero, suc, ◌+◌, Bool, true, false, not, ◌&&◌, List, [], ◌++◌, Option, Some, None, length, max, min, arith, refl, ap, ap₂, sym, subst, ◌∙◌, ◌⊎◌, inl, inr, append-nil, chars, nat_lt, ◌==◌, ◌≢◌, ⊎_elim}
+use Rattle.std.proofs.Common.{◌≡◌, ◌≤◌, ℕ, zero, suc, ◌+◌, Bool, true, false, List, ◌++◌, Some, None, length, max, arith, refl, ap, sym, ◌∙◌, nat_lt, ◌==◌, ◌≢◌, ⊎_elim}
 use Rattle.std.proofs.lemmas.Bool.{cases_lt, eqb-false, eqb-true}
 use Rattle.std.proofs.lemmas.Bool.Decides.{nat_tests}
-use Rattle.std.proofs.lemmas.List.{length-append, length-map}
-use Rattle.std.proofs.lemmas.List.Folds.{list_all-append}
+use Rattle.std.proofs.lemmas.List.{length-map}
 use Rattle.std.proofs.lemmas.Option.{slice_get-map, slice_get_past}
-use Rattle.std.specs.List.{list_any, slice_get}
-use Rattle.std.specs.Prelude.{decimal, option_map, unwrap_or, if◌then◌else◌}
+use Rattle.std.specs.List.{slice_get}
+use Rattle.std.specs.Prelude.{decimal, option_map, if◌then◌else◌}
 use Rattle.comfy_parts.specs.CellValue.{CellValue}
 use Rattle.comfy_parts.specs.Text.{Text, is_printable_ascii, spaces}
 use Rattle.comfy_table.specs.TableValue.{TableValue, cell_content_width}
-use Rattle.comfy_parts.proofs.CallerLemmas.{IsUtf8-printable, measure-printable}
-use Rattle.csv_records.proofs.CleaningLemmas.{none_replaced}
-use Rattle.csv_records.specs.Cleaning.{is_replaced}
-use Rattle.csv_records.specs.Decimals.{spaces_behind}
-use Rattle.csv_records.specs.declared.decimals.Points.{Points}
-use Rattle.csv.specs.Records.{field_at}
-use Rattle.csv_tables.proofs.PlainLemmas.{plain_parts, plain_width}
-use Rattle.csv_tables.specs.Cells.{Shown, cell_for, columns_within, is_blank, shown_fields, shown_number, text_in}
-use Rattle.csv_tables.specs.Contents.{IsPlainShown, IsPlainText, made_by, measured_at, shown_by, spaces_by, spaces_in}
-use Rattle.csv_tables.specs.Decimals.{spaced}
+use Rattle.csv_tables.specs.Cells.{Shown, cell_for, columns_within, shown_fields, shown_number, text_in}
+use Rattle.csv_tables.specs.Contents.{made_by, measured_at, shown_by}
 use Rattle.csv_tables.specs.declared.options.DrawnColumn.{DrawnColumn}
-use Rattle.csv_tables.specs.declared.options.Look.{Look}
 use Rattle.csv_tables.specs.declared.rows.RecordRows.{RecordRows}
 
 -- ---- spaces behind a field
@@ -30,85 +20,31 @@ pub spaces_printable : (n : ℕ) → is_printable_ascii (spaces n) ≡ true
 spaces_printable zero = refl
 spaces_printable (suc n) = spaces_printable n
 
-spaces_long : (n : ℕ) → length (spaces n) ≡ n
-spaces_long zero = refl
-spaces_long (suc n) = ap suc (spaces_long n)
-
--- a field that is one line stays that, with no spaces, or if it is of printable ASCII
-plain_spaced : (look : Look) (table : TableValue) (width : ℕ) (field : Text) (n : ℕ) → IsPlainText look table width field → (n ≡ 0) ⊎ (is_printable_ascii field ≡ true) → IsPlainText look table (width + n) (field ++ spaces n)
-plain_spaced look table width field n own (inl none) =
-    let same : field ≡ field ++ spaces n = sym (ap (λ k. field ++ spaces k) none ∙ append-nil field) in
-    let wide : width ≡ width + n = omega (arith, none) in
-    subst (λ (t : Text). IsPlainText look table (width + n) t) same (subst (λ k. IsPlainText look table k field) wide own)
-plain_spaced look table width field n own (inr printable) =
-    let parts = plain_parts look table field own.0 own.2 in
-    let text = field ++ spaces n in
-    let all : is_printable_ascii text ≡ true = list_all-append _ field (spaces n) ∙ ap₂ (λ a b. a && b) printable (spaces_printable n) in
-    let filled : is_blank text ≡ false = list_all-append _ field (spaces n) ∙ ap (λ b. b && is_blank (spaces n)) parts.2 in
-    let clean : list_any is_replaced (chars text) ≡ false = none_replaced text all in
-    let own_width = measure-printable field printable in
-    let whole = measure-printable text all in
-    let long = length-append field (spaces n) in
-    let count = spaces_long n in (
-      ap₂ (λ a b. not a && (not b && (not (is_blank text) && not (list_any is_replaced (chars text))))) parts.0 parts.1 ∙ ap₂ (λ a b. not a && not b) filled clean,
-      omega (arith, own_width, whole, long, count, own.1),
-      IsUtf8-printable text all,
-    )
-
 -- ---- what a row shows
 
-module _ (rows : RecordRows) (table : TableValue) (fields : List Text) (column : DrawnColumn) (field : Text) (width : ℕ)
-    (is : field_at fields column.position ≡ Some field) (kept : rows.look.has_sequences ≡ false) (plain : IsPlainText rows.look table width field)
-    (few : (spaces_in rows column field ≡ 0) ⊎ (is_printable_ascii field ≡ true)) where
-  -- the text of a column of which the field is plain
-  plain_text : IsPlainText rows.look table (width + spaces_in rows column field) (text_in rows.look rows.is_aligned column fields)
-  plain_text =
-      subst (λ (t : Text). IsPlainText rows.look table (width + spaces_in rows column field) (spaced rows.look.has_sequences mark t))
-      (sym (ap (λ (o : Option Text). unwrap_or o []) is))
-      (subst (λ (b : Bool). IsPlainText rows.look table (width + spaces_in rows column field) (spaced b mark field)) (sym kept) (by_mark mark few))
-    where
-      mark : Option Points
-      mark = if rows.is_aligned then column.points else None
-
-      by_mark : (o : Option Points) → (spaces_by o field ≡ 0) ⊎ (is_printable_ascii field ≡ true) → IsPlainText rows.look table (width + spaces_by o field) (spaced false o field)
-      by_mark None so = let wide : width ≡ width + 0 = omega arith in subst (λ k. IsPlainText rows.look table k field) wide plain
-      by_mark (Some points) so = plain_spaced rows.look table width field (spaces_behind points field) plain so
-
-  pub plain_shown : (at position place : ℕ) → position ≡ place + (if rows.selected.is_numbered then 1 else 0)
-      → slice_get (columns_within fields rows.selected.columns) place ≡ Some column → IsPlainShown rows table (width + spaces_in rows column field) (slice_get (shown_by rows at fields) position)
-  plain_shown at position place stands found = subst (IsPlainShown rows table (width + spaces_in rows column field)) (sym there) plain_text
-    where
-      drawn : List DrawnColumn
-      drawn = columns_within fields rows.selected.columns
-
-      own : Shown
-      own = record { alignment = column.alignment; text = text_in rows.look rows.is_aligned column fields }
-
-      in_fields : slice_get (shown_fields rows.look rows.is_aligned drawn fields) place ≡ Some own
-      in_fields = slice_get-map (λ (d : DrawnColumn). record { alignment = d.alignment; text = text_in rows.look rows.is_aligned d fields }) drawn place ∙ ap (option_map (λ (d : DrawnColumn). record { alignment = d.alignment; text = text_in rows.look rows.is_aligned d fields })) found
-
-      by_number : (b : Bool) → position ≡ place + (if b then 1 else 0)
-          → slice_get (shown_number (if b then Some (decimal (at + 1)) else None) ++ shown_fields rows.look rows.is_aligned drawn fields) position ≡ Some own
-      by_number true is =
-          let next : place + 1 ≡ suc place = omega arith in
-          ap (slice_get (shown_number (Some (decimal (at + 1))) ++ shown_fields rows.look rows.is_aligned drawn fields)) (is ∙ next) ∙ in_fields
-      by_number false is =
-          let same : place + 0 ≡ place = omega arith in
-          ap (slice_get (shown_fields rows.look rows.is_aligned drawn fields)) (is ∙ same) ∙ in_fields
-
-      there : slice_get (shown_by rows at fields) position ≡ Some own
-      there = by_number rows.selected.is_numbered stands
-
--- the width of its cell
-pub plain_cell_width : (rows : RecordRows) (table : TableValue) (at position count : ℕ) (fields : List Text) → IsPlainShown rows table count (slice_get (shown_by rows at fields) position)
-    → max 1 (min count 65535) ≡ measured_at table cell_content_width (slice_get (made_by rows at fields).cells position)
-plain_cell_width rows table at position count fields shown =
-    by_shown (slice_get (shown_by rows at fields) position) shown
-    ∙ ap (measured_at table cell_content_width) (sym (slice_get-map (λ (s : Shown). cell_for rows.look s.alignment s.text) (shown_by rows at fields) position))
+-- behind its number stand its fields
+pub shown_behind : (rows : RecordRows) (fields : List Text) (column : DrawnColumn) (at position place : ℕ) → position ≡ place + (if rows.selected.is_numbered then 1 else 0)
+    → slice_get (columns_within fields rows.selected.columns) place ≡ Some column
+    → slice_get (shown_by rows at fields) position ≡ Some (record { alignment = column.alignment; text = text_in rows.look rows.is_aligned column fields })
+shown_behind rows fields column at position place stands found = by_number rows.selected.is_numbered stands
   where
-    by_shown : (o : Option Shown) → IsPlainShown rows table count o → max 1 (min count 65535) ≡ measured_at table cell_content_width (option_map (λ (s : Shown). cell_for rows.look s.alignment s.text) o)
-    by_shown None none = absurd none
-    by_shown (Some s) own = ap (λ n. max 1 (min n 65535)) (sym own.1) ∙ sym (plain_width rows.look table s.text own.0 own.2)
+    drawn : List DrawnColumn
+    drawn = columns_within fields rows.selected.columns
+
+    own : Shown
+    own = record { alignment = column.alignment; text = text_in rows.look rows.is_aligned column fields }
+
+    in_fields : slice_get (shown_fields rows.look rows.is_aligned drawn fields) place ≡ Some own
+    in_fields = slice_get-map (λ (d : DrawnColumn). record { alignment = d.alignment; text = text_in rows.look rows.is_aligned d fields }) drawn place ∙ ap (option_map (λ (d : DrawnColumn). record { alignment = d.alignment; text = text_in rows.look rows.is_aligned d fields })) found
+
+    by_number : (b : Bool) → position ≡ place + (if b then 1 else 0)
+        → slice_get (shown_number (if b then Some (decimal (at + 1)) else None) ++ shown_fields rows.look rows.is_aligned drawn fields) position ≡ Some own
+    by_number true is =
+        let next : place + 1 ≡ suc place = omega arith in
+        ap (slice_get (shown_number (Some (decimal (at + 1))) ++ shown_fields rows.look rows.is_aligned drawn fields)) (is ∙ next) ∙ in_fields
+    by_number false is =
+        let same : place + 0 ≡ place = omega arith in
+        ap (slice_get (shown_fields rows.look rows.is_aligned drawn fields)) (is ∙ same) ∙ in_fields
 
 -- ---- all cells of a row
 

@@ -96,11 +96,6 @@ abbrev pub spaces_in : RecordRows → DrawnColumn → Text → ℕ
 spaces_in rows column field =
     spaces_by (if rows.is_aligned then column.points else None) field
 
--- a row shows such a text
-abbrev pub IsPlainShown : RecordRows → TableValue → ℕ → Option Shown → Type 0
-IsPlainShown rows table width None = ⊥
-IsPlainShown rows table width (Some shown) = IsPlainText rows.look table width shown.text
-
 -- ---- drawings
 
 -- the part of a table that the fields of a record are, where it has some

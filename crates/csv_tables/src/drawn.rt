@@ -19,7 +19,7 @@ use std::marker::Model;
 use std::mem;
 
 // How many records a piece has at most.
-const RECORDS: usize = 64;
+const RECORDS: usize = 256;
 
 /// The drawing of some records. It is made piece by piece, so that it needs memory for few records
 /// at a time.

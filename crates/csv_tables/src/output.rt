@@ -93,8 +93,7 @@ fn arranged_contents(
     let contents = drawn_contents(selected, look)?;
     // Said for the proof: rows are made of whole characters.
     contents.rows.selected.hold_texts();
-    let arranged = ArrangedTable::of_contents(&contents)?;
-    let infos = arranged.into_infos();
+    let infos = ArrangedTable::infos_of(&contents)?;
     Ok((contents, infos))
 }
 

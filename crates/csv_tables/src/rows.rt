@@ -1,16 +1,18 @@
 //! The rows of records, before they are made.
 
-ghost use Rattle.std.specs.Prelude.{◌≡◌, ◌<◌, ◌≤◌, ◌+◌, ◌++◌, ◌==◌, ◌∷◌, [], ℕ, IfOk, IfSome, IsTrue, None, OnOk, Some, false, if◌then◌else◌, length, max, nat_lt, option_map, slice_get, string_bytes};
+ghost use Rattle.std.specs.Prelude.{◌≡◌, ◌<◌, ◌≤◌, ◌+◌, ◌⊎◌, ◌++◌, ◌==◌, ◌∷◌, [], ℕ, IfOk, IfSome, IsTrue, None, OnOk, Some, chars, false, if◌then◌else◌, length, max, nat_lt, option_map, slice_get, string_bytes};
 ghost use Rattle.std.specs.Cow.{cow_str_bytes};
-ghost use Rattle.std.specs.List.{slice_index_or};
+ghost use Rattle.std.specs.List.{list_any, slice_index_or};
+ghost use Rattle.comfy_parts.specs.CellValue.{plain_cell};
 ghost use Rattle.comfy_parts.specs.Text.{Text, spaces};
 ghost use Rattle.comfy_table.specs.LongestLine.{cell_longest_line};
-ghost use Rattle.comfy_table.specs.TableValue.{TableValue, cell_content_width, measured_cell};
+ghost use Rattle.comfy_table.specs.TableValue.{cell_content_width, measured_cell};
 ghost use Rattle.comfy_table.specs.Drawing.{part_of_drawing, terminated_text_of};
-ghost use Rattle.comfy_table.specs.Pieces.{row_height};
-ghost use Rattle.csv_tables.specs.Cells.{Shown, cell_for, columns_within, field_text, pair_for, text_in};
+ghost use Rattle.comfy_table.specs.Pieces.{pieces_of_optional, row_height};
+ghost use Rattle.csv_records.specs.Cleaning.{is_replaced};
+ghost use Rattle.csv_tables.specs.Cells.{Shown, cell_for, columns_within, is_blank, pair_for, text_in};
 ghost use Rattle.csv_tables.specs.declared.options.Look.{Look};
-ghost use Rattle.csv_tables.specs.Contents.{IsPlainShown, IsPlainText, fields_text, greatest_at, headed_by, made_by, measured_at, most_cells, pairs_by, rows_at, shown_by, spaces_in};
+ghost use Rattle.csv_tables.specs.Contents.{IsPlainText, fields_text, greatest_at, headed_by, made_by, measured_at, most_cells, pairs_by, rows_at, shown_by, spaces_in};
 
 use crate::cells::{cell_of, is_blank, pair_of, text_in};
 use crate::columns::name_at;
@@ -19,7 +21,7 @@ use crate::selected::SelectedRecords;
 use crate::table::empty_table;
 use comfy_parts::content_split::{ColumnDisplayInfo, is_printable, measure_text_width};
 use comfy_parts::style::CellAlignment;
-use comfy_table::{ArrangedTable, Contents, Extent, PlainCell, Result, Row, RowWriter, Table};
+use comfy_table::{Extent, PlainCell, Result, Row, RowWriter, Table, is_any_taller};
 use csv_records::{Record, is_clean_line};
 use std::alloc::AllocError;
 use std::borrow::CowStr;
@@ -84,7 +86,7 @@ impl RecordRows {
         writer.push_rows(text, row.as_slice(), extent)
     }
 
-    // The same where each cell is one line as it is, and fits its column. Whether it is so is told.
+    // The same where each cell is one line as it is, and fits its column. Returns whether they do.
     fn push_plain_row<'r>(
         &self,
         text: &mut String,
@@ -107,8 +109,8 @@ impl RecordRows {
         writer.push_cells(text, cells.as_slice(), extent)
     }
 
-    // Lists the cells of the row of a record, where each is one line as it is. Whether it is so is
-    // told.
+    // Lists the cells of the row of a record, where each is one line as it is. Returns whether that
+    // is so.
     fn list_cells<'r>(&self, cells: &mut Vec<PlainCell<'r>>, fields: &Record<'r>) -> Result<bool>
         ensures { IfOk result (λ all. IsTrue all → (at : ℕ) → cells.new.items
             ≡ (made_by self.now at fields.now).cells) }
@@ -128,6 +130,7 @@ impl RecordRows {
     }
 
     // The cell of a column in the row of a record, where it is one line as it is.
+    #[inline(always)]
     fn cell_in<'r>(&self, column: &DrawnColumn, fields: &Record<'r>) -> Option<PlainCell<'r>>
         ensures { IfSome result (λ cell. cell ≡ cell_for self.now.look column.now.alignment
             (text_in self.now.look self.now.is_aligned column.now fields.now)) }
@@ -197,7 +200,7 @@ impl RecordRows {
         writer.push_rows(text, row.as_slice(), extent)
     }
 
-    // The same where both are one line as they are and fit their columns. Whether it is so is told.
+    // The same where both are one line as they are and fit their columns. Returns whether they do.
     fn push_plain_pair(
         &self,
         text: &mut String,
@@ -330,8 +333,10 @@ impl RecordRows {
         ensures { IfOk result (λ width. width ≡ measured_at table.now cell_content_width
             (slice_get (made_by self.now at fields.now).cells position)) }
     {
-        if let Some(width) = self.plain_shown(table, columns, fields, position) {
-            return Ok(width.clamp(1, 65535) as u16);
+        if !table.has_custom_styling() {
+            if let Some(cell) = self.plain_cell_at(columns, fields, position) {
+                return Ok(cell.content_width());
+            }
         }
         match self.text_at(columns, at, fields, position)? {
             Some(text) => self.text_width(table, text.as_str()),
@@ -339,32 +344,21 @@ impl RecordRows {
         }
     }
 
-    // How many terminal columns the text takes that the row of a record shows at a position, where
-    // it is a field that is one line as it is.
-    fn plain_shown(
+    // The cell at a position of the row of a record, where that of a field is one line as it is.
+    fn plain_cell_at<'r>(
         &self,
-        table: &Table,
         columns: &[DrawnColumn],
-        fields: &Record<'_>,
+        fields: &Record<'r>,
         position: usize,
-    ) -> Option<usize>
+    ) -> Option<PlainCell<'r>>
         requires { columns.now ≡ columns_within fields.now self.now.selected.columns }
-        ensures { IfSome result (λ width. (at : ℕ) → IsPlainShown self.now table.now width
-            (slice_get (shown_by self.now at fields.now) position)) }
+        ensures { IfSome result (λ cell. (at : ℕ)
+            → slice_get (made_by self.now at fields.now).cells position ≡ Some cell) }
     {
         let place = position.checked_sub(usize::from(self.selected.is_numbered))?;
         let column = columns.get(place)?;
-        let field = fields.get(column.position)?;
-        if self.look.has_sequences {
-            return None;
-        }
-        let width = plain_width(&self.look, table, field)?;
-        let spaces = self.spaces_in(column, field);
-        if spaces > 0 && !is_printable(field.as_bytes()) {
-            return None;
-        }
-        let width = width.checked_add(spaces)?;
-        Some(width)
+        let cell = self.cell_in(column, fields)?;
+        Some(cell)
     }
 
     // How many spaces a column has behind a field.
@@ -524,22 +518,21 @@ impl RecordRows {
     // ---- heights
 
     /// Whether the row of a record is drawn in more than one line, where records aren't expanded.
-    pub fn is_tall<C: Contents>(
+    pub fn is_tall(
         &self,
         table: &Table,
-        arranged: &ArrangedTable<'_, C>,
+        infos: &[ColumnDisplayInfo],
         at: usize,
         fields: &Record<'_>,
     ) -> Result<bool>
-        requires { table.now.custom_styling ≡ arranged.now.table.custom_styling }
-        ensures { IfOk result (λ is. is ≡ nat_lt 1 (row_height arranged.now.table
-            arranged.now.infos (made_by self.now at fields.now))) }
+        ensures { IfOk result (λ is. is
+            ≡ nat_lt 1 (row_height table.now infos.now (made_by self.now at fields.now))) }
     {
-        if self.is_flat(table, arranged.infos(), at, fields)? {
+        if self.is_flat(table, infos, at, fields)? {
             return Ok(false);
         }
         let row = [self.row_at(at, fields)?];
-        arranged.is_any_taller(row.as_slice(), 1)
+        is_any_taller(table, infos, row.as_slice(), 1)
     }
 
     // Whether all texts of a row are seen to fit these columns. Where they aren't, the row may yet
@@ -551,28 +544,51 @@ impl RecordRows {
         at: usize,
         fields: &Record<'_>,
     ) -> Result<bool>
-        ensures { (rows : TableValue) → rows.custom_styling ≡ table.now.custom_styling
-            → IfOk result (λ is. IsTrue is
-            → row_height rows infos.now (made_by self.now at fields.now) ≤ 1) }
+        ensures { IfOk result (λ is. IsTrue is
+            → row_height table.now infos.now (made_by self.now at fields.now) ≤ 1) }
     {
         let selected = &self.selected;
         let columns = selected.columns_within(fields);
         for (position, info) in infos.iter().enumerate() {
-            let Some(text) = self.text_at(columns, at, fields, position)? else {
-                continue;
-            };
-            let Some(width) = plain_width(&self.look, table, text.as_str()) else {
-                return Ok(false);
-            };
-            if width > usize::from(info.content_width) {
+            if !self.is_flat_at(table, columns, at, fields, position, info)? {
                 return Ok(false);
             }
         }
         Ok(true)
     }
+
+    // The same of the text at a position.
+    fn is_flat_at(
+        &self,
+        table: &Table,
+        columns: &[DrawnColumn],
+        at: usize,
+        fields: &Record<'_>,
+        position: usize,
+        info: &ColumnDisplayInfo,
+    ) -> Result<bool>
+        requires { columns.now ≡ columns_within fields.now self.now.selected.columns }
+        ensures { IfOk result (λ is. IsTrue is → length (pieces_of_optional table.now
+            (made_by self.now at fields.now) info.now
+            (slice_get (made_by self.now at fields.now).cells position)) ≤ 1) }
+    {
+        if let Some(cell) = self.plain_cell_at(columns, fields, position) {
+            let fits = cell.columns() <= usize::from(info.content_width);
+            return Ok(fits && !table.has_custom_styling());
+        }
+        let Some(text) = self.text_at(columns, at, fields, position)? else {
+            return Ok(true);
+        };
+        let Some(width) = plain_width(&self.look, table, text.as_str()) else {
+            return Ok(false);
+        };
+        Ok(width <= usize::from(info.content_width))
+    }
 }
 
-// The cell of a field with so many spaces behind it, where it is one line as it is.
+// The cell of a field with so many spaces behind it, where it is one line as it is. Most fields are
+// printable ASCII.
+#[inline(always)]
 fn plain_cell<'r>(
     look: &Look,
     field: &'r str,
@@ -582,21 +598,39 @@ fn plain_cell<'r>(
     ensures { IfSome result (λ cell. cell
         ≡ cell_for look.now alignment (field.now ++ spaces behind)) }
 {
-    if look.is_markdown || !is_drawn_as_it_is(field, behind) {
+    if look.is_markdown || is_emptied(field, behind) {
         return None;
     }
-    PlainCell::new(field, behind, alignment)
+    if let Some(cell) = PlainCell::of_printable(field, behind, alignment) {
+        return Some(cell);
+    }
+    if behind > 0 {
+        return None;
+    }
+    let cell = clean_cell(field, alignment)?;
+    Some(cell)
 }
 
-// Whether a field with so many spaces behind it is seen to be what its cell has.
-fn is_drawn_as_it_is(field: &str, behind: usize) -> bool
-    ensures { (look : Look) → look.is_markdown ≡ false → IsTrue result
-        → field_text look (field.now ++ spaces behind) ≡ field.now ++ spaces behind }
+// The cell of a text that is one line, and of which no character is replaced.
+#[inline(never)]
+fn clean_cell(field: &str, alignment: Option<CellAlignment>) -> Option<PlainCell<'_>>
+    ensures cell { IfSome result (λ cell. cell
+        ≡ record (plain_cell field.now) { alignment = alignment }) }
+    ensures clean { IfSome result (λ cell. list_any is_replaced (chars field.now) ≡ false) }
 {
-    if behind > 0 {
-        return is_printable(field.as_bytes()) && !is_blank(field.as_bytes());
+    if !is_clean_line(field) {
+        return None;
     }
-    field.is_empty() || (!is_blank(field.as_bytes()) && is_clean_line(field))
+    let cell = PlainCell::of_line(field, alignment)?;
+    Some(cell)
+}
+
+// Whether a field with so many spaces behind it is blank, but not empty.
+fn is_emptied(field: &str, behind: usize) -> bool
+    ensures { result ≡ false → (is_blank field.now ≡ false)
+        ⊎ (field.now ++ spaces behind ≡ []) }
+{
+    is_blank(field.as_bytes()) && !(field.is_empty() && behind == 0)
 }
 
 /// How many terminal columns a text takes, where it isn't blank, and is drawn as it is in one line.

@@ -10,9 +10,12 @@ use crate::device::{DeviceFault, Sink, Source};
 use crate::pieces::Pieces;
 use std::alloc::{AllocError, Global};
 
-// How many bytes are asked for at a time, and how many are read before it is first asked whether
-// they are enough.
-const BLOCK: usize = 65536;
+// How many bytes are asked for at a time. To clear a larger block takes longer than a small input
+// takes to be drawn.
+const BLOCK: usize = 4096;
+
+// How many bytes are read before it is first asked whether they are enough.
+const FIRST: usize = 65536;
 
 /// Why a source wasn't read to its end.
 #[derive(Clone, Copy, Debug, PartialEq, Eq)]
@@ -219,7 +222,7 @@ fn read_answer<R: Source, D: Render>(
     ensures unread { OnErr result (R.end_was_read source.new ≡ R.end_was_read source.old) }
 {
     let mut input = Vec::new(alloc);
-    let mut len = BLOCK;
+    let mut len = FIRST;
     while !read_up_to(source, &mut input, len)? {
         if let Some(answer) = drawing.render_beginning(alloc, input.as_slice()) {
             return Ok(answer);

@@ -20,16 +20,15 @@ fn silent_1(alloc: Global, table: &mut Table) -> Result<()> {
     table_set_header_example(table)?;
     table_add_row_example(table)?;
     table_column_mut_example(table);
-    arranged_table_has_taller_row_example(table)?;
     arranged_table_push_rows_example(alloc, table)?;
     column_cell_iter_example(table)?;
     lines_example(table)?;
     table_to_text_example(table)?;
-    table_from_rows_example(alloc)
+    table_from_rows_example(alloc)?;
+    table_add_rows_example(table)
 }
 
 fn silent_2(alloc: Global, table: &mut Table) -> Result<()> {
-    table_add_rows_example(table)?;
     table_try_add_rows_example(alloc, table)?;
     table_load_style_example(table);
     table_set_width_example(table);
@@ -90,11 +89,6 @@ fn arranged_table_example(
     arranged.push_rows(&mut text, 0, 1)?;
     arranged.push_rows(&mut text, 1, 1)?;
     print!(rt; "{text}")?;
-    Ok(())
-}
-
-fn arranged_table_has_taller_row_example(table: &mut Table) -> Result<()> {
-    let has_tall_row = table.arranged()?.has_taller_row(1)?;
     Ok(())
 }
 

@@ -1,12 +1,13 @@
 -- Parts of tables and heights of rows, computed.
-use Rattle.std.proofs.Common.{◌≡◌, ℕ, zero, suc, List, [], ◌∷◌, Some, refl, arith, Contains}
+use Rattle.std.proofs.Common.{◌≡◌, ℕ, zero, suc, List, [], ◌∷◌, Some, map, refl, arith, Contains}
 use Rattle.std.specs.List.{All}
 use Rattle.std.proofs.lemmas.List.Elements.{All-head}
 use Rattle.comfy_parts.proofs.Computing.{wrapping}
 use Rattle.comfy_parts.specs.Presets.{ascii_full}
 use Rattle.comfy_parts.specs.declared.style.column.ColumnConstraint.TheVariants.{Hidden}
 use Rattle.comfy_table.specs.Drawing.{infos_of}
-use Rattle.comfy_table.specs.Parts.{ArrangedValue, part_lines, part_text, row_heights}
+use Rattle.comfy_table.specs.Parts.{ArrangedValue, part_lines, part_text}
+use Rattle.comfy_table.specs.Pieces.{row_height}
 use Rattle.comfy_table.specs.TableValue.{TableValue}
 use Rattle.test_definitions.proofs.TrialTables.{table_of, texts, utf8, with_constraints}
 
@@ -32,6 +33,9 @@ beyond_the_last = refl
 text_of_none : part_text (over (table_of ascii_full ("Day" ∷ []) []) (3 ∷ [])) 0 1 ≡ utf8 "+-----+\n| Day |\n+=====+\n+-----+\n"
 unfolding wrapping
 text_of_none = refl
+
+abbrev row_heights : ArrangedValue → List ℕ
+row_heights arranged = map (row_height arranged.table arranged.infos) arranged.table.rows
 
 -- a row is as high as its highest cell, and without a shown column it has no line
 heights : row_heights (over days (3 ∷ [])) ≡ 2 ∷ 1 ∷ 3 ∷ []

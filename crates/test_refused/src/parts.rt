@@ -2,21 +2,31 @@
 
 use crate::fixtures::fill_worked;
 use crate::outcome::{Outcome, succeeded};
-use comfy_table::{ArrangedTable, Result, Table};
+use comfy_table::{ArrangedTable, Result, Table, is_any_taller};
 use std::alloc::Global;
 
 /// What came of the call of this name on a new table that `fill_worked` fills.
 pub fn outcome_of(alloc: Global, table: &mut Table, call: &str) -> Result<Outcome> {
     fill_worked(alloc, table)?;
-    outcome_on(alloc, &table.arranged()?, call)
+    outcome_on(alloc, table, &table.arranged()?, call)
 }
 
-fn outcome_on(alloc: Global, arranged: &ArrangedTable, call: &str) -> Result<Outcome> {
+fn outcome_on(
+    alloc: Global,
+    table: &Table,
+    arranged: &ArrangedTable,
+    call: &str,
+) -> Result<Outcome> {
     match call {
-        "has_taller_row" => Ok(Outcome::of(succeeded(arranged.has_taller_row(2)))),
+        "is_any_taller" => Ok(Outcome::of(succeeded(has_tall_row(table, arranged)))),
         "push_rows" => outcome_of_pushing(alloc, arranged),
         _ => Ok(Outcome::Unknown),
     }
+}
+
+fn has_tall_row(table: &Table, arranged: &ArrangedTable) -> Result<bool> {
+    let rows = table.row_iter().as_slice();
+    is_any_taller(table, arranged.infos(), rows, 2)
 }
 
 const BEFORE: &str = "before\n";

@@ -1,20 +1,19 @@
 //! A table whose widths are found, and its parts.
 
-ghost use Rattle.std.specs.Prelude.{◌≡◌, ◌++◌, IfOk, IfSome, OnErr, OnOk, drop, map, nat_lt, string_bytes, take};
-ghost use Rattle.std.specs.List.{All, list_any};
+ghost use Rattle.std.specs.Prelude.{◌≡◌, ◌++◌, IfOk, IfSome, OnErr, OnOk, drop, string_bytes, take};
+ghost use Rattle.std.specs.List.{All};
 ghost use Rattle.comfy_parts.specs.CellValue.{IsColumn, IsRow};
 ghost use Rattle.comfy_table.specs.Arrangement.{AreInfosOf};
 ghost use Rattle.comfy_table.specs.Drawing.{part_of_drawing, terminated_text_of};
 ghost use Rattle.comfy_table.specs.Output.{BeginsWith, with_lines};
-ghost use Rattle.comfy_table.specs.Pieces.{row_height};
 ghost use Rattle.comfy_table.specs.TableValue.{with_other_rows};
-ghost use Rattle.comfy_table.specs.Parts.{IsArrangedTable, part_text, row_heights};
+ghost use Rattle.comfy_table.specs.Parts.{IsArrangedTable, part_text};
 
 use crate::table::Table;
 use crate::table::row_writer::RowWriter;
 use crate::utils::arrangement::arrange;
 use crate::utils::arrangement::contents::Contents;
-use crate::utils::formatting::{DrawnFrame, Extent, Output, Writer, is_any_taller};
+use crate::utils::formatting::{DrawnFrame, Extent, Output, Writer};
 use comfy_parts::content_split::ColumnDisplayInfo;
 use comfy_parts::{Column, Result, Row};
 use std::marker::Model;
@@ -53,7 +52,6 @@ impl<'a, C: Contents> Model for ArrangedTable<'a, C> {
     ghost use Rattle.std.specs.Prelude.{◌≡◌};
     ghost use Rattle.comfy_table.specs.Drawing.{outer_widths};
     ghost use Rattle.comfy_table.specs.Gaps.{frame_of};
-    ghost use Rattle.comfy_table.specs.Pieces.{row_height};
     ghost use Rattle.comfy_table.specs.Parts.{ArrangedValue};
 
     ghost Value = { ArrangedValue };
@@ -84,13 +82,24 @@ impl<'a, C: Contents> ArrangedTable<'a, C> {
         ensures infos { IfOk result (λ arranged.
             AreInfosOf (C.whole contents.now) arranged.infos) }
     {
+        let infos = ArrangedTable::infos_of(contents)?;
+        ArrangedTable::with_infos(contents, infos)
+    }
+
+    /// What each column of such a table is drawn by.
+    pub fn infos_of(contents: &C) -> Result<Vec<ColumnDisplayInfo>>
+        ensures drawing { IfOk result (λ infos. All IsRow (C.whole contents.now).rows
+            → IsArrangedTable (C.whole contents.now)
+            (record { table = C.whole contents.now; infos = infos.items })) }
+        ensures infos { IfOk result (λ infos. AreInfosOf (C.whole contents.now) infos.items) }
+    {
         let table = contents.table();
         look_at_columns(table.columns.as_slice());
         look_at_header(&table.header);
         // Read for the proof: what was looked at is known to be UTF-8.
         let _ = &table.indicator;
         let infos = arrange(contents)?;
-        ArrangedTable::with_infos(contents, infos)
+        Ok(infos)
     }
 
     /// The same with infos that were found before, as `into_infos` gives them back.
@@ -133,15 +142,6 @@ impl<'a, C: Contents> ArrangedTable<'a, C> {
         self.infos.as_slice()
     }
 
-    /// Whether one of these rows is drawn in more lines than these. No row behind the first such
-    /// one is looked at.
-    pub fn is_any_taller(&self, rows: &[Row], lines: usize) -> Result<bool>
-        ensures { IfOk result (λ is. is ≡ list_any (nat_lt lines)
-            (map (row_height self.now.table self.now.infos) rows.now)) }
-    {
-        is_any_taller(self.contents.table(), self.infos.as_slice(), rows, lines)
-    }
-
     // Appends the lines of some of the rows. After `OutOfMemory` the text of the output begins with
     // what it was.
     pub(crate) fn draw(&self, rows: &[Row], extent: Extent, output: &mut Output) -> Result<()>
@@ -157,18 +157,6 @@ impl<'a, C: Contents> ArrangedTable<'a, C> {
 }
 
 impl<'a> ArrangedTable<'a, Table> {
-    /// Whether a row is drawn in more lines than these. The header doesn't count.
-    ///
-    /// ```
-    /// let has_tall_row = table.arranged()?.has_taller_row(1)?;
-    /// ```
-    pub fn has_taller_row(&self, lines: usize) -> Result<bool>
-        ensures { IfOk result (λ has. has ≡ list_any (nat_lt lines) (row_heights self.now)) }
-    {
-        let table = self.contents;
-        self.is_any_taller(table.rows.as_slice(), lines)
-    }
-
     /// Appends a part: the drawing of the table with `count` of its rows alone, from the one at
     /// position `first` on. Each line is followed by a line feed. Rows beyond the last are none, so
     /// a part may have no row, but a header and borders. After `OutOfMemory` the text is as it was.

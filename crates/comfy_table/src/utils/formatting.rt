@@ -4,7 +4,7 @@ pub mod borders;
 mod cell_lines;
 pub mod content_format;
 pub(crate) mod drawing;
-mod drawn_cell;
+pub(crate) mod drawn_cell;
 mod drawn_frame;
 mod drawn_row;
 mod gap;
@@ -16,7 +16,6 @@ mod shown_column;
 mod styling;
 
 pub(crate) use drawing::{Extent, Writer};
-pub(crate) use drawn_cell::is_any_taller;
 pub(crate) use drawn_frame::DrawnFrame;
 pub(crate) use output::{Output, OutputForm};
 

@@ -1,7 +1,7 @@
 //! Tables drawn in parts: all at the widths of the whole table, each with header and borders.
 
 use crate::support::{assert_given, table_of};
-use comfy_table::{ColumnConstraint, ContentArrangement, Extent, Row, Table};
+use comfy_table::{ColumnConstraint, ContentArrangement, Extent, Row, Table, is_any_taller};
 use std::alloc::{Alloc, Global};
 use std::process::Abort;
 
@@ -176,7 +176,8 @@ fn hide(table: &mut Table, count: usize) {
 
 fn is_taller(rt: &impl Abort, table: &Table, lines: usize) -> bool {
     let arranged = table.arranged().expect(rt, "memory");
-    arranged.has_taller_row(lines).expect(rt, "memory")
+    let rows = table.row_iter().as_slice();
+    is_any_taller(table, arranged.infos(), rows, lines).expect(rt, "memory")
 }
 
 // The highest row is drawn in so many lines.

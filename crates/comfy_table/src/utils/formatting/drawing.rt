@@ -109,7 +109,7 @@ impl<'a> Writer<'a> {
         written
     }
 
-    /// Appends the lines of a row of these cells, where each is seen to fit its column. It is told
+    /// Appends the lines of a row of these cells, where each is seen to fit its column. Returns
     /// whether that is so; else nothing is appended. After `OutOfMemory` the text of the output
     /// begins with what it was.
     pub fn draw_cells(

@@ -41,7 +41,8 @@ impl Gap {
         ensures { IfOk result (λ gap. gap ≡ drawn_character drawn part) }
     {
         let run = run_of_spaces();
-        let mut text = String::from_str(alloc, run)?;
+        let mut text = String::with_capacity(alloc, 2 * run.len() + 4)?;
+        text.push_str(run)?;
         push_border(&mut text, drawn, part)?;
         let border_len = text.len() - run.len();
         text.push_str(run)?;

@@ -1,11 +1,12 @@
 //! Cells of one line that is drawn as it is.
 
-ghost use Rattle.std.specs.Prelude.{◌≡◌, ◌<◌, ◌≤◌, ◌++◌, ◌∷◌, [], IfSome, IsTrue, OnOk, Some, length, map, option_map, slice_get, string_bytes};
+ghost use Rattle.std.specs.Prelude.{◌≡◌, ◌<◌, ◌≤◌, ◌++◌, ◌∷◌, [], IfSome, IsTrue, OnOk, Some, length, map, option_map, slice_get, string_bytes, true};
 ghost use Rattle.std.specs.List.{All};
 ghost use Rattle.comfy_parts.specs.CellValue.{plain_cell};
-ghost use Rattle.comfy_parts.specs.Text.{measure, spaces};
+ghost use Rattle.comfy_parts.specs.Text.{is_printable_ascii, measure, spaces};
 ghost use Rattle.comfy_table.specs.Gaps.{gap_line};
 ghost use Rattle.comfy_table.specs.PlainCells.{IsFitting, IsPlainCell, first_line, plain_piece, plain_piece_at};
+ghost use Rattle.comfy_table.specs.TableValue.{cell_content_width};
 
 use crate::utils::formatting::piece::{Piece, spaces_around};
 use crate::utils::formatting::row_gaps::RowGaps;
@@ -45,17 +46,21 @@ impl<'a> Model for PlainCell<'a> {
 }
 
 impl<'a> PlainCell<'a> {
-    /// The cell of a text and so many spaces behind it, with this alignment. There is none for a
-    /// text of several lines, and none for spaces behind any text but one of printable ASCII.
-    pub fn new(
+    /// The cell of printable ASCII and so many spaces behind it, with this alignment; none for any
+    /// other text.
+    pub fn of_printable(
         text: &'a str,
         behind: usize,
         alignment: Option<CellAlignment>,
     ) -> Option<PlainCell<'a>>
-        ensures { IfSome result (λ cell. cell
+        ensures cell { IfSome result (λ cell. cell
             ≡ record (plain_cell (text.now ++ spaces behind)) { alignment = alignment }) }
+        ensures printable { IfSome result (λ cell. is_printable_ascii text.now ≡ true) }
     {
-        let columns = line_columns(text, behind)?;
+        if !is_printable(text.as_bytes()) {
+            return None;
+        }
+        let columns = text.len().checked_add(behind)?;
         Some(PlainCell {
             text,
             behind,
@@ -64,8 +69,31 @@ impl<'a> PlainCell<'a> {
         })
     }
 
-    // How many terminal columns the cell takes.
-    fn columns(&self) -> usize
+    /// The cell of a text, with this alignment; none for a text of several lines.
+    pub fn of_line(text: &'a str, alignment: Option<CellAlignment>) -> Option<PlainCell<'a>>
+        ensures { IfSome result (λ cell. cell
+            ≡ record (plain_cell text.now) { alignment = alignment }) }
+    {
+        if text.as_bytes().contains(&b'\n') {
+            return None;
+        }
+        Some(PlainCell {
+            text,
+            behind: 0,
+            columns: measure_text_width(text),
+            alignment,
+        })
+    }
+
+    /// The width of its content in terminal columns, at least 1.
+    pub fn content_width(&self) -> u16
+        ensures { result ≡ cell_content_width self.now }
+    {
+        self.columns.clamp(1, 65535) as u16
+    }
+
+    /// How many terminal columns the cell takes.
+    pub fn columns(&self) -> usize
         ensures value { result ≡ measure (first_line self.now) }
         ensures plain { IsPlainCell self.now }
     {
@@ -80,24 +108,6 @@ impl<'a> PlainCell<'a> {
         let (left, right) = spaces_around(self.alignment, info, self.columns);
         Piece::bare(left, self.text, self.behind + right)
     }
-}
-
-// How many terminal columns a text with so many spaces behind it takes, where it is seen that this
-// is one line.
-fn line_columns(text: &str, behind: usize) -> Option<usize>
-    ensures columns { IfSome result (λ columns. columns ≡ measure (text.now ++ spaces behind)) }
-    ensures line { IfSome result (λ columns. (plain_cell (text.now ++ spaces behind)).text_lines
-        ≡ (text.now ++ spaces behind) ∷ []) }
-    ensures behind { IfSome result (λ columns. behind ≤ columns) }
-{
-    if is_printable(text.as_bytes()) {
-        let columns = text.len().checked_add(behind)?;
-        return Some(columns);
-    }
-    if behind > 0 || text.as_bytes().contains(&b'\n') {
-        return None;
-    }
-    Some(measure_text_width(text))
 }
 
 /// Whether there are columns, and each is wide enough for the cell at its position.

@@ -12,9 +12,9 @@ returns-then-is_last-clause-text c =
     let own = c.args.left in
     let left : List (List Text) = drop own.place own.contents.rows.selected.rows in
     let rows : c.rows_behind-rows.result ≡ left = search rules in
-    let next : c.first_rows-next.result ≡ take 64 left = search rules in
-    let count : length (take 64 left) ≡ length left = search rules in
-    let all : take 64 left ≡ left = all_taken 64 left count in
+    let next : c.first_rows-next.result ≡ take 256 left = search rules in
+    let count : length (take 256 left) ≡ length left = search rules in
+    let all : take 256 left ≡ left = all_taken 256 left count in
     let last : (c.len-count.result == c.len.result) ≡ true = grind (arith, nat_tests, c.if-is_last.true) in
     let drawn : Bool → List (List Text) → Text = λ b rs. drawn_next own.contents.rows own.contents.table own.infos.items own.place b rs in
     let pushed : string_bytes c.push_records.new.text ≡ string_bytes c.args.text.now ++ drawn true left = c.in_ok-infos.ensures.text ∙ ap₂ (λ (b : Bool) (rs : List (List Text)). string_bytes c.args.text.now ++ drawn b rs) last (next ∙ all) in
@@ -26,21 +26,21 @@ returns-clause-text c =
     let own = c.args.left in
     let all : List (List Text) = own.contents.rows.selected.rows in
     let left : List (List Text) = drop own.place all in
-    let next : c.first_rows-next.result ≡ take 64 left = search rules in
+    let next : c.first_rows-next.result ≡ take 256 left = search rules in
     let rows : c.rows_behind-rows.result ≡ left = search rules in
-    let count : c.len-count.result ≡ length (take 64 left) = c.len-count.ensures ∙ ap length next in
+    let count : c.len-count.result ≡ length (take 256 left) = c.len-count.ensures ∙ ap length next in
     let whole : c.len.result ≡ length left = c.len.ensures ∙ ap length rows in
     let more : (c.len-count.result == c.len.result) ≡ false = grind (arith, nat_tests, c.if-is_last.false) in
     let infos : c.in_ok-infos.infos.items ≡ own.infos.items = c.in_ok-infos.ensures.infos in
     let drawn : ℕ → Bool → List (List Text) → Text = λ at b rs. drawn_next own.contents.rows own.contents.table own.infos.items at b rs in
     let had = string_bytes c.args.text.now in
-    let behind = drawn (own.place + length (take 64 left)) true (drop (own.place + length (take 64 left)) all) in
-    let pushed : string_bytes c.push_records.new.text ≡ had ++ drawn own.place false (take 64 left) = c.in_ok-infos.ensures.text ∙ ap₂ (λ (b : Bool) (rs : List (List Text)). had ++ drawn own.place b rs) more next in
-    let parts : drawn own.place true left ≡ drawn own.place false (take 64 left) ++ behind =
-    next_piece own.contents.rows own.contents.table own.infos.items own.place 64 all (omega arith) (λ same. c.if-is_last.false (count ∙ same ∙ sym whole)) in
+    let behind = drawn (own.place + length (take 256 left)) true (drop (own.place + length (take 256 left)) all) in
+    let pushed : string_bytes c.push_records.new.text ≡ had ++ drawn own.place false (take 256 left) = c.in_ok-infos.ensures.text ∙ ap₂ (λ (b : Bool) (rs : List (List Text)). had ++ drawn own.place b rs) more next in
+    let parts : drawn own.place true left ≡ drawn own.place false (take 256 left) ++ behind =
+    next_piece own.contents.rows own.contents.table own.infos.items own.place 256 all (omega arith) (λ same. c.if-is_last.false (count ∙ same ∙ sym whole)) in
     ap (λ (t : Text). had ++ (t ++ string_bytes own.note)) parts
-    ∙ ap (λ (t : Text). had ++ t) (append_assoc (drawn own.place false (take 64 left)) behind (string_bytes own.note))
-    ∙ sym (append_assoc had (drawn own.place false (take 64 left)) (behind ++ string_bytes own.note))
+    ∙ ap (λ (t : Text). had ++ t) (append_assoc (drawn own.place false (take 256 left)) behind (string_bytes own.note))
+    ∙ sym (append_assoc had (drawn own.place false (take 256 left)) (behind ++ string_bytes own.note))
     ∙ ap (λ (t : Text). t ++ (behind ++ string_bytes own.note)) (sym pushed)
     ∙ ap₂ (λ (n : ℕ) (is : List ColumnInfo). string_bytes c.push_records.new.text ++ (drawn_next own.contents.rows own.contents.table is (own.place + n) true (drop (own.place + n) all) ++ string_bytes own.note)) (sym count) (sym infos)
 
@@ -49,11 +49,11 @@ returns-clause-place c =
     let own = c.args.left in
     let all : List (List Text) = own.contents.rows.selected.rows in
     let left : List (List Text) = drop own.place all in
-    let next : c.first_rows-next.result ≡ take 64 left = search rules in
+    let next : c.first_rows-next.result ≡ take 256 left = search rules in
     let rows : c.rows_behind-rows.result ≡ left = search rules in
-    let count : c.len-count.result ≡ length (take 64 left) = c.len-count.ensures ∙ ap length next in
+    let count : c.len-count.result ≡ length (take 256 left) = c.len-count.ensures ∙ ap length next in
     let whole : c.len.result ≡ length left = c.len.ensures ∙ ap length rows in
-    let taken = many_taken 64 left (λ same. c.if-is_last.false (count ∙ same ∙ sym whole)) in
+    let taken = many_taken 256 left (λ same. c.if-is_last.false (count ∙ same ∙ sym whole)) in
     let long = length-drop own.place all in
     let requires = c.requires in
     (omega (arith, count, taken.0), omega (arith, count, taken, long, requires), refl)

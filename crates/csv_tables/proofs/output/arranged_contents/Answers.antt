@@ -1,8 +1,6 @@
-use Rattle.std.proofs.Common.{◌≡◌, [], All, List, ap, ap₂, false, subst, sym, ◌∙◌}
+use Rattle.std.proofs.Common.{◌≡◌, [], All, ap, false, subst, sym, ◌∙◌}
 use Rattle.std.specs.Prelude.{unwrap_or}
-use Rattle.comfy_parts.specs.CellValue.{ColumnInfo, IsRow}
-use Rattle.comfy_table.specs.Parts.{IsArrangedTable}
-use Rattle.comfy_table.specs.TableValue.{TableValue}
+use Rattle.comfy_parts.specs.CellValue.{IsRow}
 use Rattle.csv_tables.proofs.WholeRowLemmas.{rows_whole}
 use Rattle.csv.specs.Records.{AllText}
 use Rattle.csv_tables.specs.Contents.{rows_from}
@@ -21,8 +19,4 @@ returns-clause-infos c =
     let names = subst (λ (v : ContentsValue). AllText (unwrap_or v.rows.selected.names [])) c.contents.view_is c.hold_texts.ensures.names in
     let texts = subst (λ (v : ContentsValue). All AllText v.rows.selected.rows) c.contents.view_is c.hold_texts.ensures.rows in
     let whole : All IsRow contents.table.rows = subst (All IsRow) (sym own) (rows_whole rows plain names 0 rows.selected.rows texts) in
-    let arranged = c.in_ok-arranged.arranged in
-    let made : IsArrangedTable contents.table arranged = c.in_ok-arranged.ensures.drawing whole in
-    let same : arranged ≡ record { table = contents.table; infos = c.into_infos-infos.result.items } =
-    ap₂ (λ (t : TableValue) (is : List ColumnInfo). record { table = t; infos = is }) c.in_ok-arranged.ensures.table (sym c.into_infos-infos.ensures) in
-    subst (IsArrangedTable contents.table) same made
+    c.in_ok-infos.ensures.drawing whole

@@ -1,11 +1,10 @@
 use Rattle.std.proofs.Common.{◌≡◌, ◌<◌, ◌≤◌, ℕ, Some, length, slice_get}
 use Rattle.comfy_parts.specs.CellValue.{ColumnInfo}
 use Rattle.comfy_table.specs.Pieces.{pieces_of_optional}
-use Rattle.comfy_table.specs.TableValue.{TableValue}
 use Rattle.csv_tables.specs.Contents.{made_by}
 use Rattle.csv_tables.proofs.rows.RecordRows.is_flat.Given as goal
 
 abbrev pub invariant-loop-position : goal.invariant-loop-position
 invariant-loop-position l =
-    (t : TableValue) → t.custom_styling ≡ l.table.custom_styling → (i : ℕ) (info : ColumnInfo) → i < l.position → slice_get l.infos i ≡ Some info
-    → length (pieces_of_optional t (made_by l.self l.at l.fields) info (slice_get (made_by l.self l.at l.fields).cells i)) ≤ 1
+    (i : ℕ) (info : ColumnInfo) → i < l.position → slice_get l.infos i ≡ Some info
+    → length (pieces_of_optional l.table (made_by l.self l.at l.fields) info (slice_get (made_by l.self l.at l.fields).cells i)) ≤ 1

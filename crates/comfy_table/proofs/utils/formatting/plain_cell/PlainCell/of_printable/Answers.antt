@@ -1,0 +1,15 @@
+use Rattle.std.proofs.Common.{◌≡◌, ◌+◌, length, true, ◌∙◌, arith}
+use Rattle.comfy_parts.specs.Text.{is_printable_ascii}
+use Rattle.comfy_table.proofs.PlainLineLemmas.{printable_columns, printable_line}
+use Rattle.comfy_table.proofs.utils.formatting.plain_cell.PlainCell.of_printable.Goals as goal
+
+pub invariant_of-result : goal.invariant_of-result
+invariant_of-result c =
+    let text = c.args.text.now in
+    let printable : is_printable_ascii text ≡ true = grind arith in
+    let wide = printable_columns text c.args.behind printable in
+    let columns : c.in_ok-columns.columns ≡ length text + c.args.behind = grind arith in (
+      printable_line text c.args.behind printable,
+      columns ∙ wide,
+      omega (arith, columns),
+    )
