@@ -65,7 +65,7 @@ def unlisted():
     """What one of the two has, the other hasn't, and the page doesn't name, as lines."""
     names, here = set(original()), items()
     known = {it[-1] for it in names}
-    page = re.search(r"^## Otherwise$.*?(?=^## Programs$)", text_of("docs/DIFFERENCES.md"), re.M | re.S)[0]
+    page = re.search(r"^## Otherwise$.*?\Z", text_of("docs/DIFFERENCES.md"), re.M | re.S)[0]
     listed = {it for code in re.findall(r"`([^`]+)`", page) for it in re.findall(r"\w+(?:::\w+)?", code)}
     listed |= {part for it in listed for part in it.split("::")}
 
