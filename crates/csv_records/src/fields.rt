@@ -150,7 +150,8 @@ impl Fields {
         Ok(())
     }
 
-    fn push_field(&mut self, field: &[u8]) -> Result<(), AllocError>
+    /// Appends a field.
+    pub(crate) fn push_field(&mut self, field: &[u8]) -> Result<(), AllocError>
         requires whole { partial_of self.old ≡ [] }
         ensures whole { OnOk result (partial_of self.new ≡ []) }
         ensures fields { OnOk result (fields_of self.new

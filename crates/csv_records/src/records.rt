@@ -463,8 +463,9 @@ fn fields_from(alloc: Global, texts: &[&str]) -> Result<Fields, AllocError>
     ensures fields { IfOk result (λ made. fields_of made ≡ map (λ text. text.now) texts.now) }
     ensures text { IfOk result (λ made. AllText (fields_of made)) }
 {
-    let record = StringRecord::from_fields(alloc, texts)?.into_byte_record();
     let mut made = Fields::new(alloc);
-    made.push_record(&record)?;
+    for text in texts {
+        made.push_field(text.as_bytes())?;
+    }
     Ok(made)
 }

@@ -345,6 +345,7 @@ impl RecordRows {
     }
 
     // The cell at a position of the row of a record, where that of a field is one line as it is.
+    #[inline(always)]
     fn plain_cell_at<'r>(
         &self,
         columns: &[DrawnColumn],
