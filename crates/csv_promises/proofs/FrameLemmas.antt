@@ -12,14 +12,14 @@ use Rattle.comfy_parts.specs.CellValue.{ColumnValue, RowValue, column_padding, i
 use Rattle.comfy_parts.specs.Text.{Text}
 use Rattle.comfy_table.proofs.BuiltTableLemmas.{IsNewColumn}
 use Rattle.comfy_table.specs.Laws.{least_total}
-use Rattle.comfy_table.specs.TableValue.{TableValue, max_content_widths, shown_columns, with_row, with_rows}
+use Rattle.comfy_table.specs.TableValue.{TableValue, shown_columns, with_row, with_rows}
 use Rattle.comfy_table.specs.Widths.{shown_count}
 use Rattle.csv_tables.proofs.BuiltLemmas.{names-length, row-length}
 use Rattle.csv_tables.proofs.LineLemmas.{Any, any_built, any_drawn}
 use Rattle.csv_tables.proofs.ReachedLemmas.{reached-length}
 use Rattle.csv_tables.proofs.SeparatorLemmas.{separated}
 use Rattle.csv_tables.proofs.WholeColumnLemmas.{HasTwo, IsPaddedColumn, all_shown, both_shown, exactly_two, leasts-length, leasts_on, pairs_are_two, pairs_have_two}
-use Rattle.csv_tables.proofs.WholeTableLemmas.{HasRoom, columns-drawn, fewer_borders, least-fits, room_for_needed}
+use Rattle.csv_tables.proofs.WholeTableLemmas.{HasRoom, columns-drawn, least-fits, room_for_needed}
 use Rattle.csv_tables.specs.Cells.{cell_for, cells_for, has_field, header_for, columns_within, row_for, with_weight, Shown, counted_from, shown_in, shown_names}
 use Rattle.csv_tables.specs.Drawn.{SelectedValue, empty_table, has_room_for, headed_table, output_table, pairs_in, pairs_table, rows_table, separated_table, unbroken_in, is_aligned_in}
 use Rattle.csv_tables.specs.Unbroken.{by_columns, has_room, kept_at, kept_unbroken, kept_unbroken_fields, with_kept, with_field_width, with_second}

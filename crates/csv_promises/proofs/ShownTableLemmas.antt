@@ -1,5 +1,5 @@
 -- The table that is drawn of records, and what its parts show.
-use Rattle.std.proofs.Common.{◌≡◌, ◌||◌, ℕ, suc, Bool, true, false, not, List, [], ◌∷◌, ◌++◌, Option, Some, None, drop, filter, length, map, take, refl, sym, ap, ◌∙◌, subst, arith, slice_index_or}
+use Rattle.std.proofs.Common.{◌≡◌, ◌||◌, ℕ, Bool, true, false, not, List, [], ◌∷◌, ◌++◌, Option, Some, None, drop, filter, length, map, take, refl, sym, ap, ◌∙◌, subst, arith, slice_index_or}
 use Rattle.std.specs.List.{All, AllByRecursion, AllZip, enumerate_from}
 use Rattle.std.specs.Prelude.{Contains, if◌then◌else◌, option_to_list, slice_index}
 use Rattle.std.proofs.lemmas.List.Elements.{All-contains, All-contains_itself, All-drop, All-from_recursion, All-take, All-weaker, recursion_from_All}

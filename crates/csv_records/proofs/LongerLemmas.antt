@@ -1,5 +1,5 @@
 -- What is told of records that have more fields than the first one.
-use Rattle.std.proofs.Common.{◌≡◌, ◌≢◌, ◌-◌, ◌∙◌, ℕ, Bool, List, None, Option, Some, ap, length, sym, take}
+use Rattle.std.proofs.Common.{◌≡◌, ◌≢◌, ◌-◌, ◌∙◌, ℕ, Bool, List, None, Some, ap, length, sym, take}
 use Rattle.std.specs.List.{position}
 use Rattle.std.specs.Option.{option_map}
 use Rattle.comfy_parts.specs.Text.{Text}

@@ -1,6 +1,6 @@
 -- What stands between the fields of a text, and where its records begin.
 -- Source: this library's own; a line `sep=X` is Excel's.
-use Rattle.std.specs.Prelude.{ℕ, ◌<◌, ◌*◌, ◌==◌, ◌&&◌, ◌||◌, nat_lt, not, Bool, true, false, List, [], ◌∷◌, Option, Some, None, bytes_eq, codes, drop, is_some, length, map, option_and_then, option_map, take, unwrap_or, if◌then◌else◌}
+use Rattle.std.specs.Prelude.{ℕ, ◌<◌, ◌==◌, ◌&&◌, ◌||◌, nat_lt, not, Bool, true, false, List, [], ◌∷◌, Option, Some, None, bytes_eq, codes, drop, is_some, length, map, option_and_then, option_map, take, unwrap_or, if◌then◌else◌}
 use Rattle.std.specs.Char.{to_ascii_lowercase}
 use Rattle.std.specs.List.{count_by, filter, find, list_all}
 use Rattle.comfy_parts.specs.Text.{Text, greatest}

@@ -2,7 +2,6 @@
 
 ghost use Rattle.std.specs.Prelude.{◌≡◌, ◌==◌, IfOk, option_map};
 ghost use Rattle.std.specs.List.{count_by, list_all};
-ghost use Rattle.csv.specs.Reading.{strip_bom};
 ghost use Rattle.csv_records.specs.Delimiter.{IsAsciiUnlessAsked, agreement, delimited, delimiter_in, found_delimiter, has_first_records, named_delimiter, only_ascii, shows_delimiter, tried_delimiters};
 ghost use Rattle.csv_records.specs.Lines.{EndsIn};
 

@@ -24,7 +24,7 @@ use Rattle.promises.specs.Tables.{HasCharactersWithin}
 use Rattle.csv_tables.specs.Drawn.{count_text, note_for, record_line}
 use Rattle.comfy_table.specs.Drawing.{terminated_text_of}
 use Rattle.comfy_table.specs.Laws.{AreLinesOf}
-use Rattle.csv_promises.specs.Fields.{AreFields, MayExpand, ShowsDrawn, ShowsExpanded, ShowsFields, ShowsRecords, ShowsRows, StaysAsItIs, all_rows, fields_at, filled, positions_in}
+use Rattle.csv_promises.specs.Fields.{AreFields, MayExpand, ShowsDrawn, ShowsExpanded, ShowsFields, ShowsRecords, ShowsRows, StaysAsItIs, all_rows, filled, positions_in}
 use Rattle.csv_promises.specs.Messages.{IsTameLine}
 use Rattle.csv_records.specs.Cleaning.{cleaned, is_replaced}
 use Rattle.promises.specs.Kept.{IsFrame, StandAmong}

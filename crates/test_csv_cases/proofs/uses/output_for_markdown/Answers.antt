@@ -1,5 +1,4 @@
-use Rattle.std.proofs.Common.{◌≡◌, inl, inr, true, ℕ, List, None, Option, Some, length}
-use Rattle.std.specs.Prelude.{◌<◌, ◌≤◌, All}
+use Rattle.std.proofs.Common.{◌≡◌, inl, inr, true, ℕ, List, None, Option, Some}
 use Rattle.std.proofs.lemmas.Result.{IfOk-weaker}
 use Rattle.comfy_parts.specs.Text.{Text}
 use Rattle.csv_command.specs.Drawn.{IsDrawnOf, layout_with}
