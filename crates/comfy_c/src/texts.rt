@@ -1,6 +1,6 @@
 //! The texts that a caller passes as one block of bytes.
 
-ghost use Rattle.std.specs.Prelude.{◌≡◌, IfErr, IfOk, List, ℕ, length, map};
+ghost use Rattle.std.specs.Prelude.{◌≡◌, ◌↔◌, IfErr, IfOk, IsTrue, List, ℕ, length, map};
 ghost use Rattle.csv_records.specs.CutLists.{cut_by, total};
 ghost use Rattle.comfy_c.specs.declared.texts.TextsRefusal.TheVariants as texts;
 ghost use Rattle.comfy_c.specs.RowCalls.{AddUp, IsTextsRefusal, rows_of};
@@ -75,21 +75,35 @@ fn cells_of<'a>(
     ensures refused { (counts : List ℕ)
         → IfErr result (IsTextsRefusal texts.now lengths.now counts) }
 {
+    if !add_up_to(lengths, texts.len()) {
+        return Err(TextsRefusal::Lengths);
+    }
+    // All is looked at once, and then only where each text ends.
+    let Ok(whole) = from_utf8(texts) else {
+        return Err(TextsRefusal::NotUtf8);
+    };
     let mut cells = Vec::with_capacity(alloc, lengths.len())?;
-    let mut behind = texts;
+    let mut behind = whole;
     for length in lengths {
-        let Some((bytes, rest)) = behind.split_at_checked(*length) else {
-            return Err(TextsRefusal::Lengths);
-        };
-        let Ok(text) = from_utf8(bytes) else {
+        let Some((text, rest)) = behind.split_at_checked(*length) else {
             return Err(TextsRefusal::NotUtf8);
         };
         cells.push(text)?;
         behind = rest;
     }
-    if behind.is_empty() {
-        Ok(cells)
-    } else {
-        Err(TextsRefusal::Lengths)
+    Ok(cells)
+}
+
+// Whether these lengths are so many bytes in all.
+fn add_up_to(lengths: &[usize], all: usize) -> bool
+    ensures { IsTrue result ↔ (total lengths.now ≡ all) }
+{
+    let mut left = all;
+    for length in lengths {
+        let Some(less) = left.checked_sub(*length) else {
+            return false;
+        };
+        left = less;
     }
+    left == 0
 }
