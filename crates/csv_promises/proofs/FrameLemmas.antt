@@ -19,10 +19,10 @@ use Rattle.csv_tables.proofs.LineLemmas.{Any, any_built, any_drawn}
 use Rattle.csv_tables.proofs.ReachedLemmas.{reached-length}
 use Rattle.csv_tables.proofs.SeparatorLemmas.{separated}
 use Rattle.csv_tables.proofs.WholeColumnLemmas.{HasTwo, IsPaddedColumn, all_shown, both_shown, exactly_two, leasts-length, leasts_on, pairs_are_two, pairs_have_two}
-use Rattle.csv_tables.proofs.WholeTableLemmas.{HasRoom, columns-drawn, least-fits, room_for_needed}
+use Rattle.csv_tables.proofs.WholeTableLemmas.{HasRoom, columns-drawn, least-fits, room_for_given}
 use Rattle.csv_tables.specs.Cells.{cell_for, cells_for, has_field, header_for, columns_within, row_for, with_weight, Shown, counted_from, shown_in, shown_names}
 use Rattle.csv_tables.specs.Drawn.{SelectedValue, empty_table, has_room_for, headed_table, output_table, pairs_in, pairs_table, rows_table, separated_table, unbroken_in, is_aligned_in}
-use Rattle.csv_tables.specs.Unbroken.{by_columns, has_room, kept_at, kept_unbroken, kept_unbroken_fields, with_kept, with_field_width, with_second}
+use Rattle.csv_tables.specs.Unbroken.{given_in, has_room, kept_unbroken, kept_unbroken_fields, level_in, with_kept, with_field_width, with_second}
 use Rattle.csv_tables.specs.declared.options.DrawnColumn.{DrawnColumn}
 use Rattle.csv_tables.specs.declared.options.Look.{Look}
 use Rattle.promises.proofs.FrameLemmas.{borders}
@@ -73,8 +73,8 @@ kept-length : (width : Option ℕ) (whole : List Bool) (table : TableValue) → 
 kept-length None whole table = refl
 kept-length (Some w) whole table = by_room (has_room (Some w) whole table)
   where
-    by_room : (b : Bool) → length (if b then with_kept (by_columns (kept_at whole table) table) table else table).columns ≡ length table.columns
-    by_room true = leasts-length (by_columns (kept_at whole table) table) table.columns
+    by_room : (b : Bool) → length (if b then with_kept (given_in w whole table) table else table).columns ≡ length table.columns
+    by_room true = leasts-length (given_in w whole table) table.columns
     by_room false = refl
 
 kept_fields-length : (width : Option ℕ) (table : TableValue) → length (kept_unbroken_fields width table).columns ≡ length table.columns
@@ -142,8 +142,8 @@ module _ (look : Look) (content : SelectedValue) (has : Bool) where
   width_has_room w wide test =
       let new = recursion_from_All IsNewColumn rows.columns (any_built false (is_aligned_in look content) look content).columns in
       let own : has_room (Some w) whole rows ≡ true = ap (λ (width : Option ℕ). has_room width whole rows) (sym wide) ∙ test in
-      let made : output_table false look content ≡ with_kept (by_columns (kept_at whole rows) rows) rows = ap (λ (width : Option ℕ). kept_unbroken width whole rows) wide ∙ ap (λ (b : Bool). if b then with_kept (by_columns (kept_at whole rows) rows) rows else rows) own in
-      let room : HasRoom w (separated_table has (output_table false look content)) = subst (HasRoom w) (sym (ap (separated_table has) made)) (room_for_needed w has whole rows new (leb-true _ w own)) in
+      let made : output_table false look content ≡ with_kept (given_in w whole rows) rows = ap (λ (width : Option ℕ). kept_unbroken width whole rows) wide ∙ ap (λ (b : Bool). if b then with_kept (given_in w whole rows) rows else rows) own in
+      let room : HasRoom w (separated_table has (output_table false look content)) = subst (HasRoom w) (sym (ap (separated_table has) made)) (room_for_given w (level_in w whole rows) has whole rows new (leb-true _ w own)) in
       least-fits w (separated_table has (output_table false look content)) room
 
 -- ---- columns that are drawn
@@ -205,8 +205,8 @@ rows_shown has look content = by_width look.width
     by_width None = shown [] has
     by_width (Some w) = by_room (has_room (Some w) (unbroken_in content) table)
       where
-        by_room : (b : Bool) → length table.columns ≤ shown_count (separated_table has (if b then with_kept (by_columns (kept_at (unbroken_in content) table) table) table else table))
-        by_room true = shown (by_columns (kept_at (unbroken_in content) table) table) has
+        by_room : (b : Bool) → length table.columns ≤ shown_count (separated_table has (if b then with_kept (given_in w (unbroken_in content) table) table else table))
+        by_room true = shown (given_in w (unbroken_in content) table) has
         by_room false = shown [] has
 
 -- and both columns of expanded records, where one has a field

@@ -20,7 +20,7 @@ use Rattle.csv_tables.proofs.SeparatorLemmas.{separated}
 use Rattle.csv_tables.proofs.WholeColumnLemmas.{IsPaddedColumn, all_shown, leasts-length, leasts_on}
 use Rattle.csv_tables.proofs.WholeTableLemmas.{IsDrawn, drawn-is}
 use Rattle.csv_tables.specs.Drawn.{SelectedValue, empty_table, output_table, pairs_table, rows_table, separated_table, unbroken_in, is_aligned_in}
-use Rattle.csv_tables.specs.Unbroken.{field_width, has_room, kept_unbroken, kept_unbroken_fields, kept_at, may_break, by_columns, room_beside, room_for_two, with_field_width, with_kept, with_second}
+use Rattle.csv_tables.specs.Unbroken.{field_width, has_room, kept_unbroken, given_in, kept_unbroken_fields, may_break, room_beside, room_for_two, with_field_width, with_kept, with_second}
 use Rattle.csv_tables.specs.declared.options.Look.{Look}
 use Rattle.promises.proofs.KeptLemmas.{part_stands}
 use Rattle.promises.specs.Kept.{IsFrame, ShowsRow}
@@ -112,8 +112,8 @@ module _ (look : Look) (content : SelectedValue) where
       by_width None = constrained []
       by_width (Some w) = by_room (has_room (Some w) (unbroken_in content) rows)
         where
-          by_room : (b : Bool) → HasRowsOf rows (separated_table has (if b then with_kept (by_columns (kept_at (unbroken_in content) rows) rows) rows else rows))
-          by_room true = constrained (by_columns (kept_at (unbroken_in content) rows) rows)
+          by_room : (b : Bool) → HasRowsOf rows (separated_table has (if b then with_kept (given_in w (unbroken_in content) rows) rows else rows))
+          by_room true = constrained (given_in w (unbroken_in content) rows)
           by_room false = constrained []
 
   module _ (is_expanded has : Bool) where

@@ -1,5 +1,5 @@
 -- Columns that are as wide as their contents are drawn no narrower.
-use Rattle.std.proofs.Common.{◌≡◌, ◌==◌, ◌≤◌, ◌<◌, ◌&&◌, ◌||◌, ℕ, zero, suc, ◌+◌, Bool, true, false, not, cond, List, [], ◌∷◌, ◌++◌, Option, Some, None, find, length, map, max, min, nat_le, option_map, slice_index, unwrap_or, refl, sym, ap, ◌∙◌, subst, arith}
+use Rattle.std.proofs.Common.{◌≡◌, ◌==◌, ◌≤◌, ◌<◌, ◌&&◌, ◌||◌, ℕ, zero, suc, ◌+◌, Bool, true, false, not, cond, List, [], ◌∷◌, ◌++◌, Option, Some, None, find, length, map, max, min, nat_le, nat_lt, option_map, slice_index, unwrap_or, refl, sym, ap, ◌∙◌, subst, arith}
 use Rattle.std.specs.List.{All, AllByRecursion, cons_option, enumerate_from, range_with_len, slice_get}
 use Rattle.std.specs.Prelude.{if◌then◌else◌}
 use Rattle.std.proofs.lemmas.Bool.{eq-eqb, le-leb, ne_eqb}
@@ -24,7 +24,7 @@ use Rattle.csv_tables.proofs.WholeColumnLemmas.{all_shown, leasts-length, leasts
 use Rattle.csv_tables.proofs.WholeTableLemmas.{drawn-is}
 use Rattle.csv_tables.specs.Drawn.{SelectedValue, arrangement_for, empty_table, is_expanded_for, is_expanded_in, is_table_expanded, output_table, rows_table, separated_table, unbroken_in, is_aligned_in}
 use Rattle.csv_tables.specs.Laws.{AutoKeepsWhole, IsWholeColumn, NeverKeepsWhole, UnbrokenColumnsAreWhole}
-use Rattle.csv_tables.specs.Unbroken.{by_columns, has_room, kept_at, kept_unbroken, name_in, wide_word, with_kept}
+use Rattle.csv_tables.specs.Unbroken.{by_columns, given_at, has_room, kept_unbroken, level_in, name_in, wide_word, with_kept}
 use Rattle.csv_tables.specs.declared.options.DrawnColumn.{DrawnColumn}
 use Rattle.csv_tables.specs.declared.options.Expansion.TheVariants.{Auto}
 use Rattle.csv_tables.specs.declared.options.Look.{Look}
@@ -113,15 +113,18 @@ whole_need table kept (c ∷ cs) n (suc i) new is below =
     subst (λ (j : ℕ). IsFixedAt (map (needs_of table) (enumerate_from (n + 1) (leasts_on (map kept (range_with_len (n + 1) (length cs))) cs))) i (max 1 (column_content_width table j))) place
     (whole_need table kept cs (n + 1) i new.1 (ap kept place ∙ is ∙ ap (column_content_width table) (sym place)) (omega (arith, below)))
 
-module _ (table : TableValue) (new : AllByRecursion IsNewColumn table.columns) (whole : List Bool) (w : ℕ) (widths : List ℕ) (i : ℕ) where
+module _ (table : TableValue) (new : AllByRecursion IsNewColumn table.columns) (whole : List Bool) (level w : ℕ) (widths : List ℕ) (i : ℕ) where
   abbrev kept_on : List ℕ
-  kept_on = by_columns (kept_at whole table) table
+  kept_on = by_columns (given_at level whole table) table
 
   abbrev with : TableValue
   with = with_kept kept_on table
 
-  keeps_all : slice_get whole i ≡ Some true → kept_at whole table i ≡ column_content_width table i
-  keeps_all is = ap (λ (o : Option Bool). if unwrap_or o false || nat_le (column_content_width table i) 8 then column_content_width table i else min (column_content_width table i) (wide_word table (name_in table i))) is
+  keeps_all : slice_get whole i ≡ Some true → given_at level whole table i ≡ column_content_width table i
+  keeps_all is = ap (λ (o : Option Bool). if unwrap_or o false || nat_lt level (keeps o) then keeps o else 0) is
+    where
+      keeps : Option Bool → ℕ
+      keeps o = if unwrap_or o false || nat_le (column_content_width table i) 8 then column_content_width table i else min (column_content_width table i) (wide_word table (name_in table i))
 
   pub whole_is_kept : width_kept with.arrangement (Some w) ≡ Some w → table_width with ≡ Some w → slice_get whole i ≡ Some true → i < length table.columns → IsArranged with widths → column_content_width table i ≤ slice_index widths i
   whole_is_kept kept known is below arranged =
@@ -129,8 +132,8 @@ module _ (table : TableValue) (new : AllByRecursion IsNewColumn table.columns) (
       let all = all_shown kept_on table.columns new in
       let found = dynamic_widths with with.arrangement w widths kept refl known arranged in
       let place : 0 + i ≡ i = omega arith in
-      let own : kept_at whole table (0 + i) ≡ column_content_width table (0 + i) = subst (λ (j : ℕ). kept_at whole table j ≡ column_content_width table j) (sym place) (keeps_all is) in
-      let fixed = subst (λ (ps : List (ℕ × ColumnValue)). IsFixedAt (map (needs_of with) ps) i (max 1 (column_content_width with (0 + i)))) (sym all) (whole_need with (kept_at whole table) table.columns 0 i new own below) in
+      let own : given_at level whole table (0 + i) ≡ column_content_width table (0 + i) = subst (λ (j : ℕ). given_at level whole table j ≡ column_content_width table j) (sym place) (keeps_all is) in
+      let fixed = subst (λ (ps : List (ℕ × ColumnValue)). IsFixedAt (map (needs_of with) ps) i (max 1 (column_content_width with (0 + i)))) (sym all) (whole_need with (given_at level whole table) table.columns 0 i new own below) in
       let room = room_beside_borders with w in
       let full = is_full_width with.arrangement in
       let wide : max 1 (column_content_width with (0 + i)) ≤ slice_index (widened room (shown_needs with) full found.0) i = fixed_is_kept room (shown_needs with) full found.0 i (max 1 (column_content_width with (0 + i))) fixed in
@@ -186,8 +189,11 @@ room_keeps_whole w look content wide room none table widths i is_drawn arranged 
     own : table ≡ drawn
     own = is_drawn.1 ∙ ap (λ (e : Bool). separated_table has (output_table e look content)) none
 
+    level : ℕ
+    level = level_in w whole rows
+
     kept_on : TableValue → List ℕ
-    kept_on t = by_columns (kept_at whole t) t
+    kept_on t = by_columns (given_at level whole t) t
 
     kept_in : (h : Bool) → separated_table h (with_kept (kept_on rows) rows) ≡ with_kept (kept_on (separated_table h rows)) (separated_table h rows)
     kept_in true = refl
@@ -219,7 +225,7 @@ room_keeps_whole w look content wide room none table widths i is_drawn arranged 
 
     kept : column_content_width (separated_table has rows) i ≤ slice_index widths i
     kept =
-        whole_is_kept (separated_table has rows) new whole w widths i (subst (λ (t : TableValue). width_kept t.arrangement (Some w) ≡ Some w) with keeps) (subst (λ (t : TableValue). table_width t ≡ Some w) with known) is
+        whole_is_kept (separated_table has rows) new whole level w widths i (subst (λ (t : TableValue). width_kept t.arrangement (Some w) ≡ Some w) with keeps) (subst (λ (t : TableValue). table_width t ≡ Some w) with known) is
         (omega (arith, below, count)) (subst (λ (t : TableValue). IsArranged t widths) same arranged)
 
 held : (b : Bool) → not b ≡ false → b ≡ true

@@ -1,5 +1,5 @@
 -- What tables that keep numbers and dates whole are made of.
-use Rattle.std.proofs.Common.{◌≡◌, ◌<◌, ◌≤◌, ◌+◌, ℕ, zero, suc, Bool, List, [], ◌∷◌, Some, ◌-◌, ◌^◌, get_or, length, map, min, nat_le, set, sum_by, refl, ap, arith}
+use Rattle.std.proofs.Common.{◌≡◌, ◌<◌, ◌≤◌, ◌+◌, ℕ, zero, suc, Bool, List, [], ◌∷◌, Some, ◌-◌, ◌^◌, get_or, length, map, min, nat_le, set, max, nat_lt, slice_get, sum_by, unwrap_or, true, false, ◌||◌, refl, sym, ap, ◌∙◌, arith}
 use Rattle.std.specs.List.{All, range_with_len}
 use Rattle.std.proofs.lemmas.Bool.Decides.{nat_tests}
 use Rattle.std.proofs.lemmas.List.Elements.{All-cons, All-nil}
@@ -9,7 +9,7 @@ use Rattle.comfy_parts.specs.CellValue.{ColumnValue}
 use Rattle.comfy_parts.specs.declared.style.table_style.TableStyle.{TableStyle}
 use Rattle.comfy_table.specs.Frame.{border_count}
 use Rattle.comfy_table.specs.TableValue.{TableValue}
-use Rattle.csv_tables.specs.Unbroken.{by_columns, framed_width, has_room, kept_at, kept_unbroken, needed_content, with_content, with_kept, with_second}
+use Rattle.csv_tables.specs.Unbroken.{framed_width, given_at, given_in, greatest_level, has_room, kept_at, kept_unbroken, shared_at, with_content, with_kept, with_second}
 
 -- what columns keep leaves room for paddings, where what they need does
 pub kept_within : (kept needed : ℕ → ℕ) → ((i : ℕ) → kept i ≤ needed i) → (n count : ℕ) → sum_by (λ content. 2 + content) (map needed (range_with_len n count)) ≤ 65535 → All (λ content. content ≤ 65533) (map kept (range_with_len n count))
@@ -19,19 +19,38 @@ kept_within kept needed less n (suc count) within =
     let sums = sum_by-cons (λ (content : ℕ). 2 + content) (needed n) (map needed (range_with_len (n + 1) count)) in
     All-cons (λ (content : ℕ). content ≤ 65533) (kept n) (map kept (range_with_len (n + 1) count)) (omega (arith, own, sums, within)) (kept_within kept needed less (n + 1) count (omega (arith, sums, within)))
 
-pub kept_is_needed : (kept content : ℕ) → kept ≤ needed_content kept content
-kept_is_needed kept content = omega arith
+pub kept_is_shared : (level : ℕ) (unbroken : List Bool) (table : TableValue) (i : ℕ) → kept_at unbroken table i ≤ shared_at level unbroken table i
+kept_is_shared level unbroken table i = omega arith
+
+pub given_is_shared : (level level2 : ℕ) (unbroken : List Bool) (table : TableValue) (i : ℕ) → max 1 (given_at level unbroken table i) ≤ shared_at level2 unbroken table i
+given_is_shared level level2 unbroken table i = by_test (unwrap_or (slice_get unbroken i) false || nat_lt level (kept_at unbroken table i))
+  where
+    by_test : (b : Bool) → max 1 (if b then kept_at unbroken table i else 0) ≤ shared_at level2 unbroken table i
+    by_test true = omega arith
+    by_test false = omega arith
 
 -- a sum that stopped at the greatest number is above each width
 pub stopped : (n w : ℕ) → w ≤ 65535 → nat_le (min (2 ^ 64 - 1) n) w ≡ nat_le n w
 stopped n w below = grind (arith, nat_tests)
 
+-- ---- levels
+
+-- a level that doesn't pass isn't the greatest that does
+pub failed_level : (passes : ℕ → Bool) (level : ℕ) → 0 < level → passes level ≡ false → greatest_level passes (level - 1) ≡ greatest_level passes level
+failed_level passes zero some is = absurd (omega (arith, some))
+failed_level passes (suc level) some is = ap (greatest_level passes) (omega arith) ∙ sym (ap (λ (b : Bool). if b then suc level else greatest_level passes level) is)
+
+-- and one that does is
+pub passed_level : (passes : ℕ → Bool) (level : ℕ) → 0 < level → passes level ≡ true → level ≡ greatest_level passes level
+passed_level passes zero some is = absurd (omega (arith, some))
+passed_level passes (suc level) some is = sym (ap (λ (b : Bool). if b then suc level else greatest_level passes level) is)
+
 -- ---- tables
 
 -- whether there is room
 pub kept-test : (width : ℕ) (unbroken : List Bool) (table : TableValue) (b : Bool) → has_room (Some width) unbroken table ≡ b
-    → kept_unbroken (Some width) unbroken table ≡ (if b then with_kept (by_columns (kept_at unbroken table) table) table else table)
-kept-test width unbroken table b is = ap (λ b. if b then with_kept (by_columns (kept_at unbroken table) table) table else table) is
+    → kept_unbroken (Some width) unbroken table ≡ (if b then with_kept (given_in width unbroken table) table else table)
+kept-test width unbroken table b is = ap (λ b. if b then with_kept (given_in width unbroken table) table else table) is
 
 -- ---- fields of expanded records
 

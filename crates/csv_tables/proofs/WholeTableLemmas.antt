@@ -21,10 +21,10 @@ use Rattle.comfy_table.specs.Widths.{ColumnNeeds, needs_of, shown_count, shown_n
 use Rattle.csv_tables.proofs.BuiltLemmas.{Built, plain_table}
 use Rattle.csv_tables.proofs.LeastLemmas.{least_of, steps_within}
 use Rattle.csv_tables.proofs.SeparatorLemmas.{restyled, separated}
-use Rattle.csv_tables.proofs.UnbrokenLemmas.{framed_pair}
+use Rattle.csv_tables.proofs.UnbrokenLemmas.{framed_pair, given_is_shared}
 use Rattle.csv_tables.proofs.WholeColumnLemmas.{AreNeeds, IsPaddedColumn, all_shown, field_width-within, leasts_on, needs, padded_columns, padded_second, pairs_have_two, second_needs}
 use Rattle.csv_tables.specs.Drawn.{SelectedValue, condensed_style, empty_table, is_aligned_in, output_table, pairs_table, rows_table, separated_table, unbroken_in}
-use Rattle.csv_tables.specs.Unbroken.{field_width, framed_width, has_room, kept_unbroken, kept_unbroken_fields, kept_at, least_width, may_break, by_columns, needed_at, needed_by_names, needed_content, room_beside, room_for_two, with_field_width, with_kept, with_second}
+use Rattle.csv_tables.specs.Unbroken.{by_columns, field_width, framed_width, given_at, given_in, has_room, kept_unbroken, kept_unbroken_fields, least_width, level_in, may_break, needed_by_names, room_beside, room_for_two, shared_at, with_field_width, with_kept, with_second}
 use Rattle.csv_tables.specs.declared.options.Look.{Look}
 
 -- ---- room
@@ -87,17 +87,13 @@ pub kept_separated : (has : Bool) (kept : List ℕ) (table : TableValue) → sep
 kept_separated true kept table = refl
 kept_separated false kept table = refl
 
--- what is kept is needed
-needs_more : (kept content : ℕ) → max 1 kept ≤ needed_content kept content
-needs_more kept content = omega arith
-
--- what columns need has room, without lines between rows too
-pub room_for_needed : (w : ℕ) (has : Bool) (whole : List Bool) (table : TableValue) → AllByRecursion IsNewColumn table.columns → least_width whole table ≤ w → HasRoom w (separated_table has (with_kept (by_columns (kept_at whole table) table) table))
-room_for_needed w has whole table new fits = by_lines has
+-- what columns take at the least has room for what they are given beforehand, without lines between rows too
+pub room_for_given : (w level : ℕ) (has : Bool) (whole : List Bool) (table : TableValue) → AllByRecursion IsNewColumn table.columns → least_width whole table ≤ w → HasRoom w (separated_table has (with_kept (by_columns (given_at level whole table) table) table))
+room_for_given w level has whole table new fits = by_lines has
   where
-    by_lines : (h : Bool) → HasRoom w (separated_table h (with_kept (by_columns (kept_at whole table) table) table))
-    by_lines true = room_for w (kept_at whole table) (needed_at whole table) table (λ i. needs_more (kept_at whole table i) (column_content_width table i)) new fits
-    by_lines false = room_for w (kept_at whole table) (needed_at whole table) (separated_table false table) (λ i. needs_more (kept_at whole table i) (column_content_width table i)) new (still_fits w false table (by_columns (needed_at whole table) table) fits)
+    by_lines : (h : Bool) → HasRoom w (separated_table h (with_kept (by_columns (given_at level whole table) table) table))
+    by_lines true = room_for w (given_at level whole table) (shared_at 8 whole table) table (given_is_shared level 8 whole table) new fits
+    by_lines false = room_for w (given_at level whole table) (shared_at 8 whole table) (separated_table false table) (given_is_shared level 8 whole table) new (still_fits w false table (by_columns (shared_at 8 whole table) table) fits)
 
 pub field_separated : (has : Bool) (field : ℕ) (table : TableValue) → separated_table has (with_field_width field table) ≡ with_field_width field (separated_table has table)
 field_separated true field table = refl
@@ -262,9 +258,6 @@ drawn_table-is look Q content false has known = by_width look.width refl
     own : IsDrawn (separated has look) Q content (separated_table has rows)
     own = subst (IsDrawn (separated has look) Q content) same (drawn_plain (separated has look) Q content plain known)
 
-    kept : List ℕ
-    kept = by_columns (kept_at whole rows) rows
-
     new : AllByRecursion IsNewColumn rows.columns
     new = by_lines has (subst (λ (t : TableValue). AllByRecursion IsNewColumn t.columns) same (recursion_from_All IsNewColumn plain.columns known.columns))
       where
@@ -276,6 +269,9 @@ drawn_table-is look Q content false has known = by_width look.width refl
     by_width None is = own
     by_width (Some w) is = by_test (has_room (Some w) whole rows) refl
       where
+        kept : List ℕ
+        kept = given_in w whole rows
+
         by_test : (b : Bool) → has_room (Some w) whole rows ≡ b → IsDrawn (separated has look) Q content (separated_table has (if b then with_kept kept rows else rows))
         by_test false test = own
         by_test true test =
@@ -286,7 +282,7 @@ drawn_table-is look Q content false has known = by_width look.width refl
               is_plain = kept_separated has kept rows ∙ ap (with_kept kept) (sym same);
               padded = padded_columns kept plain.columns (recursion_from_All IsNewColumn plain.columns known.columns);
               no_width = λ none. absurd (cc (own_width has none, is));
-              room = λ v wide. inr (subst (λ n. HasRoom n (separated_table has (with_kept kept rows))) (same_width v wide) (room_for_needed w has whole rows new (leb-true _ w test)));
+              room = λ v wide. inr (subst (λ n. HasRoom n (separated_table has (with_kept kept rows))) (same_width v wide) (room_for_given w (level_in w whole rows) has whole rows new (leb-true _ w test)));
             }
           where
             own_width : (b : Bool) → {o : Option ℕ} → (separated b look).width ≡ o → look.width ≡ o

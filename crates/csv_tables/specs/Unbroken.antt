@@ -1,7 +1,7 @@
 -- Columns and fields that aren't broken over lines: which they are, and where a width has room for
 -- them.
 -- Source: this library's own.
-use Rattle.std.specs.Prelude.{ℕ, ◌+◌, ◌-◌, Bool, ◌==◌, ◌&&◌, ◌||◌, true, false, List, [], ◌∷◌, Option, Some, None, chars, codes, length, map, max, min, nat_le, nat_lt, option_and_then, slice_get, slice_index, sum_by, unwrap_or, if◌then◌else◌}
+use Rattle.std.specs.Prelude.{ℕ, zero, suc, ◌+◌, ◌-◌, Bool, ◌==◌, ◌&&◌, ◌||◌, true, false, List, [], ◌∷◌, Option, Some, None, chars, codes, length, map, max, min, nat_le, nat_lt, option_and_then, slice_get, slice_index, sum_by, unwrap_or, if◌then◌else◌}
 use Rattle.std.specs.Char.{is_ascii_digit}
 use Rattle.std.specs.List.{list_all, list_any, range_with_len, slice_split}
 use Rattle.comfy_parts.specs.CellValue.{CellValue, ColumnValue, RowValue}
@@ -60,23 +60,39 @@ kept_at unbroken table i =
     then content
     else min content (wide_word table (name_in table i))
 
--- what is needed of a content of which so much is kept: at least one of it, or eight
-abbrev pub needed_content : ℕ → ℕ → ℕ
-needed_content kept content = max 1 (max kept (min 8 content))
+-- what a column takes of its content where columns share a width up to a level: that much, but no
+-- less than it keeps
+abbrev pub shared_content : ℕ → ℕ → ℕ → ℕ
+shared_content level kept content = max 1 (max kept (min level content))
 
--- what the column at a position needs
-abbrev pub needed_at : List Bool → TableValue → ℕ → ℕ
-needed_at unbroken table i =
-    needed_content (kept_at unbroken table i) (column_content_width table i)
+-- so the column at a position
+abbrev pub shared_at : ℕ → List Bool → TableValue → ℕ → ℕ
+shared_at level unbroken table i =
+    shared_content level (kept_at unbroken table i) (column_content_width table i)
 
 -- so each column
 abbrev pub by_columns : (ℕ → ℕ) → TableValue → List ℕ
 by_columns f table = map f (range_with_len 0 (length table.columns))
 
--- the least width of a table of rows: its borders, its paddings, and what its columns need
+-- the width of a table of rows whose columns share it up to a level
+abbrev pub shared_width : ℕ → List Bool → TableValue → ℕ
+shared_width level unbroken table =
+    framed_width table.style (by_columns (shared_at level unbroken table) table)
+
+-- its least width: a column has up to eight terminal columns of its content
 abbrev pub least_width : List Bool → TableValue → ℕ
-least_width unbroken table =
-    framed_width table.style (by_columns (needed_at unbroken table) table)
+least_width unbroken table = shared_width 8 unbroken table
+
+-- the greatest level up to another one that passes a test, else 0
+abbrev pub greatest_level : (ℕ → Bool) → ℕ → ℕ
+greatest_level passes zero = 0
+greatest_level passes (suc level) =
+    if passes (suc level) then suc level else greatest_level passes level
+
+-- the greatest level for which a width has room
+abbrev pub level_in : ℕ → List Bool → TableValue → ℕ
+level_in width unbroken table =
+    greatest_level (λ level. nat_le (shared_width level unbroken table) width) width
 
 -- whether a width that is kept has room for that
 abbrev pub has_room : Option ℕ → List Bool → TableValue → Bool
@@ -91,12 +107,24 @@ at_least content = LowerBoundary (Fixed (content + 2))
 abbrev pub with_kept : List ℕ → TableValue → TableValue
 with_kept kept table = record table { columns = constrained (map at_least kept) table.columns }
 
+-- what the column at a position is given beforehand: what it keeps, where it isn't broken, or
+-- where that is more than the level that columns share a width up to
+abbrev pub given_at : ℕ → List Bool → TableValue → ℕ → ℕ
+given_at level unbroken table i =
+    let kept = kept_at unbroken table i in
+    if unwrap_or (slice_get unbroken i) false || nat_lt level kept then kept else 0
+
+-- so each column
+abbrev pub given_in : ℕ → List Bool → TableValue → List ℕ
+given_in width unbroken table =
+    by_columns (given_at (level_in width unbroken table) unbroken table) table
+
 -- so it is where a width is kept that has room for what its columns need; else it stays
 abbrev pub kept_unbroken : Option ℕ → List Bool → TableValue → TableValue
 kept_unbroken None unbroken table = table
 kept_unbroken (Some width) unbroken table =
     if has_room (Some width) unbroken table
-    then with_kept (by_columns (kept_at unbroken table) table) table
+    then with_kept (given_in width unbroken table) table
     else table
 
 -- ---- fields of expanded records

@@ -1,10 +1,10 @@
 //! Numbers and dates, which aren't broken over lines where there is room.
 
-ghost use Rattle.std.specs.Prelude.{◌≡◌, ◌||◌, ◌-◌, ◌≤◌, ◌^◌, All, IfOk, None, OnOk, Some, chars, false, if◌then◌else◌, length, map, min, nat_le, option_copied, slice_get, true, unwrap_or};
+ghost use Rattle.std.specs.Prelude.{◌≡◌, ◌||◌, ◌-◌, Bool, List, ◌≤◌, ◌^◌, All, IfOk, None, OnOk, Some, chars, false, if◌then◌else◌, length, map, min, nat_le, nat_lt, option_copied, slice_get, true, unwrap_or};
 ghost use Rattle.std.specs.List.{list_all};
 ghost use Rattle.csv_records.specs.Number.{is_neutral, is_number};
-ghost use Rattle.comfy_table.specs.TableValue.{constrained, measured_cell};
-ghost use Rattle.csv_tables.specs.Unbroken.{at_least, by_columns, cell_unbroken_width, field_width, has_room, if_wide, is_of_dates, is_unbroken, kept_at, kept_unbroken, kept_unbroken_fields, least_width, may_break, name_in, needed_content, room_beside, room_for_two, unbroken_width, wide_word, with_content, with_field_width, word_width};
+ghost use Rattle.comfy_table.specs.TableValue.{TableValue, constrained, measured_cell};
+ghost use Rattle.csv_tables.specs.Unbroken.{at_least, by_columns, cell_unbroken_width, field_width, given_at, has_room, if_wide, is_of_dates, is_unbroken, kept_at, kept_unbroken, kept_unbroken_fields, level_in, may_break, name_in, room_beside, room_for_two, shared_content, shared_width, unbroken_width, wide_word, with_content, with_field_width, word_width};
 ghost use Rattle.csv_tables.specs.Cells.{cell_for};
 ghost use Rattle.csv_tables.specs.Contents.{greatest_at, pairs_by};
 ghost use Rattle.csv_tables.specs.Drawn.{unbroken_in};
@@ -27,7 +27,7 @@ const LONGEST: usize = 25;
 const LONGEST_WORD: u16 = 20;
 
 // How many of its content it needs at most, whatever its name.
-const NEEDED_CONTENT: u16 = 8;
+const LEAST_LEVEL: u16 = 8;
 
 // How many terminal columns the names of expanded records need at most.
 const NEEDED_NAMES: u16 = 4;
@@ -58,10 +58,12 @@ fn keep_within(contents: &mut RowContents, width: u16) -> std::result::Result<bo
         ≡ has_room (Some width) (unbroken_in contents.old.rows.selected) contents.old.table) }
 {
     let unbroken = unbroken_columns(&contents.rows.selected)?;
-    let (kept, least) = kept_contents(contents, unbroken.as_slice())?;
-    let has_room = least <= usize::from(width);
+    let kept = kept_contents(contents, unbroken.as_slice())?;
+    let has_room = shared_width(contents, kept.as_slice(), LEAST_LEVEL) <= usize::from(width);
     if has_room {
-        let constraints = constraints_of(contents.rows.selected.alloc, kept.as_slice())?;
+        let level = level_in(contents, kept.as_slice(), width);
+        let alloc = contents.rows.selected.alloc;
+        let constraints = constraints_of(alloc, kept.as_slice(), unbroken.as_slice(), level)?;
         constrain_contents(contents, constraints);
     }
     Ok(has_room)
@@ -82,26 +84,55 @@ fn unbroken_columns(selected: &SelectedRecords) -> std::result::Result<Vec<bool>
     Ok(unbroken)
 }
 
-// What the columns of a table of rows keep of their contents, and the least width of the table.
+// What the columns of a table of rows keep of their contents.
 fn kept_contents(
     contents: &RowContents,
     unbroken: &[bool],
-) -> std::result::Result<(Vec<u16>, usize), AllocError>
-    ensures kept { IfOk result (λ x. x.0.items
+) -> std::result::Result<Vec<u16>, AllocError>
+    ensures { IfOk result (λ kept. kept.items
         ≡ by_columns (kept_at unbroken.now contents.now.table) contents.now.table) }
-    ensures least { IfOk result (λ x. x.1
-        ≡ min (2 ^ 64 - 1) (least_width unbroken.now contents.now.table)) }
 {
     let table = &contents.table;
     let widths = contents.widths();
     let mut kept = Vec::with_capacity(contents.rows.selected.alloc, widths.len())?;
-    let mut least = count_border_columns(table, widths.len());
     for (at, content) in widths.iter().enumerate() {
-        let keeps = kept_content(table, may_not_break(unbroken, at), at, *content);
-        least = least.saturating_add(2 + usize::from(needed_content(keeps, *content)));
-        kept.push(keeps)?;
+        kept.push(kept_content(table, may_not_break(unbroken, at), at, *content))?;
     }
-    Ok((kept, least))
+    Ok(kept)
+}
+
+// The width of the table where its columns, which keep so much, share it up to a level.
+fn shared_width(contents: &RowContents, kept: &[u16], level: u16) -> usize
+    ensures { (unbroken : List Bool)
+        → kept.now ≡ by_columns (kept_at unbroken contents.now.table) contents.now.table
+        → result ≡ min (2 ^ 64 - 1) (shared_width level unbroken contents.now.table) }
+{
+    let widths = contents.widths();
+    let mut width = count_border_columns(&contents.table, widths.len());
+    for (at, content) in widths.iter().enumerate() {
+        let keeps = kept.get(at).copied().unwrap_or(0);
+        width = width.saturating_add(2 + usize::from(shared_content(level, keeps, *content)));
+    }
+    width
+}
+
+fn shared_content(level: u16, kept: u16, content: u16) -> u16
+    ensures { result ≡ shared_content level kept content }
+{
+    content.min(level).max(kept).max(1)
+}
+
+// The greatest level for which a width has room.
+fn level_in(contents: &RowContents, kept: &[u16], width: u16) -> u16
+    ensures { (unbroken : List Bool)
+        → kept.now ≡ by_columns (kept_at unbroken contents.now.table) contents.now.table
+        → result ≡ level_in width unbroken contents.now.table }
+{
+    let mut level = width;
+    while level > 0 && shared_width(contents, kept, level) > usize::from(width) {
+        level -= 1;
+    }
+    level
 }
 
 fn may_not_break(unbroken: &[bool], at: usize) -> bool
@@ -119,17 +150,11 @@ fn kept_content(table: &Table, is_unbroken: bool, at: usize, content: u16) -> u1
         then content
         else min content (wide_word table.now (name_in table.now at))) }
 {
-    if is_unbroken || content <= NEEDED_CONTENT {
+    if is_unbroken || content <= LEAST_LEVEL {
         content
     } else {
         content.min(wide_word(table, name_in(table, at)))
     }
-}
-
-fn needed_content(kept: u16, content: u16) -> u16
-    ensures { result ≡ needed_content kept content }
-{
-    content.min(NEEDED_CONTENT).max(kept).max(1)
 }
 
 // The name of the column at a position.
@@ -160,7 +185,7 @@ fn wide_word(table: &Table, name: Option<&Cell>) -> u16
 fn if_wide(width: usize) -> u16
     ensures { result ≡ if_wide width }
 {
-    if width > usize::from(NEEDED_CONTENT) {
+    if width > usize::from(LEAST_LEVEL) {
         width.min(usize::from(LONGEST_WORD)) as u16
     } else {
         0
@@ -196,19 +221,32 @@ fn constrain_columns(table: &mut Table, constraints: Vec<ColumnConstraint>)
     table.set_constraints(constraints);
 }
 
-// The constraints of columns that have at least these contents.
+// The constraints of columns that keep so much, where all share a width up to a level.
 fn constraints_of(
     alloc: Global,
     kept: &[u16],
+    unbroken: &[bool],
+    level: u16,
 ) -> std::result::Result<Vec<ColumnConstraint>, AllocError>
     requires { All (λ content. content ≤ 65533) kept.now }
-    ensures { IfOk result (λ constraints. constraints.items ≡ map at_least kept.now) }
+    ensures { IfOk result (λ constraints. (table : TableValue)
+        → kept.now ≡ by_columns (kept_at unbroken.now table) table
+        → constraints.items ≡ map at_least (by_columns (given_at level unbroken.now table) table)) }
 {
     let mut constraints = Vec::with_capacity(alloc, kept.len())?;
-    for content in kept {
-        constraints.push(ColumnConstraint::LowerBoundary(Width::Fixed(*content + 2)))?;
+    for (at, keeps) in kept.iter().enumerate() {
+        let content = given_content(may_not_break(unbroken, at), level, *keeps);
+        constraints.push(ColumnConstraint::LowerBoundary(Width::Fixed(content + 2)))?;
     }
     Ok(constraints)
+}
+
+// What a column that keeps so much is given beforehand.
+fn given_content(is_unbroken: bool, level: u16, kept: u16) -> u16
+    ensures value { result ≡ (if is_unbroken || nat_lt level kept then kept else 0) }
+    ensures within { result ≤ kept }
+{
+    if is_unbroken || level < kept { kept } else { 0 }
 }
 
 /// Lets the fields of expanded records be as wide as the widest number or date of them that has

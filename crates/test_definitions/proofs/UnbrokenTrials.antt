@@ -18,7 +18,7 @@ use Rattle.comfy_table.specs.TableValue.{TableValue, new_table, with_header, wit
 use Rattle.comfy_parts.specs.Wrapping.{lines_of_text}
 use Rattle.csv_tables.specs.Drawn.{is_expanded_in}
 use Rattle.csv_tables.specs.Laws.{IsWholeColumn, StandsWhole}
-use Rattle.csv_tables.specs.Unbroken.{by_columns, framed_width, has_room, is_unbroken, kept_at, kept_unbroken, kept_unbroken_fields, least_width, may_break, needed_at, needed_content, room_beside, room_for_two, unbroken_width}
+use Rattle.csv_tables.specs.Unbroken.{by_columns, framed_width, given_in, has_room, is_unbroken, kept_at, kept_unbroken, kept_unbroken_fields, least_width, level_in, may_break, room_beside, room_for_two, shared_at, shared_content, unbroken_width}
 use Rattle.csv_tables.specs.declared.options.Expansion.TheVariants.{Always, Auto, Never}
 
 abbrev texts : List String → List Text
@@ -54,13 +54,29 @@ unfolding wrapping
 kept = refl
 
 -- at least eight of it are needed
-needed : by_columns (needed_at (true ∷ false ∷ []) named) named ≡ 31 ∷ 8 ∷ 8 ∷ 11 ∷ 20 ∷ []
+needed : by_columns (shared_at 8 (true ∷ false ∷ []) named) named ≡ 31 ∷ 8 ∷ 8 ∷ 11 ∷ 20 ∷ []
 unfolding wrapping
 needed = refl
 
 -- but no more than the content, and at least one
-needed_of_contents : map (needed_content 0) (0 ∷ 3 ∷ 14 ∷ []) ≡ 1 ∷ 3 ∷ 8 ∷ []
+needed_of_contents : map (shared_content 8 0) (0 ∷ 3 ∷ 14 ∷ []) ≡ 1 ∷ 3 ∷ 8 ∷ []
 needed_of_contents = refl
+
+-- a number and two texts; the name of the first text has a wide word
+abbrev sharing : TableValue
+sharing =
+    with_rows (plain_row (map plain_cell (texts ("12" ∷ "aaa bbb ccc ddd" ∷ "eee fff ggg hhh" ∷ []))) ∷ [])
+    (with_header (plain_row (map plain_cell (texts ("id" ∷ "responsible" ∷ "x" ∷ [])))) (new_table ascii_full))
+
+-- the texts share what borders, paddings, the number and that word leave
+levels : map (λ width. level_in width (true ∷ false ∷ false ∷ []) sharing) (31 ∷ 33 ∷ 36 ∷ []) ≡ 8 ∷ 10 ∷ 12 ∷ []
+unfolding wrapping
+levels = refl
+
+-- the word is given beforehand where it is wider than its share
+given : map (λ width. given_in width (true ∷ false ∷ false ∷ []) sharing) (33 ∷ 36 ∷ []) ≡ (2 ∷ 11 ∷ 0 ∷ []) ∷ (2 ∷ 0 ∷ 0 ∷ []) ∷ []
+unfolding wrapping
+given = refl
 
 -- four borders, and two paddings each
 framed : framed_width ascii_full (10 ∷ 9 ∷ 8 ∷ []) ≡ 37

@@ -1,10 +1,10 @@
-use Rattle.std.proofs.Common.{◌≡◌, ◌≤◌, ◌-◌, ◌+◌, ◌^◌, ◌∙◌, All, Some, ap, arith, false, length, min, nat_le, refl, rules, subst, sum_by, sym, true}
+use Rattle.std.proofs.Common.{◌≡◌, ◌≤◌, ◌-◌, ◌+◌, ◌^◌, ◌∙◌, All, Bool, List, ℕ, Some, ap, ap₂, arith, false, length, map, min, nat_le, refl, rules, subst, sum_by, sym, true}
 use Rattle.std.proofs.lemmas.Bool.Decides.{nat_tests}
-use Rattle.comfy_table.specs.TableValue.{column_content_width, constrained}
+use Rattle.comfy_table.specs.TableValue.{constrained}
 use Rattle.comfy_table.specs.Frame.{border_count}
-use Rattle.csv_tables.proofs.UnbrokenLemmas.{kept-test, kept_is_needed, kept_within, stopped}
+use Rattle.csv_tables.proofs.UnbrokenLemmas.{kept-test, kept_is_shared, kept_within, stopped}
 use Rattle.csv_tables.specs.Drawn.{unbroken_in}
-use Rattle.csv_tables.specs.Unbroken.{by_columns, has_room, kept_at, kept_unbroken, least_width, needed_at, with_kept}
+use Rattle.csv_tables.specs.Unbroken.{at_least, by_columns, given_at, given_in, has_room, kept_at, kept_unbroken, least_width, level_in, shared_at}
 use Rattle.csv_tables.proofs.unbroken.keep_within.Goals as goal
 use Rattle.csv_tables.proofs.unbroken.keep_within.Goals.{then-has_room+in_ok-constraints, else-has_room}
 
@@ -12,10 +12,11 @@ pub constraints_of-requires : goal.constraints_of-requires
 constraints_of-requires c =
     let table = c.args.contents.now.table in
     let unbroken = c.as_slice.result.now in
-    let framed : least_width unbroken table ≡ border_count table.style (length (by_columns (needed_at unbroken table) table)) + sum_by (λ content. 2 + content) (by_columns (needed_at unbroken table) table) = refl in
-    let fits : sum_by (λ content. 2 + content) (by_columns (needed_at unbroken table) table) ≤ 65535 = omega (arith, c.if-has_room.true, c.in_ok-kept.ensures.least, c.from.ensures, framed) in
-    subst (All (λ content. content ≤ 65533)) (sym (c.as_slice-then-has_room.ensures.value ∙ c.in_ok-kept.ensures.kept))
-    (kept_within (kept_at unbroken table) (needed_at unbroken table) (λ i. kept_is_needed (kept_at unbroken table i) (column_content_width table i)) 0 (length table.columns) fits)
+    let least = c.shared_width.ensures unbroken (c.as_slice-2.ensures.value ∙ c.in_ok-kept.ensures) in
+    let framed : least_width unbroken table ≡ border_count table.style (length (by_columns (shared_at 8 unbroken table) table)) + sum_by (λ content. 2 + content) (by_columns (shared_at 8 unbroken table) table) = refl in
+    let fits : sum_by (λ content. 2 + content) (by_columns (shared_at 8 unbroken table) table) ≤ 65535 = omega (arith, c.if-has_room.true, least, c.from.ensures, framed) in
+    subst (All (λ content. content ≤ 65533)) (sym (c.as_slice-then-has_room-2.ensures.value ∙ c.in_ok-kept.ensures))
+    (kept_within (kept_at unbroken table) (shared_at 8 unbroken table) (kept_is_shared 8 unbroken table) 0 (length table.columns) fits)
 
 pub returns-clause-contents : goal.returns-clause-contents
 returns-clause-contents c =
@@ -24,18 +25,23 @@ returns-clause-contents c =
     let table = contents.table in
     let unbroken = unbroken_in contents.rows.selected in
     let own : c.in_ok-unbroken.unbroken.items ≡ unbroken = search rules in
-    let least = c.in_ok-kept.ensures.least ∙ ap (λ u. min (2 ^ 64 - 1) (least_width u table)) (c.as_slice.ensures.value ∙ own) in
-    let room : nat_le c.in_ok-kept.least c.from.result ≡ has_room (Some width) unbroken table =
+    let items = c.in_ok-kept.ensures ∙ ap (λ u. by_columns (kept_at u table) table) (c.as_slice.ensures.value ∙ own) in
+    let least = c.shared_width.ensures unbroken (c.as_slice-2.ensures.value ∙ items) in
+    let room : nat_le c.shared_width.result c.from.result ≡ has_room (Some width) unbroken table =
     ap (λ n. nat_le n c.from.result) least ∙ ap (nat_le (min (2 ^ 64 - 1) (least_width unbroken table))) c.from.ensures ∙ stopped (least_width unbroken table) width (omega arith) in
     let kept : c.if-has_room.contents ≡ record contents { table = kept_unbroken (Some width) unbroken table } =
     elim c.if-has_room.branch [
       | then-has_room+in_ok-constraints w ↦
-          let yes : nat_le c.in_ok-kept.least c.from.result ≡ true = grind (arith, nat_tests, w.if-has_room.true) in
-          w.contents-is ∙ w.constrain_contents.ensures ∙ ap (λ cs. record contents { table = record table { columns = constrained cs table.columns } }) w.in_ok-constraints.ensures
-          ∙ ap (λ kept. record contents { table = with_kept kept table }) (w.as_slice-then-has_room.ensures.value ∙ c.in_ok-kept.ensures.kept ∙ ap (λ u. by_columns (kept_at u table) table) (c.as_slice.ensures.value ∙ own))
+          let yes : nat_le c.shared_width.result c.from.result ≡ true = grind (arith, nat_tests, w.if-has_room.true) in
+          let third : w.as_slice-then-has_room-3.result.now ≡ unbroken = w.as_slice-then-has_room-3.ensures.value ∙ own in
+          let level : w.level_in-level.result ≡ level_in width unbroken table = w.level_in-level.ensures unbroken (w.as_slice-then-has_room.ensures.value ∙ items) in
+          let made : w.in_ok-constraints.constraints.items ≡ map at_least (given_in width unbroken table) =
+          w.in_ok-constraints.ensures table (w.as_slice-then-has_room-2.ensures.value ∙ items ∙ sym (ap (λ u. by_columns (kept_at u table) table) third))
+          ∙ ap₂ (λ (l : ℕ) (u : List Bool). map at_least (by_columns (given_at l u table) table)) level third in
+          w.contents-is ∙ w.constrain_contents.ensures ∙ ap (λ cs. record contents { table = record table { columns = constrained cs table.columns } }) made
           ∙ ap (λ t. record contents { table = t }) (sym (kept-test width unbroken table true (sym room ∙ yes)))
       | else-has_room w ↦
-          let no : nat_le c.in_ok-kept.least c.from.result ≡ false = grind (arith, nat_tests, w.if-has_room.false) in
+          let no : nat_le c.shared_width.result c.from.result ≡ false = grind (arith, nat_tests, w.if-has_room.false) in
           w.contents-is ∙ ap (λ t. record contents { table = t }) (sym (kept-test width unbroken table false (sym room ∙ no)))
     ] in
     kept
@@ -44,7 +50,9 @@ pub returns-clause-has_room : goal.returns-clause-has_room
 returns-clause-has_room c =
     let width = c.args.width in
     let contents = c.args.contents.now in
+    let table = contents.table in
     let unbroken = unbroken_in contents.rows.selected in
     let own : c.in_ok-unbroken.unbroken.items ≡ unbroken = search rules in
-    let least = c.in_ok-kept.ensures.least ∙ ap (λ u. min (2 ^ 64 - 1) (least_width u contents.table)) (c.as_slice.ensures.value ∙ own) in
-    ap (λ n. nat_le n c.from.result) least ∙ ap (nat_le (min (2 ^ 64 - 1) (least_width unbroken contents.table))) c.from.ensures ∙ stopped (least_width unbroken contents.table) width (omega arith)
+    let items = c.in_ok-kept.ensures ∙ ap (λ u. by_columns (kept_at u table) table) (c.as_slice.ensures.value ∙ own) in
+    let least = c.shared_width.ensures unbroken (c.as_slice-2.ensures.value ∙ items) in
+    ap (λ n. nat_le n c.from.result) least ∙ ap (nat_le (min (2 ^ 64 - 1) (least_width unbroken table))) c.from.ensures ∙ stopped (least_width unbroken table) width (omega arith)

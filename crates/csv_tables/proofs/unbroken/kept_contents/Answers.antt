@@ -1,20 +1,10 @@
-use Rattle.std.proofs.Common.{◌≡◌, ◌<◌, ◌+◌, ◌-◌, ◌^◌, ◌||◌, ◌++◌, ◌∷◌, [], ◌∙◌, ℕ, Bool, List, ap, ap₂, arith, false, get_or, length, map, min, nat_le, slice_get, sum_by, sym, unwrap_or}
+use Rattle.std.proofs.Common.{◌≡◌, ◌<◌, ◌||◌, ◌++◌, ◌∷◌, [], ◌∙◌, ℕ, Bool, List, ap, ap₂, arith, false, get_or, length, map, min, nat_le, slice_get, sym, unwrap_or}
 use Rattle.std.specs.List.{range_with_len}
 use Rattle.std.specs.Prelude.{if◌then◌else◌}
-use Rattle.std.proofs.lemmas.List.FromFn.{get_or-map-range_with_len, length-map-range_with_len, map-range_with_len_more, sum_by-map-range_with_len_more}
-use Rattle.comfy_table.specs.Frame.{border_count, saturated_border_count}
+use Rattle.std.proofs.lemmas.List.FromFn.{get_or-map-range_with_len, length-map-range_with_len, map-range_with_len_more}
 use Rattle.comfy_table.specs.TableValue.{TableValue, column_content_width}
-use Rattle.csv_tables.specs.Unbroken.{kept_at, name_in, needed_at, needed_content, wide_word}
+use Rattle.csv_tables.specs.Unbroken.{kept_at, name_in, wide_word}
 use Rattle.csv_tables.proofs.unbroken.kept_contents.Goals as goal
-
-pub loop-at-init : goal.loop-at-init
-loop-at-init c =
-    let table = c.args.contents.now.table in
-    let own = ap (λ v. v.table) c.contents-inside.view_is in
-    let view = ap (λ v. v.table) c.contents.view_is in
-    let long = ap length c.widths-widths.ensures ∙ length-map-range_with_len (column_content_width table) 0 (length table.columns) in
-    let count : c.count_border_columns-least.result ≡ saturated_border_count table.style (length table.columns) = c.count_border_columns-least.ensures ∙ ap₂ saturated_border_count (ap (λ (t : TableValue). t.style) own ∙ ap (λ (t : TableValue). t.style) view) long in
-    (c.in_ok-kept.ensures.items, omega (arith, count))
 
 pub loop-at-preserved : goal.loop-at-preserved
 loop-at-preserved c =
@@ -29,27 +19,13 @@ loop-at-preserved c =
     let below : at < length table.columns = omega (arith, c.loop-at-test.true, long) in
     let content : get_or widths at 0 ≡ column_content_width table at = ap (λ (ws : List ℕ). get_or ws at 0) c.widths-widths.ensures ∙ get_or-map-range_with_len (column_content_width table) 0 (length table.columns) at at 0 below (omega arith) in
     let f : Bool → ℕ → TableValue → ℕ = λ b n t. if b || nat_le n 8 then n else min n (wide_word t (name_in t at)) in
-    let keeps : c.kept_content-keeps.result ≡ kept_at unbroken table at =
-    c.kept_content-keeps.ensures ∙ ap₂ (λ b n. f b n inside) c.may_not_break.ensures content ∙ ap (λ (t : TableValue). f (unwrap_or (slice_get unbroken at) false) (column_content_width table at) t) own ∙ ap (λ (t : TableValue). f (unwrap_or (slice_get unbroken at) false) (column_content_width table at) t) view in
-    let needed : c.needed_content.result ≡ needed_at unbroken table at = c.needed_content.ensures ∙ ap₂ needed_content keeps content in
-    let sums = sum_by-map-range_with_len_more (λ (n : ℕ). 2 + n) (needed_at unbroken table) 0 at at (omega arith) in
-    let so = c.loop-at.invariant in (
-      c.in_ok-push.ensures.items ∙ ap₂ (λ (xs : List ℕ) (n : ℕ). xs ++ n ∷ []) so.0 keeps ∙ sym (map-range_with_len_more (kept_at unbroken table) 0 at at (omega arith)),
-      omega (arith, so.1, c.saturating_add-least.ensures, c.from.ensures, needed, sums),
-    )
+    let keeps : c.kept_content.result ≡ kept_at unbroken table at =
+    c.kept_content.ensures ∙ ap₂ (λ b n. f b n inside) c.may_not_break.ensures content ∙ ap (λ (t : TableValue). f (unwrap_or (slice_get unbroken at) false) (column_content_width table at) t) own ∙ ap (λ (t : TableValue). f (unwrap_or (slice_get unbroken at) false) (column_content_width table at) t) view in
+    c.in_ok-push.ensures.items ∙ ap₂ (λ (xs : List ℕ) (n : ℕ). xs ++ n ∷ []) c.loop-at.invariant keeps ∙ sym (map-range_with_len_more (kept_at unbroken table) 0 at at (omega arith))
 
-pub returns-clause-kept : goal.returns-clause-kept
-returns-clause-kept c =
+pub returns : goal.returns
+returns c =
     let table = c.args.contents.now.table in
     let long = ap length c.widths-widths.ensures ∙ length-map-range_with_len (column_content_width table) 0 (length table.columns) in
     let same : c.loop-at.at ≡ length table.columns = omega (arith, c.loop-at-test.false, c.loop-at.auto.at-end, long) in
-    c.loop-at.invariant.0 ∙ ap (λ (n : ℕ). map (kept_at c.args.unbroken.now table) (range_with_len 0 n)) same
-
-pub returns-clause-least : goal.returns-clause-least
-returns-clause-least c =
-    let table = c.args.contents.now.table in
-    let needs = needed_at c.args.unbroken.now table in
-    let long = ap length c.widths-widths.ensures ∙ length-map-range_with_len (column_content_width table) 0 (length table.columns) in
-    let same : c.loop-at.at ≡ length table.columns = omega (arith, c.loop-at-test.false, c.loop-at.auto.at-end, long) in
-    c.loop-at.invariant.1 ∙ ap (λ (n : ℕ). min (2 ^ 64 - 1) (border_count table.style (length table.columns) + sum_by (λ content. 2 + content) (map needs (range_with_len 0 n)))) same
-    ∙ ap (λ (n : ℕ). min (2 ^ 64 - 1) (border_count table.style n + sum_by (λ content. 2 + content) (map needs (range_with_len 0 (length table.columns))))) (sym (length-map-range_with_len needs 0 (length table.columns)))
+    c.loop-at.invariant ∙ ap (λ (n : ℕ). map (kept_at c.args.unbroken.now table) (range_with_len 0 n)) same
