@@ -16,7 +16,7 @@ use Rattle.comfy_table.specs.Dynamic.{Steps, IsArrangedBy}
 use Rattle.comfy_table.specs.Frame.{border_count}
 use Rattle.comfy_table.specs.Laws.{NoConstraints, least_total}
 use Rattle.comfy_table.specs.TableLaws.{wider_total}
-use Rattle.comfy_table.specs.TableValue.{TableValue, column_content_width, max_content_widths, measured_rows, shown_columns}
+use Rattle.comfy_table.specs.TableValue.{TableValue, max_content_widths, measured_rows, shown_columns}
 use Rattle.comfy_table.specs.Widths.{ColumnNeeds, needs_of, shown_count, shown_needs}
 use Rattle.csv_tables.proofs.BuiltLemmas.{Built, plain_table}
 use Rattle.csv_tables.proofs.LeastLemmas.{least_of, steps_within}

@@ -1,4 +1,4 @@
-use Rattle.std.proofs.Common.{◌≡◌, ◌∙◌, ◌≤◌, ◌-◌, ◌^◌, ℕ, Bool, true, false, ap, arith, min, nat_le, sym}
+use Rattle.std.proofs.Common.{◌≡◌, ◌∙◌, ℕ, Bool, true, false, ap, arith, nat_le, sym}
 use Rattle.std.proofs.lemmas.Bool.Decides.{nat_tests}
 use Rattle.csv_tables.proofs.UnbrokenLemmas.{failed_level, passed_level, stopped}
 use Rattle.csv_tables.specs.Unbroken.{shared_width}
