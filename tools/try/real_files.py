@@ -126,7 +126,8 @@ class Recipe:
 
 
 RECIPES = [
-    Recipe("csvtable -r price list.csv", "list.csv", "item,price\nnut,3 for 1\nbolt,2\n", ["│ nut  ┆ 3 for 1 │", "│ bolt ┆       2 │"]),
+    Recipe("csvtable -m 1 -w 100 notes.csv", "notes.csv", "id,note\n1," + "word " * 40 + "\n2,short\n", ["│  1 ┆ word word", "word…  │\n│  2 ┆ short "]),
+    Recipe("csvtable --markdown list.csv", "list.csv", "item,price\nnut,3 for 1\nbolt,2\n", ["| nut  | 3 for 1 |\n| bolt | 2       |"]),
     Recipe("csvtable -c name,3-5 --limit 20 big.csv", "big.csv", BIG, ["│ name ┆ x ┆ y ┆ z │", "│ n19  ┆ 1 ┆ 2 ┆ 3 │\n╰", "first 20 records; there are more\n"]),
     Recipe("csvtable -e cp1252 --skip 4 bank.csv", "bank.csv", ("1\n2\n3\n4\n" + BANK).encode("latin-1"), ["│ Buchungstag ┆ Verwendungszweck ┆   Betrag │", "Bäckerei Müller"]),
     Recipe(
