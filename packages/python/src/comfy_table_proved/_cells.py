@@ -7,7 +7,7 @@ import itertools
 from typing import Optional, Sequence
 
 from ._columns import BY_CONTENTS, RIGHT, Limits
-from ._judging import cleaned, needed_of, sides_of, spaces_behind, stays_whole
+from ._judging import LEAST_LEVEL, cleaned, kept_of, sides_of, spaces_behind, stays_whole
 from ._library import NO_WIDTH, CellLook, CellsSettings, ColumnNumbers, draw_cells
 from ._paints import BOLD, paint_of, side_of
 from ._styles import EVERYWHERE, NOTHING, WHERE_NEEDED, Frame
@@ -77,7 +77,8 @@ class _Column:
         self.padding = asked.padding
         self._keeps_width = table.width != NO_WIDTH
         self.stays_whole = self._keeps_width and stays_whole(self._plain[first:])
-        # The width that it has so that no number is broken, where there is room.
+        self._name = self._plain[0] if table.has_header else ""
+        # The width that it has so that no number and no word of its name is broken, where there is room.
         self.kept_width: Optional[int] = None
         self._spaces = [""] * len(self._plain)
         if table.aligns_decimals and self.side == RIGHT:
@@ -92,10 +93,16 @@ class _Column:
         if are_aligned:
             self.texts = [text + spaces for text, spaces in zip(self.texts, self._spaces)]
 
-    def needed(self, content: int) -> int:
-        """The terminal columns that the column needs with its paddings, where its contents are so wide."""
+    def kept(self, content: int) -> int:
+        """The terminal columns of contents so wide that the column keeps in any case."""
+        if self.stays_whole:
+            return content
+        return kept_of(content, _content_width(self._name.replace(" ", "\n")))
+
+    def needed(self, content: int, kept: int, level: int) -> int:
+        """The terminal columns that the column takes with its paddings, where all share a width up to a level."""
         least, greatest = self.limits
-        needed = max(1, content) if self.stays_whole else needed_of(content)
+        needed = max(1, kept, min(level, content))
         if greatest is not None:
             needed = min(needed, greatest)
         return max(needed, least or 1) + sum(self.padding)
@@ -157,11 +164,19 @@ def _are_fitted(table: CellsTable, columns: list[_Column], are_aligned: bool) ->
         column.take_texts(are_aligned)
     if table.width == NO_WIDTH:
         return True
-    contents = _drawing(table, columns, table.frame, _CONTENT_WIDTHS).split("\n")[:-1]
-    needed = [column.needed(int(content)) for column, content in zip(columns, contents)]
-    has_room = sum(needed) + table.frame.border_width(len(columns)) <= table.width
-    for column, width in zip(columns, needed):
-        column.kept_width = width if has_room and column.stays_whole else None
+    contents = [int(it) for it in _drawing(table, columns, table.frame, _CONTENT_WIDTHS).split("\n")[:-1]]
+    kept = [column.kept(content) for column, content in zip(columns, contents)]
+
+    def needed(level: int) -> list[int]:
+        return [column.needed(*it, level) for column, *it in zip(columns, contents, kept)]
+
+    def fits(level: int) -> bool:
+        return sum(needed(level)) + table.frame.border_width(len(columns)) <= table.width
+
+    has_room = fits(LEAST_LEVEL)
+    level = next((it for it in range(min(table.width, max(contents)), 0, -1) if fits(it)), 0) if has_room else 0
+    for column, width, keeps in zip(columns, needed(level), kept):
+        column.kept_width = width if has_room and (column.stays_whole or keeps > level) else None
     return has_room
 
 

@@ -9,8 +9,8 @@ from ._columns import BY_CONTENTS, LEFT, RIGHT
 from ._library import NO_LIMIT, NO_WIDTH, RowsSettings, draw_rows
 from ._styles import NOTHING
 
-# How many terminal columns the texts of a column need at most where they may be broken.
-_NEEDED = 4
+# How many terminal columns of texts that may be broken have room in any case, and how many of a word of their column's name.
+LEAST_LEVEL, _LONGEST_WORD = 8, 20
 # How many characters a number or a date has at most.
 _LONGEST = 25
 
@@ -53,15 +53,18 @@ def spaces_behind(texts: list[str]) -> list[str]:
 def stays_whole(texts: list[str]) -> bool:
     """Whether these are numbers and dates, which aren't broken.
 
-    Below a header that is too wide for a width, which may be broken where such texts aren't below it, rows are expanded.
+    Below a header of short words that is too wide for a width, which may be broken where such texts aren't below it, rows are
+    expanded.
     """
     if any(len(text.strip()) > _LONGEST for text in texts):
         return False
-    rows = [["-" * (_NEEDED + 1)], *([text] for text in texts)]
-    lines = _drawn(rows, BY_CONTENTS, width=2 + _NEEDED, has_header=True, expansion=1)
+    rows = [["- " * (LEAST_LEVEL // 2) + "-"], *([text] for text in texts)]
+    lines = _drawn(rows, BY_CONTENTS, width=2 + LEAST_LEVEL, has_header=True, expansion=1)
     return not lines[0].startswith(" ")
 
 
-def needed_of(width: int) -> int:
-    """What a column whose contents are so wide needs at least, where they may be broken."""
-    return max(1, min(width, _NEEDED))
+def kept_of(content: int, word: int) -> int:
+    """What a column keeps of contents that may be broken, where the widest word of its name is so wide."""
+    if content <= LEAST_LEVEL:
+        return content
+    return min(content, word, _LONGEST_WORD) if word > LEAST_LEVEL else 0
