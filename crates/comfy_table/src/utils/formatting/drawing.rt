@@ -96,7 +96,9 @@ impl<'a> Writer<'a> {
 
     /// Appends the lines of these rows to an output. After `OutOfMemory` its text begins with what
     /// it was.
-    pub fn draw(&mut self, rows: &[Row], extent: Extent, output: &mut Output) -> Result<()>
+    pub fn draw<'r>(&mut self, rows: &'r [Row], extent: Extent, output: &mut Output) -> Result<()>
+    where
+        'a: 'r,
         ensures ok { OnOk result (output.new
             ≡ with_lines (part_of_drawing self.old.table self.old.infos extent.is_first
             extent.is_last rows.now) output.old) }
@@ -137,7 +139,9 @@ impl<'a> Writer<'a> {
     }
 
     // The lines of these rows, and those around them.
-    fn write(&mut self, rows: &[Row], extent: Extent) -> Result<()>
+    fn write<'r>(&mut self, rows: &'r [Row], extent: Extent) -> Result<()>
+    where
+        'a: 'r,
         ensures ok { OnOk result (self.new
             ≡ with_written (part_of_drawing self.old.table self.old.infos extent.is_first
             extent.is_last rows.now) self.old) }
@@ -149,18 +153,22 @@ impl<'a> Writer<'a> {
     }
 
     // The lines of these rows, below the top border and the header, or below other rows.
-    fn write_rows_below(&mut self, rows: &[Row], is_first: bool) -> Result<()>
+    fn write_rows_below<'r>(&mut self, rows: &'r [Row], is_first: bool) -> Result<()>
+    where
+        'a: 'r,
         ensures ok { OnOk result (self.new
             ≡ with_written (rows_below self.old.table self.old.infos is_first rows.now)
             self.old) }
         ensures err { OnErr result (BeginsWith self.new.output.text self.old.output.text) }
         ensures kept { AreSame self.old self.new }
     {
+        let table = self.table;
+        let mut drawn: DrawnRow<'a, 'r> = DrawnRow::new(*table.columns.allocator());
         if is_first {
-            self.write_above()?;
-            self.write_rows(rows)
+            self.write_above(&mut drawn)?;
+            self.write_rows(&mut drawn, rows)
         } else {
-            self.write_further_rows(rows)
+            self.write_further_rows(&mut drawn, rows)
         }
     }
 
@@ -194,8 +202,9 @@ impl<'a> Writer<'a> {
         ensures kept { AreSame self.old self.new }
     {
         let frame = self.frame;
+        let table = self.table;
         if extent.is_first {
-            self.write_above()?;
+            self.write_above(&mut DrawnRow::new(*table.columns.allocator()))?;
         } else {
             self.write_line(&frame.separator)?;
         }
@@ -222,7 +231,9 @@ impl<'a> Writer<'a> {
     }
 
     // The top border and the header.
-    fn write_above(&mut self) -> Result<()>
+    fn write_above<'r>(&mut self, drawn: &mut DrawnRow<'a, 'r>) -> Result<()>
+    where
+        'a: 'r,
         ensures ok { OnOk result (self.new
             ≡ with_written (lines_above self.old.table self.old.infos) self.old) }
         ensures err { OnErr result (BeginsWith self.new.output.text self.old.output.text) }
@@ -230,7 +241,7 @@ impl<'a> Writer<'a> {
     {
         let frame = self.frame;
         self.write_line(&frame.top)?;
-        self.write_header()
+        self.write_header(drawn)
     }
 
     // A line of the frame, where it is drawn.
@@ -247,7 +258,9 @@ impl<'a> Writer<'a> {
     }
 
     // The header's lines and the header separator, where there is a header.
-    fn write_header(&mut self) -> Result<()>
+    fn write_header<'r>(&mut self, drawn: &mut DrawnRow<'a, 'r>) -> Result<()>
+    where
+        'a: 'r,
         ensures ok { OnOk result (self.new
             ≡ with_written (drawn_header self.old.table self.old.infos self.old.table.header)
             self.old) }
@@ -256,13 +269,17 @@ impl<'a> Writer<'a> {
     {
         let table = self.table;
         match &table.header {
-            Some(header) => self.write_header_lines(header),
+            Some(header) => self.write_header_lines(drawn, header),
             None => Ok(()),
         }
     }
 
     // The lines of this header, and the header separator.
-    fn write_header_lines(&mut self, header: &Row) -> Result<()>
+    fn write_header_lines<'r>(
+        &mut self,
+        drawn: &mut DrawnRow<'a, 'r>,
+        header: &'r Row,
+    ) -> Result<()>
         ensures ok { OnOk result (self.new
             ≡ with_written (drawn_header self.old.table self.old.infos (Some header.now))
             self.old) }
@@ -274,13 +291,12 @@ impl<'a> Writer<'a> {
         let gaps = RowGaps::new(table, &style.header_lines)?;
         let columns = self.columns.as_slice();
         let separator = optional_frame_line(table, &style.header_separator, columns)?;
-        let mut drawn = DrawnRow::new(*table.columns.allocator());
-        self.write_row(&mut drawn, &gaps, header)?;
+        self.write_row(drawn, &gaps, header)?;
         self.write_line(&separator)
     }
 
     // The lines of these rows, with the row separator between each two rows.
-    fn write_rows(&mut self, rows: &[Row]) -> Result<()>
+    fn write_rows<'r>(&mut self, drawn: &mut DrawnRow<'a, 'r>, rows: &'r [Row]) -> Result<()>
         ensures ok { OnOk result (self.new
             ≡ with_written (drawn_rows self.old.table self.old.infos rows.now) self.old) }
         ensures err { OnErr result (BeginsWith self.new.output.text self.old.output.text) }
@@ -289,28 +305,28 @@ impl<'a> Writer<'a> {
         let frame = self.frame;
         match rows.split_first() {
             Some((first, rest)) => {
-                let table = self.table;
-                let mut drawn = DrawnRow::new(*table.columns.allocator());
-                self.write_row(&mut drawn, &frame.gaps, first)?;
-                self.write_further_rows(rest)
+                self.write_row(drawn, &frame.gaps, first)?;
+                self.write_further_rows(drawn, rest)
             }
             None => Ok(()),
         }
     }
 
     // The lines of these rows, with the row separator above each of them.
-    fn write_further_rows(&mut self, rows: &[Row]) -> Result<()>
+    fn write_further_rows<'r>(
+        &mut self,
+        drawn: &mut DrawnRow<'a, 'r>,
+        rows: &'r [Row],
+    ) -> Result<()>
         ensures ok { OnOk result (self.new
             ≡ with_written (further_rows self.old.table self.old.infos rows.now) self.old) }
         ensures err { OnErr result (BeginsWith self.new.output.text self.old.output.text) }
         ensures kept { AreSame self.old self.new }
     {
         let frame = self.frame;
-        let table = self.table;
-        let mut drawn = DrawnRow::new(*table.columns.allocator());
         for row in rows {
             self.write_line(&frame.separator)?;
-            self.write_row(&mut drawn, &frame.gaps, row)?;
+            self.write_row(drawn, &frame.gaps, row)?;
         }
         Ok(())
     }
