@@ -31,7 +31,7 @@ pub record IsMadeOf (p : ℕ → Bool) (text : Text) : Type 0 where
 pub made_passes : (p : ℕ → Bool) (text : Text) → IsMadeOf p text → list_all p (chars text) ≡ true
 made_passes p text is = ap (λ (t : Text). list_all p (chars t)) (sym is.spell) ∙ ap (list_all p) (chars-encodes is.characters is.scalars) ∙ is.pass
 
-scalars-append : (xs ys : List ℕ) → all_scalars xs ≡ true → all_scalars ys ≡ true → all_scalars (xs ++ ys) ≡ true
+pub scalars-append : (xs ys : List ℕ) → all_scalars xs ≡ true → all_scalars ys ≡ true → all_scalars (xs ++ ys) ≡ true
 scalars-append [] ys front back = back
 scalars-append (x ∷ xs) ys front back =
     let both = and_parts (scalar_of x) (all_scalars xs) front in

@@ -11,14 +11,13 @@ use Rattle.comfy_parts.specs.declared.style.table_style.ContentLineStyle.{Conten
 use Rattle.comfy_parts.specs.declared.style.table_style.TableStyle.{TableStyle}
 use Rattle.comfy_table.proofs.MeasuredLemmas.{row_measured}
 use Rattle.comfy_table.specs.Arrangement.{IsArranged, widths_at}
-use Rattle.comfy_table.specs.Drawing.{drawing, drawn_header, drawn_row, drawn_rows, infos_of, terminated_text_of, outer_widths}
+use Rattle.comfy_table.specs.Drawing.{drawing_of_infos, drawn_header, drawn_row, further_rows, infos_of, outer_widths, part_of_drawing, terminated_text_of}
 use Rattle.comfy_table.specs.Frame.{content_line, optional_frame_line}
 use Rattle.comfy_table.specs.Laws.{HasNoBreak}
 use Rattle.comfy_table.specs.Pieces.{row_height, row_line, shown_infos}
-use Rattle.comfy_table.specs.TableValue.{TableValue, column_content_width, max_content_widths, measured_rows, should_style}
+use Rattle.comfy_table.specs.TableValue.{TableValue, column_content_width, measured_rows, should_style}
 use Rattle.csv.specs.Records.{AllText}
 use Rattle.csv_tables.specs.Cells.{Shown, counted_from, field_text, row_for, cell_for, columns_within, shown_in, shown_names}
-use Rattle.csv_tables.specs.Markdown.{rule_line}
 use Rattle.csv_tables.specs.declared.options.Look.{Look}
 use Rattle.csv_tables.specs.declared.options.Layout.{Layout}
 use Rattle.csv_tables.proofs.BuiltLemmas.{each_content, each_counted, names-length, names_each, row-length, row_each, plain_columns}
@@ -26,11 +25,11 @@ use Rattle.csv_tables.proofs.MarkdownLineLemmas.{IsWhole, gives_back}
 use Rattle.csv_tables.proofs.MarkdownRowLemmas.{FitsAmong, IsOnly, all_fit, first_line, height_of, infos_placed, markdown_row, one_high, one_text_line, only_pieces, pieces_of, placed, IsCellAt, IsShortAt}
 use Rattle.csv_tables.proofs.MarkdownWidthLemmas.{all_columns, by_contents, drawn_for_markdown, headed, header, known, rows_measured, sides-length, table, with_names}
 use Rattle.csv_tables.proofs.OutputControlLemmas.{text_fields}
-use Rattle.csv_tables.proofs.OutputLemmas.{markdown_unbroken}
+use Rattle.csv_tables.proofs.OutputLemmas.{markdown_parts, markdown_unbroken}
 use Rattle.csv_tables.proofs.RowLemmas.{with_rows-rows}
 use Rattle.csv_tables.proofs.StraightLemmas.{IsShort, empty_is_short, short_printable}
 use Rattle.csv_tables.proofs.TextTableLemmas.{EachLine, blank, short_drawn}
-use Rattle.csv_tables.specs.Drawn.{SelectedValue, RendersAsMarkdown, RendersContent, below_first, headed_table, markdown_look, markdown_style, markdown_table, note_for, sides}
+use Rattle.csv_tables.specs.Drawn.{SelectedValue, RendersAsMarkdown, RendersContent, below_first, headed_table, markdown_look, markdown_rule, markdown_style, markdown_table, note_for, sides}
 use Rattle.csv_tables.specs.MarkdownLines.{GivesBack, MarkdownGivesRecordsBack}
 use Rattle.csv_tables.proofs.ReachedLemmas.{mapped_at, shown-at, unmapped_at}
 
@@ -179,16 +178,14 @@ module _ (look : Look) (content : SelectedValue) (widths : List ℕ) (arranged :
         (ap₂ (λ (a b : List Text). a ++ b) (ap (λ (style : TableStyle). optional_frame_line style style.row_separator (outer_widths infos)) own_style) (row_line_is row (All-head (λ row. IsFitting (line row)) row rows each)))
         (others rows (All-tail (λ row. IsFitting (line row)) row rows each))
 
-    rows_lines : (rows : List (ℕ × List Text)) → All (λ row. IsFitting (line row)) rows → drawn_rows drawn infos (map row_made rows) ≡ map (λ row. line_of (line row)) rows
-    rows_lines [] each = refl
-    rows_lines (row ∷ rows) each = ap₂ (λ (a b : List Text). a ++ b) (row_line_is row (All-head (λ row. IsFitting (line row)) row rows each)) (others rows (All-tail (λ row. IsFitting (line row)) row rows each))
+    header_lines : IsFitting header_line → part_of_drawing drawn infos true false [] ≡ line_of header_line ∷ []
+    header_lines first =
+        ap₂ (λ (a b : List Text). ((a ++ b) ++ []) ++ []) (ap (λ (style : TableStyle). optional_frame_line style style.top_border (outer_widths infos)) own_style) (names_line first)
 
-    lines_are : IsFitting header_line → All (λ row. IsFitting (line row)) counted → drawing drawn widths ≡ line_of header_line ∷ map (λ row. line_of (line row)) counted
-    lines_are first each =
-        ap₂ (λ (a b : List Text). a ++ b) (ap (λ (style : TableStyle). optional_frame_line style style.top_border (outer_widths infos)) own_style)
-        (ap₂ (λ (a b : List Text). a ++ b) (names_line first)
-        (ap₂ (λ (a b : List Text). a ++ b) (ap (drawn_rows drawn infos) own_rows ∙ rows_lines counted each)
-        (ap (λ (style : TableStyle). optional_frame_line style style.bottom_border (outer_widths infos)) own_style) ∙ append-nil (map (λ row. line_of (line row)) counted)))
+    record_lines : All (λ row. IsFitting (line row)) counted → part_of_drawing drawn infos false true drawn.rows ≡ map (λ row. line_of (line row)) counted
+    record_lines each =
+        ap₂ (λ (a b : List Text). a ++ b) (ap (further_rows drawn infos) own_rows ∙ others counted each) (ap (λ (style : TableStyle). optional_frame_line style style.bottom_border (outer_widths infos)) own_style)
+        ∙ append-nil (map (λ row. line_of (line row)) counted)
 
     line_gives_back : (l : Line) → IsFitting l → GivesBack l.all (line_of l)
     line_gives_back l own =
@@ -214,21 +211,31 @@ records_are_given_back counted layout records output is short text made some =
     let each = with_names Short (All-nil (EachLine IsShort (markdown_look look))) content (each_content Short counted layout records content made.is_content fields) in
     let texts = with_names AllText none content (each_content AllText counted layout records content made.is_content text) in
     let names = unwrap_or content.names [] in
-    let widths = drawn.drawing.widths in
-    let arranged = drawn.drawing.arranged in
+    let own = drawn.is_arranged in
+    let table = drawn.arranged.table in
+    let infos = drawn.arranged.infos in
+    let widths = own.headline.widths in
+    let arranged = own.headline.arranged in
     let first = names_fitting look content widths arranged (each.names names refl) (texts.names names refl) in
     let others = rows_fitting look content widths arranged each.rows texts.rows in
-    let lines = drawn.drawing.drawn ∙ lines_are look content widths arranged some first others in
-    let rule = rule_line (sides content) (max_content_widths (markdown_table look content)) in
+    let header = line_of look content widths arranged (header_line look content widths arranged) in
+    let lines = map (λ row. line_of look content widths arranged (line look content widths arranged row)) (counted_from 1 content.rows) in
+    let above : part_of_drawing table infos true false [] ≡ header ∷ [] =
+    ap₂ (λ (t : TableValue) (is : List ColumnInfo). part_of_drawing t is true false []) own.of_table own.infos ∙ header_lines look content widths arranged some first in
+    let below : part_of_drawing table infos false true table.rows ≡ lines =
+    ap₂ (λ (t : TableValue) (is : List ColumnInfo). part_of_drawing t is false true t.rows) own.of_table own.infos ∙ record_lines look content widths arranged some others in
+    let rule = markdown_rule look content in
+    let whole : drawing_of_infos (markdown_table look content) infos ≡ header ∷ lines =
+    ap (λ (t : TableValue). drawing_of_infos t infos) (sym own.of_table) ∙ sym (markdown_parts look content drawn.arranged own.of_table) ∙ ap₂ (λ (a b : List Text). a ++ b) above below in
     record {
       content = content;
       is_content = made.is_content;
-      header = line_of look content widths arranged (header_line look content widths arranged);
-      lines = map (λ row. line_of look content widths arranged (line look content widths arranged row)) (counted_from 1 content.rows);
+      header = header;
+      lines = lines;
       is =
           made.joined
-          ∙ ap₂ (λ (t : Text) (b : Bool). t ++ note_for b layout.selection.limit content.count) (drawn.is ∙ ap (λ (ls : List Text). terminated_text_of (below_first rule ls)) lines) is;
-      unbroken = subst (All HasNoBreak) lines (drawn.drawing.controls.without_breaks (markdown_unbroken look content));
+          ∙ ap₂ (λ (t : Text) (b : Bool). t ++ note_for b layout.selection.limit content.count) (drawn.is ∙ ap₂ (λ (a b : List Text). terminated_text_of (below_first rule a ++ b)) above below) is;
+      unbroken = subst (All HasNoBreak) whole (own.headline.controls.without_breaks (markdown_unbroken look content));
       names = line_gives_back look content widths arranged some (header_line look content widths arranged) first;
       rows = lines_give_back look content widths arranged some (counted_from 1 content.rows) others;
     }

@@ -38,12 +38,14 @@ use Rattle.csv_tables.specs.declared.options.DrawnColumn.{DrawnColumn}
 use Rattle.csv_tables.specs.declared.options.Look.{Look}
 use Rattle.csv_tables.specs.declared.options.Layout.{Layout}
 use Rattle.csv_tables.proofs.BuiltLemmas.{Built, EachOf, each_content, names-length, row-length, plain_shown}
-use Rattle.csv_tables.proofs.OutputControlLemmas.{each_below_first, free_markdown, markdown_lines_of, printable_is_seen, rule_is_clear, rule_is_printable}
+use Rattle.csv_tables.proofs.OutputLemmas.{each_markdown_line}
+use Rattle.comfy_table.specs.Parts.{ArrangedValue, IsArrangedTable}
+use Rattle.csv_tables.proofs.OutputControlLemmas.{free_markdown, markdown_lines_of, printable_is_seen, rule_is_clear, rule_is_printable}
 use Rattle.csv_tables.proofs.LineLemmas.{Any, any_built, never_expanded}
 use Rattle.csv_tables.proofs.StraightLemmas.{IsSeenTable, IsShort, empty_is_short, rows_are_straight, short_printable, short_rows}
 use Rattle.csv_tables.proofs.TextTableLemmas.{EachLine, rows_of_texts, short_drawn, blank}
 use Rattle.csv_tables.specs.Laws.{AreSeen, EachText, IsStraightOutput, MarkdownOutputIsStraight, WholeOutputIsStraight, seen_lines}
-use Rattle.csv_tables.specs.Drawn.{SelectedValue, RendersAsMarkdown, RendersRecords, RendersContent, selected_of, below_first, headed_table, empty_table, markdown_content, markdown_look, markdown_style, markdown_table, sides}
+use Rattle.csv_tables.specs.Drawn.{SelectedValue, RendersAsMarkdown, RendersRecords, RendersContent, selected_of, markdown_lines, markdown_rule, headed_table, empty_table, markdown_content, markdown_look, markdown_style, markdown_table, sides}
 use Rattle.csv_tables.proofs.ReachedLemmas.{reached-length}
 
 -- ---- a header with a cell for each column
@@ -249,13 +251,22 @@ module _ (look : Look) (content : SelectedValue) where
         omega (arith, whole, sums, two_each, count, borders, parts, printable, bar, headed.count, some)
 
   -- so are all lines as they are seen
-  pub markdown_lines_are_straight : EachOf (All (EachLine IsShort (markdown_look look))) (markdown_content content) → (visible : Bool) → IsSeenTable visible (markdown_look look) table → (lines : List Text) → IsTableDrawing table lines
-      → AreEquallyWide (seen_lines visible (below_first (rule_line (sides content) (max_content_widths table)) lines))
-  markdown_lines_are_straight each visible seen lines drawing =
-      (line_total table drawing.widths, All-map (λ line. measure line ≡ line_total table drawing.widths) (visible_of visible) (below_first rule lines) (with_rule lines refl (by_kind visible seen)))
+  pub markdown_lines_are_straight : EachOf (All (EachLine IsShort (markdown_look look))) (markdown_content content) → (visible : Bool) → IsSeenTable visible (markdown_look look) table → (arranged : ArrangedValue) → IsArrangedTable table arranged
+      → AreEquallyWide (seen_lines visible (markdown_lines (markdown_rule look content) arranged))
+  markdown_lines_are_straight each visible seen arranged is = (
+    line_total table drawing.widths,
+    All-map (λ line. measure line ≡ line_total table drawing.widths) (visible_of visible) (markdown_lines rule arranged)
+        (each_markdown_line (Is visible) look content arranged rule is (by_kind visible seen) (λ some. seen_rule visible ∙ rule_is_as_wide drawing.widths drawing.arranged (some_columns some (sides content) refl))),
+  )
     where
       rule : Text
-      rule = rule_line (sides content) (max_content_widths table)
+      rule = markdown_rule look content
+
+      lines : List Text
+      lines = drawing_of_infos table arranged.infos
+
+      drawing : IsTableDrawing table lines
+      drawing = is.headline
 
       Is : Bool → Text → Type 0
       Is kind line = measure (visible_of kind line) ≡ line_total table drawing.widths
@@ -274,25 +285,21 @@ module _ (look : Look) (content : SelectedValue) where
       seen_rule true = ap measure (printable_is_seen rule (rule_is_printable (sides content) (max_content_widths table)))
       seen_rule false = refl
 
-      some_columns : (first : Text) (rest : List Text) → first ∷ rest ≡ lines → (columns : List (Option CellAlignment)) → sides content ≡ columns → 0 < length (sides content)
-      some_columns first rest are [] none =
+      some_columns : 0 < length lines → (columns : List (Option CellAlignment)) → sides content ≡ columns → 0 < length (sides content)
+      some_columns some [] none =
           let no_columns : length table.columns ≡ 0 = headed.count ∙ ap (λ (cs : List (Option CellAlignment)). length cs) none in
-          absurd (let empty : first ∷ rest ≡ [] = are ∙ drawing.drawn ∙ none_drawn table (ap (λ (t : TableValue). t.style) known.is) drawing.widths (nil_from_length table.columns no_columns) in cc empty)
-      some_columns first rest are (column ∷ columns) some = rw some (omega arith)
-
-      with_rule : (own : List Text) → own ≡ lines → All (Is visible) own → All (Is visible) (below_first rule own)
-      with_rule [] are all = All-nil (Is visible)
-      with_rule (first ∷ rest) are all =
-          All-cons (Is visible) first (rule ∷ rest) (All-head (Is visible) first rest all)
-          (All-cons (Is visible) rule rest (seen_rule visible ∙ rule_is_as_wide drawing.widths drawing.arranged (some_columns first rest are (sides content) refl)) (All-tail (Is visible) first rest all))
+          let empty = ap length (drawing.drawn ∙ none_drawn table (ap (λ (t : TableValue). t.style) known.is) drawing.widths (nil_from_length table.columns no_columns)) in
+          absurd (omega (arith, some, empty))
+      some_columns some (column ∷ columns) own = rw own (omega arith)
 
 -- no control character is visible of them
-clear_markdown : (visible : Bool) (look : Look) (content : SelectedValue) (lines : List Text) → IsTableDrawing (markdown_table look content) lines → IsSeenTable visible (markdown_look look) (markdown_table look content)
-    → visible ≡ true → All HasNoControl (seen_lines visible (below_first (rule_line (sides content) (max_content_widths (markdown_table look content))) lines))
-clear_markdown false look content lines drawing plain is = absurd (cc is)
-clear_markdown true look content lines drawing free is =
-    let rule = rule_line (sides content) (max_content_widths (markdown_table look content)) in
-    All-map HasNoControl visible_text (below_first rule lines) (each_below_first (λ (line : Text). HasNoControl (visible_text line)) rule lines (rule_is_clear (sides content) _) (drawing.controls.without_controls free))
+clear_markdown : (visible : Bool) (look : Look) (content : SelectedValue) (arranged : ArrangedValue) → IsArrangedTable (markdown_table look content) arranged → IsSeenTable visible (markdown_look look) (markdown_table look content)
+    → visible ≡ true → All HasNoControl (seen_lines visible (markdown_lines (markdown_rule look content) arranged))
+clear_markdown false look content arranged drawn plain is = absurd (cc is)
+clear_markdown true look content arranged drawn free is =
+    let rule = markdown_rule look content in
+    All-map HasNoControl visible_text (markdown_lines rule arranged)
+    (each_markdown_line (λ (line : Text). HasNoControl (visible_text line)) look content arranged rule drawn (drawn.headline.controls.without_controls free) (λ some. rule_is_clear (sides content) _))
 
 -- ---- outputs
 
@@ -327,12 +334,11 @@ markdown_straight visible counted layout records output own is short made =
     let fields : All Short records = All-weaker (All (EachLine IsShort look)) Short (λ fields. All-weaker (EachLine IsShort look) (EachLine IsShort (markdown_look look)) (drawn_for_markdown look is) fields) records short in
     let each = with_names Short (All-nil (EachLine IsShort (markdown_look look))) made.content (each_content Short counted layout records made.content made.is_content fields) in
     let seen = seen_markdown visible counted layout records made.content made.is_content own in
-    let rule = rule_line (sides made.content) (max_content_widths (markdown_table look made.content)) in
     record {
-      lines = below_first rule text.lines;
+      lines = markdown_lines (markdown_rule look made.content) text.arranged;
       is_output = record { content = made.content; is_content = made.is_content; is_expanded = false; expansion = never_expanded look made.content is; text = made.text; has_lines = markdown_lines_of look made.content made.text text; joined = made.joined };
-      equally_wide = markdown_lines_are_straight look made.content each visible seen text.lines text.drawing;
-      clear = clear_markdown visible look made.content text.lines text.drawing seen;
+      equally_wide = markdown_lines_are_straight look made.content each visible seen text.arranged text.is_arranged;
+      clear = clear_markdown visible look made.content text.arranged text.is_arranged seen;
     }
 
 pub markdown_is_straight : (counted : Option ℕ) (layout : Layout) (records : List (List Text)) (output : Text) → MarkdownOutputIsStraight counted layout records output

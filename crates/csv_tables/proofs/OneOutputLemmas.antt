@@ -4,17 +4,16 @@ use Rattle.std.specs.List.{list_any}
 use Rattle.std.specs.Prelude.{nat_lt}
 use Rattle.comfy_parts.specs.CellValue.{ColumnInfo}
 use Rattle.comfy_parts.specs.Text.{Text}
-use Rattle.comfy_table.proofs.OneDrawingLemmas.{arranged_is_one, drawing_is_one}
+use Rattle.comfy_table.proofs.OneDrawingLemmas.{arranged_is_one}
 use Rattle.comfy_table.specs.Drawing.{infos_of, terminated_text_of}
 use Rattle.comfy_table.specs.Parts.{ArrangedValue, IsArrangedTable}
 use Rattle.comfy_table.specs.Pieces.{row_height}
-use Rattle.comfy_table.specs.TableValue.{TableValue, max_content_widths}
-use Rattle.csv_tables.specs.Markdown.{rule_line}
+use Rattle.comfy_table.specs.TableValue.{TableValue}
 use Rattle.csv_tables.specs.declared.options.Layout.{Layout}
 use Rattle.csv_tables.specs.declared.options.Look.{Look}
 use Rattle.csv_tables.specs.declared.options.RowSeparators.{RowSeparators}
 use Rattle.csv_tables.specs.declared.options.RowSeparators.TheVariants.{Styled, Needed, Never}
-use Rattle.csv_tables.specs.Drawn.{SelectedValue, HasSeparators, RendersAsMarkdown, RendersContent, RendersTable, below_first, markdown_table, note_for, output_table, separated_table, separators_in, table_text, sides}
+use Rattle.csv_tables.specs.Drawn.{SelectedValue, HasSeparators, RendersAsMarkdown, RendersContent, RendersTable, markdown_lines, markdown_rule, markdown_table, note_for, output_table, separated_table, separators_in, table_text}
 use Rattle.csv_tables.specs.Laws.{OutputIsOne}
 
 -- ---- tables
@@ -43,9 +42,8 @@ module _ (look : Look) (content : SelectedValue) (text other : Text) where
 
   one_markdown : RendersAsMarkdown look content text → RendersAsMarkdown look content other → text ≡ other
   one_markdown first second =
-      let table = markdown_table look content in
-      let lines = drawing_is_one table first.lines second.lines (first.drawing.widths, first.drawing.arranged, first.drawing.drawn) (second.drawing.widths, second.drawing.arranged, second.drawing.drawn) in
-      first.is ∙ ap (λ (ls : List Text). terminated_text_of (below_first (rule_line (sides content) (max_content_widths table)) ls)) lines ∙ sym second.is
+      let arranged = one_arranged (markdown_table look content) first.arranged second.arranged first.is_arranged second.is_arranged in
+      first.is ∙ ap (λ (a : ArrangedValue). terminated_text_of (markdown_lines (markdown_rule look content) a)) arranged ∙ sym second.is
 
   one_text : (is_markdown : Bool) → RendersContent is_markdown look content text → RendersContent is_markdown look content other → text ≡ other
   one_text true first second = one_markdown first second

@@ -20,7 +20,7 @@ use Rattle.comfy_table.proofs.ShownTextLemmas.{shown_of_all}
 use Rattle.comfy_table.proofs.MeasuredLemmas.{IsRowOf, row_measured}
 use Rattle.comfy_table.specs.Drawing.{terminated_text_of}
 use Rattle.comfy_table.specs.Laws.{AreLinesOf, HasNoBreak, HasNoControl, IsFreeOfControls, IsStyleWithout}
-use Rattle.comfy_table.specs.TableValue.{TableValue, ellipsis, max_content_widths, visible_cell}
+use Rattle.comfy_table.specs.TableValue.{TableValue, ellipsis, visible_cell}
 use Rattle.csv.specs.Records.{AllText}
 use Rattle.csv_tables.specs.declared.options.DrawnColumn.{DrawnColumn}
 use Rattle.csv_tables.proofs.FieldControlLemmas.{field-harmless}
@@ -36,11 +36,11 @@ use Rattle.csv_tables.proofs.BuiltLemmas.{Built, EachColumn, EachOf, EachShown, 
 use Rattle.csv_tables.proofs.FieldLemmas.{IsShortPrintable, number_is_printable, printable_unbroken}
 use Rattle.csv_tables.proofs.FittingLemmas.{text_drawn}
 use Rattle.csv_tables.proofs.LineLemmas.{drawn, never_expanded, with_lines}
-use Rattle.csv_tables.proofs.OutputLemmas.{markdown_unbroken}
+use Rattle.csv_tables.proofs.OutputLemmas.{each_markdown_line, markdown_unbroken}
 use Rattle.csv_tables.proofs.SeparatorLemmas.{condensed-all, separated}
 use Rattle.csv_tables.proofs.TextTableLemmas.{EachLine, MakesRows, cells_each, pair_each, rows_of_texts, table_of_texts}
 use Rattle.csv_tables.proofs.WholeTableLemmas.{IsDrawn, drawn-is, drawn_plain, drawn_table-is, measured-drawn}
-use Rattle.csv_tables.specs.Drawn.{SelectedValue, RendersAsMarkdown, RendersRecords, RendersAsTable, RendersContent, are_more, below_first, condensed_style, markdown_content, markdown_look, markdown_table, note_for, output_table, record_line, rows_table, separated_table, sides, is_aligned_in, note_text, record_heading}
+use Rattle.csv_tables.specs.Drawn.{SelectedValue, RendersAsMarkdown, RendersRecords, RendersAsTable, RendersContent, are_more, condensed_style, markdown_content, markdown_lines, markdown_look, markdown_rule, markdown_table, note_for, output_table, record_line, rows_table, separated_table, sides, is_aligned_in, note_text, record_heading}
 use Rattle.csv_tables.specs.Laws.{HasLines, IsOutputWith, OutputHoldsNoControls}
 
 -- ---- rows
@@ -317,18 +317,14 @@ rule_is_clear columns widths =
     let printable = rule_is_printable columns widths in
     subst HasNoControl (sym (printable_is_seen (rule_line columns widths) printable)) (printable_is_clear (rule_line columns widths) printable)
 
-pub each_below_first : (P : Text → Type 0) (line : Text) (lines : List Text) → P line → All P lines → All P (below_first line lines)
-each_below_first P line [] own each = each
-each_below_first P line (first ∷ rest) own each = All-cons P first (line ∷ rest) (All-head P first rest each) (All-cons P line rest own (All-tail P first rest each))
-
 -- the lines of a text for Markdown
 pub markdown_lines_of : (look : Look) (content : SelectedValue) (text : Text) (drawn : RendersAsMarkdown look content text)
-    → AreLinesOf text (below_first (rule_line (sides content) (max_content_widths (markdown_table look content))) drawn.lines)
+    → AreLinesOf text (markdown_lines (markdown_rule look content) drawn.arranged)
 markdown_lines_of look content text drawn =
-    let rule = rule_line (sides content) (max_content_widths (markdown_table look content)) in
     record {
       joined = drawn.is;
-      unbroken = each_below_first HasNoBreak rule drawn.lines (printable_unbroken rule (rule_is_printable (sides content) _)) (drawn.drawing.controls.without_breaks (markdown_unbroken look content));
+      unbroken = each_markdown_line HasNoBreak look content drawn.arranged (markdown_rule look content) drawn.is_arranged (drawn.is_arranged.headline.controls.without_breaks (markdown_unbroken look content))
+          (λ some. printable_unbroken (markdown_rule look content) (rule_is_printable (sides content) _));
     }
 
 -- it has names, be they blank
@@ -346,11 +342,11 @@ free_markdown look content text = free_rows (markdown_look look) refl (markdown_
 
 markdown_is_clear : (counted : Option ℕ) (layout : Layout) (records : List (List Text)) (output : Text) → IsStyleWithoutControls layout.look.style → All AllText records → (made : RendersRecords counted layout records output) → RendersAsMarkdown layout.look made.content made.text → layout.look.is_markdown ≡ true → HasNoStrayControl (visible_text output)
 markdown_is_clear counted layout records output look text made drawn is =
-    let rule = rule_line (sides made.content) (max_content_widths (markdown_table layout.look made.content)) in
+    let rule = markdown_rule layout.look made.content in
     let own = each_content AllText counted layout records made.content made.is_content text in
-    output_of_clear counted layout records output (below_first rule drawn.lines) (record { content = made.content; is_content = made.is_content; is_expanded = false; expansion = never_expanded layout.look made.content is; text = made.text; has_lines = markdown_lines_of layout.look made.content made.text drawn; joined = made.joined })
-    (each_below_first IsClear rule drawn.lines (rule_is_clear (sides made.content) _)
-    (drawn.drawing.controls.without_controls (free_markdown layout.look made.content own)))
+    output_of_clear counted layout records output (markdown_lines rule drawn.arranged) (record { content = made.content; is_content = made.is_content; is_expanded = false; expansion = never_expanded layout.look made.content is; text = made.text; has_lines = markdown_lines_of layout.look made.content made.text drawn; joined = made.joined })
+    (each_markdown_line IsClear layout.look made.content drawn.arranged rule drawn.is_arranged (drawn.is_arranged.headline.controls.without_controls (free_markdown layout.look made.content own))
+    (λ some. rule_is_clear (sides made.content) _))
 
 table_is_clear : (counted : Option ℕ) (layout : Layout) (records : List (List Text)) (output : Text) → IsStyleWithoutControls layout.look.style → All AllText records → (made : RendersRecords counted layout records output) → RendersAsTable layout.look made.content made.text → layout.look.is_markdown ≡ false → HasNoStrayControl (visible_text output)
 table_is_clear counted layout records output look text made drawn_text none =

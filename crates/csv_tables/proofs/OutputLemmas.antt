@@ -1,23 +1,25 @@
 -- The texts of tables: a line below the first one, and a text from what the calls of a table say.
-use Rattle.std.proofs.Common.{◌≡◌, ◌<◌, ◌+◌, ◌==◌, ℕ, Bool, false, List, [], ◌∷◌, ◌++◌, Option, Some, None, arith, drop, length, take, lit<, refl, sym, ap, ap₂, ◌∙◌, subst, append_assoc}
+use Rattle.std.proofs.Common.{◌≡◌, ◌<◌, ◌+◌, ◌==◌, ℕ, Bool, true, false, List, [], ◌∷◌, ◌++◌, Option, Some, None, arith, drop, length, take, lit<, refl, sym, ap, ap₂, ◌∙◌, subst, append-nil, append_assoc}
 use Rattle.std.specs.List.{All, after_first, before_first, list_any, position_or_len}
 use Rattle.std.specs.Option.{MatchOption}
 use Rattle.std.proofs.Math.Seq.{drop-append-add, take-append_seam}
 use Rattle.std.proofs.lemmas.Bool.{or_parts}
 use Rattle.std.proofs.lemmas.List.{length-append}
-use Rattle.std.proofs.lemmas.List.Elements.{All-head}
+use Rattle.std.proofs.lemmas.List.Elements.{All-cons, All-head, All-nil, All-tail}
 use Rattle.std.proofs.lemmas.Str.Pattern.{IsSplitOnceResult, split_once_first}
 use Rattle.std.proofs.Common.{Bor}
 use Rattle.comfy_parts.specs.Text.{Text}
-use Rattle.comfy_table.specs.Drawing.{terminated_text_of}
+use Rattle.comfy_parts.specs.CellValue.{ColumnInfo, RowValue}
+use Rattle.comfy_parts.specs.declared.style.table_style.TableStyle.{TableStyle}
+use Rattle.comfy_table.specs.Drawing.{drawing_of_infos, drawn_row, drawn_rows, further_rows, outer_widths, part_of_drawing, terminated_text_of}
+use Rattle.comfy_table.specs.Frame.{optional_frame_line}
+use Rattle.std.specs.Prelude.{flat_map}
 use Rattle.comfy_table.specs.Parts.{ArrangedValue, IsArrangedTable}
-use Rattle.comfy_table.specs.Headline.{TerminatesLines}
 use Rattle.comfy_table.specs.Laws.{HasNoBreak, HasUnbrokenStyle}
-use Rattle.comfy_table.specs.TableValue.{TableValue, max_content_widths}
+use Rattle.comfy_table.specs.TableValue.{TableValue}
 use Rattle.csv_tables.specs.declared.options.Look.{Look}
-use Rattle.csv_tables.specs.Markdown.{rule_line}
 use Rattle.csv_tables.proofs.LineLemmas.{any_built}
-use Rattle.csv_tables.specs.Drawn.{SelectedValue, RendersAsMarkdown, RendersTable, below_first, markdown_content, markdown_look, markdown_table, output_table, separators_in, table_text, sides}
+use Rattle.csv_tables.specs.Drawn.{SelectedValue, RendersTable, below_first, markdown_content, markdown_lines, markdown_look, markdown_style, markdown_table, output_table, separators_in, table_text}
 use Rattle.csv_tables.specs.Separators.{AreRowsSeparated}
 
 -- ---- a line below the first one
@@ -70,31 +72,58 @@ with_line_below line lines drawing r is none split = by_lines lines is none r (s
 pub markdown_unbroken : (look : Look) (content : SelectedValue) → HasUnbrokenStyle (markdown_table look content)
 markdown_unbroken look content = let known = any_built false false (markdown_look look) (markdown_content content) in subst HasUnbrokenStyle (sym known.is) (record { indicator = refl; characters = refl })
 
--- the text of such a table, by what stands at the two sides of the first line feed of its drawing
-pub markdown_lines : (look : Look) (content : SelectedValue) (table : TableValue) (drawing : Text) → table ≡ markdown_table look content → TerminatesLines table drawing → (widths : List ℕ) → widths ≡ max_content_widths table
-    → (r : Option (Bor Text × Bor Text)) → IsSplitOnceResult 0x0A drawing r
-    → MatchOption r (RendersAsMarkdown look content []) (λ x. RendersAsMarkdown look content (x.0.now ++ 0x0A ∷ (rule_line (sides content) widths ++ 0x0A ∷ x.1.now)))
-markdown_lines look content table drawing is drawn widths are r split = by_result r (with_line_below rule lines drawing r own.2 (own.1.controls.without_breaks (markdown_unbroken look content)) split)
+-- a table without lines between rows is the lines of its header and those of its rows
+header_and_rows : (table : TableValue) (infos : List ColumnInfo) → optional_frame_line table.style table.style.row_separator (outer_widths infos) ≡ []
+    → part_of_drawing table infos true false [] ++ part_of_drawing table infos false true table.rows ≡ drawing_of_infos table infos
+header_and_rows table infos none = grind (arith, append_assoc, append-nil, same table.rows)
   where
-    own : TerminatesLines (markdown_table look content) drawing
-    own = subst (λ t. TerminatesLines t drawing) is drawn
+    between : List Text
+    between = optional_frame_line table.style table.style.row_separator (outer_widths infos)
 
-    lines : List Text
-    lines = own.0
+    lines : RowValue → List Text
+    lines = drawn_row table infos table.style.content_lines
 
-    rule : Text
-    rule = rule_line (sides content) widths
+    same : (rows : List RowValue) → further_rows table infos rows ≡ drawn_rows table infos rows
+    same [] = refl
+    same (x ∷ xs) = ap (λ (s : List Text). (s ++ lines x) ++ flat_map (λ (row : RowValue). between ++ lines row) xs) none
 
-    same : rule ≡ rule_line (sides content) (max_content_widths (markdown_table look content))
-    same = ap (rule_line (sides content)) (are ∙ ap max_content_widths is)
+-- so is one for Markdown
+pub markdown_parts : (look : Look) (content : SelectedValue) (arranged : ArrangedValue) → arranged.table ≡ markdown_table look content
+    → part_of_drawing arranged.table arranged.infos true false [] ++ part_of_drawing arranged.table arranged.infos false true arranged.table.rows ≡ drawing_of_infos arranged.table arranged.infos
+markdown_parts look content arranged own =
+    let style : arranged.table.style ≡ markdown_style = ap (λ (t : TableValue). t.style) (own ∙ (any_built false false (markdown_look look) (markdown_content content)).is) in
+    header_and_rows arranged.table arranged.infos (ap (λ (s : TableStyle). optional_frame_line s s.row_separator (outer_widths arranged.infos)) style)
 
-    made : (text : Text) → text ≡ terminated_text_of (below_first rule lines) → RendersAsMarkdown look content text
-    made text whole = record { lines = lines; drawing = own.1; is = whole ∙ ap (λ (t : Text). terminated_text_of (below_first t lines)) same }
+-- what holds of each line of it holds of those of its header
+pub header_each : (P : Text → Type 0) (look : Look) (content : SelectedValue) (arranged : ArrangedValue) → IsArrangedTable (markdown_table look content) arranged
+    → All P (drawing_of_infos (markdown_table look content) arranged.infos) → All P (part_of_drawing arranged.table arranged.infos true false [])
+header_each P look content arranged is each =
+    front (part_of_drawing arranged.table arranged.infos true false []) (part_of_drawing arranged.table arranged.infos false true arranged.table.rows)
+    (subst (All P) (ap (λ (t : TableValue). drawing_of_infos t arranged.infos) (sym is.of_table) ∙ sym (markdown_parts look content arranged is.of_table)) each)
+  where
+    front : (xs ys : List Text) → All P (xs ++ ys) → All P xs
+    front [] ys all = All-nil P
+    front (x ∷ xs) ys all = All-cons P x xs (All-head P x (xs ++ ys) all) (front xs ys (All-tail P x (xs ++ ys) all))
 
-    by_result : (r : Option (Bor Text × Bor Text)) → MatchOption r (terminated_text_of (below_first rule lines) ≡ []) (λ x. x.0.now ++ 0x0A ∷ (rule ++ 0x0A ∷ x.1.now) ≡ terminated_text_of (below_first rule lines))
-        → MatchOption r (RendersAsMarkdown look content []) (λ x. RendersAsMarkdown look content (x.0.now ++ 0x0A ∷ (rule ++ 0x0A ∷ x.1.now)))
-    by_result None none = made [] (sym none)
-    by_result (Some x) some = made _ some
+-- what holds of each line of it, and of another one where it has lines, holds of its lines with that one
+pub each_markdown_line : (P : Text → Type 0) (look : Look) (content : SelectedValue) (arranged : ArrangedValue) (rule : Text) → IsArrangedTable (markdown_table look content) arranged
+    → All P (drawing_of_infos (markdown_table look content) arranged.infos) → (0 < length (drawing_of_infos (markdown_table look content) arranged.infos) → P rule) → All P (markdown_lines rule arranged)
+each_markdown_line P look content arranged rule is each own =
+    by_lines (part_of_drawing arranged.table arranged.infos true false [])
+    (ap (λ (t : TableValue). drawing_of_infos t arranged.infos) (sym is.of_table) ∙ sym (markdown_parts look content arranged is.of_table))
+  where
+    below : List Text
+    below = part_of_drawing arranged.table arranged.infos false true arranged.table.rows
+
+    drawing : List Text
+    drawing = drawing_of_infos (markdown_table look content) arranged.infos
+
+    by_lines : (above : List Text) → drawing ≡ above ++ below → All P (below_first rule above ++ below)
+    by_lines [] parts = subst (All P) parts each
+    by_lines (x ∷ xs) parts =
+        let all : All P (x ∷ (xs ++ below)) = subst (All P) parts each in
+        let some = ap length parts in
+        All-cons P x (rule ∷ (xs ++ below)) (All-head P x (xs ++ below) all) (All-cons P rule (xs ++ below) (own (omega (arith, some))) (All-tail P x (xs ++ below) all))
 
 -- ---- texts of tables
 

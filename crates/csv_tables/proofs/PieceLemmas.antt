@@ -93,17 +93,15 @@ module _ (own table : TableValue) (infos : List ColumnInfo) (is : with_other_row
 -- ---- records
 
 -- the row of the next record, and those of the others
-pub row_more : (rows : RecordRows) (table : TableValue) (infos : List ColumnInfo) (at : ℕ) (is_last : Bool) (x : List Text) (xs : List (List Text)) → rows.is_expanded ≡ false
-    → terminated_text_of (part_of_drawing table infos (at == 0) false (made_by rows at x ∷ [])) ++ terminated_text_of (part_of_drawing table infos (at + 1 == 0) is_last (rows_from rows (at + 1) xs))
-    ≡ terminated_text_of (part_of_drawing table infos (at == 0) is_last (rows_from rows at (x ∷ xs)))
-row_more rows table infos at is_last x xs is =
-    let later : (at + 1 == 0) ≡ false = grind (arith, nat_tests) in
+pub row_more : (rows : RecordRows) (table : TableValue) (infos : List ColumnInfo) (at : ℕ) (is_first is_last : Bool) (x : List Text) (xs : List (List Text)) → rows.is_expanded ≡ false
+    → terminated_text_of (part_of_drawing table infos is_first false (made_by rows at x ∷ [])) ++ terminated_text_of (part_of_drawing table infos false is_last (rows_from rows (at + 1) xs))
+    ≡ terminated_text_of (part_of_drawing table infos is_first is_last (rows_from rows at (x ∷ xs)))
+row_more rows table infos at is_first is_last x xs is =
     let rest = rows_from rows (at + 1) xs in
     let one : rows_at rows at x ≡ made_by rows at x ∷ [] = ap (λ (b : Bool). if b then pairs_by rows x else made_by rows at x ∷ []) is in
-    ap (λ b. lines table infos (at == 0) false (made_by rows at x ∷ []) ++ lines table infos b is_last rest) later
-    ∙ sym (flat_map-append _ (part_of_drawing table infos (at == 0) false (made_by rows at x ∷ [])) (part_of_drawing table infos false is_last rest))
-    ∙ ap terminated_text_of (sym (first_row table infos (at == 0) is_last (made_by rows at x) rest))
-    ∙ ap (λ (l : List RowValue). lines table infos (at == 0) is_last (l ++ rest)) (sym one)
+    sym (flat_map-append _ (part_of_drawing table infos is_first false (made_by rows at x ∷ [])) (part_of_drawing table infos false is_last rest))
+    ∙ ap terminated_text_of (sym (first_row table infos is_first is_last (made_by rows at x) rest))
+    ∙ ap (λ (l : List RowValue). lines table infos is_first is_last (l ++ rest)) (sym one)
 
 from_on : (rows : RecordRows) (at : ℕ) (xs ys : List (List Text)) → rows_from rows at (xs ++ ys) ≡ rows_from rows at xs ++ rows_from rows (at + length xs) ys
 from_on rows at [] ys = let same : at ≡ at + 0 = omega arith in ap (λ n. rows_from rows n ys) same
@@ -122,33 +120,28 @@ expanded_on rows table infos at (x ∷ xs) ys =
     ∙ sym (append_assoc one (expanded_from rows table infos (at + 1) xs) (expanded_from rows table infos (at + suc (length xs)) ys))
 
 -- some records, and then the others
-drawn_on : (rows : RecordRows) (table : TableValue) (infos : List ColumnInfo) (at : ℕ) (xs ys : List (List Text)) → 0 < length xs
-    → drawn_next rows table infos at true (xs ++ ys) ≡ drawn_next rows table infos at false xs ++ drawn_next rows table infos (at + length xs) true ys
-drawn_on rows table infos at [] ys some = absurd (omega (arith, some))
-drawn_on rows table infos at (x ∷ xs) ys some = by_kind rows.is_expanded refl
+drawn_on : (rows : RecordRows) (table : TableValue) (infos : List ColumnInfo) (at : ℕ) (is_first : Bool) (xs ys : List (List Text)) → 0 < length xs
+    → drawn_next rows table infos at is_first true (xs ++ ys) ≡ drawn_next rows table infos at is_first false xs ++ drawn_next rows table infos (at + length xs) false true ys
+drawn_on rows table infos at is_first [] ys some = absurd (omega (arith, some))
+drawn_on rows table infos at is_first (x ∷ xs) ys some = by_kind rows.is_expanded refl
   where
-    later : (at + suc (length xs) == 0) ≡ false
-    later = grind (arith, nat_tests)
-
     single : rows.is_expanded ≡ false
-        → terminated_text_of (part_of_drawing table infos (at == 0) true (rows_from rows at (x ∷ (xs ++ ys))))
-        ≡ terminated_text_of (part_of_drawing table infos (at == 0) false (rows_from rows at (x ∷ xs))) ++ terminated_text_of (part_of_drawing table infos (at + suc (length xs) == 0) true (rows_from rows (at + suc (length xs)) ys))
+        → terminated_text_of (part_of_drawing table infos is_first true (rows_from rows at (x ∷ (xs ++ ys))))
+        ≡ terminated_text_of (part_of_drawing table infos is_first false (rows_from rows at (x ∷ xs))) ++ terminated_text_of (part_of_drawing table infos false true (rows_from rows (at + suc (length xs)) ys))
     single is =
-        let n = at + suc (length xs) in
-        let lines : Bool → Bool → List RowValue → Text = λ first last made. terminated_text_of (part_of_drawing table infos first last made) in
         let one : rows_at rows at x ≡ made_by rows at x ∷ [] = ap (λ (b : Bool). if b then pairs_by rows x else made_by rows at x ∷ []) is in
         let rest = rows_from rows (at + 1) xs in
-        let others = rows_from rows n ys in
+        let others = rows_from rows (at + suc (length xs)) ys in
         let front : rows_from rows at (x ∷ xs) ≡ made_by rows at x ∷ rest = ap (λ (l : List RowValue). l ++ rest) one in
-        ap (lines (at == 0) true) (from_on rows at (x ∷ xs) ys ∙ ap (λ (l : List RowValue). l ++ others) front)
-        ∙ ap terminated_text_of (rows_on table infos (at == 0) true (made_by rows at x) rest others)
-        ∙ flat_map-append _ (part_of_drawing table infos (at == 0) false (made_by rows at x ∷ rest)) (part_of_drawing table infos false true others)
-        ∙ ap₂ (λ (l : List RowValue) (b : Bool). lines (at == 0) false l ++ lines b true others) (sym front) (sym later)
+        ap (lines table infos is_first true) (from_on rows at (x ∷ xs) ys ∙ ap (λ (l : List RowValue). l ++ others) front)
+        ∙ ap terminated_text_of (rows_on table infos is_first true (made_by rows at x) rest others)
+        ∙ flat_map-append _ (part_of_drawing table infos is_first false (made_by rows at x ∷ rest)) (part_of_drawing table infos false true others)
+        ∙ ap (λ (l : List RowValue). lines table infos is_first false l ++ lines table infos false true others) (sym front)
 
     by_kind : (b : Bool) → rows.is_expanded ≡ b
-        → (if b then expanded_from rows table infos at (x ∷ (xs ++ ys)) else terminated_text_of (part_of_drawing table infos (at == 0) true (rows_from rows at (x ∷ (xs ++ ys)))))
-        ≡ (if b then expanded_from rows table infos at (x ∷ xs) else terminated_text_of (part_of_drawing table infos (at == 0) false (rows_from rows at (x ∷ xs))))
-        ++ (if b then expanded_from rows table infos (at + suc (length xs)) ys else terminated_text_of (part_of_drawing table infos (at + suc (length xs) == 0) true (rows_from rows (at + suc (length xs)) ys)))
+        → (if b then expanded_from rows table infos at (x ∷ (xs ++ ys)) else terminated_text_of (part_of_drawing table infos is_first true (rows_from rows at (x ∷ (xs ++ ys)))))
+        ≡ (if b then expanded_from rows table infos at (x ∷ xs) else terminated_text_of (part_of_drawing table infos is_first false (rows_from rows at (x ∷ xs))))
+        ++ (if b then expanded_from rows table infos (at + suc (length xs)) ys else terminated_text_of (part_of_drawing table infos false true (rows_from rows (at + suc (length xs)) ys)))
     by_kind true is = expanded_on rows table infos at (x ∷ xs) ys
     by_kind false is = single is
 
@@ -177,14 +170,14 @@ all_taken n xs same =
     (λ outside. take_all n xs outside) (cases_lt n (length xs))
 
 -- the next so many of what is left, where these aren't all
-pub next_piece : (rows : RecordRows) (table : TableValue) (infos : List ColumnInfo) (at most : ℕ) (all : List (List Text)) → 0 < most → length (take most (drop at all)) ≢ length (drop at all)
-    → drawn_next rows table infos at true (drop at all)
-    ≡ drawn_next rows table infos at false (take most (drop at all)) ++ drawn_next rows table infos (at + length (take most (drop at all))) true (drop (at + length (take most (drop at all))) all)
-next_piece rows table infos at most all some not_all =
+pub next_piece : (rows : RecordRows) (table : TableValue) (infos : List ColumnInfo) (at most : ℕ) (is_first : Bool) (all : List (List Text)) → 0 < most → length (take most (drop at all)) ≢ length (drop at all)
+    → drawn_next rows table infos at is_first true (drop at all)
+    ≡ drawn_next rows table infos at is_first false (take most (drop at all)) ++ drawn_next rows table infos (at + length (take most (drop at all))) false true (drop (at + length (take most (drop at all))) all)
+next_piece rows table infos at most is_first all some not_all =
     let left = drop at all in
     let next = take most left in
     let long : length next ≡ most = (many_taken most left not_all).0 in
     let rest : drop most left ≡ drop (at + length next) all = drop-more at most all ∙ ap (λ k. drop (at + k) all) (sym long) in
-    ap (drawn_next rows table infos at true) (sym (take-append-drop most left))
-    ∙ drawn_on rows table infos at next (drop most left) (omega (arith, long, some))
-    ∙ ap (λ (l : List (List Text)). drawn_next rows table infos at false next ++ drawn_next rows table infos (at + length next) true l) rest
+    ap (drawn_next rows table infos at is_first true) (sym (take-append-drop most left))
+    ∙ drawn_on rows table infos at is_first next (drop most left) (omega (arith, long, some))
+    ∙ ap (λ (l : List (List Text)). drawn_next rows table infos at is_first false next ++ drawn_next rows table infos (at + length next) false true l) rest

@@ -75,7 +75,7 @@ module _ (rows : RecordRows) where
 
 -- the text of all
 pub text_is : (contents : ContentsValue) (arranged : ArrangedValue) → arranged.table ≡ contents.table → contents.table.rows ≡ rows_from contents.rows 0 contents.rows.selected.rows
-    → drawn_next contents.rows contents.table arranged.infos 0 true contents.rows.selected.rows ≡ table_text contents.rows.is_expanded contents.rows.selected arranged
+    → drawn_next contents.rows contents.table arranged.infos 0 true true contents.rows.selected.rows ≡ table_text contents.rows.is_expanded contents.rows.selected arranged
 text_is contents arranged same own = by_kind contents.rows.is_expanded refl
   where
     rows : RecordRows
@@ -102,12 +102,12 @@ text_is contents arranged same own = by_kind contents.rows.is_expanded refl
 
 -- it is the text of a table
 pub renders : (look : Look) (contents : ContentsValue) (infos : List ColumnInfo) → AreDrawnContents look contents.rows.selected contents → IsArrangedTable contents.table (record { table = contents.table; infos = infos })
-    → contents.table.rows ≡ rows_from contents.rows 0 contents.rows.selected.rows → RendersAsTable look contents.rows.selected (drawn_next contents.rows contents.table infos 0 true contents.rows.selected.rows)
+    → contents.table.rows ≡ rows_from contents.rows 0 contents.rows.selected.rows → RendersAsTable look contents.rows.selected (drawn_next contents.rows contents.table infos 0 true true contents.rows.selected.rows)
 renders look contents infos made arranged own =
     record {
       is_expanded = made.is_expanded;
       expansion = made.expansion;
-      drawn = text_of_table look contents.rows.selected made.is_expanded contents.table (record { table = contents.table; infos = infos }) (drawn_next contents.rows contents.table infos 0 true contents.rows.selected.rows)
+      drawn = text_of_table look contents.rows.selected made.is_expanded contents.table (record { table = contents.table; infos = infos }) (drawn_next contents.rows contents.table infos 0 true true contents.rows.selected.rows)
           made.drawn.separated arranged
           (text_is contents (record { table = contents.table; infos = infos }) refl own ∙ ap (λ b. table_text b contents.rows.selected (record { table = contents.table; infos = infos })) made.drawn.are_contents.expanded_is);
     }

@@ -1,13 +1,16 @@
 -- Rows of fields that are whole characters keep what all rows keep.
-use Rattle.std.proofs.Common.{◌≡◌, ◌≤◌, ℕ, ◌+◌, Bool, true, false, ◌==◌, List, [], ◌∷◌, ◌++◌, Option, Some, None, IfSome, max, arith, append-nil, decimal, ◌&&◌, encode_utf8, encode_utf8_all, eqb-true, refl, ap, ap₂, ◌||◌, sym, subst, ◌∙◌}
+use Rattle.std.proofs.Common.{◌≡◌, ◌≤◌, ℕ, ◌+◌, Bool, true, false, ◌==◌, List, [], ◌∷◌, ◌++◌, Option, Some, None, IfSome, chars, codes, cond, max, arith, append-nil, decimal, ◌&&◌, encode_utf8, encode_utf8_all, eqb-true, refl, ap, ap₂, ◌||◌, sym, subst, ◌∙◌}
 use Rattle.std.proofs.lemmas.Bool.{and_parts}
 use Rattle.std.proofs.lemmas.List.Elements.{All-append, All-cons, All-head, All-map, All-nil, All-tail, All-weaker}
 use Rattle.std.proofs.lemmas.List.Folds.{list_any-append}
 use Rattle.std.proofs.lemmas.Str.{IsUtf8-append, IsUtf8-nil}
 use Rattle.std.specs.List.{All, list_any}
 use Rattle.std.specs.Prelude.{option_map, unwrap_or, if◌then◌else◌}
-use Rattle.std.specs.Str.{IsUtf8}
+use Rattle.std.specs.Str.{IsUtf8, all_scalars}
 use lib.Utf8.{encode, scalar, scalars}
+use Rattle.csv_tables.proofs.CleanCharacterLemmas.{scalars-append}
+use Rattle.csv_tables.specs.Markdown.{escaped, escaped_after, escaped_character, is_marked_at, is_special}
+use Rattle.std.proofs.lemmas.Str.{scalars-chars}
 use Rattle.comfy_parts.proofs.CallerLemmas.{All-every, IsUtf8-printable, encoded_clear}
 use Rattle.comfy_parts.proofs.PrintableLineLemmas.{some_parts}
 use Rattle.comfy_parts.specs.CellValue.{HasTextLines, IsCell, IsRow}
@@ -74,13 +77,37 @@ has_lines text utf8 =
 
 -- ---- cells
 
-module _ (look : Look) (plain : look.is_markdown ≡ false) where
+-- characters that are escaped are characters
+escaped_scalars : (is_marked : Bool) (before : Option ℕ) (cs : List ℕ) → all_scalars cs ≡ true → all_scalars (escaped_after is_marked before cs) ≡ true
+escaped_scalars is_marked before [] all = refl
+escaped_scalars is_marked before (c ∷ cs) all =
+    scalars-append (escaped_character special c) (escaped_after here (Some c) cs) (by_tests (c == 0x0A) special) (escaped_scalars here (Some c) cs both.1)
+  where
+    both : (scalar c ≡ true) × (all_scalars cs ≡ true)
+    both = and_parts (scalar c) (all_scalars cs) all
+
+    here : Bool
+    here = is_marked_at is_marked before (c ∷ cs)
+
+    special : Bool
+    special = is_special here before c cs
+
+    by_tests : (feed special : Bool) → all_scalars (cond feed (codes "<br>") (cond special (0x5C ∷ c ∷ []) (c ∷ []))) ≡ true
+    by_tests true special = refl
+    by_tests false true = ap (λ b. b && true) both.0
+    by_tests false false = ap (λ b. b && true) both.0
+
+marked_whole : (text : Text) → IsUtf8 text → IsUtf8 (marked text)
+marked_whole text utf8 = (escaped (chars text), (escaped_scalars false None (chars text) (scalars-chars text utf8), refl))
+
+module _ (look : Look) where
   text_whole : (field : Text) → IsUtf8 field → IsUtf8 (field_text look field)
-  text_whole field utf8 = subst IsUtf8 (sym (ap (λ (b : Bool). if b then marked (cleaned false field) else unless_blank (cleaned look.has_sequences field)) plain)) (by_blank (is_blank (cleaned look.has_sequences field)))
+  text_whole field utf8 = by_markdown look.is_markdown (is_blank (cleaned look.has_sequences field))
     where
-      by_blank : (b : Bool) → IsUtf8 (if b then [] else cleaned look.has_sequences field)
-      by_blank true = IsUtf8-nil
-      by_blank false = cleaned_whole look.has_sequences field utf8
+      by_markdown : (is_markdown blank : Bool) → IsUtf8 (if is_markdown then marked (cleaned false field) else (if blank then [] else cleaned look.has_sequences field))
+      by_markdown true blank = marked_whole (cleaned false field) (cleaned_whole false field utf8)
+      by_markdown false true = IsUtf8-nil
+      by_markdown false false = cleaned_whole look.has_sequences field utf8
 
   cell_whole : (is_bold : Bool) (alignment : Option CellAlignment) (field : Text) → IsUtf8 field → IsCell (with_weight is_bold (cell_for look alignment field))
   cell_whole true alignment field utf8 = record { text_lines = has_lines (field_text look field) (text_whole field utf8); delimiter = tt }
@@ -95,12 +122,12 @@ module _ (look : Look) (plain : look.is_markdown ≡ false) where
 short_whole : (text : Text) → IsShortPrintable 64 text → IsUtf8 text
 short_whole text short = IsUtf8-printable text short.0
 
-module _ (rows : RecordRows) (plain : rows.look.is_markdown ≡ false) where
+module _ (rows : RecordRows) where
   row_whole : (at : ℕ) (fields : List Text) → All IsUtf8 fields → IsRow (made_by rows at fields)
   row_whole at fields utf8 =
       record {
-        cells = All-map IsCell (λ (s : Shown). cell_for rows.look s.alignment s.text) (shown_by rows at fields) (All-weaker (λ (s : Shown). IsUtf8 s.text) (λ (s : Shown). IsCell (cell_for rows.look s.alignment s.text)) (λ s. cell_whole rows.look plain false s.alignment s.text) (shown_by rows at fields) (shown rows.selected.is_numbered));
-        some_height = high rows.look plain rows.look.max_height;
+        cells = All-map IsCell (λ (s : Shown). cell_for rows.look s.alignment s.text) (shown_by rows at fields) (All-weaker (λ (s : Shown). IsUtf8 s.text) (λ (s : Shown). IsCell (cell_for rows.look s.alignment s.text)) (λ s. cell_whole rows.look false s.alignment s.text) (shown_by rows at fields) (shown rows.selected.is_numbered));
+        some_height = high rows.look rows.look.max_height;
       }
     where
       drawn : List DrawnColumn
@@ -120,8 +147,8 @@ module _ (rows : RecordRows) (plain : rows.look.is_markdown ≡ false) where
   pair_whole name field whole utf8 =
       let label = with_weight rows.look.has_bold_header (cell_for rows.look None name) in
       record {
-        cells = All-cons IsCell label (cell_for rows.look None field ∷ []) (cell_whole rows.look plain rows.look.has_bold_header None name whole) (All-cons IsCell (cell_for rows.look None field) [] (cell_whole rows.look plain false None field utf8) (All-nil IsCell));
-        some_height = high rows.look plain rows.look.max_height;
+        cells = All-cons IsCell label (cell_for rows.look None field ∷ []) (cell_whole rows.look rows.look.has_bold_header None name whole) (All-cons IsCell (cell_for rows.look None field) [] (cell_whole rows.look false None field utf8) (All-nil IsCell));
+        some_height = high rows.look rows.look.max_height;
       }
 
   pairs_whole : All IsUtf8 (unwrap_or rows.selected.names []) → (fields : List Text) → All IsUtf8 fields → All IsRow (pairs_by rows fields)

@@ -116,14 +116,15 @@ expanded_from rows table infos at [] = []
 expanded_from rows table infos at (fields ∷ left) =
     expanded_record rows table infos at fields ++ expanded_from rows table infos (at + 1) left
 
--- what is drawn of records from a place on, and below them where the last one is among them
-abbrev pub drawn_next : RecordRows → TableValue → List ColumnInfo → ℕ → Bool → List (List Text)
-    → Text
-drawn_next rows table infos at is_last next =
+-- what is drawn of records from a place on, above them where that isn't drawn yet, and below them
+-- where the last one is among them
+abbrev pub drawn_next : RecordRows → TableValue → List ColumnInfo → ℕ → Bool → Bool
+    → List (List Text) → Text
+drawn_next rows table infos at is_first is_last next =
     if rows.is_expanded
     then expanded_from rows table infos at next
     else terminated_text_of
-    (part_of_drawing table infos (at == 0) is_last (rows_from rows at next))
+    (part_of_drawing table infos is_first is_last (rows_from rows at next))
 
 -- ---- tables that are drawn
 

@@ -11,8 +11,7 @@ use Rattle.comfy_parts.specs.declared.style.table.ContentArrangement.{ContentArr
 use Rattle.comfy_parts.specs.declared.style.table.ContentArrangement.TheVariants.{Disabled, Dynamic, DynamicFullWidth}
 use Rattle.comfy_parts.specs.declared.style.table_style.TableStyle.{TableStyle}
 use Rattle.comfy_table.specs.Arrangement.{IsArranged}
-use Rattle.comfy_table.specs.Drawing.{infos_of, terminated_text_of}
-use Rattle.comfy_table.specs.Headline.{IsTableDrawing}
+use Rattle.comfy_table.specs.Drawing.{infos_of, part_of_drawing, terminated_text_of}
 use Rattle.comfy_table.specs.Parts.{ArrangedValue, IsArrangedTable, part_lines, part_text}
 use Rattle.comfy_table.specs.Pieces.{row_height}
 use Rattle.comfy_table.specs.TableValue.{TableValue, max_content_widths, new_table, with_header, with_rows}
@@ -122,10 +121,6 @@ abbrev pub rows_table : Look → Bool → SelectedValue → TableValue
 rows_table look is_aligned content =
     with_rows (rows_of look is_aligned content)
     (headed_table look content.is_numbered content.columns content.names)
-
--- the table of some records, as many as are drawn
-abbrev pub table_for : Layout → List (List Text) → TableValue
-table_for layout records = rows_table layout.look false (selected_of None layout records)
 
 -- the fields of one record, each below the one before, beside the names of their columns
 abbrev pub pairs_of : Look → List DrawnColumn → List Text → List Text → List RowValue
@@ -314,13 +309,23 @@ abbrev pub below_first : Text → List Text → List Text
 below_first line [] = []
 below_first line (first ∷ rest) = first ∷ line ∷ rest
 
--- the text of a table for Markdown: the line below the header says which columns stand at the right
+-- the line below the header says which columns stand at the right
+abbrev pub markdown_rule : Look → SelectedValue → Text
+markdown_rule look content =
+    rule_line (sides content) (max_content_widths (markdown_table look content))
+
+-- the lines of a table for Markdown: those of its header, with that line below the first one, and
+-- those of its rows
+abbrev pub markdown_lines : Text → ArrangedValue → List Text
+markdown_lines rule arranged =
+    below_first rule (part_of_drawing arranged.table arranged.infos true false [])
+    ++ part_of_drawing arranged.table arranged.infos false true arranged.table.rows
+
+-- the text of such a table
 pub record RendersAsMarkdown (look : Look) (content : SelectedValue) (text : Text) : Type 0 where
-  pub lines : List Text
-  pub drawing : IsTableDrawing (markdown_table look content) lines
-  pub is :
-      text ≡ terminated_text_of (below_first (rule_line (sides content)
-      (max_content_widths (markdown_table look content))) lines)
+  pub arranged : ArrangedValue
+  pub is_arranged : IsArrangedTable (markdown_table look content) arranged
+  pub is : text ≡ terminated_text_of (markdown_lines (markdown_rule look content) arranged)
 
 abbrev pub RendersContent : Bool → Look → SelectedValue → Text → Type 0
 RendersContent true look content text = RendersAsMarkdown look content text

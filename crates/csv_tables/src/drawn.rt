@@ -56,21 +56,20 @@ impl DrawnRecords {
         }
     }
 
-    /// A drawing that is whole in memory.
-    pub(crate) fn of_text(text: String) -> DrawnRecords
-        ensures { result ≡ string_bytes text }
-    {
-        let ready = if text.is_empty() { None } else { Some(text) };
-        DrawnRecords { ready, rest: None }
-    }
-
-    /// The drawing of records of which none is drawn yet.
-    pub(crate) fn of_records(left: OpenDrawing) -> Result<DrawnRecords>
+    /// The drawing that begins with this text, of records of which none is drawn yet.
+    pub(crate) fn of_records(beginning: String, left: OpenDrawing) -> Result<DrawnRecords>
         requires { left.place ≡ 0 }
-        ensures { IfOk result (λ drawn. drawn ≡ rest_of (Some left)) }
+        ensures { IfOk result (λ drawn. drawn
+            ≡ string_bytes beginning ++ rest_of (Some left)) }
     {
-        let (ready, rest) = piece_of(Some(left))?;
-        Ok(DrawnRecords { ready, rest })
+        if beginning.is_empty() {
+            let (ready, rest) = piece_of(Some(left))?;
+            return Ok(DrawnRecords { ready, rest });
+        }
+        Ok(DrawnRecords {
+            ready: Some(beginning),
+            rest: Some(left),
+        })
     }
 }
 
@@ -98,6 +97,8 @@ pub(crate) struct OpenDrawing {
     pub infos: Vec<ColumnDisplayInfo>,
     // the record that is drawn next
     pub place: usize,
+    // whether what stands above the records is drawn with it
+    pub is_first: bool,
     pub note: String,
 }
 
@@ -136,13 +137,15 @@ fn push_next(left: OpenDrawing, text: &mut String) -> Result<Option<OpenDrawing>
         contents,
         infos,
         place,
+        is_first,
         note,
     } = left;
     let rows = contents.rows.selected.rows().rows_behind(place);
     let next = rows.first_rows(RECORDS);
     let count = next.len();
     let is_last = count == rows.len();
-    let infos = push_records(text, &contents, infos, place, &next, is_last)?;
+    let extent = Extent { is_first, is_last };
+    let infos = push_records(text, &contents, infos, place, &next, extent)?;
     if is_last {
         text.push_str(note.as_str())?;
         return Ok(None);
@@ -151,29 +154,31 @@ fn push_next(left: OpenDrawing, text: &mut String) -> Result<Option<OpenDrawing>
         contents,
         infos,
         place: place + count,
+        is_first: false,
         note,
     }))
 }
 
-// Appends the lines of the next records. Returns the infos again.
-fn push_records(
+/// Appends the lines of the next records. Returns the infos again.
+pub(crate) fn push_records(
     text: &mut String,
     contents: &RowContents,
     infos: Vec<ColumnDisplayInfo>,
     place: usize,
     next: &Rows<'_>,
-    is_last: bool,
+    extent: Extent,
 ) -> Result<Vec<ColumnDisplayInfo>>
     requires { place + length next.now < 2 ^ 64 }
     ensures text { OnOk result (string_bytes text.new ≡ string_bytes text.old
-        ++ drawn_next contents.now.rows contents.now.table infos.items place is_last next.now) }
+        ++ drawn_next contents.now.rows contents.now.table infos.items place extent.is_first
+        extent.is_last next.now) }
     ensures infos { IfOk result (λ found. found.items ≡ infos.items) }
 {
     let arranged = ArrangedTable::with_infos(contents, infos)?;
     if contents.rows.is_expanded {
         push_expanded(text, contents, &arranged, place, next)?;
     } else {
-        push_rows(text, contents, &arranged, place, next, is_last)?;
+        push_rows(text, contents, &arranged, place, next, extent)?;
     }
     Ok(arranged.into_infos())
 }
@@ -185,26 +190,28 @@ fn push_rows(
     arranged: &ArrangedTable<'_, RowContents>,
     place: usize,
     next: &Rows<'_>,
-    is_last: bool,
+    extent: Extent,
 ) -> Result<()>
     requires rows { contents.now.rows.is_expanded ≡ false }
     requires places { place + length next.now < 2 ^ 64 }
     ensures { OnOk result (string_bytes text.new ≡ string_bytes text.old ++ terminated_text_of
-        (part_of_drawing arranged.now.table arranged.now.infos (place == 0) is_last
+        (part_of_drawing arranged.now.table arranged.now.infos extent.is_first extent.is_last
         (rows_from contents.now.rows place next.now))) }
 {
     let mut writer = arranged.row_writer()?;
     let mut cells = Vec::new(contents.rows.selected.alloc);
     let mut at = place;
+    let mut is_first = extent.is_first;
     for fields in next.iter() {
         contents
             .rows
-            .push_row(text, &mut writer, &mut cells, at, &fields)?;
+            .push_row(text, &mut writer, &mut cells, at, &fields, is_first)?;
         at += 1;
+        is_first = false;
     }
     let end = Extent {
-        is_first: at == 0,
-        is_last,
+        is_first,
+        is_last: extent.is_last,
     };
     writer.push_rows(text, &[], end)
 }

@@ -27,4 +27,3 @@ pub use markdown::escaped;
 pub use options::{DrawnColumn, Expansion, Layout, Look, RowSeparators};
 pub use output::{drawn_records, output_of_records, text_of_records};
 pub use selection::{Columns, Selection};
-pub use table::table_of;

@@ -1,24 +1,30 @@
 //! The text that is written for some records.
 
-ghost use Rattle.std.specs.Prelude.{◌≡◌, ◌∷◌, ◌++◌, IfOk, OnOk, false, string_bytes, true};
+ghost use Rattle.std.specs.Prelude.{◌≡◌, ◌++◌, ◌∷◌, [], List, IfOk, OnOk, false, string_bytes, true};
+ghost use Rattle.std.specs.List.{All};
+ghost use Rattle.comfy_parts.specs.Text.{Text};
+ghost use Rattle.comfy_table.specs.Drawing.{part_of_drawing, terminated_text_of};
+ghost use Rattle.comfy_table.specs.Laws.{HasNoBreak};
+ghost use Rattle.comfy_table.specs.TableValue.{max_content_widths};
 ghost use Rattle.comfy_table.specs.Parts.{IsArrangedTable};
 ghost use Rattle.csv_tables.specs.Markdown.{rule_line};
 ghost use Rattle.csv_tables.specs.Contents.{AreContentsOf, AreDrawnAs, AreDrawnContents, rows_from};
-ghost use Rattle.csv_tables.specs.Drawn.{RendersAnyRecords, RendersAsMarkdown, RendersRecords, are_more, note_text, has_room_for, is_aligned_in, note_for, output_table, rows_table, sides, unbroken_in};
+ghost use Rattle.csv_tables.specs.Drawn.{RendersAnyRecords, RendersAsMarkdown, RendersRecords, are_more, below_first, note_text, has_room_for, is_aligned_in, note_for, output_table, rows_table, sides, unbroken_in};
 ghost use Rattle.csv_tables.specs.Unbroken.{kept_unbroken};
 
 use crate::contents::RowContents;
 use crate::decimals::has_points;
-use crate::drawn::{DrawnRecords, OpenDrawing};
+use crate::drawn::{DrawnRecords, OpenDrawing, push_records};
 use crate::expanded::is_expanded;
 use crate::markdown::push_rule;
 use crate::options::{Expansion, Layout, Look};
 use crate::rows::RecordRows;
 use crate::selected::SelectedRecords;
 use crate::separators::{separate_fields, separate_rows};
+use crate::table::markdown_look;
 use crate::unbroken::{keep_unbroken, keep_unbroken_fields};
 use comfy_parts::content_split::ColumnDisplayInfo;
-use comfy_table::{ArrangedTable, Result};
+use comfy_table::{ArrangedTable, Extent, Result};
 use csv_records::Records;
 use devices::joined;
 use std::alloc::{AllocError, Global};
@@ -38,17 +44,17 @@ pub fn drawn_records(
     let note = note_of(alloc, look.is_markdown, layout.selection.limit, count)?;
     let selected = SelectedRecords::new(alloc, records, count, layout)?;
     if look.is_markdown {
-        let mut text = markdown_text(selected, look)?;
-        text.push_str(note.as_str())?;
-        return Ok(DrawnRecords::of_text(text));
+        return markdown_records(selected, look, note);
     }
-    let (contents, infos) = arranged_contents(selected, look)?;
-    DrawnRecords::of_records(OpenDrawing {
+    let (contents, infos) = arranged_contents(drawn_contents(selected, look)?)?;
+    let left = OpenDrawing {
         contents,
         infos,
         place: 0,
+        is_first: true,
         note,
-    })
+    };
+    DrawnRecords::of_records(String::new(alloc), left)
 }
 
 /// The text of that drawing.
@@ -78,19 +84,14 @@ pub fn output_of_records(alloc: Global, records: Records, layout: &Layout) -> Re
     text_of_records(alloc, records, Some(below), layout)
 }
 
-// What is drawn of records, as a table of rows or expanded, and what its columns are drawn by.
-fn arranged_contents(
-    selected: SelectedRecords,
-    look: &Look,
-) -> Result<(RowContents, Vec<ColumnDisplayInfo>)>
-    requires { look.now.is_markdown ≡ false }
-    ensures contents { IfOk result (λ x. AreDrawnContents look.now selected x.0) }
+// What is drawn of records, and what its columns are drawn by.
+fn arranged_contents(contents: RowContents) -> Result<(RowContents, Vec<ColumnDisplayInfo>)>
+    ensures contents { IfOk result (λ x. x.0 ≡ contents) }
     ensures rows { IfOk result (λ x.
         x.0.table.rows ≡ rows_from x.0.rows 0 x.0.rows.selected.rows) }
     ensures infos { IfOk result (λ x. IsArrangedTable x.0.table
         (record { table = x.0.table; infos = x.1.items })) }
 {
-    let contents = drawn_contents(selected, look)?;
     // Said for the proof: rows are made of whole characters.
     contents.rows.selected.hold_texts();
     let infos = ArrangedTable::infos_of(&contents)?;
@@ -166,30 +167,81 @@ fn expanded_contents(selected: SelectedRecords, look: &Look) -> Result<RowConten
     Ok(contents)
 }
 
-// The text of a table for Markdown.
-fn markdown_text(selected: SelectedRecords, look: &Look) -> Result<String>
-    ensures { IfOk result (λ text. RendersAsMarkdown look.now selected (string_bytes text)) }
+// The drawing of a table for Markdown, which begins with its header.
+fn markdown_records(selected: SelectedRecords, look: &Look, note: String) -> Result<DrawnRecords>
+    ensures { IfOk result (λ drawn. (text : Text) × RendersAsMarkdown look.now selected text
+        × (drawn ≡ text ++ string_bytes note)) }
 {
-    let table = selected.markdown_table(look)?;
-    let widths = table.column_max_content_widths()?;
-    let drawing = table.to_terminated_text()?;
-    match drawing.split_once('\n') {
-        Some((header, rows)) => Ok(with_rule(&selected, header, widths.as_slice(), rows)?),
-        None => Ok(String::new(selected.alloc)),
+    let contents = RowContents::new(RecordRows {
+        selected: selected.with_header(),
+        look: markdown_look(*look),
+        is_expanded: false,
+        is_aligned: false,
+    })?;
+    let (contents, infos) = arranged_contents(contents)?;
+    let (beginning, infos) = markdown_beginning(&contents, infos)?;
+    let left = OpenDrawing {
+        contents,
+        infos,
+        place: 0,
+        is_first: false,
+        note,
+    };
+    DrawnRecords::of_records(beginning, left)
+}
+
+// The header of a table for Markdown, with the line below it, and the infos again.
+fn markdown_beginning(
+    contents: &RowContents,
+    infos: Vec<ColumnDisplayInfo>,
+) -> Result<(String, Vec<ColumnDisplayInfo>)>
+    requires { contents.now.rows.is_expanded ≡ false }
+    ensures text { IfOk result (λ x. All HasNoBreak
+        (part_of_drawing contents.now.table infos.items true false [])
+        → string_bytes x.0 ≡ terminated_text_of
+        (below_first (rule_line (sides contents.now.rows.selected)
+        (max_content_widths contents.now.table))
+        (part_of_drawing contents.now.table infos.items true false []))) }
+    ensures infos { IfOk result (λ x. x.1.items ≡ infos.items) }
+{
+    let selected = &contents.rows.selected;
+    let mut header = String::new(selected.alloc);
+    let none = selected.rows().first_rows(0);
+    let above = Extent {
+        is_first: true,
+        is_last: false,
+    };
+    let infos = push_records(&mut header, contents, infos, 0, &none, above)?;
+    let text = with_rule(contents, header.as_str())?;
+    Ok((text, infos))
+}
+
+// The lines of a header, with the line below it.
+fn with_rule(contents: &RowContents, header: &str) -> Result<String>
+    ensures { IfOk result (λ text. (lines : List Text) → All HasNoBreak lines
+        → header.now ≡ terminated_text_of lines → string_bytes text ≡ terminated_text_of
+        (below_first (rule_line (sides contents.now.rows.selected)
+        (max_content_widths contents.now.table)) lines)) }
+{
+    match header.split_once('\n') {
+        Some((first, below)) => with_rule_between(contents, first, below),
+        None => Ok(String::new(contents.rows.selected.alloc)),
     }
 }
 
-// The header's line, the line below it for columns of these widths, and the lines of the rows.
-fn with_rule(selected: &SelectedRecords, header: &str, widths: &[u16], rows: &str) -> Result<String>
-    ensures { IfOk result (λ text. string_bytes text
-        ≡ header.now ++ 0x0A ∷ (rule_line (sides selected.now) widths.now ++ 0x0A ∷ rows.now)) }
+// The same where the header's first line and the lines below it are known.
+fn with_rule_between(contents: &RowContents, first: &str, below: &str) -> Result<String>
+    ensures { IfOk result (λ text. string_bytes text ≡ first.now
+        ++ 0x0A ∷ (rule_line (sides contents.now.rows.selected)
+        (max_content_widths contents.now.table) ++ 0x0A ∷ below.now)) }
 {
+    let selected = &contents.rows.selected;
     let mut text = String::new(selected.alloc);
-    text.push_str(header)?;
+    text.push_str(first)?;
     text.push('\n')?;
     let sides = selected.sides()?;
-    push_rule(&mut text, sides.as_slice(), widths)?;
-    text.push_str(rows)?;
+    push_rule(&mut text, sides.as_slice(), contents.widths())?;
+    text.push_str(below)?;
     Ok(text)
 }
 

@@ -60,7 +60,8 @@ impl RecordRows {
 
     // ---- drawing
 
-    /// Appends the lines of the row of the record at a place, with what stands above them. Cells of
+    /// Appends the lines of the row of the record at a place, with what stands above them: the top
+    /// border and the header, or the row separator. Cells of
     /// one line stand in the list while they are drawn.
     pub fn push_row<'r>(
         &self,
@@ -69,14 +70,15 @@ impl RecordRows {
         cells: &mut Vec<PlainCell<'r>>,
         at: usize,
         fields: &Record<'r>,
+        is_first: bool,
     ) -> Result<()>
         ensures text { OnOk result (string_bytes text.new ≡ string_bytes text.old
-            ++ terminated_text_of (part_of_drawing writer.old.table writer.old.infos (at == 0) false
+            ++ terminated_text_of (part_of_drawing writer.old.table writer.old.infos is_first false
             (made_by self.now at fields.now ∷ []))) }
         ensures kept { writer.new ≡ writer.old }
     {
         let extent = Extent {
-            is_first: at == 0,
+            is_first,
             is_last: false,
         };
         if self.push_plain_row(text, writer, cells, fields, extent)? {

@@ -3,7 +3,7 @@
 ghost use Rattle.std.specs.Prelude.{◌≡◌, All, IfOk, [], unwrap_or};
 ghost use Rattle.csv.specs.Records.{AllText};
 ghost use Rattle.csv_tables.specs.Cells.{columns_within};
-ghost use Rattle.csv_tables.specs.Drawn.{selected_of, drawn_fields, sides};
+ghost use Rattle.csv_tables.specs.Drawn.{selected_of, drawn_fields, markdown_content, sides};
 ghost use Rattle.csv_tables.specs.Leasts.{least_positions};
 
 use crate::columns::drawn_columns;
@@ -21,6 +21,8 @@ pub struct SelectedRecords {
     pub(crate) alloc: Global,
     records: Records,
     has_header: bool,
+    // whether a header without fields stands where no record is one
+    is_headed: bool,
     // how many rows are drawn
     limit: Option<usize>,
     // how many records stand below the header, where that is known
@@ -33,7 +35,7 @@ pub struct SelectedRecords {
 }
 
 impl Model for SelectedRecords {
-    ghost use Rattle.std.specs.Prelude.{◌≡◌};
+    ghost use Rattle.std.specs.Prelude.{◌≡◌, [], Some, if◌then◌else◌, unwrap_or};
     ghost use Rattle.csv_tables.specs.Drawn.{SelectedValue, limited, names_of, records_below};
     ghost use Rattle.csv_tables.specs.Leasts.{least_positions};
 
@@ -42,7 +44,9 @@ impl Model for SelectedRecords {
     ghost invariant = { λ c. c.least_behind.items ≡ least_positions c.columns.items };
 
     ghost view = { λ c. record {
-      names = names_of c.has_header c.records;
+      names = if c.is_headed
+          then Some (unwrap_or (names_of c.has_header c.records) [])
+          else names_of c.has_header c.records;
       rows = limited c.limit (records_below c.has_header c.records);
       columns = c.columns.items;
       count = c.count;
@@ -68,6 +72,7 @@ impl SelectedRecords {
             alloc,
             records,
             has_header: layout.selection.has_header,
+            is_headed: false,
             limit: layout.selection.limit,
             count,
             columns,
@@ -76,11 +81,25 @@ impl SelectedRecords {
         })
     }
 
+    /// The same with a header, which has no fields where no record is one.
+    pub(crate) fn with_header(self) -> SelectedRecords
+        ensures { result ≡ markdown_content self }
+    {
+        let mut selected = self;
+        selected.is_headed = true;
+        selected
+    }
+
     /// The header, where there is one.
     pub(crate) fn names(&self) -> Option<Record<'_>>
         ensures { result ≡ self.now.names }
     {
-        names_of(&self.records.rows(), self.has_header)
+        let names = names_of(&self.records.rows(), self.has_header);
+        if self.is_headed {
+            Some(names.unwrap_or(self.records.rows().blank()))
+        } else {
+            names
+        }
     }
 
     /// The header, or a record without fields.

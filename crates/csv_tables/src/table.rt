@@ -1,64 +1,18 @@
 //! The tables of some records.
 
-ghost use Rattle.std.specs.Prelude.{◌≡◌, ◌+◌, ℕ, Bool, IfOk, OnOk, decimal, length, option_map};
+ghost use Rattle.std.specs.Prelude.{◌≡◌, ◌+◌, IfOk, decimal, option_map};
 ghost use Rattle.csv_tables.specs.Cells.{number_of, row_for};
-ghost use Rattle.csv_tables.specs.declared.options.Look.{Look};
-ghost use Rattle.csv_tables.specs.Drawn.{arrangement_for, empty_table, headed_table, markdown_look, markdown_style, markdown_table, pairs_of, pairs_table, rows_table, table_for};
-ghost use Rattle.comfy_table.specs.TableValue.{with_rows};
+ghost use Rattle.csv_tables.specs.Drawn.{arrangement_for, empty_table, headed_table, markdown_look, markdown_style};
 
-use crate::cells::{header_of, pair_of, row_of};
-use crate::columns::name_at;
-use crate::options::{Layout, Look};
+use crate::cells::{header_of, row_of};
+use crate::options::Look;
 use crate::selected::SelectedRecords;
 use comfy_table::presets::ASCII_MARKDOWN;
 use comfy_table::{ContentArrangement, LineStyle, Result, Row, Table, TableStyle};
-use csv_records::{Record, Records};
+use csv_records::Record;
 use std::alloc::Global;
 
-/// The table of these records, with the columns, rows and looks that are wanted, and all lines of
-/// the style. Where Markdown is wanted its texts alone are for Markdown; `text_of_records` draws
-/// such a table. No spaces are added that put decimal points below each other; `text_of_records`
-/// adds them.
-pub fn table_of(alloc: Global, records: Records, layout: &Layout) -> Result<Table>
-    ensures { IfOk result (λ table. table ≡ table_for layout.now records) }
-{
-    let selected = SelectedRecords::new(alloc, records, None, layout)?;
-    selected.rows_table(false, &layout.look)
-}
-
 impl SelectedRecords {
-    /// The table of records, a row for each, with all lines of the style. Decimal marks stand below
-    /// each other, or not.
-    pub fn rows_table(&self, is_aligned: bool, look: &Look) -> Result<Table>
-        ensures { IfOk result (λ table. table ≡ rows_table look.now is_aligned self.now) }
-    {
-        self.rows_table_under(self.names(), is_aligned, look)
-    }
-
-    /// The table for Markdown, without the line below its header.
-    pub fn markdown_table(&self, look: &Look) -> Result<Table>
-        ensures { IfOk result (λ table. table ≡ markdown_table look.now self.now) }
-    {
-        let names = self.names_or_blank();
-        self.rows_table_under(Some(names), false, &markdown_look(*look))
-    }
-
-    fn rows_table_under(
-        &self,
-        names: Option<Record<'_>>,
-        is_aligned: bool,
-        look: &Look,
-    ) -> Result<Table>
-        ensures { IfOk result (λ table. table
-            ≡ rows_table look.now is_aligned (record self.now { names = names.entry })) }
-    {
-        let mut table = self.headed_table(names, look)?;
-        for (at, row) in self.rows().enumerate() {
-            table.try_add_row(self.row_at(at, &row, is_aligned, look)?)?;
-        }
-        Ok(table)
-    }
-
     /// The row of the record at a place.
     pub(crate) fn row_at(
         &self,
@@ -133,8 +87,8 @@ fn arrangement_of(look: &Look) -> ContentArrangement
     }
 }
 
-// How a table for Markdown looks, whatever else is wanted.
-fn markdown_look(look: Look) -> Look
+/// How a table for Markdown looks, whatever else is wanted.
+pub(crate) fn markdown_look(look: Look) -> Look
     ensures { result ≡ markdown_look look }
 {
     Look {

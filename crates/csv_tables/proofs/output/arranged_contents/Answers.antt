@@ -1,4 +1,4 @@
-use Rattle.std.proofs.Common.{◌≡◌, [], All, ap, false, subst, sym, ◌∙◌}
+use Rattle.std.proofs.Common.{◌≡◌, [], All, ap, subst, sym, ◌∙◌}
 use Rattle.std.specs.Prelude.{unwrap_or}
 use Rattle.comfy_parts.specs.CellValue.{IsRow}
 use Rattle.csv_tables.proofs.WholeRowLemmas.{rows_whole}
@@ -12,11 +12,10 @@ returns-clause-rows c = sym (ap (λ v. v.table.rows) c.contents.view_is) ∙ ap 
 
 pub returns-clause-infos : goal.returns-clause-infos
 returns-clause-infos c =
-    let contents = c.in_ok-contents.contents in
+    let contents = c.args.contents in
     let rows = contents.rows in
-    let plain : rows.look.is_markdown ≡ false = ap (λ l. l.is_markdown) c.in_ok-contents.ensures.drawn.are_contents.look_is ∙ c.requires in
     let own : contents.table.rows ≡ rows_from rows 0 rows.selected.rows = sym (ap (λ v. v.table.rows) c.contents.view_is) ∙ ap (λ v. rows_from v.rows 0 v.rows.selected.rows) c.contents.view_is in
     let names = subst (λ (v : ContentsValue). AllText (unwrap_or v.rows.selected.names [])) c.contents.view_is c.hold_texts.ensures.names in
     let texts = subst (λ (v : ContentsValue). All AllText v.rows.selected.rows) c.contents.view_is c.hold_texts.ensures.rows in
-    let whole : All IsRow contents.table.rows = subst (All IsRow) (sym own) (rows_whole rows plain names 0 rows.selected.rows texts) in
+    let whole : All IsRow contents.table.rows = subst (All IsRow) (sym own) (rows_whole rows names 0 rows.selected.rows texts) in
     c.in_ok-infos.ensures.drawing whole

@@ -1,4 +1,4 @@
-use Rattle.std.proofs.Common.{◌≡◌, ◌++◌, ap, subst, sym, true, ◌∙◌}
+use Rattle.std.proofs.Common.{◌≡◌, ◌++◌, ap, string_bytes, subst, sym, true, ◌∙◌}
 use Rattle.std.proofs.lemmas.Result.{IfOk-weaker}
 use Rattle.comfy_parts.specs.Text.{Text}
 use Rattle.csv_tables.proofs.RecordTextLemmas.{renders}
@@ -6,14 +6,30 @@ use Rattle.csv_tables.specs.Contents.{AreDrawnContents, drawn_next}
 use Rattle.csv_tables.specs.Drawn.{RendersAsTable, RendersContent, SelectedValue, note_for}
 use Rattle.csv_tables.proofs.output.drawn_records.Goals as goal
 
+pub returns-then-look : goal.returns-then-look
+returns-then-look c =
+    let layout = c.args.layout.now in
+    let look = layout.look in
+    let selected = c.in_ok-selected.selected in
+    let count = ap (λ (s : SelectedValue). s.count) c.in_ok-selected.ensures in
+    IfOk-weaker c.markdown_records.result _ _
+    (λ output made. record {
+      content = selected;
+      is_content = sym c.in_ok-selected.ensures;
+      text = made.0;
+      is_text = subst (λ b. RendersContent b look selected made.0) (sym c.if-look.true) made.1;
+      joined = made.2 ∙ ap (λ (t : Text). made.0 ++ t) (c.in_ok-note.ensures ∙ ap (note_for look.is_markdown layout.selection.limit) (sym count));
+    })
+    c.markdown_records.ensures
+
 pub returns : goal.returns
 returns c =
     let layout = c.args.layout.now in
     let look = layout.look in
     let selected = c.in_ok-selected.selected in
     let contents = c.in_ok-contents.contents in
-    let text = drawn_next contents.rows contents.table c.in_ok-contents.infos.items 0 true contents.rows.selected.rows in
-    let made = c.in_ok-contents.ensures.contents in
+    let text = drawn_next contents.rows contents.table c.in_ok-contents.infos.items 0 true true contents.rows.selected.rows in
+    let made : AreDrawnContents look selected contents = subst (AreDrawnContents look selected) (sym c.in_ok-contents.ensures.contents) c.in_ok-drawn_contents.ensures in
     let same : contents.rows.selected ≡ selected = made.drawn.are_contents.selected_is in
     let drawn : RendersAsTable look selected text =
     subst (λ (s : SelectedValue). RendersAsTable look s text) same
@@ -26,6 +42,6 @@ returns c =
       is_content = sym c.in_ok-selected.ensures;
       text = text;
       is_text = kind;
-      joined = is ∙ ap (λ (t : Text). text ++ t) (c.in_ok-note.ensures ∙ ap (note_for look.is_markdown layout.selection.limit) (sym count));
+      joined = is ∙ ap (λ (t : Text). t ++ (text ++ string_bytes c.in_ok-note.note)) c.new-2.ensures.bytes ∙ ap (λ (t : Text). text ++ t) (c.in_ok-note.ensures ∙ ap (note_for look.is_markdown layout.selection.limit) (sym count));
     })
     c.of_records.ensures

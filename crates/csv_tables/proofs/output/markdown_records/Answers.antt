@@ -1,0 +1,56 @@
+use Rattle.std.proofs.Common.{◌≡◌, [], ◌++◌, List, ap, ap₂, append_assoc, refl, ◌∙◌, sym, subst, false, true, string_bytes}
+use Rattle.std.proofs.lemmas.List.Concat.{flat_map-append}
+use Rattle.std.proofs.lemmas.Result.{IfOk-weaker}
+use Rattle.std.specs.List.{All}
+use Rattle.std.specs.Prelude.{if◌then◌else◌}
+use Rattle.comfy_parts.specs.CellValue.{ColumnInfo, RowValue}
+use Rattle.comfy_parts.specs.Text.{Text}
+use Rattle.comfy_table.specs.Drawing.{part_of_drawing, terminated_text_of}
+use Rattle.comfy_table.specs.Laws.{HasNoBreak}
+use Rattle.comfy_table.specs.Parts.{ArrangedValue, IsArrangedTable}
+use Rattle.comfy_table.specs.TableValue.{TableValue, max_content_widths}
+use Rattle.csv_tables.proofs.OutputLemmas.{header_each, markdown_unbroken}
+use Rattle.csv_tables.specs.Contents.{drawn_next, expanded_from, rows_from, table_by}
+use Rattle.csv_tables.specs.ContentsValue.{ContentsValue}
+use Rattle.csv_tables.specs.Drawn.{SelectedValue, below_first, markdown_content, markdown_look, markdown_rule, markdown_table, sides}
+use Rattle.csv_tables.specs.Markdown.{rule_line}
+use Rattle.csv_tables.specs.declared.options.Look.{Look}
+use Rattle.csv_tables.specs.declared.rows.RecordRows.{RecordRows}
+use Rattle.csv_tables.proofs.output.markdown_records.Goals as goal
+
+pub returns : goal.returns
+returns c =
+    let look = c.args.look.now in
+    let selected = c.args.selected in
+    let contents = c.in_ok-contents-2.contents in
+    let infos = c.in_ok-contents-2.infos.items in
+    let arranged : ArrangedValue = record { table = contents.table; infos = infos } in
+    let rows_by : SelectedValue → Look → RecordRows = λ s l. record { selected = s; look = l; is_expanded = false; is_aligned = false } in
+    let wanted : rows_by c.with_header.result c.markdown_look.result ≡ rows_by (markdown_content selected) (markdown_look look) = ap₂ rows_by c.with_header.ensures c.markdown_look.ensures in
+    let made : contents.rows ≡ rows_by (markdown_content selected) (markdown_look look) = ap (λ (v : ContentsValue). v.rows) c.in_ok-contents-2.ensures.contents ∙ c.in_ok-contents.ensures.rows ∙ wanted in
+    let table : contents.table ≡ markdown_table look selected = ap (λ (v : ContentsValue). v.table) c.in_ok-contents-2.ensures.contents ∙ c.in_ok-contents.ensures.table ∙ ap table_by wanted in
+    let is : IsArrangedTable (markdown_table look selected) arranged = subst (λ (t : TableValue). IsArrangedTable t arranged) table c.in_ok-contents-2.ensures.infos in
+    let above = part_of_drawing contents.table infos true false [] in
+    let below = part_of_drawing contents.table infos false true contents.table.rows in
+    let rule = markdown_rule look selected in
+    let ruled : rule_line (sides contents.rows.selected) (max_content_widths contents.table) ≡ rule = ap₂ (λ (r : RecordRows) (t : TableValue). rule_line (sides r.selected) (max_content_widths t)) made table in
+    let unbroken : All HasNoBreak above = header_each HasNoBreak look selected arranged is (is.headline.controls.without_breaks (markdown_unbroken look selected)) in
+    let begun : string_bytes c.in_ok-beginning.beginning ≡ terminated_text_of (below_first rule above) =
+    c.in_ok-beginning.ensures.text unbroken ∙ ap (λ (t : Text). terminated_text_of (below_first t above)) ruled in
+    let all : List (List Text) = contents.rows.selected.rows in
+    let lines : List RowValue → Text = λ made. terminated_text_of (part_of_drawing contents.table infos false true made) in
+    let rest : drawn_next contents.rows contents.table c.in_ok-beginning.infos.items 0 false true all ≡ lines contents.table.rows =
+    ap (λ (i : List ColumnInfo). drawn_next contents.rows contents.table i 0 false true all) c.in_ok-beginning.ensures.infos
+    ∙ ap (λ b. if b then expanded_from contents.rows contents.table infos 0 all else lines (rows_from contents.rows 0 all)) (ap (λ (r : RecordRows). r.is_expanded) made)
+    ∙ ap lines (sym c.in_ok-contents-2.ensures.rows) in
+    let note = string_bytes c.args.note in
+    IfOk-weaker c.of_records.result _ _
+    (λ output own. (
+      terminated_text_of (below_first rule above ++ below),
+      record { arranged = arranged; is_arranged = is; is = refl },
+      own
+          ∙ ap₂ (λ (a b : Text). a ++ (b ++ note)) begun rest
+          ∙ sym (append_assoc (terminated_text_of (below_first rule above)) (lines contents.table.rows) note)
+          ∙ ap (λ (t : Text). t ++ note) (sym (flat_map-append _ (below_first rule above) below)),
+    ))
+    c.of_records.ensures
