@@ -4,26 +4,15 @@ use Rattle.std.proofs.Math.Seq.{take-length}
 use Rattle.std.proofs.lemmas.Bool.{cases_lt}
 use Rattle.std.proofs.lemmas.List.{drop_more, length-drop, map-append, take-append-drop}
 use Rattle.std.proofs.lemmas.List.Quantifiers.{position-Some}
-use Rattle.std.proofs.lemmas.List.Sums.{fails_before_first, passes_at_first, prefix_len-le-length}
+use Rattle.std.proofs.lemmas.List.Sums.{fails_before_first, passes_at_first, prefix_len-le-length, prefix_len_passes}
 use Rattle.std.proofs.lemmas.Str.{IsCharBoundary-after_ascii, IsCharBoundary-before_ascii, IsCharBoundary-end, IsCharBoundary-start}
-use Rattle.std.specs.List.{position, position_or_len}
+use Rattle.std.specs.List.{position, position_or_len, prefix_len}
 use Rattle.std.specs.Option.{option_map, unwrap_or}
 use Rattle.std.specs.Prelude.{if◌then◌else◌, not}
 use Rattle.std.specs.Str.{IsCharBoundary, IsUtf8}
 use Rattle.comfy_parts.specs.Text.{Text}
 use Rattle.csv_records.specs.Number.{halves}
 use Rattle.csv_records.specs.Spaces.{behind_field, first_field, is_gap, spaced, tabbed_line}
-
-pub position-le : (p : ℕ → Bool) (text : Text) → position_or_len p text ≤ length text
-position-le p text = prefix_len-le-length (λ b. not (p b)) text
-
--- where none passes, the place is the end
-pub position_or_end : (p : ℕ → Bool) (text : Text) → unwrap_or (position p text) (length text) ≡ position_or_len p text
-position_or_end p text = by_place (nat_lt (position_or_len p text) (length text)) refl
-  where
-    by_place : (v : Bool) → nat_lt (position_or_len p text) (length text) ≡ v → unwrap_or (if v then Some (position_or_len p text) else None) (length text) ≡ position_or_len p text
-    by_place true is = refl
-    by_place false is = let le = position-le p text in grind (arith, is, le, tests)
 
 gap_is_ascii : (b : ℕ) → is_gap b ≡ true → b < 128
 gap_is_ascii b is = grind (arith, is, tests)
@@ -35,26 +24,19 @@ boundary_before_gap text = by_place (cases_lt (position_or_len is_gap text) (len
     by_place : (position_or_len is_gap text < length text) ⊎ (length text ≤ position_or_len is_gap text) → IsCharBoundary text (position_or_len is_gap text)
     by_place (inl inside) = IsCharBoundary-before_ascii text (position_or_len is_gap text) inside (gap_is_ascii (get_or text (position_or_len is_gap text) 0) (passes_at_first is_gap text 0 inside))
     by_place (inr outside) =
-        let le = position-le is_gap text in
+        let le = prefix_len-le-length (λ b. not (is_gap b)) text in
         let whole : length text ≡ position_or_len is_gap text = omega arith in
         subst (λ (n : ℕ). IsCharBoundary text n) whole (IsCharBoundary-end text)
 
-gap_where_none_fails : (b : ℕ) → not (is_gap b) ≡ false → is_gap b ≡ true
-gap_where_none_fails b is = by_value (is_gap b) is
-  where
-    by_value : (v : Bool) → not v ≡ false → v ≡ true
-    by_value true is = refl
-    by_value false is = absurd (cc is)
-
 -- and behind the gap in front of it
-pub boundary_behind_gap : (text : Text) → IsUtf8 text → IsCharBoundary text (position_or_len (λ b. not (is_gap b)) text)
-boundary_behind_gap text utf8 = by_len (position_or_len (λ b. not (is_gap b)) text) refl
+pub boundary_behind_gap : (text : Text) → IsUtf8 text → IsCharBoundary text (prefix_len is_gap text)
+boundary_behind_gap text utf8 = by_len (prefix_len is_gap text) refl
   where
-    by_len : (n : ℕ) → position_or_len (λ b. not (is_gap b)) text ≡ n → IsCharBoundary text n
+    by_len : (n : ℕ) → prefix_len is_gap text ≡ n → IsCharBoundary text n
     by_len zero is = IsCharBoundary-start text utf8
     by_len (suc n) is =
-        let le = position-le (λ b. not (is_gap b)) text in
-        let gap = gap_where_none_fails (get_or text n 0) (fails_before_first (λ b. not (is_gap b)) text n 0 (omega (arith, is))) in
+        let le = prefix_len-le-length is_gap text in
+        let gap = prefix_len_passes is_gap text n 0 (omega (arith, is)) in
         subst (λ (k : ℕ). IsCharBoundary text k) (omega arith) (IsCharBoundary-after_ascii text n utf8 (omega (arith, is, le)) (gap_is_ascii (get_or text n 0) gap))
 
 -- ---- TABs

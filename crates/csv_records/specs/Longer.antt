@@ -1,7 +1,7 @@
 -- Records that have more fields than the first one.
 -- Source: this library's own.
-use Rattle.std.specs.Prelude.{ℕ, zero, suc, ◌-◌, nat_lt, Bool, List, [], Option, None, drop, length, option_map, slice_get, take, not, unwrap_or}
-use Rattle.std.specs.List.{count_by, position, position_or_len}
+use Rattle.std.specs.Prelude.{ℕ, zero, suc, ◌-◌, nat_lt, Bool, List, [], Option, None, drop, length, option_map, slice_get, take, unwrap_or}
+use Rattle.std.specs.List.{count_by, position, prefix_len}
 use Rattle.std.specs.Option.{option_map_or}
 use Rattle.comfy_parts.specs.Text.{Text}
 use Rattle.csv.specs.Machine.{next_record}
@@ -20,7 +20,7 @@ use Rattle.csv_records.specs.declared.options.InputOptions.{InputOptions}
 
 -- a text without the line ends in front
 abbrev pub below_line_ends : Text → Text
-below_line_ends text = drop (position_or_len (λ b. not (ends_line b)) text) text
+below_line_ends text = drop (prefix_len ends_line text) text
 
 -- what follows the first record of a text
 abbrev pub behind_record : Config → Text → Text

@@ -15,7 +15,7 @@ abbrev pub first_field : Text → Text
 first_field line = take (position_or_len is_gap line) line
 
 abbrev pub behind_gap : Text → Text
-behind_gap line = drop (position_or_len (λ b. not (is_gap b)) line) line
+behind_gap line = drop (prefix_len is_gap line) line
 
 abbrev pub behind_field : Text → Text
 behind_field line = behind_gap (drop (position_or_len is_gap line) line)

@@ -1,10 +1,9 @@
 //! Records that have more fields than the first one.
 
-ghost use Rattle.std.specs.Prelude.{◌≡◌, ◌≢◌, length, nat_lt, not};
-ghost use Rattle.std.specs.List.{count_by, position, position_or_len};
+ghost use Rattle.std.specs.Prelude.{◌≡◌, ◌≢◌, length, nat_lt};
+ghost use Rattle.std.specs.List.{count_by, position};
 ghost use Rattle.csv_records.specs.Delimiter.{delimited};
 ghost use Rattle.csv_records.specs.Input.{config_for};
-ghost use Rattle.csv_records.specs.Lines.{ends_line};
 ghost use Rattle.csv_records.specs.Longer.{behind_record, below_line_ends, field_count, from_record, longer_records};
 ghost use Rattle.csv_records.specs.declared.delimiter.Delimiter.TheVariants.{Spaces};
 
@@ -102,20 +101,9 @@ fn behind_record(bytes: &[u8], delimiter: u8, has_quotes: bool) -> &[u8]
 fn below_line_ends(bytes: &[u8]) -> &[u8]
     ensures { result.now ≡ below_line_ends bytes.now }
 {
-    bytes.split_at(line_ends_len(bytes)).1
-}
-
-fn line_ends_len(bytes: &[u8]) -> usize
-    ensures { result ≡ position_or_len (λ b. not (ends_line b)) bytes.now }
-{
-    record_start(bytes).unwrap_or(bytes.len())
-}
-
-// The place of the first byte that ends no line.
-fn record_start(bytes: &[u8]) -> Option<usize>
-    ensures { result ≡ position (λ b. not (ends_line b)) bytes.now }
-{
-    bytes
-        .iter()
-        .position(|byte| !(*byte == b'\n' || *byte == b'\r'))
+    let mut rest = bytes;
+    while let [b'\n' | b'\r', behind @ ..] = rest {
+        rest = behind;
+    }
+    rest
 }

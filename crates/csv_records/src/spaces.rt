@@ -1,7 +1,7 @@
 //! Texts whose fields stand between spaces, as `df -h` and `ls -l` write them.
 
-ghost use Rattle.std.specs.Prelude.{◌≡◌, ◌++◌, IfOk, OnOk, false, length, map, max, not, option_map, string_bytes};
-ghost use Rattle.std.specs.List.{list_any, position, position_or_len};
+ghost use Rattle.std.specs.Prelude.{◌≡◌, ◌++◌, IfOk, OnOk, false, length, map, max, option_map, string_bytes};
+ghost use Rattle.std.specs.List.{list_any, position_or_len, prefix_len};
 ghost use Rattle.csv_records.specs.Number.{halves};
 ghost use Rattle.csv_records.specs.Spaces.{begins_with_digit, below_total, column_gaps, filled_lines, behind_field, first_field, gaps_from, is_gap, is_indented, gaps_text, is_total, lacks_name, line_gaps, most_gaps, name_gap, spaced, tabbed_line, tabbed_text, trimmed_line};
 
@@ -208,26 +208,14 @@ fn split_field(line: &str) -> (&str, &str)
 fn field_len(bytes: &[u8]) -> usize
     ensures { result ≡ position_or_len is_gap bytes.now }
 {
-    gap_start(bytes).unwrap_or(bytes.len())
-}
-
-fn gap_start(bytes: &[u8]) -> Option<usize>
-    ensures { result ≡ position is_gap bytes.now }
-{
-    bytes.iter().position(|byte| is_gap(*byte))
+    bytes.iter().take_while(|byte| !is_gap(**byte)).count()
 }
 
 // How many bytes the gap in front has.
 fn gap_len(bytes: &[u8]) -> usize
-    ensures { result ≡ position_or_len (λ b. not (is_gap b)) bytes.now }
+    ensures { result ≡ prefix_len is_gap bytes.now }
 {
-    gap_end(bytes).unwrap_or(bytes.len())
-}
-
-fn gap_end(bytes: &[u8]) -> Option<usize>
-    ensures { result ≡ position (λ b. not (is_gap b)) bytes.now }
-{
-    bytes.iter().position(|byte| !is_gap(*byte))
+    bytes.iter().take_while(|byte| is_gap(**byte)).count()
 }
 
 // Appends what is left of a line, with a space for each TAB.
