@@ -1,42 +1,52 @@
--- Lines whose fields stand below the names of a first line.
+-- Lines whose fields stand below the names of a first line. Here a line is its characters, and the
+-- place of one is how many stand before it.
 -- Source: this library's own.
-use Rattle.std.specs.Prelude.{ℕ, ◌+◌, ◌==◌, ◌&&◌, ◌||◌, not, nat_le, nat_lt, Bool, true, List, [], ◌∷◌, ◌++◌, Option, Some, None, chars, codes, encode_utf8, flat_map, length, if◌then◌else◌}
-use Rattle.std.specs.List.{list_all, list_any}
+use Rattle.std.specs.Prelude.{ℕ, ◌==◌, ◌&&◌, ◌||◌, not, nat_le, nat_lt, Bool, List, [], ◌∷◌, ◌++◌, Option, Some, None, chars, codes, encode_utf8, flat_map, length, slice_index, take, if◌then◌else◌}
+use Rattle.std.specs.List.{filter, list_all, list_any, range_with_len, suffix_len}
 use Rattle.comfy_parts.specs.Text.{Text}
 
--- how many spaces stand behind a character, where so many stand before it
-abbrev pub spaces_with : ℕ → ℕ → ℕ
-spaces_with spaces c = if c == 0x20 then spaces + 1 else 0
+abbrev pub places : List ℕ → List ℕ
+places line = range_with_len 0 (length line)
 
--- the places, counted in characters, at which names begin behind three spaces or more; here and
--- below this is said of the rest of a line, from a place on, and behind so many spaces
-abbrev pub starts_from : ℕ → ℕ → List ℕ → List ℕ
-starts_from at spaces [] = []
-starts_from at spaces (c ∷ cs) =
-    (if nat_le 3 spaces && not (c == 0x20) then at ∷ [] else [])
-    ++ starts_from (at + 1) (spaces_with spaces c) cs
+abbrev pub has_space : List ℕ → ℕ → Bool
+has_space line at = slice_index line at == 0x20
 
--- a character may stand at a place: where a name begins, behind two spaces or more; elsewhere
--- nothing begins behind two
-abbrev pub may_stand : Bool → ℕ → ℕ → Bool
-may_stand is_start spaces c = if is_start then nat_le 2 spaces else (c == 0x20) || nat_lt spaces 2
+-- how many spaces precede a place
+abbrev pub spaces_before : List ℕ → ℕ → ℕ
+spaces_before line at = suffix_len (λ c. c == 0x20) (take at line)
 
-abbrev pub fits_from : List ℕ → ℕ → ℕ → List ℕ → Bool
-fits_from starts at spaces [] = true
-fits_from starts at spaces (c ∷ cs) =
-    may_stand (list_any (λ start. start == at) starts) spaces c
-    && fits_from starts (at + 1) (spaces_with spaces c) cs
+-- a name begins at a place: three spaces or more precede it, and none stands there
+abbrev pub begins_name : List ℕ → ℕ → Bool
+begins_name line at = nat_le 3 (spaces_before line at) && not (has_space line at)
+
+-- the places of a line at which names begin
+abbrev pub starts_of : List ℕ → List ℕ
+starts_of line = filter (begins_name line) (places line)
+
+abbrev pub is_start : List ℕ → ℕ → Bool
+is_start starts at = list_any (λ start. start == at) starts
+
+-- a line fits the places of some names: two spaces or more precede each of them, and at any other
+-- place nothing begins behind two
+abbrev pub fits_at : List ℕ → List ℕ → ℕ → Bool
+fits_at starts line at =
+    if is_start starts at
+    then nat_le 2 (spaces_before line at)
+    else has_space line at || nat_lt (spaces_before line at) 2
+
+abbrev pub fits : List ℕ → List ℕ → Bool
+fits starts line = list_all (fits_at starts line) (places line)
 
 -- the places of the names of some lines, where there are two or more behind the first, and all
 -- lines fit them
 abbrev pub first_starts : List Text → List ℕ
 first_starts [] = []
-first_starts (first ∷ others) = starts_from 0 0 (chars first)
+first_starts (first ∷ others) = starts_of (chars first)
 
 abbrev pub name_starts : List Text → Option (List ℕ)
 name_starts lines =
     let starts = first_starts lines in
-    if nat_le 2 (length starts) && list_all (λ line. fits_from starts 0 0 (chars line)) lines
+    if nat_le 2 (length starts) && list_all (λ line. fits starts (chars line)) lines
     then Some starts
     else None
 
@@ -47,13 +57,14 @@ with_space spaces c =
     then []
     else (if spaces == 1 then codes " " else []) ++ encode_utf8 (if c == 0x09 then 0x20 else c)
 
--- a line with a TAB at each place
-abbrev pub columns_from : List ℕ → ℕ → ℕ → List ℕ → Text
-columns_from starts at spaces [] = []
-columns_from starts at spaces (c ∷ cs) =
-    (if list_any (λ start. start == at) starts then 0x09 ∷ [] else [])
-    ++ (with_space spaces c ++ columns_from starts (at + 1) (spaces_with spaces c) cs)
+-- a line with a TAB at each start
+abbrev pub columns_at : List ℕ → List ℕ → ℕ → Text
+columns_at starts line at =
+    (if is_start starts at then codes "\t" else [])
+    ++ with_space (spaces_before line at) (slice_index line at)
+
+abbrev pub columns_of : List ℕ → List ℕ → Text
+columns_of starts line = flat_map (columns_at starts line) (places line)
 
 abbrev pub columns_text : List ℕ → List Text → Text
-columns_text starts lines =
-    flat_map (λ line. columns_from starts 0 0 (chars line) ++ 0x0A ∷ []) lines
+columns_text starts lines = flat_map (λ line. columns_of starts (chars line) ++ 0x0A ∷ []) lines

@@ -1,9 +1,9 @@
 //! Lines whose fields stand below the names of a first line, as `docker ps` and `kubectl get` write
 //! them.
 
-ghost use Rattle.std.specs.Prelude.{◌≡◌, ◌<◌, ◌+◌, ◌++◌, ◌^◌, IfOk, OnOk, chars, map, option_map, string_bytes};
+ghost use Rattle.std.specs.Prelude.{◌≡◌, ◌++◌, IfOk, OnOk, chars, map, option_map, string_bytes};
 ghost use Rattle.std.specs.List.{list_all};
-ghost use Rattle.csv_records.specs.BelowNames.{columns_from, columns_text, fits_from, may_stand, name_starts, spaces_with, starts_from, with_space};
+ghost use Rattle.csv_records.specs.BelowNames.{columns_of, columns_text, fits, name_starts, starts_of, with_space};
 
 use crate::characters::split_first;
 use std::alloc::{AllocError, Global};
@@ -28,69 +28,50 @@ pub(crate) fn name_starts(alloc: Global, lines: &[&str]) -> Result<Option<Vec<us
 
 // The places at which names of a line begin behind three spaces or more.
 fn starts_of(alloc: Global, line: &str) -> Result<Vec<usize>, AllocError>
-    ensures { IfOk result (λ starts. starts.items ≡ starts_from 0 0 (chars line.now)) }
+    ensures { IfOk result (λ starts. starts.items ≡ starts_of (chars line.now)) }
 {
     let mut starts = Vec::new(alloc);
     let mut rest = line;
     let mut at = 0;
-    let mut spaces = 0;
+    let mut spaces = 0usize;
     while let Some((c, behind)) = split_first(rest) {
         if spaces >= 3 && c != ' ' {
             starts.push(at)?;
         }
-        spaces = spaces_with(spaces, c);
+        spaces = if c == ' ' { spaces + 1 } else { 0 };
         at += 1;
         rest = behind;
     }
     Ok(starts)
 }
 
-// How many spaces stand behind a character.
-fn spaces_with(spaces: usize, c: char) -> usize
-    requires { spaces + 1 < 2 ^ 64 }
-    ensures { result ≡ spaces_with spaces c }
-{
-    if c == ' ' { spaces + 1 } else { 0 }
-}
-
 fn all_fit(lines: &[&str], starts: &[usize]) -> bool
-    ensures { result ≡ list_all (λ line. fits_from starts.now 0 0 (chars line))
+    ensures { result ≡ list_all (λ line. fits starts.now (chars line))
         (map (λ line. line.now) lines.now) }
 {
-    for line in lines {
-        if !fits(line, starts) {
-            return false;
-        }
-    }
-    true
+    lines.iter().all(|line| fits(line, starts))
 }
 
 fn fits(line: &str, starts: &[usize]) -> bool
-    ensures { result ≡ fits_from starts.now 0 0 (chars line.now) }
+    ensures { result ≡ fits starts.now (chars line.now) }
 {
     let mut rest = line;
     let mut at = 0;
-    let mut spaces = 0;
+    let mut spaces = 0usize;
     while let Some((c, behind)) = split_first(rest) {
-        if !may_stand(starts.contains(&at), spaces, c) {
+        let is_fit = if starts.contains(&at) {
+            spaces >= 2
+        } else {
+            c == ' ' || spaces < 2
+        };
+        if !is_fit {
             return false;
         }
-        spaces = spaces_with(spaces, c);
+        spaces = if c == ' ' { spaces + 1 } else { 0 };
         at += 1;
         rest = behind;
     }
     true
-}
-
-// Whether a character may stand behind so many spaces, where a name begins or elsewhere.
-fn may_stand(is_start: bool, spaces: usize, c: char) -> bool
-    ensures { result ≡ may_stand is_start spaces c }
-{
-    if is_start {
-        spaces >= 2
-    } else {
-        c == ' ' || spaces < 2
-    }
 }
 
 /// Lines with a TAB at each of these places, and with single spaces alone.
@@ -113,15 +94,15 @@ pub(crate) fn columns_text(
 // Appends such a line.
 fn push_columns(text: &mut String, line: &str, starts: &[usize]) -> Result<(), AllocError>
     ensures { OnOk result (string_bytes text.new
-        ≡ string_bytes text.old ++ columns_from starts.now 0 0 (chars line.now)) }
+        ≡ string_bytes text.old ++ columns_of starts.now (chars line.now)) }
 {
     let mut rest = line;
     let mut at = 0;
-    let mut spaces = 0;
+    let mut spaces = 0usize;
     while let Some((c, behind)) = split_first(rest) {
         text.push_str(if starts.contains(&at) { "\t" } else { "" })?;
         push_with_space(text, spaces, c)?;
-        spaces = spaces_with(spaces, c);
+        spaces = if c == ' ' { spaces + 1 } else { 0 };
         at += 1;
         rest = behind;
     }
