@@ -1,11 +1,9 @@
 -- Lines of a text.
-use Rattle.std.proofs.Common.{◌≡◌, ◌≢◌, ◌⊎◌, inl, inr, ◌+◌, ◌-◌, ◌<◌, ◌≤◌, ◌==◌, ◌&&◌, ℕ, zero, suc, Bool, true, false, [], ◌∷◌, ◌++◌, Some, None, ap, append_assoc, arith, drop, eqb-true, get_or, length, nat_lt, refl, subst, sym, take, tests, ◌∙◌}
+use Rattle.std.proofs.Common.{◌≡◌, ◌≢◌, ◌⊎◌, inl, inr, ◌+◌, ◌-◌, ◌<◌, ◌≤◌, ◌==◌, ◌&&◌, ℕ, zero, suc, Bool, true, false, [], ◌∷◌, ◌++◌, ap, append_assoc, arith, drop, eqb-true, get_or, length, refl, subst, sym, take, tests, ◌∙◌}
 use Rattle.std.proofs.lemmas.Bool.{and_parts, cases_lt, ne_eqb}
 use Rattle.std.proofs.lemmas.List.{take-append-drop}
 use Rattle.std.proofs.lemmas.List.Sums.{passes_at_first, prefix_len-le-length}
 use Rattle.std.proofs.lemmas.Str.{IsCharBoundary-after_ascii, IsCharBoundary-before_ascii, IsCharBoundary-end, IsCharBoundary-start}
-use Rattle.std.specs.List.{position}
-use Rattle.std.specs.Option.{unwrap_or}
 use Rattle.std.specs.Prelude.{if◌then◌else◌, not}
 use Rattle.std.specs.Str.{IsCharBoundary, IsUtf8}
 use Rattle.comfy_parts.specs.Text.{Text}
@@ -16,14 +14,6 @@ ascii_end b is = grind (arith, is, tests)
 
 pub line_len-le : (text : Text) → line_len text ≤ length text
 line_len-le text = prefix_len-le-length (λ b. not (ends_line b)) text
-
--- a line without an end is all of the text
-pub end_or_all : (text : Text) → unwrap_or (position ends_line text) (length text) ≡ line_len text
-end_or_all text = by_place (nat_lt (line_len text) (length text)) refl
-  where
-    by_place : (v : Bool) → nat_lt (line_len text) (length text) ≡ v → unwrap_or (if v then Some (line_len text) else None) (length text) ≡ line_len text
-    by_place true is = refl
-    by_place false is = let le = line_len-le text in grind (arith, is, le, tests)
 
 -- a text may be cut before its first line end
 pub boundary_before : (text : Text) → IsCharBoundary text (line_len text)

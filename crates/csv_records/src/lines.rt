@@ -1,8 +1,7 @@
 //! The lines of bytes. A line ends at a line feed, a carriage return, or both in this order.
 
 ghost use Rattle.std.specs.Prelude.{◌≡◌};
-ghost use Rattle.std.specs.List.{position};
-ghost use Rattle.csv_records.specs.Lines.{EndsIn, below_line, below_lines, end_len, ends_line, first_line, line_len};
+ghost use Rattle.csv_records.specs.Lines.{EndsIn, below_line, below_lines, end_len, first_line, line_len};
 
 /// The bytes below the first `count` lines, none where there aren't more. A line ends at a line
 /// feed, a carriage return, or a carriage return with a line feed, also between quotes.
@@ -41,16 +40,10 @@ pub(crate) fn split_line(text: &str) -> (&str, &str)
 fn line_len(bytes: &[u8]) -> usize
     ensures { result ≡ line_len bytes.now }
 {
-    line_end(bytes).unwrap_or(bytes.len())
-}
-
-// The place of the first line end.
-fn line_end(bytes: &[u8]) -> Option<usize>
-    ensures { result ≡ position ends_line bytes.now }
-{
     bytes
         .iter()
-        .position(|byte| *byte == b'\n' || *byte == b'\r')
+        .take_while(|byte| **byte != b'\n' && **byte != b'\r')
+        .count()
 }
 
 // How many bytes the line end in front has.
