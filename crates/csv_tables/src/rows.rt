@@ -81,34 +81,11 @@ impl RecordRows {
             is_first,
             is_last: false,
         };
-        if self.push_plain_row(text, writer, cells, fields, extent)? {
+        if self.list_cells(cells, fields)? && writer.push_cells(text, cells.as_slice(), extent)? {
             return Ok(());
         }
         let row = [self.row_at(at, fields)?];
         writer.push_rows(text, row.as_slice(), extent)
-    }
-
-    // The same where each cell is one line as it is, and fits its column. Returns whether they do.
-    fn push_plain_row<'r>(
-        &self,
-        text: &mut String,
-        writer: &mut RowWriter<'_>,
-        cells: &mut Vec<PlainCell<'r>>,
-        fields: &Record<'r>,
-        extent: Extent,
-    ) -> Result<bool>
-        ensures drawn { IfOk result (λ is. IsTrue is → (at : ℕ) → string_bytes text.new
-            ≡ string_bytes text.old ++ terminated_text_of (part_of_drawing writer.old.table
-            writer.old.infos extent.is_first extent.is_last
-            (made_by self.now at fields.now ∷ []))) }
-        ensures other { IfOk result (λ is. is ≡ false
-            → string_bytes text.new ≡ string_bytes text.old) }
-        ensures kept { writer.new ≡ writer.old }
-    {
-        if !self.list_cells(cells, fields)? {
-            return Ok(false);
-        }
-        writer.push_cells(text, cells.as_slice(), extent)
     }
 
     // Lists the cells of the row of a record, where each is one line as it is. Returns whether that
@@ -195,34 +172,13 @@ impl RecordRows {
             is_first,
             is_last: false,
         };
-        if self.push_plain_pair(text, writer, name, field, extent)? {
-            return Ok(());
+        if let Some(cells) = self.pair_cells(name, field) {
+            if writer.push_cells(text, cells.as_slice(), extent)? {
+                return Ok(());
+            }
         }
         let row = [pair_of(self.selected.alloc, name, field, &self.look)?];
         writer.push_rows(text, row.as_slice(), extent)
-    }
-
-    // The same where both are one line as they are and fit their columns. Returns whether they do.
-    fn push_plain_pair(
-        &self,
-        text: &mut String,
-        writer: &mut RowWriter<'_>,
-        name: &str,
-        field: &str,
-        extent: Extent,
-    ) -> Result<bool>
-        ensures drawn { IfOk result (λ is. IsTrue is → string_bytes text.new
-            ≡ string_bytes text.old ++ terminated_text_of (part_of_drawing writer.old.table
-            writer.old.infos extent.is_first extent.is_last
-            (pair_for self.now.look name.now field.now ∷ []))) }
-        ensures other { IfOk result (λ is. is ≡ false
-            → string_bytes text.new ≡ string_bytes text.old) }
-        ensures kept { writer.new ≡ writer.old }
-    {
-        let Some(cells) = self.pair_cells(name, field) else {
-            return Ok(false);
-        };
-        writer.push_cells(text, cells.as_slice(), extent)
     }
 
     // The cells of a name and a field, where both are one line as they are.
