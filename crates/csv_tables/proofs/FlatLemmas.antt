@@ -1,5 +1,5 @@
 -- Rows of which each text is seen to fit its column.
-use Rattle.std.proofs.Common.{◌≡◌, ◌<◌, ◌≤◌, ◌+◌, ℕ, suc, Bool, false, List, [], ◌∷◌, ◌++◌, All, IfSome, Option, Some, None, length, map, slice_get, refl, ap, sym, subst, ◌∙◌, arith, ⊎_elim}
+use Rattle.std.proofs.Common.{◌≡◌, ◌<◌, ◌≤◌, ◌+◌, ℕ, suc, Bool, false, List, [], ◌∷◌, ◌++◌, All, IfSome, Option, Some, None, length, map, max, slice_get, refl, ap, sym, subst, ◌∙◌, arith, ⊎_elim}
 use Rattle.std.proofs.lemmas.Bool.{cases_lt}
 use Rattle.std.proofs.lemmas.Bool.Decides.{nat_tests}
 use Rattle.std.proofs.lemmas.List.{length-map}
@@ -12,11 +12,11 @@ use Rattle.comfy_parts.specs.Text.{Text, greatest, measure}
 use Rattle.comfy_parts.specs.declared.style.cell.CellAlignment.{CellAlignment}
 use Rattle.comfy_parts.specs.Wrapping.{lines_of_text}
 use Rattle.comfy_table.specs.Lines.{as_measured, cell_delimiter, cut_line, cut_to_limit, uncut_lines}
+use Rattle.comfy_table.specs.LongestLine.{cell_longest_line, text_longest_line}
 use Rattle.comfy_table.specs.Pieces.{cell_pieces, piece, pieces_at, pieces_of_optional, row_cell_lines, row_height, shown_infos}
+use Rattle.comfy_table.specs.PlainCells.{IsPlainCell, first_line}
 use Rattle.comfy_table.specs.TableValue.{TableValue}
-use Rattle.csv_tables.proofs.PlainLemmas.{lines_are, plain_parts}
 use Rattle.csv_tables.specs.Cells.{Shown, cell_for, shown_cells}
-use Rattle.csv_tables.specs.Contents.{IsPlainText}
 use Rattle.csv_tables.specs.declared.options.Look.{Look}
 
 -- one line isn't cut
@@ -39,14 +39,17 @@ flat_line t custom row high info cell text texts fits =
     let pieces = length-map (row_cell_lines t row info cell) (piece t cell info) in
     omega (arith, pieces, cut)
 
--- so is the cell of a plain text
-pub flat_cell : (look : Look) (table : TableValue) (text : Text) (width : ℕ) → IsPlainText look table width text → (row : RowValue) → IfSome row.max_height (λ h. 1 ≤ h)
-    → (info : ColumnInfo) → width ≤ info.content_width → (alignment : Option CellAlignment) → length (cell_pieces table row info (cell_for look alignment text)) ≤ 1
-flat_cell look table text width plain row high info fits alignment =
-    let parts = plain_parts look table text plain.0 plain.2 in
-    flat_line table parts.1 row high info (cell_for look alignment text) text (lines_are look table text plain.0 plain.2) (omega (arith, fits, plain.1))
+-- its longest line is that one
+pub line_longest : (t : TableValue) (info : ColumnInfo) (cell : CellValue) → IsPlainCell cell → measure (first_line cell) ≤ info.content_width → cell_longest_line t info cell ≡ measure (first_line cell)
+line_longest t info cell plain fits =
+    let w = info.content_width in
+    let d = cell_delimiter t info.delimiter cell in
+    let text = first_line cell in
+    let one : lines_of_text w d text ≡ text ∷ [] = grind (arith, nat_tests, fits) in
+    let lines = ap (λ (ls : List Text). greatest (map (text_longest_line w d) ls)) plain.one_line ∙ ap (λ (ls : List Text). max (greatest (map measure ls)) 0) one in
+    omega (arith, lines)
 
--- so is the cell of a row that shows it
+-- where the cell of a text is one piece, so is that of a row that shows it
 pub flat_at : (look : Look) (text : Text) (t : TableValue) (row : RowValue) (info : ColumnInfo) → ((alignment : Option CellAlignment) → length (cell_pieces t row info (cell_for look alignment text)) ≤ 1)
     → (shown : List Shown) (i : ℕ) → Some text ≡ option_map (λ (s : Shown). s.text) (slice_get shown i) → length (pieces_of_optional t row info (slice_get (shown_cells look false shown) i)) ≤ 1
 flat_at look text t row info each shown i is =

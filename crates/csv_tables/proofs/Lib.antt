@@ -10,7 +10,6 @@ pub mod FieldControlLemmas
 pub mod FieldLemmas
 mod FlatLemmas
 mod PieceLemmas
-mod PlainLemmas
 mod PlainRowLemmas
 pub mod FittingLemmas
 pub mod KeptFieldLemmas

@@ -1,20 +1,22 @@
 -- Rows of which no cell is made before they are drawn.
-use Rattle.std.proofs.Common.{◌≡◌, ◌+◌, ◌⊎◌, inl, inr, ℕ, Bool, true, false, ◌&&◌, List, [], ◌++◌, Some, None, chars, map, decimal, ap, ap₂, sym, ◌∙◌, append-nil}
+use Rattle.std.proofs.Common.{◌≡◌, ◌+◌, ◌⊎◌, inl, inr, ℕ, Bool, true, false, ◌&&◌, List, [], ◌∷◌, ◌++◌, Some, None, chars, map, decimal, refl, ap, ap₂, sym, ◌∙◌, append-nil, arith}
+use Rattle.std.proofs.lemmas.Bool.{or_parts}
 use Rattle.std.proofs.lemmas.List.Folds.{list_all-append}
+use Rattle.std.proofs.lemmas.Str.{encodes-chars}
 use Rattle.std.proofs.lemmas.Simd.{map-map}
 use Rattle.std.proofs.lemmas.Option.{slice_get-map}
 use Rattle.std.specs.List.{list_any}
 use Rattle.std.specs.Prelude.{option_map, slice_get, if◌then◌else◌}
-use Rattle.std.specs.Str.{IsUtf8}
-use Rattle.comfy_parts.proofs.CallerLemmas.{IsUtf8-printable}
-use Rattle.comfy_parts.specs.CellValue.{CellValue}
+use Rattle.std.specs.Str.{IsUtf8, NonePass}
+use Rattle.comfy_parts.proofs.CallerLemmas.{IsUtf8-printable, none_by_characters}
+use Rattle.comfy_parts.specs.CellValue.{CellValue, plain_cell}
 use Rattle.comfy_parts.specs.Text.{Text, is_printable_ascii, spaces}
-use Rattle.csv_records.proofs.CleaningLemmas.{none_replaced}
-use Rattle.csv_records.specs.Cleaning.{is_replaced}
+use Rattle.comfy_table.proofs.PlainLineLemmas.{one_line}
+use Rattle.csv_records.proofs.CleaningLemmas.{drawn_so, none_replaced}
+use Rattle.csv_records.specs.Cleaning.{cleaned, is_replaced}
 use Rattle.csv_tables.proofs.BuiltLemmas.{blank_drawn}
-use Rattle.csv_tables.proofs.PlainLemmas.{stays_so}
 use Rattle.csv_tables.proofs.ShownLemmas.{shown_behind, spaces_printable}
-use Rattle.csv_tables.specs.Cells.{Shown, cell_for, columns_within, field_text, is_blank, shown_fields, shown_number, text_in}
+use Rattle.csv_tables.specs.Cells.{Shown, cell_for, columns_within, field_text, is_blank, marked, shown_fields, shown_number, text_in, unless_blank}
 use Rattle.csv_tables.specs.Contents.{made_by, shown_by}
 use Rattle.csv_tables.specs.declared.options.DrawnColumn.{DrawnColumn}
 use Rattle.csv_tables.specs.declared.options.Look.{Look}
@@ -22,9 +24,21 @@ use Rattle.csv_tables.specs.declared.rows.RecordRows.{RecordRows}
 
 -- ---- texts that are what their cells have
 
--- a text that isn't blank, or that is empty
+-- no character passes
+none_pass : (p : ℕ → Bool) (cs : List ℕ) → list_any p cs ≡ false → NonePass p cs
+none_pass p [] none = tt
+none_pass p (c ∷ cs) none = let each = or_parts (p c) (list_any p cs) none in (each.0, none_pass p cs each.1)
+
+-- a text of which no character is replaced is one line
+pub clean_line : (text : Text) → IsUtf8 text → list_any is_replaced (chars text) ≡ false → (plain_cell text).text_lines ≡ text ∷ []
+clean_line text utf8 clean = one_line text (none_by_characters is_replaced 0x0A (omega arith) refl text (chars text, encodes-chars text utf8, none_pass is_replaced (chars text) clean))
+
+-- it is what its cell has, if it isn't blank, or is empty
 kept_if : (look : Look) (text : Text) → look.is_markdown ≡ false → (is_blank text ≡ false) ⊎ (text ≡ []) → IsUtf8 text → list_any is_replaced (chars text) ≡ false → field_text look text ≡ text
-kept_if look text unmarked (inl filled) utf8 clean = stays_so look text unmarked filled utf8 clean
+kept_if look text unmarked (inl filled) utf8 clean =
+    ap (λ (b : Bool). if b then marked (cleaned false text) else unless_blank (cleaned look.has_sequences text)) unmarked
+    ∙ ap unless_blank (sym (drawn_so look.has_sequences text utf8 clean))
+    ∙ ap (λ (b : Bool). if b then [] else text) filled
 kept_if look text unmarked (inr empty) utf8 clean = ap (field_text look) empty ∙ blank_drawn look ∙ sym empty
 
 pub spaced_stays : (look : Look) (field : Text) (n : ℕ) → look.is_markdown ≡ false → is_printable_ascii field ≡ true → (is_blank field ≡ false) ⊎ (field ++ spaces n ≡ []) → field_text look (field ++ spaces n) ≡ field ++ spaces n

@@ -1,18 +1,14 @@
--- Private: rows of records before they are made, and texts whose cells need not be made to know
--- their widths.
+-- Private: rows of records before they are made.
 -- Source: this library's own.
-use Rattle.std.specs.Prelude.{ℕ, ◌+◌, ◌≡◌, ◌==◌, Bool, true, ◌&&◌, List, [], ◌∷◌, ◌++◌, Option, Some, None, chars, length, map, not, unwrap_or, if◌then◌else◌}
-use Rattle.std.specs.List.{list_any}
-use Rattle.std.specs.Str.{IsUtf8}
+use Rattle.std.specs.Prelude.{ℕ, ◌+◌, ◌≡◌, ◌==◌, Bool, true, List, [], ◌∷◌, ◌++◌, Option, Some, None, length, map, unwrap_or, if◌then◌else◌}
 use Rattle.comfy_parts.specs.CellValue.{CellValue, ColumnInfo, RowValue}
-use Rattle.comfy_parts.specs.Text.{Text, greatest, measure}
+use Rattle.comfy_parts.specs.Text.{Text, greatest}
 use Rattle.comfy_table.specs.Drawing.{part_of_drawing, terminated_text_of}
 use Rattle.comfy_table.specs.TableValue.{TableValue, cells_at, measured_cell}
-use Rattle.csv_tables.specs.Cells.{Shown, columns_within, is_blank, row_for, shown_in}
+use Rattle.csv_tables.specs.Cells.{Shown, columns_within, row_for, shown_in}
 use Rattle.csv_tables.specs.ContentsValue.{ContentsValue}
 use Rattle.csv_tables.specs.Drawn.{SelectedValue, empty_table, headed_table, is_table_expanded, output_table, pairs_of, pairs_table, record_line, rows_table, separators_in}
 use Rattle.csv_tables.specs.Separators.{AreRowsSeparated}
-use Rattle.csv_records.specs.Cleaning.{is_replaced}
 use Rattle.csv_records.specs.Decimals.{spaces_behind}
 use Rattle.csv_records.specs.declared.decimals.Points.{Points}
 use Rattle.csv_tables.specs.declared.options.DrawnColumn.{DrawnColumn}
@@ -73,19 +69,6 @@ greatest_at table f rows i = greatest (map (measured_at table f) (cells_at rows 
 -- how many cells the longest of some rows has
 abbrev pub most_cells : List RowValue → ℕ
 most_cells rows = greatest (map (λ (row : RowValue). length row.cells) rows)
-
--- a text that isn't blank, of which no character is replaced, is one text line of a cell as it is,
--- but in Markdown; with custom styling it is looked at by itself
-abbrev pub is_plain : Look → TableValue → Text → Bool
-is_plain look table text =
-    not look.is_markdown
-    && (not table.custom_styling
-    && (not (is_blank text) && not (list_any is_replaced (chars text))))
-
--- it takes so many terminal columns
-abbrev pub IsPlainText : Look → TableValue → ℕ → Text → Type 0
-IsPlainText look table width text =
-    (is_plain look table text ≡ true) × (measure text ≡ width) × IsUtf8 text
 
 -- how many spaces a column has behind a field
 abbrev pub spaces_by : Option Points → Text → ℕ

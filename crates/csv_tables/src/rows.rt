@@ -12,14 +12,14 @@ ghost use Rattle.comfy_table.specs.Pieces.{pieces_of_optional, row_height};
 ghost use Rattle.csv_records.specs.Cleaning.{is_replaced};
 ghost use Rattle.csv_tables.specs.Cells.{Shown, cell_for, columns_within, is_blank, pair_for, text_in};
 ghost use Rattle.csv_tables.specs.declared.options.Look.{Look};
-ghost use Rattle.csv_tables.specs.Contents.{IsPlainText, fields_text, greatest_at, headed_by, made_by, measured_at, most_cells, pairs_by, rows_at, shown_by, spaces_in};
+ghost use Rattle.csv_tables.specs.Contents.{fields_text, greatest_at, headed_by, made_by, measured_at, most_cells, pairs_by, rows_at, shown_by, spaces_in};
 
 use crate::cells::{cell_of, is_blank, pair_of, text_in};
 use crate::columns::name_at;
 use crate::options::{DrawnColumn, Look};
 use crate::selected::SelectedRecords;
 use crate::table::empty_table;
-use comfy_parts::content_split::{ColumnDisplayInfo, is_printable, measure_text_width};
+use comfy_parts::content_split::ColumnDisplayInfo;
 use comfy_parts::style::CellAlignment;
 use comfy_table::{Extent, PlainCell, Result, Row, RowWriter, Table, is_any_taller};
 use csv_records::{Record, is_clean_line};
@@ -448,8 +448,8 @@ impl RecordRows {
         ensures { IfOk result (λ width. width ≡ cell_content_width
             (measured_cell table.now (cell_for self.now.look None text.now))) }
     {
-        if let Some(width) = plain_width(&self.look, table, text) {
-            return Ok(width.clamp(1, 65535) as u16);
+        if let Some(cell) = unstyled_cell(&self.look, table, text) {
+            return Ok(cell.content_width());
         }
         let cell = cell_of(self.selected.alloc, text, None, &self.look)?;
         Ok(table.cell_content_width(&cell))
@@ -465,9 +465,10 @@ impl RecordRows {
         ensures { IfOk result (λ longest. longest ≡ cell_longest_line table.now info.now
             (measured_cell table.now (cell_for self.now.look None text.now))) }
     {
-        if let Some(width) = plain_width(&self.look, table, text) {
-            if width <= usize::from(info.content_width) {
-                return Ok(width);
+        if let Some(cell) = unstyled_cell(&self.look, table, text) {
+            let columns = cell.columns();
+            if columns <= usize::from(info.content_width) {
+                return Ok(columns);
             }
         }
         let cell = cell_of(self.selected.alloc, text, None, &self.look)?;
@@ -531,18 +532,33 @@ impl RecordRows {
             (made_by self.now at fields.now) info.now
             (slice_get (made_by self.now at fields.now).cells position)) ≤ 1) }
     {
+        if table.has_custom_styling() {
+            return Ok(false);
+        }
         if let Some(cell) = self.plain_cell_at(columns, fields, position) {
-            let fits = cell.columns() <= usize::from(info.content_width);
-            return Ok(fits && !table.has_custom_styling());
+            return Ok(cell.columns() <= usize::from(info.content_width));
         }
         let Some(text) = self.text_at(columns, at, fields, position)? else {
             return Ok(true);
         };
-        let Some(width) = plain_width(&self.look, table, text.as_str()) else {
+        let Some(cell) = unstyled_cell(&self.look, table, text.as_str()) else {
             return Ok(false);
         };
-        Ok(width <= usize::from(info.content_width))
+        Ok(cell.columns() <= usize::from(info.content_width))
     }
+}
+
+/// The cell of a text that is one line as it is, where no sequences are taken out to measure it.
+pub(crate) fn unstyled_cell<'r>(look: &Look, table: &Table, text: &'r str) -> Option<PlainCell<'r>>
+    ensures cell { IfSome result (λ cell. cell
+        ≡ measured_cell table.now (cell_for look.now None text.now)) }
+    ensures line { IfSome result (λ cell. cell.text_lines ≡ text.now ∷ []) }
+{
+    if table.has_custom_styling() {
+        return None;
+    }
+    let cell = plain_cell(look, text, 0, None)?;
+    Some(cell)
 }
 
 // The cell of a field with so many spaces behind it, where it is one line as it is. Most fields are
@@ -554,8 +570,9 @@ fn plain_cell<'r>(
     behind: usize,
     alignment: Option<CellAlignment>,
 ) -> Option<PlainCell<'r>>
-    ensures { IfSome result (λ cell. cell
+    ensures cell { IfSome result (λ cell. cell
         ≡ cell_for look.now alignment (field.now ++ spaces behind)) }
+    ensures line { IfSome result (λ cell. cell.text_lines ≡ (field.now ++ spaces behind) ∷ []) }
 {
     if look.is_markdown || is_emptied(field, behind) {
         return None;
@@ -590,23 +607,6 @@ fn is_emptied(field: &str, behind: usize) -> bool
         ⊎ (field.now ++ spaces behind ≡ []) }
 {
     is_blank(field.as_bytes()) && !(field.is_empty() && behind == 0)
-}
-
-/// How many terminal columns a text takes, where it isn't blank, and is drawn as it is in one line.
-pub(crate) fn plain_width(look: &Look, table: &Table, text: &str) -> Option<usize>
-    ensures { IfSome result (λ width. IsPlainText look.now table.now width text.now) }
-{
-    if look.is_markdown || table.has_custom_styling() || is_blank(text.as_bytes()) {
-        return None;
-    }
-    if is_printable(text.as_bytes()) {
-        return Some(text.len());
-    }
-    if is_clean_line(text) {
-        Some(measure_text_width(text))
-    } else {
-        None
-    }
 }
 
 // Lets the width at a position be at least so much. Those before it that aren't there become 0.

@@ -11,7 +11,7 @@ ghost use Rattle.csv_tables.specs.Drawn.{unbroken_in};
 
 use crate::cells::cell_of;
 use crate::contents::RowContents;
-use crate::rows::{RecordRows, plain_width};
+use crate::rows::{RecordRows, unstyled_cell};
 use crate::selected::SelectedRecords;
 use comfy_parts::content_split::measure_text_width;
 use comfy_parts::for_tables::measured_lines;
@@ -329,7 +329,7 @@ fn field_unbroken_width(rows: &RecordRows, table: &Table, field: &str, room: u16
         (measured_cell table.now (cell_for rows.now.look None field.now))) }
     ensures within { IfOk result (λ width. width ≤ room) }
 {
-    if let Some(_) = plain_width(&rows.look, table, field) {
+    if let Some(_) = unstyled_cell(&rows.look, table, field) {
         return Ok(unbroken_width(field, room));
     }
     let cell = cell_of(rows.selected.alloc, field, None, &rows.look)?;

@@ -1,12 +1,13 @@
-use Rattle.std.proofs.Common.{rules, ◌≡◌, ◌⊎◌, ◌++◌, [], false, ap, arith, subst, sym, ◌∙◌, append-nil}
-use Rattle.comfy_parts.specs.CellValue.{plain_cell}
+use Rattle.std.proofs.Common.{rules, ◌≡◌, ◌⊎◌, ◌++◌, ◌∷◌, [], false, ap, arith, subst, sym, ◌∙◌, append-nil}
+use Rattle.comfy_parts.specs.CellValue.{CellValue, plain_cell}
 use Rattle.comfy_parts.specs.Text.{Text, spaces}
-use Rattle.csv_tables.proofs.PlainRowLemmas.{clean_stays, spaced_stays}
+use Rattle.comfy_table.proofs.PlainLineLemmas.{printable_line}
+use Rattle.csv_tables.proofs.PlainRowLemmas.{clean_line, clean_stays, spaced_stays}
 use Rattle.csv_tables.specs.Cells.{cell_for, field_text, is_blank}
 use Rattle.csv_tables.proofs.rows.plain_cell.Goals as goal
 
-pub returns-in-Some : goal.returns-in-Some
-returns-in-Some c =
+pub returns-in-Some-clause-cell : goal.returns-in-Some-clause-cell
+returns-in-Some-clause-cell c =
     let look = c.args.look.now in
     let field = c.args.field.now in
     let unmarked : look.is_markdown ≡ false = search rules in
@@ -14,8 +15,11 @@ returns-in-Some c =
     let stays = spaced_stays look field c.args.behind unmarked c.in-Some.ensures.printable filled in
     c.in-Some.ensures.cell ∙ ap (λ (t : Text). record (plain_cell t) { alignment = c.args.alignment }) (sym stays)
 
-pub returns : goal.returns
-returns c =
+pub returns-in-Some-clause-line : goal.returns-in-Some-clause-line
+returns-in-Some-clause-line c = ap (λ (cell : CellValue). cell.text_lines) c.in-Some.ensures.cell ∙ printable_line c.args.field.now c.args.behind c.in-Some.ensures.printable
+
+pub returns-clause-cell : goal.returns-clause-cell
+returns-clause-cell c =
     let look = c.args.look.now in
     let field = c.args.field.now in
     let unmarked : look.is_markdown ≡ false = search rules in
@@ -24,3 +28,10 @@ returns c =
     let stays : field_text look field ≡ field = clean_stays look field unmarked (subst (λ n. (is_blank field ≡ false) ⊎ (field ++ spaces n ≡ [])) none filled) c.utf8.field c.in_ok-cell.ensures.clean in
     let same : field ++ spaces c.args.behind ≡ field = ap (λ n. field ++ spaces n) none ∙ append-nil field in
     c.in_ok-cell.ensures.cell ∙ ap (λ (t : Text). record (plain_cell t) { alignment = c.args.alignment }) (sym stays) ∙ ap (cell_for look c.args.alignment) (sym same)
+
+pub returns-clause-line : goal.returns-clause-line
+returns-clause-line c =
+    let field = c.args.field.now in
+    let none : c.args.behind ≡ 0 = omega (arith, c.if-behind-gt0.false) in
+    let same : field ++ spaces c.args.behind ≡ field = ap (λ n. field ++ spaces n) none ∙ append-nil field in
+    ap (λ (cell : CellValue). cell.text_lines) c.in_ok-cell.ensures.cell ∙ clean_line field c.utf8.field c.in_ok-cell.ensures.clean ∙ ap (λ (t : Text). t ∷ []) (sym same)

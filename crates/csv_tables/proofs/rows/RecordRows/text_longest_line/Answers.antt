@@ -1,14 +1,21 @@
-use Rattle.std.proofs.Common.{◌≤◌, ap, arith, subst, rules}
+use Rattle.std.proofs.Common.{◌≤◌, None, ap, arith, sym, ◌∙◌, rules}
 use Rattle.comfy_parts.specs.Text.{measure}
-use Rattle.csv_tables.proofs.PlainLemmas.{plain_longest}
-use Rattle.csv_tables.specs.Contents.{IsPlainText}
+use Rattle.comfy_table.specs.LongestLine.{cell_longest_line}
+use Rattle.comfy_table.specs.PlainCells.{first_line}
+use Rattle.comfy_table.specs.TableValue.{measured_cell}
+use Rattle.csv_tables.proofs.FlatLemmas.{line_longest}
+use Rattle.csv_tables.specs.Cells.{cell_for}
 use Rattle.csv_tables.specs.declared.options.Look.{Look}
 use Rattle.csv_tables.proofs.rows.RecordRows.text_longest_line.Goals as goal
 
-pub returns-then-width-from : goal.returns-then-width-from
-returns-then-width-from c =
-    let own = subst (λ (l : Look). IsPlainText l c.args.table.now c.in-Some.width c.args.text.now) (ap (λ r. r.look) c.self.view_is) c.in-Some.ensures in
-    let within : c.in-Some.width ≤ c.args.info.now.content_width = search rules in
-    let fits : measure c.args.text.now ≤ c.args.info.now.content_width = omega (arith, within, own.1) in
-    let longest = plain_longest c.args.self.now.look c.args.table.now c.args.text.now own.0 own.2 c.args.info.now fits in
-    omega (arith, longest, own.1)
+pub returns-then-columns-from : goal.returns-then-columns-from
+returns-then-columns-from c =
+    let table = c.args.table.now in
+    let info = c.args.info.now in
+    let wide = c.columns-columns.ensures in
+    let within : c.columns-columns.result ≤ info.content_width = search rules in
+    let fits : measure (first_line c.in-Some.cell) ≤ info.content_width = omega (arith, wide.value, within) in
+    wide.value
+    ∙ sym (line_longest table info c.in-Some.cell wide.plain fits)
+    ∙ ap (cell_longest_line table info) c.in-Some.ensures.cell
+    ∙ ap (λ (look : Look). cell_longest_line table info (measured_cell table (cell_for look None c.args.text.now))) (ap (λ r. r.look) c.self.view_is)
