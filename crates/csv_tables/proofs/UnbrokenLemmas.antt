@@ -1,12 +1,16 @@
 -- What tables that keep numbers and dates whole are made of.
-use Rattle.std.proofs.Common.{◌≡◌, ◌<◌, ◌≤◌, ◌+◌, ℕ, zero, suc, Bool, List, [], ◌∷◌, Some, ◌-◌, ◌^◌, get_or, length, map, min, nat_le, set, max, nat_lt, slice_get, sum_by, unwrap_or, true, false, ◌||◌, refl, sym, ap, ◌∙◌, arith}
+use Rattle.std.proofs.Common.{◌≡◌, ◌<◌, ◌≤◌, ◌+◌, ℕ, zero, suc, Bool, List, [], ◌∷◌, Some, ◌-◌, ◌^◌, cond, filter, get_or, length, map, min, nat_le, set, max, nat_lt, slice_get, sum_by, unwrap_or, true, false, ◌||◌, refl, sym, ap, ◌∙◌, arith}
 use Rattle.std.specs.List.{All, range_with_len}
 use Rattle.std.proofs.lemmas.Bool.Decides.{nat_tests}
+use Rattle.std.proofs.lemmas.List.{map-id}
 use Rattle.std.proofs.lemmas.List.Elements.{All-cons, All-nil}
+use Rattle.std.proofs.lemmas.List.FromFn.{filter_of_map_range_with_len_more}
 use Rattle.std.proofs.lemmas.List.Sums.{sum_by-cons}
 use Rattle.std.specs.Prelude.{if◌then◌else◌}
 use Rattle.comfy_parts.specs.CellValue.{ColumnValue}
+use Rattle.comfy_parts.specs.Text.{greatest}
 use Rattle.comfy_parts.specs.declared.style.table_style.TableStyle.{TableStyle}
+use Rattle.comfy_table.proofs.ColumnCellLemmas.{greatest-append}
 use Rattle.comfy_table.specs.Frame.{border_count}
 use Rattle.comfy_table.specs.TableValue.{TableValue}
 use Rattle.csv_tables.specs.Unbroken.{framed_width, given_at, given_in, greatest_level, has_room, kept_at, kept_unbroken, shared_at, with_content, with_kept, with_second}
@@ -35,15 +39,38 @@ stopped n w below = grind (arith, nat_tests)
 
 -- ---- levels
 
+-- one level more
+level_more : (passes : ℕ → Bool) (n level : ℕ) → n + 1 ≡ level → greatest_level passes level ≡ max (greatest_level passes n) (greatest (cond (passes level) (level ∷ []) []))
+level_more passes n level next =
+    ap (greatest_level passes) (sym next)
+    ∙ ap (λ ls. greatest (filter passes ls)) (sym (map-id (range_with_len 1 (n + 1))))
+    ∙ ap greatest (filter_of_map_range_with_len_more passes (λ l. l) 1 n level (omega (arith, next)))
+    ∙ greatest-append (filter passes (map (λ l. l) (range_with_len 1 n))) (cond (passes level) (level ∷ []) [])
+    ∙ ap (λ ls. max (greatest (filter passes ls)) (greatest (cond (passes level) (level ∷ []) []))) (map-id (range_with_len 1 n))
+
+-- none is above the last one
+levels_within : (passes : ℕ → Bool) (a n : ℕ) → greatest (filter passes (range_with_len (a + 1) n)) ≤ a + n
+levels_within passes a zero = omega arith
+levels_within passes a (suc n) = by_test (passes (a + 1)) (filter passes (range_with_len ((a + 1) + 1) n)) (levels_within passes (a + 1) n)
+  where
+    by_test : (b : Bool) (more : List ℕ) → greatest more ≤ (a + 1) + n → greatest (cond b ((a + 1) ∷ more) more) ≤ a + suc n
+    by_test true more rest = omega (arith, rest)
+    by_test false more rest = omega (arith, rest)
+
 -- a level that doesn't pass isn't the greatest that does
 pub failed_level : (passes : ℕ → Bool) (level : ℕ) → 0 < level → passes level ≡ false → greatest_level passes (level - 1) ≡ greatest_level passes level
-failed_level passes zero some is = absurd (omega (arith, some))
-failed_level passes (suc level) some is = ap (greatest_level passes) (omega arith) ∙ sym (ap (λ (b : Bool). if b then suc level else greatest_level passes level) is)
+failed_level passes level some is =
+    let more = level_more passes (level - 1) level (omega (arith, some)) in
+    let own = ap (λ b. greatest (cond b (level ∷ []) [])) is in
+    omega (arith, more, own)
 
 -- and one that does is
 pub passed_level : (passes : ℕ → Bool) (level : ℕ) → 0 < level → passes level ≡ true → level ≡ greatest_level passes level
-passed_level passes zero some is = absurd (omega (arith, some))
-passed_level passes (suc level) some is = sym (ap (λ (b : Bool). if b then suc level else greatest_level passes level) is)
+passed_level passes level some is =
+    let more = level_more passes (level - 1) level (omega (arith, some)) in
+    let own = ap (λ b. greatest (cond b (level ∷ []) [])) is in
+    let below = levels_within passes 0 (level - 1) in
+    omega (arith, more, own, below)
 
 -- ---- tables
 

@@ -1,7 +1,7 @@
 -- Columns and fields that aren't broken over lines: which they are, and where a width has room for
 -- them.
 -- Source: this library's own.
-use Rattle.std.specs.Prelude.{ℕ, zero, suc, ◌+◌, ◌-◌, Bool, ◌==◌, ◌&&◌, ◌||◌, true, false, List, [], ◌∷◌, Option, Some, None, chars, codes, length, map, max, min, nat_le, nat_lt, option_and_then, slice_get, slice_index, sum_by, unwrap_or, if◌then◌else◌}
+use Rattle.std.specs.Prelude.{ℕ, ◌+◌, ◌-◌, Bool, ◌==◌, ◌&&◌, ◌||◌, true, false, List, [], ◌∷◌, Option, Some, None, chars, codes, filter, length, map, max, min, nat_le, nat_lt, option_and_then, slice_get, slice_index, sum_by, unwrap_or, if◌then◌else◌}
 use Rattle.std.specs.Char.{is_ascii_digit}
 use Rattle.std.specs.List.{list_all, list_any, range_with_len, slice_split}
 use Rattle.comfy_parts.specs.CellValue.{CellValue, ColumnValue, RowValue}
@@ -83,11 +83,9 @@ shared_width level unbroken table =
 abbrev pub least_width : List Bool → TableValue → ℕ
 least_width unbroken table = shared_width 8 unbroken table
 
--- the greatest level up to another one that passes a test, else 0
+-- the greatest level up to another one that passes a test, 0 where none does
 abbrev pub greatest_level : (ℕ → Bool) → ℕ → ℕ
-greatest_level passes zero = 0
-greatest_level passes (suc level) =
-    if passes (suc level) then suc level else greatest_level passes level
+greatest_level passes level = greatest (filter passes (range_with_len 1 level))
 
 -- the greatest level for which a width has room
 abbrev pub level_in : ℕ → List Bool → TableValue → ℕ
