@@ -1,5 +1,5 @@
 -- Rows of which no cell is made before they are drawn.
-use Rattle.std.proofs.Common.{◌≡◌, ◌+◌, ◌⊎◌, inl, inr, ℕ, Bool, true, false, ◌&&◌, List, [], ◌∷◌, ◌++◌, Some, None, chars, map, decimal, refl, ap, ap₂, sym, ◌∙◌, append-nil, arith}
+use Rattle.std.proofs.Common.{◌≡◌, ◌+◌, ◌⊎◌, inl, inr, ℕ, Bool, true, false, ◌&&◌, List, [], ◌∷◌, ◌++◌, Some, None, chars, map, decimal, refl, ap, ap₂, subst, sym, ◌∙◌, append-nil, arith}
 use Rattle.std.proofs.lemmas.Bool.{or_parts}
 use Rattle.std.proofs.lemmas.List.Folds.{list_all-append}
 use Rattle.std.proofs.lemmas.Str.{encodes-chars}
@@ -17,7 +17,9 @@ use Rattle.csv_records.specs.Cleaning.{cleaned, is_replaced}
 use Rattle.csv_tables.proofs.BuiltLemmas.{blank_drawn}
 use Rattle.csv_tables.proofs.ShownLemmas.{shown_behind, spaces_printable}
 use Rattle.csv_tables.specs.Cells.{Shown, cell_for, columns_within, field_text, is_blank, marked, shown_fields, shown_number, text_in, unless_blank}
-use Rattle.csv_tables.specs.Contents.{made_by, shown_by}
+use Rattle.csv_tables.proofs.MarkedLemmas.{marked_stays}
+use Rattle.csv_tables.specs.Contents.{IsKept, made_by, shown_by}
+use Rattle.csv_tables.specs.Markdown.{may_be_escaped}
 use Rattle.csv_tables.specs.declared.options.DrawnColumn.{DrawnColumn}
 use Rattle.csv_tables.specs.declared.options.Look.{Look}
 use Rattle.csv_tables.specs.declared.rows.RecordRows.{RecordRows}
@@ -33,30 +35,36 @@ none_pass p (c ∷ cs) none = let each = or_parts (p c) (list_any p cs) none in 
 pub clean_line : (text : Text) → IsUtf8 text → list_any is_replaced (chars text) ≡ false → (plain_cell text).text_lines ≡ text ∷ []
 clean_line text utf8 clean = one_line text (none_by_characters is_replaced 0x0A (omega arith) refl text (chars text, encodes-chars text utf8, none_pass is_replaced (chars text) clean))
 
--- it is what its cell has, if it isn't blank, or is empty
-kept_if : (look : Look) (text : Text) → look.is_markdown ≡ false → (is_blank text ≡ false) ⊎ (text ≡ []) → IsUtf8 text → list_any is_replaced (chars text) ≡ false → field_text look text ≡ text
-kept_if look text unmarked (inl filled) utf8 clean =
-    ap (λ (b : Bool). if b then marked (cleaned false text) else unless_blank (cleaned look.has_sequences text)) unmarked
-    ∙ ap unless_blank (sym (drawn_so look.has_sequences text utf8 clean))
-    ∙ ap (λ (b : Bool). if b then [] else text) filled
-kept_if look text unmarked (inr empty) utf8 clean = ap (field_text look) empty ∙ blank_drawn look ∙ sym empty
+-- it is what its cell has, where it is kept
+stays_if : (look : Look) (field : Text) (n : ℕ) → IsKept look field n → IsUtf8 (field ++ spaces n) → list_any is_replaced (chars (field ++ spaces n)) ≡ false → field_text look (field ++ spaces n) ≡ field ++ spaces n
+stays_if look field n kept utf8 clean = by_kind kept
+  where
+    text : Text
+    text = field ++ spaces n
 
-pub spaced_stays : (look : Look) (field : Text) (n : ℕ) → look.is_markdown ≡ false → is_printable_ascii field ≡ true → (is_blank field ≡ false) ⊎ (field ++ spaces n ≡ []) → field_text look (field ++ spaces n) ≡ field ++ spaces n
-spaced_stays look field n unmarked printable filled =
+    drawn : Bool → Text
+    drawn b = if b then marked (cleaned false text) else unless_blank (cleaned look.has_sequences text)
+
+    filled : is_blank field ≡ false → is_blank text ≡ false
+    filled own = list_all-append _ field (spaces n) ∙ ap (λ b. b && is_blank (spaces n)) own
+
+    by_kind : IsKept look field n → field_text look text ≡ text
+    by_kind (inl (unmarked, inl own)) = ap drawn unmarked ∙ ap unless_blank (sym (drawn_so look.has_sequences text utf8 clean)) ∙ ap (λ (b : Bool). if b then [] else text) (filled own)
+    by_kind (inl (unmarked, inr empty)) = ap (field_text look) empty ∙ blank_drawn look ∙ sym empty
+    by_kind (inr (is, none, own)) =
+        let same : text ≡ field = ap (λ k. field ++ spaces k) none ∙ append-nil field in
+        ap drawn is ∙ ap marked (sym (drawn_so false text utf8 clean)) ∙ marked_stays text utf8 (ap (λ (t : Text). list_any may_be_escaped (chars t)) same ∙ own)
+
+pub spaced_stays : (look : Look) (field : Text) (n : ℕ) → IsKept look field n → is_printable_ascii field ≡ true → field_text look (field ++ spaces n) ≡ field ++ spaces n
+spaced_stays look field n kept printable =
     let text = field ++ spaces n in
     let all : is_printable_ascii text ≡ true = list_all-append _ field (spaces n) ∙ ap₂ (λ a b. a && b) printable (spaces_printable n) in
-    kept_if look text unmarked (by_cases filled) (IsUtf8-printable text all) (none_replaced text all)
-  where
-    by_cases : (is_blank field ≡ false) ⊎ (field ++ spaces n ≡ []) → (is_blank (field ++ spaces n) ≡ false) ⊎ (field ++ spaces n ≡ [])
-    by_cases (inl own) = inl (list_all-append _ field (spaces n) ∙ ap (λ b. b && is_blank (spaces n)) own)
-    by_cases (inr empty) = inr empty
+    stays_if look field n kept (IsUtf8-printable text all) (none_replaced text all)
 
-pub clean_stays : (look : Look) (field : Text) → look.is_markdown ≡ false → (is_blank field ≡ false) ⊎ (field ++ [] ≡ []) → IsUtf8 field → list_any is_replaced (chars field) ≡ false → field_text look field ≡ field
-clean_stays look field unmarked filled utf8 clean = kept_if look field unmarked (by_cases filled) utf8 clean
-  where
-    by_cases : (is_blank field ≡ false) ⊎ (field ++ [] ≡ []) → (is_blank field ≡ false) ⊎ (field ≡ [])
-    by_cases (inl own) = inl own
-    by_cases (inr empty) = inr (sym (append-nil field) ∙ empty)
+pub clean_stays : (look : Look) (field : Text) → IsKept look field 0 → IsUtf8 field → list_any is_replaced (chars field) ≡ false → field_text look field ≡ field
+clean_stays look field kept utf8 clean =
+    let same : field ++ [] ≡ field = append-nil field in
+    sym (ap (field_text look) same) ∙ stays_if look field 0 kept (subst IsUtf8 (sym same) utf8) (ap (λ (t : Text). list_any is_replaced (chars t)) same ∙ clean) ∙ same
 
 -- ---- cells
 

@@ -1,13 +1,15 @@
 -- Private: rows of records before they are made.
 -- Source: this library's own.
-use Rattle.std.specs.Prelude.{ℕ, ◌+◌, ◌≡◌, ◌==◌, Bool, true, List, [], ◌∷◌, ◌++◌, Option, Some, None, length, map, unwrap_or, if◌then◌else◌}
+use Rattle.std.specs.Prelude.{ℕ, ◌+◌, ◌≡◌, ◌⊎◌, ◌==◌, Bool, true, false, List, [], ◌∷◌, ◌++◌, Option, Some, None, chars, length, map, unwrap_or, if◌then◌else◌}
+use Rattle.std.specs.List.{list_any}
 use Rattle.comfy_parts.specs.CellValue.{CellValue, ColumnInfo, RowValue}
-use Rattle.comfy_parts.specs.Text.{Text, greatest}
+use Rattle.comfy_parts.specs.Text.{Text, greatest, spaces}
 use Rattle.comfy_table.specs.Drawing.{part_of_drawing, terminated_text_of}
 use Rattle.comfy_table.specs.TableValue.{TableValue, cells_at, measured_cell}
-use Rattle.csv_tables.specs.Cells.{Shown, columns_within, row_for, shown_in}
+use Rattle.csv_tables.specs.Cells.{Shown, columns_within, is_blank, row_for, shown_in}
 use Rattle.csv_tables.specs.ContentsValue.{ContentsValue}
 use Rattle.csv_tables.specs.Drawn.{SelectedValue, empty_table, headed_table, is_table_expanded, output_table, pairs_of, pairs_table, record_line, rows_table, separators_in}
+use Rattle.csv_tables.specs.Markdown.{may_be_escaped}
 use Rattle.csv_tables.specs.Separators.{AreRowsSeparated}
 use Rattle.csv_records.specs.Decimals.{spaces_behind}
 use Rattle.csv_records.specs.declared.decimals.Points.{Points}
@@ -78,6 +80,14 @@ spaces_by (Some points) field = spaces_behind points field
 abbrev pub spaces_in : RecordRows → DrawnColumn → Text → ℕ
 spaces_in rows column field =
     spaces_by (if rows.is_aligned then column.points else None) field
+
+-- no spaces and no backslashes are added to a clean field with so many spaces behind it, and it
+-- isn't emptied
+abbrev pub IsKept : Look → Text → ℕ → Type 0
+IsKept look field behind =
+    (look.is_markdown ≡ false) × ((is_blank field ≡ false) ⊎ (field ++ spaces behind ≡ []))
+    ⊎ (look.is_markdown ≡ true) × (behind ≡ 0)
+    × (list_any may_be_escaped (chars field) ≡ false)
 
 -- ---- drawings
 

@@ -83,6 +83,12 @@ escaped_after is_marked before (c ∷ rest) =
 abbrev pub escaped : List ℕ → List ℕ
 escaped text = escaped_after false None text
 
+-- a character that may be written otherwise than it is, by the characters around it
+abbrev pub may_be_escaped : ℕ → Bool
+may_be_escaped c =
+    (c == 0x0A) || (is_mark c || (list_any (λ mark. mark == c) (codes "*`~")
+    || ((c == 0x5F) || (c == 0x26))))
+
 -- ---- the line below the header
 
 abbrev pub is_right : Option CellAlignment → Bool

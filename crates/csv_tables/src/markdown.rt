@@ -3,7 +3,7 @@
 ghost use Rattle.std.specs.Prelude.{◌≡◌, ◌++◌, ◌==◌, [], ◌∷◌, IfOk, OnOk, chars, slice_get, string_bytes};
 ghost use Rattle.std.specs.List.{list_any};
 ghost use Rattle.std.specs.Str.{encode_utf8_all};
-ghost use Rattle.csv_tables.specs.Markdown.{begins_markup, ends_word, escaped, escaped_character, is_in_address, is_in_word, is_mark, is_marked_at, is_paired, is_right, is_space, is_special, is_word_marked, rule_line, rule_part};
+ghost use Rattle.csv_tables.specs.Markdown.{begins_markup, ends_word, escaped, escaped_character, is_in_address, is_in_word, is_mark, is_marked_at, is_paired, is_right, is_space, is_special, is_word_marked, may_be_escaped, rule_line, rule_part};
 
 use crate::references::begins_reference;
 use comfy_parts::style::CellAlignment;
@@ -30,6 +30,13 @@ pub fn escaped(alloc: Global, text: &str) -> Result<String, AllocError>
         rest = behind;
     }
     Ok(cell)
+}
+
+/// Whether a text has a character that may be written otherwise in such a cell.
+pub(crate) fn may_be_escaped(text: &str) -> bool
+    ensures { result ≡ list_any may_be_escaped (chars text.now) }
+{
+    text.chars().any(|c| c == '\n' || is_mark(c) || matches!(c, '*' | '`' | '~' | '_' | '&'))
 }
 
 /// Appends the line below the header, and a line feed: dashes between bars, the last of a column at

@@ -12,10 +12,11 @@ ghost use Rattle.comfy_table.specs.Pieces.{pieces_of_optional, row_height};
 ghost use Rattle.csv_records.specs.Cleaning.{is_replaced};
 ghost use Rattle.csv_tables.specs.Cells.{Shown, cell_for, columns_within, is_blank, pair_for, text_in};
 ghost use Rattle.csv_tables.specs.declared.options.Look.{Look};
-ghost use Rattle.csv_tables.specs.Contents.{fields_text, greatest_at, headed_by, made_by, measured_at, most_cells, pairs_by, rows_at, shown_by, spaces_in};
+ghost use Rattle.csv_tables.specs.Contents.{IsKept, fields_text, greatest_at, headed_by, made_by, measured_at, most_cells, pairs_by, rows_at, shown_by, spaces_in};
 
 use crate::cells::{cell_of, is_blank, pair_of, text_in};
 use crate::columns::name_at;
+use crate::markdown::may_be_escaped;
 use crate::options::{DrawnColumn, Look};
 use crate::selected::SelectedRecords;
 use crate::table::empty_table;
@@ -574,7 +575,7 @@ fn plain_cell<'r>(
         ≡ cell_for look.now alignment (field.now ++ spaces behind)) }
     ensures line { IfSome result (λ cell. cell.text_lines ≡ (field.now ++ spaces behind) ∷ []) }
 {
-    if look.is_markdown || is_emptied(field, behind) {
+    if is_changed(look, field, behind) {
         return None;
     }
     if let Some(cell) = PlainCell::of_printable(field, behind, alignment) {
@@ -601,12 +602,17 @@ fn clean_cell(field: &str, alignment: Option<CellAlignment>) -> Option<PlainCell
     Some(cell)
 }
 
-// Whether a field with so many spaces behind it is blank, but not empty.
-fn is_emptied(field: &str, behind: usize) -> bool
-    ensures { result ≡ false → (is_blank field.now ≡ false)
-        ⊎ (field.now ++ spaces behind ≡ []) }
+// Whether a clean field with so many spaces behind it may be drawn as another text: it is blank,
+// but not empty, or it may be escaped.
+#[inline(always)]
+fn is_changed(look: &Look, field: &str, behind: usize) -> bool
+    ensures { result ≡ false → IsKept look.now field.now behind }
 {
-    is_blank(field.as_bytes()) && !(field.is_empty() && behind == 0)
+    if look.is_markdown {
+        behind > 0 || may_be_escaped(field)
+    } else {
+        is_blank(field.as_bytes()) && !(field.is_empty() && behind == 0)
+    }
 }
 
 // Lets the width at a position be at least so much. Those before it that aren't there become 0.
