@@ -1,5 +1,5 @@
 -- The texts of tables: a line below the first one, and a text from what the calls of a table say.
-use Rattle.std.proofs.Common.{◌≡◌, ◌<◌, ◌+◌, ◌==◌, ℕ, Bool, true, false, List, [], ◌∷◌, ◌++◌, Option, Some, None, arith, drop, length, take, lit<, refl, sym, ap, ap₂, ◌∙◌, subst, append-nil, append_assoc}
+use Rattle.std.proofs.Common.{◌≡◌, ◌<◌, ◌+◌, ◌==◌, Bool, true, false, List, [], ◌∷◌, ◌++◌, Option, Some, None, arith, drop, length, take, lit<, refl, sym, ap, ap₂, ◌∙◌, subst, append-nil, append_assoc}
 use Rattle.std.specs.List.{All, after_first, before_first, list_any, position_or_len}
 use Rattle.std.specs.Option.{MatchOption}
 use Rattle.std.proofs.Math.Seq.{drop-append-add, take-append_seam}

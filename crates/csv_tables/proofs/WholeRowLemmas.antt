@@ -24,7 +24,7 @@ use Rattle.csv_tables.proofs.FieldLemmas.{IsShortPrintable}
 use Rattle.csv_tables.proofs.FittingLemmas.{text_drawn}
 use Rattle.csv_tables.proofs.OutputControlLemmas.{text_fields}
 use Rattle.csv_tables.proofs.TextLineLemmas.{lines-front, lines_of, text_lines}
-use Rattle.csv_tables.specs.Cells.{Shown, cell_for, columns_within, field_text, is_blank, marked, pair_for, shown_fields, shown_number, text_in, unless_blank, with_weight}
+use Rattle.csv_tables.specs.Cells.{Shown, cell_for, columns_within, field_text, is_blank, marked, pair_for, shown_fields, shown_number, text_in, with_weight}
 use Rattle.csv_tables.specs.Columns.{name_at}
 use Rattle.csv_tables.specs.Contents.{made_by, pairs_by, rows_at, rows_from, shown_by}
 use Rattle.csv_tables.specs.Fields.{field_or_blank}

@@ -1,4 +1,4 @@
-use Rattle.std.proofs.Common.{◌≡◌, ◌++◌, ◌∷◌, [], false, ap, arith, subst, sym, ◌∙◌, append-nil}
+use Rattle.std.proofs.Common.{◌≡◌, ◌++◌, ◌∷◌, [], ap, arith, subst, sym, ◌∙◌, append-nil}
 use Rattle.comfy_parts.specs.CellValue.{CellValue, plain_cell}
 use Rattle.comfy_parts.specs.Text.{Text, spaces}
 use Rattle.comfy_table.proofs.PlainLineLemmas.{printable_line}
