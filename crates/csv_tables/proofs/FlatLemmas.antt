@@ -1,5 +1,5 @@
 -- Rows of which each text is seen to fit its column.
-use Rattle.std.proofs.Common.{◌≡◌, ◌<◌, ◌≤◌, ◌+◌, ℕ, suc, Bool, false, List, [], ◌∷◌, ◌++◌, All, IfSome, Option, Some, None, length, map, max, slice_get, refl, ap, sym, subst, ◌∙◌, arith, ⊎_elim}
+use Rattle.std.proofs.Common.{◌≡◌, ◌<◌, ◌≤◌, ◌+◌, ℕ, suc, Bool, false, List, [], ◌∷◌, ◌++◌, All, IfSome, Option, Some, None, length, map, slice_get, refl, ap, sym, subst, ◌∙◌, arith, ⊎_elim}
 use Rattle.std.proofs.lemmas.Bool.{cases_lt}
 use Rattle.std.proofs.lemmas.Bool.Decides.{nat_tests}
 use Rattle.std.proofs.lemmas.List.{length-map}
@@ -46,8 +46,7 @@ line_longest t info cell plain fits =
     let d = cell_delimiter t info.delimiter cell in
     let text = first_line cell in
     let one : lines_of_text w d text ≡ text ∷ [] = grind (arith, nat_tests, fits) in
-    let lines = ap (λ (ls : List Text). greatest (map (text_longest_line w d) ls)) plain.one_line ∙ ap (λ (ls : List Text). max (greatest (map measure ls)) 0) one in
-    omega (arith, lines)
+    ap (λ (ls : List Text). greatest (map (text_longest_line w d) ls)) plain.one_line ∙ grind (arith, one)
 
 -- where the cell of a text is one piece, so is that of a row that shows it
 pub flat_at : (look : Look) (text : Text) (t : TableValue) (row : RowValue) (info : ColumnInfo) → ((alignment : Option CellAlignment) → length (cell_pieces t row info (cell_for look alignment text)) ≤ 1)

@@ -51,26 +51,15 @@ level_more passes n level next =
 -- none is above the last one
 levels_within : (passes : ℕ → Bool) (a n : ℕ) → greatest (filter passes (range_with_len (a + 1) n)) ≤ a + n
 levels_within passes a zero = omega arith
-levels_within passes a (suc n) = by_test (passes (a + 1)) (filter passes (range_with_len ((a + 1) + 1) n)) (levels_within passes (a + 1) n)
-  where
-    by_test : (b : Bool) (more : List ℕ) → greatest more ≤ (a + 1) + n → greatest (cond b ((a + 1) ∷ more) more) ≤ a + suc n
-    by_test true more rest = omega (arith, rest)
-    by_test false more rest = omega (arith, rest)
+levels_within passes a (suc n) = grind (arith, levels_within passes (a + 1) n)
 
 -- a level that doesn't pass isn't the greatest that does
 pub failed_level : (passes : ℕ → Bool) (level : ℕ) → 0 < level → passes level ≡ false → greatest_level passes (level - 1) ≡ greatest_level passes level
-failed_level passes level some is =
-    let more = level_more passes (level - 1) level (omega (arith, some)) in
-    let own = ap (λ b. greatest (cond b (level ∷ []) [])) is in
-    omega (arith, more, own)
+failed_level passes level some is = grind (arith, level_more passes (level - 1) level (omega (arith, some)))
 
 -- and one that does is
 pub passed_level : (passes : ℕ → Bool) (level : ℕ) → 0 < level → passes level ≡ true → level ≡ greatest_level passes level
-passed_level passes level some is =
-    let more = level_more passes (level - 1) level (omega (arith, some)) in
-    let own = ap (λ b. greatest (cond b (level ∷ []) [])) is in
-    let below = levels_within passes 0 (level - 1) in
-    omega (arith, more, own, below)
+passed_level passes level some is = grind (arith, level_more passes (level - 1) level (omega (arith, some)), levels_within passes 0 (level - 1))
 
 -- ---- tables
 
