@@ -82,12 +82,12 @@ records_reason records.OutOfMemory = codes "out of memory"
 -- why columns can't be drawn so
 abbrev pub columns_reason : ColumnsError → Text
 columns_reason (columns.NoColumn word hint) =
-    (codes "no column " ++ shown_name (string_bytes word))
-    ++ (codes "; " ++ shown_name (string_bytes hint))
+    (codes "no column '" ++ shown_name (string_bytes word))
+    ++ (codes "'; " ++ shown_name (string_bytes hint))
 columns_reason columns.NoneLeft = codes "no column is left"
 columns_reason (columns.TwoSides name) =
-    (codes "column " ++ shown_name (string_bytes name))
-    ++ codes " can't stand at the right and at the left"
+    (codes "column '" ++ shown_name (string_bytes name))
+    ++ codes "' can't stand at the right and at the left"
 columns_reason columns.OutOfMemory = codes "out of memory"
 
 -- why there is no drawing

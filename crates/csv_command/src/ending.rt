@@ -344,12 +344,12 @@ fn columns_reason(alloc: Global, error: &ColumnsError) -> Result<String, AllocEr
         ColumnsError::NoColumn(word, hint) => {
             let word = shown_text(alloc, word.as_str(), false)?;
             let hint = shown_text(alloc, hint.as_str(), false)?;
-            format!(in alloc; "no column {word}; {hint}")
+            format!(in alloc; "no column '{word}'; {hint}")
         }
         ColumnsError::NoneLeft => String::from_str(alloc, "no column is left"),
         ColumnsError::TwoSides(name) => {
             let name = shown_text(alloc, name.as_str(), false)?;
-            format!(in alloc; "column {name} can't stand at the right and at the left")
+            format!(in alloc; "column '{name}' can't stand at the right and at the left")
         }
         ColumnsError::OutOfMemory => String::from_str(alloc, OUT_OF_MEMORY),
     }

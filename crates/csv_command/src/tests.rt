@@ -185,13 +185,13 @@ fn columns_that_can_not_be_drawn(rt: HostRuntime) {
     let invocation = parse_by(&rt, &arguments);
     let hint = name(&rt, "there is a\u{7}b");
     let error = CsvError::Columns(ColumnsError::NoColumn(name(&rt, "z\u{1b}[2J"), hint));
-    let text = "csvtable: standard input: no column z\u{fffd}[2J; there is a\u{fffd}b\n";
+    let text = "csvtable: standard input: no column 'z\u{fffd}[2J'; there is a\u{fffd}b\n";
     assert_message(&rt, &invocation, error, None, text);
     let error = CsvError::Columns(ColumnsError::NoneLeft);
     let text = "csvtable: standard input: no column is left\n";
     assert_message(&rt, &invocation, error, None, text);
     let error = CsvError::Columns(ColumnsError::TwoSides(name(&rt, "b")));
-    let text = "csvtable: standard input: column b can't stand at the right and at the left\n";
+    let text = "csvtable: standard input: column 'b' can't stand at the right and at the left\n";
     assert_message(&rt, &invocation, error, None, text);
 }
 
