@@ -1,8 +1,8 @@
 -- What is said of words that are to be numbers or a delimiter, and are none, and of options that
 -- are meant otherwise.
 -- Source: this library's own.
-use Rattle.std.specs.Prelude.{ℕ, ◌-◌, ◌^◌, Bool, false, ◌==◌, ◌||◌, ◌&&◌, nat_le, List, [], ◌∷◌, ◌++◌, Option, Some, None, bytes_eq, codes, decimal, length, option_and_then, if◌then◌else◌}
-use Rattle.std.specs.List.{after_first, before_first}
+use Rattle.std.specs.Prelude.{ℕ, ◌-◌, ◌^◌, Bool, false, ◌==◌, ◌||◌, ◌&&◌, nat_le, List, [], ◌∷◌, ◌++◌, Option, Some, None, bytes_eq, codes, decimal, length, option_and_then, unwrap_or, if◌then◌else◌}
+use Rattle.std.specs.List.{after_first, before_first, list_any}
 use Rattle.std.specs.Option.{option_map_or, option_or}
 use Rattle.std.specs.Str.Parse.{without_leading_plus}
 use Rattle.clap.specs.Lexer.{has_byte, strip_byte}
@@ -12,10 +12,8 @@ use Rattle.csv_records.specs.Numerals.{number_for}
 -- what is said of a word that is to be a delimiter and is none
 abbrev pub wrong_delimiter : Text → Text
 wrong_delimiter word =
-    ((codes "a delimiter is `tab`, `spaces`, `auto` or one ASCII "
-    ++ codes "character other than a quote or a line end, not '")
-    ++ word)
-    ++ codes "'"
+    codes "a delimiter is `tab`, `spaces`, `auto` or one ASCII character other than "
+    ++ codes "a quote or a line end, not '" ++ word ++ codes "'"
 
 -- the greatest number that may stand behind an option
 abbrev pub greatest_behind : Text → Option ℕ
@@ -32,17 +30,25 @@ is_number_to greatest word =
     option_map_or (λ n. nat_le n greatest) (number_for 64 (without_leading_plus word)) false
 
 -- what is said of a word that is none
-abbrev pub allowed_numbers : ℕ → Text
-allowed_numbers greatest =
-    (codes " takes a number from 0 to " ++ decimal greatest) ++ codes ", not '"
-
 abbrev pub number_reason : Text → ℕ → Text → Text
 number_reason option greatest word =
-    ((option ++ allowed_numbers greatest) ++ word) ++ codes "'"
+    option
+    ++ (codes " takes a number from 0 to "
+    ++ (decimal greatest ++ (codes ", not '" ++ (word ++ codes "'"))))
 
--- what is said of a number behind `-n`
-abbrev pub header_reason : Text → Text
-header_reason word = codes "-n means no header; for the first records type --limit " ++ word
+-- options behind which other programs have how many records to draw
+abbrev pub limits_elsewhere : List Text
+limits_elsewhere =
+    codes "-n" ∷ codes "--head" ∷ codes "--max-rows" ∷ codes "--nrows" ∷ codes "--rows" ∷ []
+
+-- what is said of such a number
+abbrev pub limit_reason : Text → Text
+limit_reason word =
+    codes "for the first records type --limit " ++ word ++ codes "; -n means no header"
+
+-- what wraps nothing
+abbrev pub no_wrap_reason : Text
+no_wrap_reason = codes "-w 0 wraps nothing; -m 1 draws one line for each record"
 
 -- what sorts
 abbrev pub sort_reason : Text
@@ -51,18 +57,22 @@ sort_reason = codes "csvtable doesn't sort; try mlr --csv sort -nr COLUMN FILE |
 -- what is said of other options, by the word behind them
 abbrev pub reason_without_number : Text → Text → Option Text
 reason_without_number option word =
-    if bytes_eq option (codes "-n") && is_number_to (2 ^ 64 - 1) word
-    then Some (header_reason word)
+    if list_any (bytes_eq option) limits_elsewhere && is_number_to (2 ^ 64 - 1) word
+    then Some (limit_reason word)
+    else if bytes_eq option (codes "--no-wrap")
+    then Some no_wrap_reason
     else if bytes_eq option (codes "--sort")
     then Some sort_reason
     else None
 
--- what is said of a word behind an option, where it's to be a number and is none
-abbrev pub reason_behind : Text → Text → Option Text
-reason_behind option word =
+-- what is said of an option and a word behind it
+abbrev pub reason_of : Text → Text → Option Text
+reason_of option word =
     option_map_or
     (λ greatest.
-    if is_number_to greatest word then None else Some (number_reason option greatest word))
+    if length word == 0 || is_number_to greatest word
+    then None
+    else Some (number_reason option greatest word))
     (greatest_behind option)
     (reason_without_number option word)
 
@@ -84,17 +94,14 @@ in_one_word word =
     then Some (before_first (λ b. b == 0x3D) word, after_first (λ b. b == 0x3D) word)
     else option_and_then behind_letter (strip_byte 0x2D word)
 
--- an option and the next word
-abbrev pub next_given : Text → List Text → Option (Text × Text)
-next_given option [] = None
-next_given option (word ∷ more) = Some (option, word)
+-- an option and the next word; none is as an empty one
+abbrev pub next_given : Text → List Text → Text × Text
+next_given option [] = (option, [])
+next_given option (word ∷ more) = (option, word)
 
 -- an option and its value, which stands in the same word or else is the next one
-abbrev pub given : Text → List Text → Option (Text × Text)
-given option more = option_or (in_one_word option) (next_given option more)
-
-abbrev pub reason_of : Option (Text × Text) → Option Text
-reason_of given = option_and_then (λ it. reason_behind it.0 it.1) given
+abbrev pub given : Text → List Text → Text × Text
+given option more = unwrap_or (in_one_word option) (next_given option more)
 
 -- what is said of the first such word; behind `--` no word is an option
 abbrev pub wrong_number : List Text → Option Text
@@ -102,4 +109,4 @@ wrong_number [] = None
 wrong_number (option ∷ more) =
     if bytes_eq option (codes "--")
     then None
-    else option_or (reason_of (given option more)) (wrong_number more)
+    else option_or (reason_of (given option more).0 (given option more).1) (wrong_number more)

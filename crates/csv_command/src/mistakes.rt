@@ -2,7 +2,7 @@
 //! are meant otherwise.
 
 ghost use Rattle.std.specs.Prelude.{◌≡◌, IfOk, Some, map, option_map, string_bytes};
-ghost use Rattle.csv_command.specs.Mistakes.{allowed_numbers, behind_letter, given, greatest_behind, header_reason, in_one_word, is_number_to, number_reason, reason_behind, reason_of, with_value, wrong_delimiter, wrong_number};
+ghost use Rattle.csv_command.specs.Mistakes.{behind_letter, given, greatest_behind, in_one_word, is_number_to, number_reason, reason_of, with_value, wrong_delimiter, wrong_number};
 
 use std::alloc::{AllocError, Global};
 
@@ -10,14 +10,10 @@ use std::alloc::{AllocError, Global};
 pub(crate) fn reason_of_delimiter(alloc: Global, word: &str) -> Result<String, AllocError>
     ensures { IfOk result (λ reason. string_bytes reason ≡ wrong_delimiter word.now) }
 {
-    let mut text = String::from_str(
-        alloc,
-        "a delimiter is `tab`, `spaces`, `auto` or one ASCII ",
-    )?;
-    text.push_str("character other than a quote or a line end, not '")?;
-    text.push_str(word)?;
-    text.push_str("'")?;
-    Ok(text)
+    format!(in alloc;
+        "a delimiter is `tab`, `spaces`, `auto` or one ASCII character other than a quote or a \
+         line end, not '{word}'"
+    )
 }
 
 /// What is said of the first word that is to be a number and is none.
@@ -33,7 +29,8 @@ pub(crate) fn reason_of_number(
         if *option == "--" {
             return Ok(None);
         }
-        if let Some(reason) = reason_of(alloc, given(option, &rest[1..]))? {
+        let (option, word) = given(option, &rest[1..]);
+        if let Some(reason) = reason_of(alloc, option, word)? {
             return Ok(Some(reason));
         }
         rest = &rest[1..];
@@ -41,15 +38,14 @@ pub(crate) fn reason_of_number(
     Ok(None)
 }
 
-// An option and its value, which stands in the same word or else is the next one.
-fn given<'a>(option: &'a str, rest: &[&'a str]) -> Option<(&'a str, &'a str)>
-    ensures { option_map (λ it. (it.0.now, it.1.now)) result
-        ≡ given option.now (map (λ w. w.now) rest.now) }
+// An option and its value, which stands in the same word or else is the next one, if any.
+fn given<'a>(option: &'a str, rest: &[&'a str]) -> (&'a str, &'a str)
+    ensures { (result.0.now, result.1.now) ≡ given option.now (map (λ w. w.now) rest.now) }
 {
     match (in_one_word(option), rest) {
-        (Some(both), _) => Some(both),
-        (None, [word, ..]) => Some((option, *word)),
-        (None, []) => None,
+        (Some(both), _) => both,
+        (None, [word, ..]) => (option, *word),
+        (None, []) => (option, ""),
     }
 }
 
@@ -59,10 +55,7 @@ fn in_one_word(word: &str) -> Option<(&str, &str)>
 {
     match word.split_once('=') {
         Some(both) => Some(both),
-        None => match word.strip_prefix('-') {
-            Some(rest) => behind_letter(rest),
-            None => None,
-        },
+        None => word.strip_prefix('-').and_then(behind_letter),
     }
 }
 
@@ -86,55 +79,36 @@ fn behind_letter(rest: &str) -> Option<(&str, &str)>
 fn with_value<'a>(option: &'a str, value: &'a str) -> Option<(&'a str, &'a str)>
     ensures { option_map (λ it. (it.0.now, it.1.now)) result ≡ with_value option.now value.now }
 {
-    if value.is_empty() {
-        None
-    } else {
-        Some((option, value))
-    }
-}
-
-// What is said of an option and its value.
-fn reason_of(alloc: Global, given: Option<(&str, &str)>) -> Result<Option<String>, AllocError>
-    ensures { IfOk result (λ reason. option_map string_bytes reason
-        ≡ reason_of (option_map (λ it. (it.0.now, it.1.now)) given.entry)) }
-{
-    match given {
-        Some((option, value)) => reason_behind(alloc, option, value),
-        None => Ok(None),
-    }
+    (!value.is_empty()).then_some((option, value))
 }
 
 // What is said of an option and a word behind it: where that is to be a number and is none, where
-// it is one behind `-n`, and where `csvtable` is to sort.
-fn reason_behind(alloc: Global, option: &str, word: &str) -> Result<Option<String>, AllocError>
+// it is one behind an option that seems to take one, and of what `csvtable` does otherwise.
+fn reason_of(alloc: Global, option: &str, word: &str) -> Result<Option<String>, AllocError>
     ensures { IfOk result (λ reason. option_map string_bytes reason
-        ≡ reason_behind option.now word.now) }
+        ≡ reason_of option.now word.now) }
 {
-    match greatest_behind(option) {
-        Some(greatest) if !is_number_to(greatest, word) => {
+    match (greatest_behind(option), option) {
+        (Some(greatest), _) if !word.is_empty() && !is_number_to(greatest, word) => {
             Ok(Some(number_reason(alloc, option, greatest, word)?))
         }
-        None if option == "-n" && is_number_to(usize::MAX, word) => {
-            Ok(Some(header_reason(alloc, word)?))
+        (None, "-n" | "--head" | "--max-rows" | "--nrows" | "--rows")
+            if is_number_to(usize::MAX, word) => {
+            Ok(Some(format!(in alloc;
+                "for the first records type --limit {word}; -n means no header"
+            )?))
         }
-        None if option == "--sort" => Ok(Some(String::from_str(alloc, SORT)?)),
+        (None, "--no-wrap") => Ok(Some(String::from_str(alloc, NO_WRAP)?)),
+        (None, "--sort") => Ok(Some(String::from_str(alloc, SORT)?)),
         _ => Ok(None),
     }
 }
 
+// What wraps nothing.
+const NO_WRAP: &str = "-w 0 wraps nothing; -m 1 draws one line for each record";
+
 // What sorts.
 const SORT: &str = "csvtable doesn't sort; try mlr --csv sort -nr COLUMN FILE | csvtable";
-
-fn header_reason(alloc: Global, word: &str) -> Result<String, AllocError>
-    ensures { IfOk result (λ text. string_bytes text ≡ header_reason word.now) }
-{
-    let mut text = String::from_str(
-        alloc,
-        "-n means no header; for the first records type --limit ",
-    )?;
-    text.push_str(word)?;
-    Ok(text)
-}
 
 // The greatest number that may stand behind an option.
 fn greatest_behind(option: &str) -> Option<usize>
@@ -166,15 +140,5 @@ fn number_reason(
     ensures { IfOk result (λ text. string_bytes text
         ≡ number_reason option.now greatest word.now) }
 {
-    let mut text = String::from_str(alloc, option)?;
-    text.push_str(allowed_numbers(alloc, greatest)?.as_str())?;
-    text.push_str(word)?;
-    text.push_str("'")?;
-    Ok(text)
-}
-
-fn allowed_numbers(alloc: Global, greatest: usize) -> Result<String, AllocError>
-    ensures { IfOk result (λ text. string_bytes text ≡ allowed_numbers greatest) }
-{
-    format!(in alloc; " takes a number from 0 to {greatest}, not '")
+    format!(in alloc; "{option} takes a number from 0 to {greatest}, not '{word}'")
 }

@@ -375,7 +375,15 @@ fn words_that_are_no_numbers(rt: HostRuntime) {
         ),
         (
             ["csvtable", "a.csv", "-n5"],
-            "-n means no header; for the first records type --limit 5",
+            "for the first records type --limit 5; -n means no header",
+        ),
+        (
+            ["csvtable", "--head", "5"],
+            "for the first records type --limit 5; -n means no header",
+        ),
+        (
+            ["csvtable", "a.csv", "--no-wrap"],
+            "-w 0 wraps nothing; -m 1 draws one line for each record",
         ),
         (
             ["csvtable", "a.csv", "--sort=a"],
@@ -386,7 +394,7 @@ fn words_that_are_no_numbers(rt: HostRuntime) {
         assert_refused(&rt, arguments.as_slice(), reason);
     }
     let arguments = ["csvtable", "-n", "5", "a.csv"];
-    let reason = "-n means no header; for the first records type --limit 5";
+    let reason = "for the first records type --limit 5; -n means no header";
     assert_refused(&rt, &arguments, reason);
     let arguments = ["csvtable", "--", "-w", "-5"];
     assert_refused(&rt, &arguments, "unexpected argument '-5' found");

@@ -1,4 +1,4 @@
-use Rattle.std.proofs.Common.{◌∙◌, ◌==◌, Bool, None, Option, Some, ap₂, arith, if◌then◌else◌, option_and_then, sym}
+use Rattle.std.proofs.Common.{rules, ◌∙◌, ◌==◌, ◌≡◌, Bool, None, Option, Some, ap₂, arith, if◌then◌else◌, option_and_then, option_map, sym}
 use Rattle.std.specs.List.{after_first, before_first}
 use Rattle.std.proofs.lemmas.Str.Pattern.{split_parts, strip_prefix_char}
 use Rattle.clap.proofs.CutLemmas.{list_any-Lacks}
@@ -14,16 +14,10 @@ said word has_equals rest =
     then Some (before_first (λ b. b == 0x3D) word, after_first (λ b. b == 0x3D) word)
     else option_and_then behind_letter rest
 
-pub returns-in-Some-strip_prefix : goal.returns-in-Some-strip_prefix
-returns-in-Some-strip_prefix c =
+pub returns-in-None : goal.returns-in-None
+returns-in-None c =
     let word = c.args.word.now in
     let lacks = list_any-Lacks 0x3D word (split_parts 0x3D word None c.in-None.ensures.cases (omega arith)) in
-    let rest = strip_byte-from 0x2D word (Some c.in-Some-strip_prefix.rest) (strip_prefix_char 0x2D word (Some c.in-Some-strip_prefix.rest) c.in-Some-strip_prefix.ensures.cases (omega arith)) in
-    c.behind_letter.ensures ∙ ap₂ (said word) (sym lacks) rest
-
-pub returns-in-None-strip_prefix : goal.returns-in-None-strip_prefix
-returns-in-None-strip_prefix c =
-    let word = c.args.word.now in
-    let lacks = list_any-Lacks 0x3D word (split_parts 0x3D word None c.in-None.ensures.cases (omega arith)) in
-    let rest = strip_byte-from 0x2D word None (strip_prefix_char 0x2D word None c.in-None-strip_prefix.ensures.cases (omega arith)) in
-    ap₂ (said word) (sym lacks) rest
+    let rest = strip_byte-from 0x2D word c.strip_prefix.result (strip_prefix_char 0x2D word c.strip_prefix.result c.strip_prefix.ensures.cases (omega arith)) in
+    let it : option_map (λ it. (it.0.now, it.1.now)) c.and_then.result ≡ option_and_then behind_letter (option_map (λ s. s.now) c.strip_prefix.result) = search rules in
+    it ∙ ap₂ (said word) (sym lacks) rest
