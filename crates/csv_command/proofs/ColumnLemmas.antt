@@ -1,13 +1,11 @@
 -- Choices of columns, one after another.
-use Rattle.std.proofs.Common.{◌≡◌, ◌<◌, ◌+◌, ◌-◌, ℕ, Bool, true, false, zero, suc, List, [], ◌∷◌, Option, Some, Result, Ok, Err, String, drop, get_or, length, string_bytes, take, refl, sym, arith}
+use Rattle.std.proofs.Common.{◌≡◌, ◌<◌, ◌+◌, ◌-◌, ℕ, suc, List, [], Option, Result, Ok, Err, String, get_or, length, string_bytes, take, refl, sym, arith}
 use Rattle.std.proofs.lemmas.List.Folds.{fold_stuck}
-use Rattle.std.specs.List.{position_from, range_with_len}
+use Rattle.std.specs.List.{range_with_len}
 use Rattle.std.specs.Option.{option_or}
 use Rattle.comfy_parts.specs.Text.{Text}
-use Rattle.csv.specs.Records.{field_at}
 use Rattle.csv_command.specs.Columns.{ColumnFault, IsColumnsRefusal, first_answer, joined, positions_of, positions_of_word}
 use Rattle.csv_command.specs.Columns.ColumnFault.{missing, none_left, two_sided}
-use Rattle.csv_command.specs.Hints.{passes}
 use Rattle.csv_command.specs.declared.error.ColumnsError.{ColumnsError}
 use Rattle.csv_command.specs.declared.error.ColumnsError.TheVariants.{NoColumn, NoneLeft, OutOfMemory, TwoSides}
 
@@ -27,21 +25,6 @@ module _ {A : Type 0} (names : List Text) (count : ℕ) (words : List (String A)
   refused_word NoneLeft within before at_fault = stopped none_left within before at_fault
   refused_word (TwoSides name) within before at_fault = stopped (two_sided (string_bytes name)) within before at_fault
   refused_word OutOfMemory within before at_fault = tt
-
-module _ (p : Text → Bool) (n : ℕ) where
-  -- the field at a position is the first that is looked at from there on
-  pub found_at : (fields : List Text) (i : ℕ) → passes p (field_at fields i) ≡ true → position_from p n (drop i fields) ≡ Some n
-  unfolding field_at
-  found_at [] i is = absurd (cc)
-  found_at (f ∷ fs) zero is = rw is refl
-  found_at (f ∷ fs) (suc i) is = found_at fs i is
-
-  pub not_at : (fields : List Text) (i : ℕ) → passes p (field_at fields i) ≡ false → position_from p n (drop i fields) ≡ position_from p (n + 1) (drop (suc i) fields)
-  unfolding field_at
-  not_at [] zero is = refl
-  not_at [] (suc i) is = refl
-  not_at (f ∷ fs) zero is = rw is refl
-  not_at (f ∷ fs) (suc i) is = not_at fs i is
 
 -- the first answer to the numbers that are left, by the next of them
 pub next_answer : {A : Type 0} (f : ℕ → Option A) (i n : ℕ) → i < n → first_answer f (range_with_len i (n - i)) ≡ option_or (f i) (first_answer f (range_with_len (i + 1) (n - (i + 1))))

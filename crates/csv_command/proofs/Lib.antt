@@ -1,6 +1,5 @@
 pub mod ColumnLemmas
 pub mod FirstRowLemmas
-pub mod NamedStyleLemmas
 pub mod OneInvocationLemmas
 pub mod OneOutputLemmas
 pub mod OneParseLemmas

@@ -1,11 +1,11 @@
 -- Which columns words choose.
 -- Source: this library's own.
-use Rattle.std.specs.Prelude.{ℕ, Bool, ◌≡◌, ◌+◌, ◌-◌, ◌==◌, ◌&&◌, nat_le, nat_lt, not, List, [], ◌∷◌, ◌++◌, Option, Some, None, Result, Ok, Err, String, bytes_eq, drop, find, fold, get_or, length, ok_or, option_map, string_bytes, take, if◌then◌else◌}
+use Rattle.std.specs.Prelude.{ℕ, ◌≡◌, ◌+◌, ◌-◌, ◌==◌, ◌&&◌, nat_le, nat_lt, not, List, [], ◌∷◌, ◌++◌, Option, Some, None, Result, Ok, Err, String, bytes_eq, drop, find, fold, get_or, length, ok_or, option_map, string_bytes, take, if◌then◌else◌}
 use Rattle.std.specs.Option.{option_or}
 use Rattle.std.specs.List.{filter, list_any, position_from, range_with_len}
 use Rattle.comfy_parts.specs.Text.{Text}
 use Rattle.csv_records.specs.Numerals.{number_for}
-use Rattle.csv_command.specs.Hints.{hint_for, passes}
+use Rattle.csv_command.specs.Hints.{hint_for}
 use Rattle.csv_command.specs.declared.arguments.Options.{Options}
 use Rattle.csv_command.specs.declared.columns.ColumnWords.{ColumnWords}
 use Rattle.csv_command.specs.declared.error.ColumnsError.{ColumnsError}
@@ -16,10 +16,6 @@ use Rattle.csv_tables.specs.Drawn.{column_count, names_or_none}
 -- the position of the first field that is this text
 abbrev pub position_named : Text → List Text → Option ℕ
 position_named name names = position_from (λ field. bytes_eq field name) 0 names
-
--- a field is there, and is this text
-abbrev pub is_text : Text → Option Text → Bool
-is_text name field = passes (λ own. bytes_eq own name) field
 
 -- why columns can't be drawn: a word chooses nothing that is there, for which something helps; no
 -- column is left; or one of this name is to stand at two sides

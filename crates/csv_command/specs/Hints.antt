@@ -1,15 +1,10 @@
 -- What a message tells where a word chooses no column that is there.
 -- Source: this library's own.
-use Rattle.std.specs.Prelude.{ℕ, Bool, false, ◌+◌, ◌-◌, ◌==◌, nat_lt, List, [], ◌++◌, Option, Some, None, codes, decimal, flat_map, length, min, if◌then◌else◌}
+use Rattle.std.specs.Prelude.{ℕ, ◌+◌, ◌-◌, ◌==◌, nat_lt, List, [], ◌++◌, Option, Some, None, codes, decimal, flat_map, length, min, if◌then◌else◌}
 use Rattle.std.specs.List.{position_from, range_with_len}
 use Rattle.comfy_parts.specs.Text.{Text}
 use Rattle.csv_records.specs.Number.{is_word}
 use Rattle.csv_tables.specs.Fields.{field_or_blank}
-
--- a field is there, and passes
-abbrev pub passes : (Text → Bool) → Option Text → Bool
-passes p None = false
-passes p (Some field) = p field
 
 -- the position of the first name that is this word in some case of letters
 abbrev pub position_alike : Text → List Text → Option ℕ

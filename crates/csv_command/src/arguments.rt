@@ -414,7 +414,7 @@ fn width_of(wanted: Option<u16>, context: OutputContext<'_>) -> Option<u16>
 fn some_width(width: u16) -> Option<u16>
     ensures { result ≡ some_width width }
 {
-    if width == 0 { None } else { Some(width) }
+    (width != 0).then_some(width)
 }
 
 // The width of a terminal that has this as `COLUMNS`.

@@ -2,8 +2,7 @@
 
 ghost use Rattle.std.specs.Prelude.{◌≡◌, ◌<◌, ◌≤◌, ◌-◌, ◌^◌, IfOk, IfErr, IfSome, Ok, length, string_bytes};
 ghost use Rattle.std.specs.List.{range_with_len};
-ghost use Rattle.csv.specs.Records.{field_at};
-ghost use Rattle.csv_command.specs.Columns.{IsColumnsRefusal, at_two_sides, chosen_columns, column_of, columns_by, columns_chosen, end_of, is_text, kept_columns, column_numbered, position_named, positions_of, positions_of_word, range_at, range_of, without};
+ghost use Rattle.csv_command.specs.Columns.{IsColumnsRefusal, at_two_sides, chosen_columns, column_of, columns_by, columns_chosen, end_of, kept_columns, column_numbered, position_named, positions_of, positions_of_word, range_at, range_of, without};
 
 use crate::error::ColumnsError;
 use crate::hints::hint_of;
@@ -65,12 +64,10 @@ pub(crate) fn columns_of(
 fn at_two_sides(right: &[usize], left: &[usize]) -> Option<usize>
     ensures { result ≡ at_two_sides right.now left.now }
 {
-    for position in right {
-        if left.contains(position) {
-            return Some(*position);
-        }
-    }
-    None
+    right
+        .iter()
+        .copied()
+        .find(|position| left.contains(position))
 }
 
 // The positions of the chosen columns, without those that are left out; there has to be one.
@@ -98,13 +95,10 @@ fn kept_columns(
 fn without(alloc: Global, positions: &[usize], dropped: &[usize]) -> Result<Vec<usize>, AllocError>
     ensures { IfOk result (λ kept. kept.items ≡ without positions.now dropped.now) }
 {
-    let mut kept = Vec::with_capacity(alloc, positions.len())?;
-    for position in positions {
-        if !dropped.contains(position) {
-            kept.push(*position)?;
-        }
-    }
-    Ok(kept)
+    let positions = positions.iter().copied();
+    positions
+        .filter(|position| !dropped.contains(position))
+        .collect(alloc)
 }
 
 // The positions of the chosen columns; all of them where none is chosen.
@@ -197,11 +191,7 @@ fn column_numbered(count: usize, number: usize) -> Option<usize>
     ensures value { result ≡ column_numbered count number }
     ensures below { IfSome result (λ position. position < 2 ^ 64 - 1) }
 {
-    if 0 < number && number <= count {
-        Some(number - 1)
-    } else {
-        None
-    }
+    number.checked_sub(1).filter(|position| *position < count)
 }
 
 // The columns around the first hyphen around which both ends are there, in order.
@@ -263,20 +253,5 @@ fn position_named(names: &Record<'_>, name: &str) -> Option<usize>
     ensures value { result ≡ position_named name.now names.now }
     ensures below { IfSome result (λ position. position < 2 ^ 64 - 1) }
 {
-    for position in 0..names.len() {
-        if is_named_at(names, position, name) {
-            return Some(position);
-        }
-    }
-    None
-}
-
-// Whether the field at a position is this text.
-fn is_named_at(names: &Record<'_>, position: usize, name: &str) -> bool
-    ensures { result ≡ is_text name.now (field_at names.now position) }
-{
-    match names.get(position) {
-        Some(field) => field == name,
-        None => false,
-    }
+    names.iter().position(|field| field == name)
 }

@@ -1,9 +1,7 @@
 //! What a message tells where a word chooses no column that is there.
 
 ghost use Rattle.std.specs.Prelude.{◌≡◌, ◌<◌, IfOk, string_bytes};
-ghost use Rattle.csv.specs.Records.{field_at};
-ghost use Rattle.csv_records.specs.Number.{is_word};
-ghost use Rattle.csv_command.specs.Hints.{column_count, hint_for, passes, position_alike, there_are, told, told_before, told_name, told_names};
+ghost use Rattle.csv_command.specs.Hints.{column_count, hint_for, position_alike, there_are, told, told_before, told_name, told_names};
 
 use csv_records::Record;
 use std::alloc::{AllocError, Global};
@@ -34,21 +32,9 @@ pub(crate) fn hint_of(
 fn position_alike(names: &Record<'_>, word: &str) -> Option<usize>
     ensures { result ≡ position_alike word.now names.now }
 {
-    for position in 0..names.len() {
-        if is_alike_at(names, position, word) {
-            return Some(position);
-        }
-    }
-    None
-}
-
-fn is_alike_at(names: &Record<'_>, position: usize, word: &str) -> bool
-    ensures { result ≡ passes (is_word word.now) (field_at names.now position) }
-{
-    match names.get(position) {
-        Some(name) => name.eq_ignore_ascii_case(word),
-        None => false,
-    }
+    names
+        .iter()
+        .position(|name| name.eq_ignore_ascii_case(word))
 }
 
 // What columns there are: their names, or how many where there is no header.

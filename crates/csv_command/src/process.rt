@@ -64,10 +64,10 @@ fn run_with(rt: &HostRuntime, arguments: &[String]) -> Ending {
 
 // What the arguments ask for, here.
 fn invocation(rt: &HostRuntime, arguments: &[String]) -> Result<Invocation, clap::Error> {
-    let mut texts = Vec::with_capacity(rt.alloc(), arguments.len())?;
-    for word in arguments {
-        texts.push(word.as_str())?;
-    }
+    let texts: Vec<&str> = arguments
+        .iter()
+        .map(|word| word.as_str())
+        .collect(rt.alloc())?;
     let columns = variable(rt, "COLUMNS")?;
     let no_color = variable(rt, "NO_COLOR")?;
     let context = OutputContext {
