@@ -24,7 +24,7 @@ use Rattle.csv_records.specs.Longer.{longer_records}
 use Rattle.csv_records.specs.declared.longer.LongerRecords.{LongerRecords}
 use Rattle.csv_command.specs.Run.{IsInputRefusal, IsRefusal}
 use Rattle.csv_command.specs.declared.error.ColumnsError.{ColumnsError}
-use Rattle.csv_command.specs.declared.error.ColumnsError.TheVariants.{NoColumn, NoneLeft, OutOfMemory, TwoSides}
+use Rattle.csv_command.specs.declared.error.ColumnsError.TheVariants.{OutOfMemory}
 use Rattle.csv_command.specs.declared.error.CsvError.TheVariants as err
 use Rattle.csv_command.specs.declared.arguments.Options.{Options}
 use Rattle.devices.specs.Outcome.{Beginning}
@@ -173,10 +173,8 @@ module _ (options : Options) where
         record { records = found.records; are_enough = are_enough; is = is ∙ ap (λ (l : Option LongerRecords). if options.selection.has_header then l else None) (are ∙ ap (longer_records options.input found.is_enough.text) drawn) }
 
     pub beginning_refused : (e : ColumnsError) → IsColumnsRefusal e (columns_for options first) → IsRefusal options Beginning read (of_columns e)
-    beginning_refused (NoColumn word hint) why = ((λ is. cc is), found.records, are_enough, same_refusal options first found.records alike (NoColumn word hint) why)
-    beginning_refused NoneLeft why = ((λ is. cc is), found.records, are_enough, same_refusal options first found.records alike NoneLeft why)
-    beginning_refused (TwoSides name) why = ((λ is. cc is), found.records, are_enough, same_refusal options first found.records alike (TwoSides name) why)
     beginning_refused OutOfMemory why = own_limit.0
+    beginning_refused e why = ((λ is. cc is), found.records, are_enough, same_refusal options first found.records alike e why)
 
   -- there is no memory where an input is read as text
   pub whole_no_memory : (input text : Text) → IsDecodedBy options.input input text → IsInputRefusal options input err.OutOfMemory
@@ -204,7 +202,5 @@ module _ (options : Options) where
       not_none is = some (ap length is)
 
       by_error : (e : ColumnsError) → IsColumnsRefusal e (columns_for options all) → IsInputRefusal options input (of_columns e)
-      by_error (NoColumn word hint) why = ((λ is. cc is), all, known, not_none, why)
-      by_error NoneLeft why = ((λ is. cc is), all, known, not_none, why)
-      by_error (TwoSides name) why = ((λ is. cc is), all, known, not_none, why)
       by_error OutOfMemory why = whole_no_memory input text is_text
+      by_error e why = ((λ is. cc is), all, known, not_none, why)

@@ -7,6 +7,5 @@ pub mod OutputControlLemmas
 pub mod ProgramLemmas
 pub mod RefusalLemmas
 pub mod RunLemmas
-pub mod StyleColumnLemmas
 pub mod StyleLemmas
 pub mod ValueLemmas

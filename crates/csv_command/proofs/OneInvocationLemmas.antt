@@ -1,5 +1,5 @@
 -- Arguments ask for one thing, so they have one drawing of an input.
-use Rattle.std.proofs.Common.{◌≡◌, inl, inr, ℕ, Bool, false, List, Option, not, ◌&&◌, ◌||◌, map, sym, ap, ap₂, ◌∙◌, unwrap_or, subst}
+use Rattle.std.proofs.Common.{◌≡◌, inl, inr, ℕ, Bool, false, List, Option, not, ◌&&◌, ◌||◌, map, sym, ap, ap₂, ◌∙◌, unwrap_or}
 use Rattle.std.specs.Option.{option_map_or}
 use Rattle.std.specs.Prelude.{Some, bytes_eq, codes, option_and_then, if◌then◌else◌}
 use Rattle.std.specs.Str.Parse.{without_leading_plus}
@@ -11,7 +11,7 @@ use Rattle.comfy_parts.specs.Text.{Text}
 use Rattle.comfy_parts.specs.declared.style.table_style.TableStyle.{TableStyle}
 use Rattle.csv_records.specs.Numerals.{number_for}
 use Rattle.csv_command.specs.Styles.{is_named, style_for}
-use Rattle.csv_command.specs.Arguments.{AreFound, IsParsed, IsInputParsed, IsLookParsed, IsSelectionParsed, AreOptionsParsed, delimiter_for, encoding_for, expansion_for, file_for, ids_in, is_behind, is_bold_for, is_given, is_given_last, is_markdown_in, number_found, separators_for, wanted_delimiter, width_for, words_in}
+use Rattle.csv_command.specs.Arguments.{AreFound, IsInputParsed, IsLookParsed, IsSelectionParsed, AreOptionsParsed, delimiter_for, encoding_for, expansion_for, file_for, ids_in, is_behind, is_bold_for, is_given, is_given_last, is_markdown_in, number_found, separators_for, wanted_delimiter, width_for, words_in}
 use Rattle.csv_command.specs.declared.arguments.Invocation.{Invocation}
 use Rattle.csv_command.specs.declared.arguments.OutputContext.{OutputContext}
 use Rattle.csv_records.specs.declared.delimiter.Delimiter.{Delimiter}
@@ -31,7 +31,7 @@ use Rattle.csv_command.specs.Drawn.{IsDrawnOf}
 use Rattle.csv_records.specs.Beginning.{whole_lines}
 use Rattle.devices.specs.Outcome.{asked_front}
 use Rattle.csv_command.specs.Laws.{InvocationIsOne, ParsedOutputHoldsNoControls, DrawnHoldsNoControls, DrawnIsOne}
-use Rattle.csv_command.proofs.StyleLemmas.{styles_without_controls}
+use Rattle.csv_command.proofs.StyleLemmas.{parsed_style_without_controls}
 use Rattle.csv_tables.specs.Controls.{IsStyleWithoutControls}
 use Rattle.csv_records.specs.declared.options.InputOptions.{InputOptions}
 use Rattle.csv_records.specs.declared.encoding.Encoding.{Encoding}
@@ -151,15 +151,11 @@ pub drawn_is_one : (arguments : List Text) (input drawing other : Text) → Draw
 drawn_is_one arguments input drawing other first second =
     output_is_one first.invocation.options second.invocation.options input drawing other (invocation_is_one arguments not_a_terminal first.invocation second.invocation first.is_asked second.is_asked).options first.is_output second.is_output
 
--- and arguments ask for a style without control characters
-parsed_style : (arguments : List Text) (context : OutputContext) (invocation : Invocation) → IsParsed arguments context invocation → IsStyleWithoutControls invocation.options.look.style
-parsed_style arguments context invocation is = subst IsStyleWithoutControls (sym is.options.look.style) (styles_without_controls (first_value is.found (codes "style")))
-
 pub parsed_without_controls : (arguments : List Text) (context : OutputContext) (invocation : Invocation) (input output : Text) → ParsedOutputHoldsNoControls arguments context invocation input output
 parsed_without_controls arguments context invocation input output is = by_extent
   where
     style : IsStyleWithoutControls invocation.options.look.style
-    style = parsed_style arguments context invocation is
+    style = parsed_style_without_controls arguments context invocation is
 
     by_extent : IsDrawnOf invocation.options input output → HasNoStrayControl (visible_text output)
     by_extent (inl (none, made)) = input_without_controls invocation.options input output style made
@@ -168,4 +164,4 @@ parsed_without_controls arguments context invocation input output is = by_extent
 -- and no control character in it
 pub drawn_without_controls : (arguments : List Text) (input drawing : Text) → DrawnHoldsNoControls arguments input drawing
 drawn_without_controls arguments input drawing drawn =
-    input_without_controls drawn.invocation.options input drawing (parsed_style arguments not_a_terminal drawn.invocation drawn.is_asked) drawn.is_output
+    input_without_controls drawn.invocation.options input drawing (parsed_style_without_controls arguments not_a_terminal drawn.invocation drawn.is_asked) drawn.is_output

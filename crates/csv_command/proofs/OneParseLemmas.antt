@@ -9,7 +9,7 @@ use Rattle.clap.specs.Facts.{parser_of_value}
 use Rattle.clap.specs.Simple.{App, filled, filled_from, help_rule, index_after, matches_of, parser_for, version_rule, with_action, with_default_value, with_index, with_missing_value}
 use Rattle.clap.specs.Lexer.{long_of, short_of}
 use Rattle.clap.specs.Walk.{Held, Names, Outcome, Row, Rule, Step, Text, Waiting, Walk, action_of, after_flag, after_step, arg_by_id, arg_by_index, arg_by_long, arg_by_short, attached_value, bundle_met, bundle_step, default_rows, finished, flag_met, has_long, has_row, has_short, is_multiple, is_pending, long_met, long_or_other, long_word, next_position, nothing_held, option_met, option_word, plain_word, pushed, reacted, rows_after, settled, settled_rows, short_met, short_or_plain, short_word, subcommand_met, subcommand_or_other, takes_several, takes_values, to_positional, used, used_as, used_by_id, values_or_missing, walk, walk_from, walked, walked_from, with_default, word_met}
-use Rattle.clap.specs.Walk.Outcome.{done, waits, plain, refused}
+use Rattle.clap.specs.Walk.Outcome.{done, waits, plain}
 use Rattle.clap.specs.Walk.Step.{next, trailing, subcommand, value}
 use Rattle.clap.specs.Walk.Waiting.{idle, option, positional}
 use Rattle.clap.specs.declared.builder.action.ArgAction.{ArgAction}
@@ -26,18 +26,8 @@ erased a = (bare a).0
 -- ---- what reads a value
 
 same_reading : (p : Option ValueParser) → reading_of (parser_of_value (unnamed p)) ≡ reading_of (parser_of_value p)
-same_reading None = refl
-same_reading (Some vp.String) = refl
-same_reading (Some vp.NonEmptyString) = refl
-same_reading (Some vp.Bool) = refl
-same_reading (Some vp.Boolish) = refl
-same_reading (Some vp.Falsey) = refl
-same_reading (Some (vp.Signed low high)) = refl
-same_reading (Some (vp.Unsigned low high)) = refl
-same_reading (Some vp.Float) = refl
-same_reading (Some vp.Char) = refl
 same_reading (Some (vp.Names names)) = refl
-same_reading (Some (vp.Values values)) = refl
+same_reading p = refl
 
 -- ---- one use
 
@@ -134,8 +124,7 @@ module _ (c : List Rule) where
   same_after : (waiting : Waiting) (word : Text) (h : Held) (o : Outcome) → after_flag e waiting word h o ≡ after_flag c waiting word h o
   same_after waiting word h done = refl
   same_after waiting word h (waits id) = refl
-  same_after waiting word h plain = same_plain waiting word h
-  same_after waiting word h refused = same_plain waiting word h
+  same_after waiting word h o = same_plain waiting word h
 
   after_both : (waiting : Waiting) (word : Text) (m n : Held × Outcome) → m ≡ n → after_flag e waiting word m.0 m.1 ≡ after_flag c waiting word n.0 n.1
   after_both waiting word m n same = ap (λ (x : Held × Outcome). after_flag e waiting word x.0 x.1) same ∙ same_after waiting word n.0 n.1
@@ -217,28 +206,12 @@ same_rows rules names arguments =
 
 unnamed_for : (a : ArgAction) → unnamed (Some (parser_for a)) ≡ Some (parser_for a)
 unnamed_for action.Set = refl
-unnamed_for action.Append = refl
-unnamed_for action.SetTrue = refl
-unnamed_for action.SetFalse = refl
-unnamed_for action.Count = refl
-unnamed_for action.Help = refl
-unnamed_for action.HelpShort = refl
-unnamed_for action.HelpLong = refl
-unnamed_for action.Version = refl
+unnamed_for a = refl
 
 same_parser : (p : Option ValueParser) (a : ArgAction) → Some (unwrap_or (unnamed p) (parser_for a)) ≡ unnamed (Some (unwrap_or p (parser_for a)))
 same_parser None a = sym (unnamed_for a)
-same_parser (Some vp.String) a = refl
-same_parser (Some vp.NonEmptyString) a = refl
-same_parser (Some vp.Bool) a = refl
-same_parser (Some vp.Boolish) a = refl
-same_parser (Some vp.Falsey) a = refl
-same_parser (Some (vp.Signed low high)) a = refl
-same_parser (Some (vp.Unsigned low high)) a = refl
-same_parser (Some vp.Float) a = refl
-same_parser (Some vp.Char) a = refl
 same_parser (Some (vp.Names names)) a = refl
-same_parser (Some (vp.Values values)) a = refl
+same_parser p a = refl
 
 same_filled : (a : Rule) → filled (erased a) ≡ erased (filled a)
 same_filled a = ap with (same_parser a.parser (action_of (with_missing_value (with_default_value (with_action a)))))

@@ -20,14 +20,7 @@ lettered_simple (Some letter) name = refl
 
 stays_simple : (k : Kind) (name : Text) (rule : Rule) → rule.is_simple ≡ true → (with_values k (bare (of_kind k name rule))).0.is_simple ≡ true
 stays_simple kind.File name rule h = h
-stays_simple kind.Flag name rule h = h
-stays_simple kind.Letter name rule h = h
-stays_simple kind.Text name rule h = h
-stays_simple kind.Width name rule h = h
-stays_simple kind.Count name rule h = h
-stays_simple kind.Style name rule h = h
-stays_simple kind.When name rule h = h
-stays_simple kind.Encoding name rule h = h
+stays_simple k name rule h = h
 
 not_global : (arg : Arg) → is_simple_arg arg ≡ true → arg.global ≡ false
 not_global arg h = search (rules, tests)

@@ -24,7 +24,7 @@ use Rattle.csv_command.specs.declared.arguments.Options.{Options}
 use Rattle.devices.specs.Outcome.{Beginning, Extent, RunFacts, Whole, asked_at, asked_front}
 use Rattle.devices.specs.Run.{IsAfter as IsAfterRun, IsAfterIn as IsAfterRunIn}
 use Rattle.devices.specs.declared.transfer.Stop.{Stop}
-use Rattle.devices.specs.declared.transfer.Stop.TheVariants.{OutOfMemory, Read, Refused, Unfinished, Write}
+use Rattle.devices.specs.declared.transfer.Stop.TheVariants.{OutOfMemory, Refused, Unfinished}
 
 -- nothing is below lines of nothing
 pub no_lines : (count : ℕ) → below_lines count [] ≡ []
@@ -34,8 +34,6 @@ no_lines (suc count) = no_lines count
 -- what stops a run, by this crate's error
 after_stop_in : (T : Type 0) (options : Options) (extent : Extent) (stop : Stop CsvError) (facts : RunFacts) → IsAfterRunIn (IsNotEnough options) (RendersExtent options) (IsRefusal options) {T = T} (Err stop) extent facts
     → IsAfterIn {T = T} options (Err (of_stop stop)) extent facts
-after_stop_in T options extent Read facts after = after
-after_stop_in T options extent Write facts after = after
 after_stop_in T options Whole OutOfMemory facts after = inl (record { no_device_failed = after.no_device_failed; nothing_written = after.nothing_written; fine = λ whole wanted. subst (λ (input : Text). IsUtf8 (below_lines options.input.skip input)) (sym (after.fine whole)) (subst IsUtf8 (sym (no_lines options.input.skip)) IsUtf8-nil) })
 after_stop_in T options Beginning OutOfMemory facts after = absurd after
 after_stop_in T options extent Unfinished facts after = inr after
@@ -44,9 +42,7 @@ after_stop_in T options Whole (Refused own.Read) facts after = absurd after.faul
 after_stop_in T options Beginning (Refused own.Read) facts after = absurd after.fault
 after_stop_in T options Whole (Refused own.Write) facts after = absurd after.fault
 after_stop_in T options Beginning (Refused own.Write) facts after = absurd after.fault
-after_stop_in T options extent (Refused (own.Decode e)) facts after = after
-after_stop_in T options extent (Refused (own.Records e)) facts after = after
-after_stop_in T options extent (Refused (own.Columns e)) facts after = after
+after_stop_in T options extent stop facts after = after
 
 pub after_stop : (T : Type 0) (options : Options) (stop : Stop CsvError) (facts : RunFacts) → IsAfterRun (IsNotEnough options) (RendersExtent options) (IsRefusal options) {T = T} (Err stop) facts
     → IsAfter {T = T} options (Err (of_stop stop)) facts
@@ -78,6 +74,4 @@ module _ (options : Options) (input : Text) where
   -- an input that has no text is refused
   pub of_no_text : (e : DecodeError) → IsWithoutText options.input input e → IsInputRefusal options input (of_decoding e)
   of_no_text decode.OutOfMemory why = λ wanted. absurd (no_memory (not_text_for options.input.encoding options.input.skip input) why wanted)
-  of_no_text (decode.NotText other) why = ((λ is. cc is), why)
-  of_no_text (decode.NotUtf8 line may_be) why = ((λ is. cc is), why)
-  of_no_text (decode.NotUtf16 line) why = ((λ is. cc is), why)
+  of_no_text e why = ((λ is. cc is), why)

@@ -13,7 +13,7 @@ use Rattle.comfy_table.specs.Laws.{HasNoBreak, IsStyleWithout}
 use Rattle.comfy_table.specs.Parts.{ArrangedValue, with_rows_alone}
 use Rattle.comfy_table.specs.TableValue.{TableValue, header_and_rows}
 use Rattle.csv.specs.Records.{AllText}
-use Rattle.csv_command.proofs.StyleColumnLemmas.{parsed_style_without_controls}
+use Rattle.csv_command.proofs.StyleLemmas.{parsed_style_without_controls}
 use Rattle.csv_command.specs.declared.arguments.Invocation.{Invocation}
 use Rattle.csv_command.specs.declared.arguments.OutputContext.{OutputContext}
 use Rattle.csv_records.proofs.BeginningLemmas.{first_records_stay}

@@ -36,7 +36,7 @@ use Rattle.csv_records.specs.Reading.{AreRecordsFor}
 use Rattle.csv_tables.proofs.OutputControlLemmas.{text_fields, unbroken_without}
 use Rattle.csv_tables.proofs.MarkdownWidthLemmas.{whole_is_straight}
 use Rattle.csv_tables.proofs.StraightLemmas.{IsShort, narrow_is_straight, empty_is_short}
-use Rattle.csv_command.proofs.StyleColumnLemmas.{parsed_style_is_one_column, parsed_style_without_controls}
+use Rattle.csv_command.proofs.StyleLemmas.{parsed_style_is_one_column, parsed_style_without_controls}
 use Rattle.csv_tables.proofs.TextTableLemmas.{EachLine}
 use Rattle.csv_tables.specs.Drawn.{count_below, drawn_rows, limited, names_of, records_below}
 use Rattle.csv_command.specs.Drawn.{IsDrawnOf, RendersChosen, RendersCounted, layout_with, most_drawn}

@@ -13,12 +13,7 @@ valued : (k : Kind) (name : Text) (rule : Rule) → k ≢ kind.File → k ≢ ki
 valued kind.File name rule no_file no_flag no_letter = absurd (no_file refl)
 valued kind.Flag name rule no_file no_flag no_letter = absurd (no_flag refl)
 valued kind.Letter name rule no_file no_flag no_letter = absurd (no_letter refl)
-valued kind.Text name rule no_file no_flag no_letter = refl
-valued kind.Width name rule no_file no_flag no_letter = refl
-valued kind.Count name rule no_file no_flag no_letter = refl
-valued kind.Style name rule no_file no_flag no_letter = refl
-valued kind.When name rule no_file no_flag no_letter = refl
-valued kind.Encoding name rule no_file no_flag no_letter = refl
+valued k name rule no_file no_flag no_letter = refl
 
 pub returns-in-File : goal.returns-in-File
 unfolding rule_for
