@@ -180,23 +180,17 @@ fn refusal<'a>(command: &mut Command<'a>, kind: ErrorKind, reason: &str) -> Erro
 fn is_markdown<'a>(matches: &ArgMatches<'a>) -> bool
     ensures { result ≡ is_markdown_in (found_of matches.now) }
 {
-    if is_given_last(matches, "markdown", "style") {
-        return true;
-    }
-    match matches.get_str("style") {
-        Some(style) => is_named("markdown", style),
-        None => false,
-    }
+    is_given_last(matches, "markdown", "style")
+        || matches
+            .get_str("style")
+            .is_some_and(|style| is_named("markdown", style))
 }
 
 // Whether a flag is set, or an option has a value.
 fn is_given<'a>(matches: &ArgMatches<'a>, id: &str) -> bool
     ensures { result ≡ is_given (found_of matches.now) id.now }
 {
-    match matches.get_str(id) {
-        Some(value) => value != "false",
-        None => false,
-    }
+    matches.get_str(id).is_some_and(|value| value != "false")
 }
 
 // Whether an option is given, and the other one isn't given behind it.
@@ -421,23 +415,17 @@ fn some_width(width: u16) -> Option<u16>
 fn terminal_width(columns: Option<&str>) -> u16
     ensures { result ≡ terminal_width (option_map (λ c. c.now) columns.entry) }
 {
-    match columns {
-        Some(columns) => parse_digits(columns)
-            .and_then(some_columns)
-            .unwrap_or(TERMINAL_WIDTH),
-        None => TERMINAL_WIDTH,
-    }
+    let columns = columns
+        .and_then(|columns| parse_digits(columns))
+        .and_then(some_columns);
+    columns.unwrap_or(TERMINAL_WIDTH)
 }
 
 // So many terminal columns, where a width can be so great.
 fn some_columns(columns: usize) -> Option<u16>
     ensures { result ≡ some_columns columns }
 {
-    if 0 < columns && columns <= 65535 {
-        Some(columns as u16)
-    } else {
-        None
-    }
+    u16::try_from(columns).ok().filter(|columns| *columns != 0)
 }
 
 fn is_bold(word: Option<&str>, context: OutputContext<'_>) -> bool
@@ -460,10 +448,7 @@ fn is_bold_there(context: OutputContext<'_>) -> bool
 fn wants_color(no_color: Option<&str>) -> bool
     ensures { result ≡ wants_color (option_map (λ n. n.now) no_color.entry) }
 {
-    match no_color {
-        Some(text) => text.is_empty(),
-        None => true,
-    }
+    no_color.is_none_or(|text| text.is_empty())
 }
 
 // The words of a list; none without a list.

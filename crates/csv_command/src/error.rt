@@ -8,7 +8,7 @@ ghost use Rattle.csv_command.specs.declared.error.CsvError.TheVariants.{OutOfMem
 use comfy_parts::TableError;
 use csv_records::{DecodeError, RecordsError};
 use devices::Stop;
-use std::alloc::{AllocError, AllocFailed};
+use std::alloc::AllocError;
 use thiserror::Error;
 
 /// Why columns can't be drawn so.
@@ -57,14 +57,6 @@ impl From<AllocError> for ColumnsError {
     ghost from_gives = { λ _ e. e ≡ columns.OutOfMemory };
 
     fn from(_error: AllocError) -> ColumnsError {
-        ColumnsError::OutOfMemory
-    }
-}
-
-impl<T: Drop> From<AllocFailed<T>> for ColumnsError {
-    ghost from_gives = { λ _ e. e ≡ columns.OutOfMemory };
-
-    fn from(_error: AllocFailed<T>) -> ColumnsError {
         ColumnsError::OutOfMemory
     }
 }

@@ -20,20 +20,14 @@ pub(crate) fn style_names(alloc: Global) -> Result<Vec<&'static str>, AllocError
 pub(crate) fn style_of(name: Option<&str>) -> TableStyle
     ensures { result ≡ style_for (option_map (λ n. n.now) name.entry) }
 {
-    match name {
-        Some(name) => named_style(name),
-        None => rounded(),
-    }
+    name.map_or(rounded(), named_style)
 }
 
 /// Whether this is a name of `rounded` or `box`; no name stands for `rounded`.
 pub(crate) fn is_compact(name: Option<&str>) -> bool
     ensures { result ≡ is_compact (option_map (λ n. n.now) name.entry) }
 {
-    match name {
-        Some(name) => is_named("rounded", name) || is_named("box", name),
-        None => true,
-    }
+    name.is_none_or(|name| is_named("rounded", name) || is_named("box", name))
 }
 
 /// Whether two names are the same in any case of letters.
