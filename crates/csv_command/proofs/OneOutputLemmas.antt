@@ -1,8 +1,8 @@
 -- An input has one output by the same options.
-use Rattle.std.proofs.Common.{◌≡◌, ◌⊎◌, inl, inr, ◌<◌, ◌≤◌, ℕ, ◌==◌, false, List, [], ◌∷◌, Option, Some, None, Result, Ok, map, length, fold, refl, sym, ap, ap₂, ◌∙◌, arith, suc, subst, string_bytes, String}
+use Rattle.std.proofs.Common.{◌≡◌, ◌⊎◌, inl, inr, ◌<◌, ◌≤◌, ℕ, ◌==◌, List, [], ◌∷◌, Option, Some, None, Result, Ok, map, length, fold, refl, sym, ap, ap₂, ◌∙◌, arith, subst, string_bytes, String}
 use Rattle.std.specs.List.{range_with_len}
+use Rattle.std.proofs.lemmas.List.{length-map}
 use Rattle.std.proofs.lemmas.Bool.{cases_lt}
-use Rattle.std.proofs.lemmas.Bool.Decides.{nat_tests}
 use Rattle.std.specs.Prelude.{if◌then◌else◌}
 use Rattle.comfy_parts.specs.Text.{Text}
 use Rattle.csv_command.specs.Columns.{ColumnFault, chosen_columns, columns_by, columns_for, columns_with, joined, kept_columns, less, positions_of, positions_of_word}
@@ -41,17 +41,9 @@ module _ {A : Type 0} (names : List Text) (count : ℕ) where
   same_positions words others same = same_after (Ok []) words others same
 
   same_chosen : (words others : List (String A)) → map string_bytes words ≡ map string_bytes others → chosen_columns names count words ≡ chosen_columns names count others
-  same_chosen [] [] same = refl
-  same_chosen [] (other ∷ others) same = absurd (cc same)
-  same_chosen (word ∷ words) [] same = absurd (cc same)
-  same_chosen (word ∷ words) (other ∷ others) same =
-      some_chosen word words ∙ same_positions (word ∷ words) (other ∷ others) same ∙ sym (some_chosen other others)
-    where
-      none_empty : (n : ℕ) → (suc n == 0) ≡ false
-      none_empty n = grind (arith, nat_tests)
-
-      some_chosen : (first : String A) (rest : List (String A)) → chosen_columns names count (first ∷ rest) ≡ positions_of names count (first ∷ rest)
-      some_chosen first rest = ap (λ b. if b then Ok (range_with_len 0 count) else positions_of names count (first ∷ rest)) (none_empty (length rest))
+  same_chosen words others same =
+      let as_many : length words ≡ length others = sym (length-map words string_bytes) ∙ ap length same ∙ length-map others string_bytes in
+      ap₂ (λ (n : ℕ) (found : Result (List ℕ) ColumnFault). if n == 0 then Ok (range_with_len 0 count) else found) as_many (same_positions words others same)
 
 module _ (options others : Options) (same : AreSameOptions options others) where
   same_choice : (names : List Text) (count : ℕ) → columns_by options.columns names count ≡ columns_by others.columns names count

@@ -10,7 +10,7 @@ use Rattle.clap.specs.Simple.{App, filled, filled_from, help_rule, index_after, 
 use Rattle.clap.specs.Lexer.{long_of, short_of}
 use Rattle.clap.specs.Walk.{Held, Names, Outcome, Row, Rule, Step, Text, Waiting, Walk, action_of, after_flag, after_step, arg_by_id, arg_by_index, arg_by_long, arg_by_short, attached_value, bundle_met, bundle_step, default_rows, finished, flag_met, has_long, has_row, has_short, is_multiple, is_pending, long_met, long_or_other, long_word, next_position, nothing_held, option_met, option_word, plain_word, pushed, reacted, rows_after, settled, settled_rows, short_met, short_or_plain, short_word, subcommand_met, subcommand_or_other, takes_several, takes_values, to_positional, used, used_as, used_by_id, values_or_missing, walk, walk_from, walked, walked_from, with_default, word_met}
 use Rattle.clap.specs.Walk.Outcome.{done, waits, plain}
-use Rattle.clap.specs.Walk.Step.{next, trailing, subcommand, value}
+use Rattle.clap.specs.Walk.Step.{next, trailing, value}
 use Rattle.clap.specs.Walk.Waiting.{idle, option, positional}
 use Rattle.clap.specs.declared.builder.action.ArgAction.{ArgAction}
 use Rattle.clap.specs.declared.builder.action.ArgAction.TheVariants as action
@@ -165,11 +165,9 @@ module _ (c : List Rule) where
       went held = record { held = held; waiting = if is_multiple a then positional else idle; position = next_position a w.position; is_trailing = w.is_trailing || a.trailing_var_arg; stopped = None }
 
   same_after_step : (word : Text) (w : Walk) (h : Held) (s : Step) → after_step e word w h s ≡ after_step c word w h s
-  same_after_step word w h (next waiting) = refl
-  same_after_step word w h (trailing position) = refl
-  same_after_step word w h (subcommand name) = refl
   same_after_step word w h value =
       ap (λ (o : Option Rule). to_positional e o word w h) (found (λ a. option_map_or (λ k. k == w.position) a.index false) (λ a. refl) c) ∙ same_positional (arg_by_index c w.position) word w h
+  same_after_step word w h s = refl
 
   same_from : (names : Names) (stopped : Option (Text × List Text)) (w : Walk) (word : Text) → walked_from e names stopped w word ≡ walked_from c names stopped w word
   same_from names (Some p) w word = refl

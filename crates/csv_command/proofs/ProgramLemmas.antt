@@ -1,5 +1,5 @@
 -- How the program's command comes to have its rules.
-use Rattle.std.proofs.Common.{◌≡◌, ◌≢◌, inl, inr, ℕ, ◌+◌, ◌<◌, Bool, true, false, List, [], ◌∷◌, ◌++◌, Option, Some, None, map, take, length, slice_index_or, arith, rules, tests, refl, sym, subst, ap, ap₂, ◌∙◌}
+use Rattle.std.proofs.Common.{◌≡◌, ◌≢◌, inl, inr, ℕ, ◌+◌, ◌<◌, Bool, true, false, List, [], ◌∷◌, ◌++◌, Option, Some, None, map, take, drop, get_or, length, slice_index_or, arith, rules, tests, refl, sym, subst, ap, ap₂, ◌∙◌}
 use Rattle.std.proofs.lemmas.Grind.{common_steps}
 use Rattle.clap.specs.Walk.{is_simple_arg}
 use Rattle.clap.specs.Words.{App, HasKind, IsAmong, Rule, fault_of, is_simple, is_simple_and_free, kind_of, new_rule, rule_of, takes}
@@ -38,21 +38,13 @@ one_more arguments i option had rule inside same new = grind (arith, common_step
 
 -- ---- such a command is simple
 
-first : List Rule → Rule
-first [] = new_rule []
-first (rule ∷ rules) = rule
-
-others : List Rule → List Rule
-others [] = []
-others (rule ∷ rules) = rules
-
 -- rules, with what `bare` takes from those of another list
 restored : List (Rule × List Text) → List Rule → List Rule
 restored [] from = []
-restored (known ∷ more) from = record known.0 { parser = (first from).parser } ∷ restored more (others from)
+restored (known ∷ more) from = record known.0 { parser = (get_or from 0 (new_rule [])).parser } ∷ restored more (drop 1 from)
 
 are_restored : (rules : List Rule) (bared : List (Rule × List Text)) → map bare rules ≡ bared → rules ≡ restored bared rules
-unfolding restored first others
+unfolding restored
 are_restored [] [] h = refl
 are_restored [] (c ∷ cs) h = absurd (cc h)
 are_restored (r ∷ rs) [] h = absurd (cc h)

@@ -1,7 +1,8 @@
 -- What a message tells where a word chooses no column that is there.
 -- Source: this library's own.
-use Rattle.std.specs.Prelude.{ℕ, ◌+◌, ◌-◌, ◌==◌, nat_lt, List, [], ◌++◌, Option, Some, None, codes, decimal, flat_map, length, min, if◌then◌else◌}
+use Rattle.std.specs.Prelude.{ℕ, ◌+◌, ◌-◌, ◌==◌, nat_lt, List, [], ◌++◌, Option, codes, decimal, flat_map, length, min, if◌then◌else◌}
 use Rattle.std.specs.List.{position_from, range_with_len}
+use Rattle.std.specs.Option.{option_map_or}
 use Rattle.comfy_parts.specs.Text.{Text}
 use Rattle.csv_records.specs.Number.{is_word}
 use Rattle.csv_tables.specs.Fields.{field_or_blank}
@@ -41,12 +42,9 @@ there_are names count =
     (if count == 1 then codes "there is " else codes "there are ")
     ++ (if length names == 0 then column_count count else told_names names count)
 
--- what helps, by a name that is the word in another case of letters
-abbrev pub hint_by : List Text → ℕ → Option ℕ → Text
-hint_by names count (Some position) =
-    (codes "did you mean " ++ told_name names position) ++ codes "?"
-hint_by names count None = there_are names count
-
--- what helps where a word chooses none of so many columns
+-- what helps where a word chooses none of so many columns: a name that is the word in another case
+-- of letters, else what columns there are
 abbrev pub hint_for : List Text → ℕ → Text → Text
-hint_for names count word = hint_by names count (position_alike word names)
+hint_for names count word =
+    option_map_or (λ position. (codes "did you mean " ++ told_name names position) ++ codes "?")
+    (position_alike word names) (there_are names count)

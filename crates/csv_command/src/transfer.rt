@@ -115,11 +115,7 @@ fn most_drawn(selection: &Selection) -> Option<usize>
 fn told_of(selection: &Selection, first: &FirstRecords) -> Option<LongerRecords>
     ensures { result ≡ (if selection.now.has_header then first.now.longer else None) }
 {
-    if selection.has_header {
-        first.longer
-    } else {
-        None
-    }
+    first.longer.filter(|_| selection.has_header)
 }
 
 // The output for these records, of which so many stand below the header, where that is known.
