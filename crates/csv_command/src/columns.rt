@@ -55,7 +55,8 @@ pub(crate) fn columns_of(
     let right = positions_of(alloc, words.right.as_slice(), names, count)?;
     let left = positions_of(alloc, words.left.as_slice(), names, count)?;
     if let Some(position) = at_two_sides(right.as_slice(), left.as_slice()) {
-        return Err(ColumnsError::TwoSides(name_at(alloc, names, position)?));
+        let name = name_at(alloc, names, position)?;
+        return Err(ColumnsError::TwoSides(String::from_str(alloc, name.as_str())?));
     }
     Ok(Columns::new(drawn, right, left))
 }

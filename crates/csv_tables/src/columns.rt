@@ -61,12 +61,16 @@ fn points_at(alignment: Option<CellAlignment>, marks: Option<ColumnMarks>) -> Op
 }
 
 /// The name of the column at a position, or its number, counted from 1, where it has none.
-pub fn name_at(alloc: Global, names: &Record<'_>, position: usize) -> Result<String, AllocError>
-    ensures { IfOk result (λ name. string_bytes name ≡ name_at names.now position) }
+pub fn name_at<'a>(
+    alloc: Global,
+    names: &Record<'a>,
+    position: usize,
+) -> Result<CowStr<'a>, AllocError>
+    ensures { IfOk result (λ name. cow_str_bytes name ≡ name_at names.now position) }
 {
     match names.get(position) {
-        Some(name) => String::from_str(alloc, name),
-        None => format!(in alloc; "{}", position as u128 + 1),
+        Some(name) => Ok(CowStr::Borrowed(name)),
+        None => Ok(CowStr::Owned(format!(in alloc; "{}", position as u128 + 1)?)),
     }
 }
 

@@ -11,6 +11,7 @@ ghost use Rattle.comfy_table.specs.Drawing.{part_of_drawing, terminated_text_of}
 ghost use Rattle.comfy_table.specs.Pieces.{pieces_of_optional, row_height};
 ghost use Rattle.csv_records.specs.Cleaning.{is_replaced};
 ghost use Rattle.csv_tables.specs.Cells.{Shown, cell_for, columns_within, is_blank, pair_for, text_in};
+ghost use Rattle.csv_tables.specs.Columns.{name_at};
 ghost use Rattle.csv_tables.specs.declared.options.Look.{Look};
 ghost use Rattle.csv_tables.specs.Contents.{IsKept, fields_text, greatest_at, headed_by, made_by, measured_at, most_cells, pairs_by, rows_at, shown_by, spaces_in};
 
@@ -140,8 +141,7 @@ impl RecordRows {
         let mut is_first = true;
         for column in selected.columns_within(fields) {
             if let Some(field) = fields.get(column.position) {
-                let name = name_at(selected.alloc, &names, column.position)?;
-                self.push_pair(text, writer, name.as_str(), field, is_first)?;
+                self.push_pair(text, writer, &names, column.position, field, is_first)?;
                 is_first = false;
             }
         }
@@ -155,30 +155,32 @@ impl RecordRows {
         writer.push_rows(text, &[], end)
     }
 
-    // Appends the lines of a name and a field, with what stands above them.
+    // Appends the lines of the name of a column and a field, with what stands above them.
     fn push_pair(
         &self,
         text: &mut String,
         writer: &mut RowWriter<'_>,
-        name: &str,
+        names: &Record<'_>,
+        position: usize,
         field: &str,
         is_first: bool,
     ) -> Result<()>
         ensures text { OnOk result (string_bytes text.new ≡ string_bytes text.old
             ++ terminated_text_of (part_of_drawing writer.old.table writer.old.infos is_first false
-            (pair_for self.now.look name.now field.now ∷ []))) }
+            (pair_for self.now.look (name_at names.now position) field.now ∷ []))) }
         ensures kept { writer.new ≡ writer.old }
     {
         let extent = Extent {
             is_first,
             is_last: false,
         };
-        if let Some(cells) = self.pair_cells(name, field) {
+        let name = name_at(self.selected.alloc, names, position)?;
+        if let Some(cells) = self.pair_cells(name.as_str(), field) {
             if writer.push_cells(text, cells.as_slice(), extent)? {
                 return Ok(());
             }
         }
-        let row = [pair_of(self.selected.alloc, name, field, &self.look)?];
+        let row = [pair_of(self.selected.alloc, name.as_str(), field, &self.look)?];
         writer.push_rows(text, row.as_slice(), extent)
     }
 
@@ -251,8 +253,7 @@ impl RecordRows {
         let names = selected.names_or_blank();
         for column in selected.columns_within(fields) {
             if let Some(field) = fields.get(column.position) {
-                let name = name_at(selected.alloc, &names, column.position)?;
-                self.widen_pair(widths, table, name.as_str(), field)?;
+                self.widen_pair(widths, table, &names, column.position, field)?;
             }
         }
         Ok(())
@@ -262,20 +263,30 @@ impl RecordRows {
         &self,
         widths: &mut Vec<u16>,
         table: &Table,
-        name: &str,
+        names: &Record<'_>,
+        position: usize,
         field: &str,
     ) -> Result<()>
         ensures each { OnOk result ((i : ℕ) → slice_index_or widths.new.items i 0
-            ≡ max (slice_index_or widths.old.items i 0) (measured_at table.now
-            cell_content_width (slice_get (pair_for self.now.look name.now field.now).cells i))) }
+            ≡ max (slice_index_or widths.old.items i 0) (measured_at table.now cell_content_width
+            (slice_get (pair_for self.now.look (name_at names.now position) field.now).cells i))) }
         ensures count { OnOk result (length widths.new.items
             ≡ max (length widths.old.items) 2) }
     {
-        let name = self.text_width(table, name)?;
+        let name = self.name_width(table, names, position)?;
         widen_at(widths, 0, name)?;
         let field = self.text_width(table, field)?;
         widen_at(widths, 1, field)?;
         Ok(())
+    }
+
+    // The content width of the cell of a column's name, in terminal columns.
+    fn name_width(&self, table: &Table, names: &Record<'_>, position: usize) -> Result<u16>
+        ensures { IfOk result (λ width. width ≡ cell_content_width
+            (measured_cell table.now (cell_for self.now.look None (name_at names.now position)))) }
+    {
+        let name = name_at(self.selected.alloc, names, position)?;
+        self.text_width(table, name.as_str())
     }
 
     // The content width of the cell at a position of the row of the record at a place, in terminal
@@ -386,9 +397,8 @@ impl RecordRows {
         let mut longest = 0;
         for column in selected.columns_within(fields) {
             if let Some(field) = fields.get(column.position) {
-                let name = name_at(selected.alloc, &names, column.position)?;
                 longest = self
-                    .longest_of_pair(table, name.as_str(), field, position, info)?
+                    .longest_of_pair(table, &names, column.position, field, position, info)?
                     .max(longest);
             }
         }
@@ -398,17 +408,22 @@ impl RecordRows {
     fn longest_of_pair(
         &self,
         table: &Table,
-        name: &str,
+        names: &Record<'_>,
+        column: usize,
         field: &str,
         position: usize,
         info: &ColumnDisplayInfo,
     ) -> Result<usize>
         ensures { IfOk result (λ longest. longest
             ≡ measured_at table.now (cell_longest_line table.now info.now)
-            (slice_get (pair_for self.now.look name.now field.now).cells position)) }
+            (slice_get (pair_for self.now.look (name_at names.now column) field.now).cells
+            position)) }
     {
         match position {
-            0 => self.text_longest_line(table, name, info),
+            0 => {
+                let name = name_at(self.selected.alloc, names, column)?;
+                self.text_longest_line(table, name.as_str(), info)
+            }
             1 => self.text_longest_line(table, field, info),
             _ => Ok(0),
         }

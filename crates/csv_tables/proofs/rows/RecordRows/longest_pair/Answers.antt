@@ -14,7 +14,7 @@ use Rattle.csv_tables.proofs.ContentLemmas.{greatest_at-append}
 use Rattle.csv_tables.proofs.ExpandedLemmas.{pairs-all, pairs-none, pairs-some}
 use Rattle.csv_tables.proofs.ReachedLemmas.{no_column}
 use Rattle.csv_tables.proofs.rows.RecordRows.longest_pair.Goals as goal
-use Rattle.csv_tables.proofs.rows.RecordRows.longest_pair.Goals.{in-Some+in_ok-name+in_ok-longest_of_pair, in_default}
+use Rattle.csv_tables.proofs.rows.RecordRows.longest_pair.Goals.{in-Some+in_ok-longest_of_pair, in_default}
 
 pub loop-column-preserved : goal.loop-column-preserved
 loop-column-preserved c =
@@ -31,10 +31,11 @@ loop-column-preserved c =
     let before : List RowValue = pairs_of own.look (take i columns) c.names_or_blank-names.result fields in
     let so = c.loop-column.invariant in
     elim c.match-get.branch [
-      | in-Some+in_ok-name+in_ok-longest_of_pair w ↦
+      | in-Some+in_ok-longest_of_pair w ↦
           let own_field = w.in-Some.ensures.value ∙ ap (λ (d : DrawnColumn). field_at fields d.position) same in
-          let name : w.as_str.result.now ≡ name_at c.names_or_blank-names.result (slice_index_or columns i no_column).position = w.as_str.ensures.value ∙ w.in_ok-name.ensures ∙ ap (λ (d : DrawnColumn). name_at c.names_or_blank-names.result d.position) same in
-          let row : RowValue = pair_for own.look w.as_str.result.now w.in-Some.field.now in
+          let own_name = name_at c.names_or_blank-names.result (slice_index_or c.columns_within-column-items.result.now i no_column).position in
+          let name : own_name ≡ name_at c.names_or_blank-names.result (slice_index_or columns i no_column).position = ap (λ (d : DrawnColumn). name_at c.names_or_blank-names.result d.position) same in
+          let row : RowValue = pair_for own.look own_name w.in-Some.field.now in
           let more : pairs_of own.look (take (i + 1) columns) c.names_or_blank-names.result fields ≡ before ++ row ∷ [] =
           pairs-some own.look columns c.names_or_blank-names.result fields i no_column w.in-Some.field.now below own_field
           ∙ ap (λ (t : Text). before ++ pair_for own.look t w.in-Some.field.now ∷ []) (sym name) in

@@ -17,7 +17,7 @@ use Rattle.csv_tables.specs.declared.options.DrawnColumn.{DrawnColumn}
 use Rattle.csv_tables.proofs.ExpandedLemmas.{pairs-all, pairs-none, pairs-some}
 use Rattle.csv_tables.proofs.PieceLemmas.{begun, begun_all, begun_more, begun_none}
 use Rattle.csv_tables.proofs.ReachedLemmas.{no_column}
-use Rattle.csv_tables.proofs.rows.RecordRows.push_pairs.Goals.{in-Some+in_ok-name+in_ok-push_pair, in_default}
+use Rattle.csv_tables.proofs.rows.RecordRows.push_pairs.Goals.{in-Some+in_ok-push_pair, in_default}
 use Rattle.csv_tables.proofs.rows.RecordRows.push_pairs.Goals as goal
 
 pub loop-column-init : goal.loop-column-init
@@ -42,10 +42,11 @@ loop-column-preserved c =
     let before : List RowValue = pairs_of own.look (take i columns) names fields in
     let had = c.loop-column.invariant in
     elim c.match-get.branch [
-      | in-Some+in_ok-name+in_ok-push_pair w ↦
+      | in-Some+in_ok-push_pair w ↦
           let own_field = w.in-Some.ensures.value ∙ ap (λ (d : DrawnColumn). field_at fields d.position) same in
-          let name : w.as_str.result.now ≡ name_at names (slice_index_or columns i no_column).position = w.as_str.ensures.value ∙ w.in_ok-name.ensures ∙ ap (λ (d : DrawnColumn). name_at names d.position) same in
-          let row : RowValue = pair_for own.look w.as_str.result.now w.in-Some.field.now in
+          let own_name = name_at names (slice_index_or c.columns_within-column-items.result.now i no_column).position in
+          let name : own_name ≡ name_at names (slice_index_or columns i no_column).position = ap (λ (d : DrawnColumn). name_at names d.position) same in
+          let row : RowValue = pair_for own.look own_name w.in-Some.field.now in
           let more : pairs_of own.look (take (i + 1) columns) names fields ≡ before ++ row ∷ [] =
           pairs-some own.look columns names fields i no_column w.in-Some.field.now below own_field
           ∙ ap (λ (t : Text). before ++ pair_for own.look t w.in-Some.field.now ∷ []) (sym name) in
