@@ -83,7 +83,9 @@ impl RecordRows {
             is_first,
             is_last: false,
         };
-        if self.list_cells(cells, fields)? && writer.push_cells(text, cells.as_slice(), extent)? {
+        if self.list_cells(cells, fields, writer.infos())?
+            && writer.push_cells(text, cells.as_slice(), extent)?
+        {
             return Ok(());
         }
         let row = [self.row_at(at, fields)?];
@@ -91,8 +93,13 @@ impl RecordRows {
     }
 
     // Lists the cells of the row of a record, where each is one line as it is. Returns whether that
-    // is so.
-    fn list_cells<'r>(&self, cells: &mut Vec<PlainCell<'r>>, fields: &Record<'r>) -> Result<bool>
+    // is so; no cell behind one that doesn't fit its column is looked at.
+    fn list_cells<'r>(
+        &self,
+        cells: &mut Vec<PlainCell<'r>>,
+        fields: &Record<'r>,
+        infos: &[ColumnDisplayInfo],
+    ) -> Result<bool>
         ensures { IfOk result (λ all. IsTrue all → (at : ℕ) → cells.new.items
             ≡ (made_by self.now at fields.now).cells) }
     {
@@ -105,6 +112,10 @@ impl RecordRows {
             let Some(cell) = self.cell_in(column, fields) else {
                 return Ok(false);
             };
+            let info = infos.get(cells.len());
+            if info.is_some_and(|info| cell.columns() > usize::from(info.content_width)) {
+                return Ok(false);
+            }
             cells.push(cell)?;
         }
         Ok(true)
@@ -565,6 +576,7 @@ impl RecordRows {
 }
 
 /// The cell of a text that is one line as it is, where no sequences are taken out to measure it.
+#[inline(always)]
 pub(crate) fn unstyled_cell<'r>(look: &Look, table: &Table, text: &'r str) -> Option<PlainCell<'r>>
     ensures cell { IfSome result (λ cell. cell
         ≡ measured_cell table.now (cell_for look.now None text.now)) }

@@ -50,6 +50,13 @@ impl<'a> RowWriter<'a> {
         Ok(RowWriter { writer })
     }
 
+    /// What each column is drawn by, in list order, hidden columns too.
+    pub fn infos(&self) -> &[ColumnDisplayInfo]
+        ensures { result.now ≡ self.now.infos }
+    {
+        self.writer.infos()
+    }
+
     /// Appends the lines of some rows, each followed by a line feed: below the top border and the
     /// header where the first row is among them, else below the row separator, which stands
     /// between each two of them; with the bottom border where the last row is among them. After

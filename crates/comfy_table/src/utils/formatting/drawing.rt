@@ -94,6 +94,13 @@ impl<'a> Writer<'a> {
         })
     }
 
+    /// What each column is drawn by.
+    pub fn infos(&self) -> &[ColumnDisplayInfo]
+        ensures { result.now ≡ self.now.infos }
+    {
+        self.infos
+    }
+
     /// Appends the lines of these rows to an output. After `OutOfMemory` its text begins with what
     /// it was.
     pub fn draw<'r>(&mut self, rows: &'r [Row], extent: Extent, output: &mut Output) -> Result<()>
