@@ -63,8 +63,8 @@ impl RecordRows {
     // ---- drawing
 
     /// Appends the lines of the row of the record at a place, with what stands above them: the top
-    /// border and the header, or the row separator. Cells of
-    /// one line stand in the list while they are drawn.
+    /// border and the header, or the row separator. Cells of one line stand in the list while they
+    /// are drawn.
     pub fn push_row<'r>(
         &self,
         text: &mut String,
