@@ -227,7 +227,7 @@ def endings():
     status, out, err = run("-c", "z\x1b]0;x\x07", text=text)
     see("a name with a sequence", status == 1 and out == "" and not speaks(err), repr(err))
     status, out, err = run("-r", "b", "--left", "2", text=text)
-    see("a column at two sides", status == 1 and out == "" and " b " in err, out + err)
+    see("a column at two sides", status == 1 and out == "" and "'b'" in err, out + err)
     status, out, err = run(text=text, out="/dev/full")
     see("a full disk", status == 1 and "written" in err, err)
 
