@@ -1,5 +1,5 @@
 -- What is read back from lines for Markdown, computed.
-use Rattle.std.proofs.Common.{◌≡◌, ◌==◌, ℕ, ap, false, true, List, [], ◌∷◌, None, map, refl}
+use Rattle.std.proofs.Common.{◌≡◌, ◌==◌, ℕ, ap, false, true, List, [], ◌∷◌, None, Some, map, refl}
 use Rattle.std.specs.Prelude.{codes, slice_index, slice_index_or}
 use Rattle.std.specs.Str.{chars}
 use Rattle.std.proofs.lemmas.Bool.{true≢false}
@@ -7,7 +7,11 @@ use Rattle.comfy_parts.proofs.Computing.{wrapping}
 use Rattle.comfy_parts.specs.Presets.{ascii_full}
 use Rattle.csv.specs.Records.{field_at}
 use Rattle.comfy_parts.specs.Text.{Text}
+use Rattle.comfy_parts.specs.declared.style.cell.CellAlignment.TheVariants.{Right}
+use Rattle.comfy_table.specs.Drawing.{infos_of}
 use Rattle.csv_tables.specs.Cells.{Shown, shown_in}
+use Rattle.csv_tables.specs.Drawn.{SelectedValue, markdown_lines, markdown_table, sides}
+use Rattle.csv_tables.specs.Markdown.{rule_line}
 use Rattle.csv_tables.specs.declared.options.DrawnColumn.{DrawnColumn}
 use Rattle.csv_tables.specs.declared.options.Expansion.TheVariants.{Never}
 use Rattle.csv_tables.specs.declared.options.Look.{Look}
@@ -48,12 +52,35 @@ fields_are_read = refl
 blank_fields_are_read : read (codes "|      | \\* |") ≡ [] ∷ [] ∷ codes "*" ∷ [] ∷ []
 blank_fields_are_read = refl
 
--- ---- records
+-- ---- tables
 
--- a look without anything kept, and two columns in another order
+-- a look without anything kept
 abbrev look : Look
 look = record { style = ascii_full; separators = Styled; expansion = Never; width = None; fills_width = false; max_height = None; has_bold_header = false; aligns_decimals = true; has_sequences = false; is_markdown = true }
 
+-- two names, and one record
+abbrev content : SelectedValue
+content =
+    record {
+      names = Some (codes "a" ∷ codes "n" ∷ []);
+      rows = (codes "x|y" ∷ codes "12" ∷ []) ∷ [];
+      columns = record { position = 0; alignment = None; points = None; is_unbroken = false } ∷ record { position = 1; alignment = Some Right; points = None; is_unbroken = false } ∷ [];
+      count = None;
+      is_numbered = false;
+    }
+
+-- the line below the header has a colon for the column at the right
+header_rule_and_rows : markdown_lines (codes "|------|---:|") (record { table = markdown_table look content; infos = infos_of (markdown_table look content) (4 ∷ 2 ∷ []) })
+    ≡ codes "| a    |  n |" ∷ codes "|------|---:|" ∷ codes "| x\\|y | 12 |" ∷ []
+unfolding wrapping lib.Utf8.encode chars field_at
+header_rule_and_rows = refl
+
+rule_of_contents : rule_line (sides content) (4 ∷ 2 ∷ []) ≡ codes "|------|---:|"
+rule_of_contents = refl
+
+-- ---- records
+
+-- two columns in another order
 abbrev columns : List DrawnColumn
 columns = record { position = 1; alignment = None; points = None; is_unbroken = false } ∷ record { position = 0; alignment = None; points = None; is_unbroken = false } ∷ []
 
