@@ -12,8 +12,6 @@ use Rattle.csv_records.specs.CutLists.{cut_by, total}
 use Rattle.comfy_c.specs.CellCalls.{IsFrontRefusal, cells_with, counts_of, lengths_of, rows_with}
 use Rattle.comfy_c.specs.Numbers.{attributes_by, cell_with, row_with}
 use Rattle.comfy_c.specs.RowCalls.{AddUp, IsTextsRefusal}
-use Rattle.comfy_c.specs.declared.cells_columns.ColumnNumbers.{ColumnNumbers}
-use Rattle.comfy_c.specs.declared.cells_columns.WidthNumbers.{WidthNumbers}
 use Rattle.comfy_c.specs.declared.cells_numbers.ColorNumbers.{ColorNumbers}
 use Rattle.comfy_c.specs.declared.cells_rows.CellNumbers.{CellNumbers}
 use Rattle.comfy_c.specs.declared.cells_rows.RowNumbers.{RowNumbers}
@@ -21,12 +19,6 @@ use Rattle.comfy_c.specs.declared.texts.TextsRefusal.{TextsRefusal}
 use Rattle.comfy_c.specs.declared.texts.TextsRefusal.TheVariants.{Lengths, NotUtf8, OutOfMemory}
 
 -- ---- what stands for an element beyond the last
-
-abbrev no_width : WidthNumbers
-no_width = record { is_percentage = 0; value = 0 }
-
-abbrev pub no_column : ColumnNumbers
-no_column = record { left_padding = 0; right_padding = 0; delimiter = 0; alignment = 0; constraint = 0; width = no_width; upper = no_width }
 
 abbrev no_color : ColorNumbers
 no_color = record { kind = 0; number = 0; red = 0; green = 0; blue = 0 }

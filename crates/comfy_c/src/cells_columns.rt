@@ -45,11 +45,11 @@ pub(crate) fn columns_of(
 ) -> Result<Vec<Column>, AllocError>
     ensures { IfOk result (λ columns. columns.items ≡ columns_with numbers.now) }
 {
-    let mut columns = Vec::with_capacity(alloc, numbers.len())?;
-    for (index, column) in numbers.iter().enumerate() {
-        columns.push(column_of(index, column))?;
-    }
-    Ok(columns)
+    numbers
+        .iter()
+        .enumerate()
+        .map(|(index, column)| column_of(index, column))
+        .collect(alloc)
 }
 
 fn column_of(index: usize, numbers: &ColumnNumbers) -> Column

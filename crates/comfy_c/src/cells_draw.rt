@@ -171,8 +171,7 @@ fn listed(alloc: Global, numbers: &[u16]) -> Result<String, AllocError>
 {
     let mut text = String::new(alloc);
     for number in numbers {
-        text.push_str(format!(in alloc; "{}", *number)?.as_str())?;
-        text.push('\n')?;
+        text.push_str(format!(in alloc; "{number}\n")?.as_str())?;
     }
     Ok(text)
 }

@@ -1,7 +1,7 @@
 //! The columns of a table of rows, by a byte for each.
 
-ghost use Rattle.std.specs.Prelude.{◌≡◌, ◌∷◌, ◌++◌, [], IfOk, OnOk, if◌then◌else◌};
-ghost use Rattle.comfy_c.specs.RowCalls.{are_bytes, are_there, byte_at, columns_by, columns_for};
+ghost use Rattle.std.specs.Prelude.{◌≡◌, ◌==◌, IfOk};
+ghost use Rattle.comfy_c.specs.RowCalls.{are_bytes, are_there, byte_at, columns_by, columns_for, positions_where};
 
 use csv_records::Rows;
 use csv_tables::{Columns, Selection};
@@ -60,16 +60,34 @@ fn are_there(bytes: &[u8], count: usize) -> bool
 fn columns_by(alloc: Global, bytes: &[u8], count: usize) -> Result<Columns, AllocError>
     ensures { IfOk result (λ columns. columns ≡ columns_by bytes.now count) }
 {
-    let mut drawn = Vec::new(alloc);
-    let mut right = Vec::new(alloc);
-    let mut left = Vec::new(alloc);
-    for position in 0..count {
-        let byte = byte_at(bytes, position);
-        push_if(byte != HIDDEN, &mut drawn, position)?;
-        push_if(byte == AT_RIGHT, &mut right, position)?;
-        push_if(byte == AT_LEFT, &mut left, position)?;
-    }
+    let drawn = drawn_by(alloc, bytes, count)?;
+    let right = columns_with(alloc, bytes, count, AT_RIGHT)?;
+    let left = columns_with(alloc, bytes, count, AT_LEFT)?;
     Ok(Columns::new(drawn, right, left))
+}
+
+// The columns of so many that aren't hidden.
+fn drawn_by(alloc: Global, bytes: &[u8], count: usize) -> Result<Vec<usize>, AllocError>
+    ensures { IfOk result (λ drawn. drawn.items ≡ (columns_by bytes.now count).drawn) }
+{
+    (0..count)
+        .filter(|position| byte_at(bytes, *position) != HIDDEN)
+        .collect(alloc)
+}
+
+// The columns of so many that have this byte.
+fn columns_with(
+    alloc: Global,
+    bytes: &[u8],
+    count: usize,
+    byte: u8,
+) -> Result<Vec<usize>, AllocError>
+    ensures { IfOk result (λ columns. columns.items
+        ≡ positions_where (λ own. own == byte) bytes.now count) }
+{
+    (0..count)
+        .filter(|position| byte_at(bytes, *position) == byte)
+        .collect(alloc)
 }
 
 // The byte of a column; that of contents past the end.
@@ -77,15 +95,4 @@ fn byte_at(bytes: &[u8], position: usize) -> u8
     ensures { result ≡ byte_at bytes.now position }
 {
     bytes.get(position).copied().unwrap_or(BY_CONTENTS)
-}
-
-// Appends a position that is wanted.
-fn push_if(is_wanted: bool, positions: &mut Vec<usize>, position: usize) -> Result<(), AllocError>
-    ensures { OnOk result (positions.new.items
-        ≡ positions.old.items ++ (if is_wanted then position ∷ [] else [])) }
-{
-    if is_wanted {
-        positions.push(position)?;
-    }
-    Ok(())
 }
