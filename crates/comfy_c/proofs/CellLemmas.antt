@@ -1,6 +1,6 @@
 -- Attributes by their bits, and cells and rows whose texts and cells stand one behind another.
 use Rattle.std.proofs.Common.{◌≡◌, ◌<◌, ◌+◌, ◌/◌, ◌%◌, ◌==◌, ◌++◌, ◌∷◌, ◌∙◌, [], ℕ, Bool, true, false, zero, suc, cond, List, ap, ap₂, append_assoc, drop, get_or, length, refl, subst, sym, take}
-use Rattle.std.proofs.lemmas.List.{at_drop_more, drop-drop, map-append, take-append-drop}
+use Rattle.std.proofs.lemmas.List.{at_drop_more, map-append, take-append-drop}
 use Rattle.std.proofs.lemmas.List.Sums.{sum_by-append, sum_by-cons}
 use Rattle.std.proofs.lemmas.List.Elements.{All-cons, All-head, All-nil, All-tail}
 use Rattle.std.specs.List.{All}
@@ -9,6 +9,7 @@ use Rattle.comfy_parts.specs.CellValue.{CellValue, RowValue}
 use Rattle.comfy_parts.specs.Text.{Text}
 use Rattle.comfy_parts.specs.declared.style.attribute.Attribute.{Attribute}
 use Rattle.csv_records.specs.CutLists.{cut_by, total}
+use Rattle.comfy_c.proofs.TextLemmas.{behind}
 use Rattle.comfy_c.specs.CellCalls.{IsFrontRefusal, cells_with, counts_of, lengths_of, rows_with}
 use Rattle.comfy_c.specs.Numbers.{attributes_by, cell_with, row_with}
 use Rattle.comfy_c.specs.RowCalls.{AddUp, IsTextsRefusal}
@@ -44,10 +45,6 @@ attributes_more all i d below bits made =
 
 -- ---- cells
 
--- what stands behind the texts of a cell and of others
-behind : (cell : CellNumbers) (cells : List CellNumbers) (texts : Text) → drop (total (lengths_of cells)) (drop cell.length texts) ≡ drop (total (lengths_of (cell ∷ cells))) texts
-behind cell cells texts = drop-drop (total (lengths_of cells)) cell.length texts ∙ ap (λ (n : ℕ). drop n texts) (sym (sum_by-cons (λ n. n) cell.length (lengths_of cells)))
-
 module _ (all : List CellNumbers) (i : ℕ) (below : i < length all) where
   abbrev own : CellNumbers
   own = get_or all i no_cell
@@ -64,7 +61,7 @@ module _ (all : List CellNumbers) (i : ℕ) (below : i < length all) where
 
   -- what stands behind all of them is what stands behind the others
   pub behind_more : (texts : Text) → drop (total (lengths_of (drop i all))) texts ≡ drop (total (lengths_of (drop (i + 1) all))) (drop own.length texts)
-  behind_more texts = at_drop_more (λ xs. drop (total (lengths_of xs)) texts) all i no_cell below ∙ sym (behind own (drop (i + 1) all) texts)
+  behind_more texts = at_drop_more (λ xs. drop (total (lengths_of xs)) texts) all i no_cell below ∙ sym (behind own.length (lengths_of (drop (i + 1) all)) texts)
 
   -- what holds of each text holds of this one, and of those behind it
   pub texts_more : (P : Text → Type 0) (texts : Text) → All P (cut_by (lengths_of (drop i all)) texts)
@@ -85,7 +82,7 @@ taken (suc n) (cell ∷ cells) texts = ap (λ xs. cell_with cell (take cell.leng
 dropped : (n : ℕ) (cells : List CellNumbers) (texts : Text) → drop n (cells_with cells texts) ≡ cells_with (drop n cells) (drop (total (lengths_of (take n cells))) texts)
 dropped zero cells texts = refl
 dropped (suc n) [] texts = refl
-dropped (suc n) (cell ∷ cells) texts = dropped n cells (drop cell.length texts) ∙ ap (cells_with (drop n cells)) (behind cell (take n cells) texts)
+dropped (suc n) (cell ∷ cells) texts = dropped n cells (drop cell.length texts) ∙ ap (cells_with (drop n cells)) (behind cell.length (lengths_of (take n cells)) texts)
 
 -- one row more, whose cells and texts are at the front of what is left
 pub rows_more : (all : List RowNumbers) (i : ℕ) → i < length all → (cells : List CellNumbers) (texts : Text) (made : List RowValue)
@@ -118,7 +115,7 @@ texts_split P (suc n) (cell ∷ cells) texts each =
     let head = All-head P (take cell.length texts) (cut_by (lengths_of cells) (drop cell.length texts)) each in
     let tail = All-tail P (take cell.length texts) (cut_by (lengths_of cells) (drop cell.length texts)) each in
     let rest = texts_split P n cells (drop cell.length texts) tail in
-    (All-cons P (take cell.length texts) (cut_by (lengths_of (take n cells)) (drop cell.length texts)) head rest.0, subst (λ left. All P (cut_by (lengths_of (drop n cells)) left)) (behind cell (take n cells) texts) rest.1)
+    (All-cons P (take cell.length texts) (cut_by (lengths_of (take n cells)) (drop cell.length texts)) head rest.0, subst (λ left. All P (cut_by (lengths_of (drop n cells)) left)) (behind cell.length (lengths_of (take n cells)) texts) rest.1)
 
 -- ---- refusals
 

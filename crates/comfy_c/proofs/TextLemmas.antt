@@ -2,15 +2,15 @@
 use Rattle.std.proofs.Common.{◌≡◌, ◌<◌, ◌≤◌, ◌+◌, ◌++◌, ◌∷◌, ◌∙◌, [], ℕ, List, zero, suc, ap, arith, drop, length, refl, slice_index_or, subst, sym, take}
 use Rattle.std.specs.List.{All}
 use Rattle.std.specs.Str.{IsUtf8}
-use Rattle.std.proofs.lemmas.List.{drop-drop, length-drop, take_more}
+use Rattle.std.proofs.lemmas.List.{drop-drop, length-drop, take-append-drop, take_more}
 use Rattle.std.proofs.lemmas.List.Elements.{All-head, All-tail}
-use Rattle.std.proofs.lemmas.List.Sums.{sum_by-cons, sum_by-take-drop}
+use Rattle.std.proofs.lemmas.List.Sums.{sum_by-cons}
 use Rattle.std.proofs.lemmas.Str.{IsUtf8-append, IsUtf8-nil}
 use Rattle.csv_records.proofs.CutLemmas.{place_taken}
 use Rattle.csv_records.specs.CutLists.{cut_by, total}
 
 -- what stands behind some parts
-behind : {A : Type 0} (n : ℕ) (ns : List ℕ) (xs : List A) → drop (total ns) (drop n xs) ≡ drop (total (n ∷ ns)) xs
+pub behind : {A : Type 0} (n : ℕ) (ns : List ℕ) (xs : List A) → drop (total ns) (drop n xs) ≡ drop (total (n ∷ ns)) xs
 behind n ns xs = drop-drop (total ns) n xs ∙ ap (λ (k : ℕ). drop k xs) (sym (sum_by-cons (λ m. m) n ns))
 
 cut_more : {A : Type 0} (ns : List ℕ) (n : ℕ) (xs : List A) → cut_by (ns ++ n ∷ []) xs ≡ cut_by ns xs ++ take n (drop (total ns) xs) ∷ []
@@ -37,11 +37,6 @@ length-cut_by (n ∷ ns) xs = ap suc (length-cut_by ns (drop n xs))
 
 -- ---- parts that are texts
 
-joined : {A : Type 0} (n : ℕ) (xs : List A) → take n xs ++ drop n xs ≡ xs
-joined zero xs = refl
-joined (suc n) [] = refl
-joined (suc n) (x ∷ xs) = ap (λ ys. x ∷ ys) (joined n xs)
-
 -- what consists of them is a text
 pub whole_text : (ns xs : List ℕ) → total ns ≡ length xs → All IsUtf8 (cut_by ns xs) → IsUtf8 xs
 whole_text [] [] add_up all = IsUtf8-nil
@@ -50,8 +45,4 @@ whole_text (n ∷ ns) xs add_up all =
     let sum = sum_by-cons (λ m. m) n ns in
     let long = length-drop n xs in
     let rest : IsUtf8 (drop n xs) = whole_text ns (drop n xs) (omega (arith, add_up, sum, long)) (All-tail IsUtf8 (take n xs) (cut_by ns (drop n xs)) all) in
-    subst IsUtf8 (joined n xs) (IsUtf8-append (take n xs) (drop n xs) (All-head IsUtf8 (take n xs) (cut_by ns (drop n xs)) all) rest)
-
--- the first parts are no longer than all
-pub at_most : (k : ℕ) (ns : List ℕ) → total (take k ns) ≤ total ns
-at_most k ns = let all = sum_by-take-drop (λ m. m) ns k in omega (arith, all)
+    subst IsUtf8 (take-append-drop n xs) (IsUtf8-append (take n xs) (drop n xs) (All-head IsUtf8 (take n xs) (cut_by ns (drop n xs)) all) rest)

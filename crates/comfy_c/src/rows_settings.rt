@@ -111,9 +111,5 @@ fn expansion_at(number: u32) -> Option<Expansion>
 pub(crate) fn limit_of(number: usize) -> Option<usize>
     ensures { result ≡ limit_of number }
 {
-    if number == usize::MAX {
-        None
-    } else {
-        Some(number)
-    }
+    (number != usize::MAX).then_some(number)
 }

@@ -1,10 +1,11 @@
 use Rattle.std.proofs.Common.{◌≡◌, ◌<◌, ◌≤◌, ◌-◌, ◌+◌, ◌++◌, ◌∷◌, ◌∙◌, [], ℕ, List, ap, ap₂, arith, drop, length, map, rules, slice_index_or, subst, sym, take}
 use Rattle.std.specs.Str.{IsCharBoundary, IsUtf8}
 use Rattle.std.proofs.lemmas.List.{drop-drop, length-drop, map-append}
+use Rattle.std.proofs.lemmas.List.Sums.{sum_by-take-le}
 use Rattle.std.proofs.lemmas.Str.{IsCharBoundary-from_take, IsUtf8-drop}
 use Rattle.comfy_parts.specs.Text.{Text}
 use Rattle.csv_records.specs.CutLists.{total}
-use Rattle.comfy_c.proofs.TextLemmas.{at_most, in_cut, one_cut, whole_text}
+use Rattle.comfy_c.proofs.TextLemmas.{in_cut, one_cut, whole_text}
 use Rattle.comfy_c.proofs.texts.cells_of.Goals as goal
 
 pub returns-in_default-clause-refused : goal.returns-in_default-clause-refused
@@ -22,7 +23,7 @@ returns-in_default-split_at_checked-clause-refused c counts all =
     let inv = c.loop-length.invariant in
     let add_up : total lengths ≡ length texts = search rules in
     let step = one_cut lengths i 0 below texts in
-    let most = at_most (i + 1) lengths in
+    let most = sum_by-take-le (λ m. m) lengths (i + 1) in
     let long : length c.loop-length.behind.now ≡ length texts - total (take i lengths) = ap length inv.1 ∙ length-drop (total (take i lengths)) texts in
     let fits : n ≤ length c.loop-length.behind.now = omega (arith, step.1, most, add_up, long) in
     let own : IsUtf8 (take n c.loop-length.behind.now) = subst (λ (t : Text). IsUtf8 (take n t)) (sym inv.1) (in_cut IsUtf8 lengths i 0 below texts all) in
