@@ -7,6 +7,7 @@ use Rattle.comfy_parts.specs.VisibleText.{Part}
 use Rattle.std.specs.Str.{IsUtf8, encode_utf8_all}
 use Rattle.std.proofs.lemmas.Bool.{and_parts}
 use Rattle.std.proofs.lemmas.List.Elements.{filter-append}
+use Rattle.std.proofs.lemmas.List.Folds.{concat-append}
 use Rattle.std.proofs.lemmas.List.Splits.{join_with_byte-slice_split}
 use Rattle.std.proofs.lemmas.List.Sums.{fold-append}
 use Rattle.std.proofs.lemmas.Str.{chars-append, chars-IsAscii, encode_ascii}
@@ -37,10 +38,6 @@ filled-only : (gap : Text) → IsOnly 0x20 gap → filled gap ≡ []
 filled-only gap (n, is) = ap filled (is ∙ spaces-only n) ∙ filled-spaces n
 
 -- ---- slices
-
-concat-append : (xs ys : List Text) → concat (xs ++ ys) ≡ concat xs ++ concat ys
-concat-append [] ys = refl
-concat-append (x ∷ xs) ys = ap (λ (t : Text). x ++ t) (concat-append xs ys) ∙ sym (append_assoc x (concat xs) (concat ys))
 
 filled-wrapped : (text : Text) (slices : List Text) → IsSlicesWhere (λ line tail. Unit {0}) 0x20 text slices → filled (concat slices) ≡ filled text
 filled-wrapped text [] only = sym (filled-only text only)

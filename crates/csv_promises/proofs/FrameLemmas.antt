@@ -1,6 +1,6 @@
 -- What the frame of a drawn table takes, and which columns it has.
-use Rattle.std.proofs.Common.{◌≡◌, ◌≤◌, ◌<◌, ◌||◌, ℕ, ◌+◌, Bool, true, false, not, List, [], ◌∷◌, Option, Some, None, filter, flat_map, length, map, refl, sym, ap, ◌∙◌, subst, arith, sum_by}
-use Rattle.std.specs.List.{All, AllByRecursion, enumerate_from, list_any}
+use Rattle.std.proofs.Common.{◌≡◌, ◌≤◌, ◌<◌, ◌||◌, ℕ, ◌+◌, Bool, true, false, not, List, [], ◌∷◌, Option, Some, None, flat_map, length, map, refl, sym, ap, ◌∙◌, subst, arith, sum_by}
+use Rattle.std.specs.List.{All, enumerate_from, list_any}
 use Rattle.std.specs.Prelude.{if◌then◌else◌}
 use Rattle.std.proofs.lemmas.Bool.{leb-true}
 use Rattle.std.proofs.lemmas.List.{length-map}
@@ -14,19 +14,20 @@ use Rattle.comfy_table.proofs.BuiltTableLemmas.{IsNewColumn}
 use Rattle.comfy_table.specs.Laws.{least_total}
 use Rattle.comfy_table.specs.TableValue.{TableValue, shown_columns, with_row, with_rows}
 use Rattle.comfy_table.specs.Widths.{shown_count}
-use Rattle.csv_tables.proofs.BuiltLemmas.{names-length, row-length}
+use Rattle.csv_tables.proofs.BuiltLemmas.{names-length, plain_table, row-length}
 use Rattle.csv_tables.proofs.LineLemmas.{Any, any_built, any_drawn}
 use Rattle.csv_tables.proofs.ReachedLemmas.{reached-length}
 use Rattle.csv_tables.proofs.SeparatorLemmas.{separated}
-use Rattle.csv_tables.proofs.WholeColumnLemmas.{HasTwo, IsPaddedColumn, all_shown, both_shown, exactly_two, leasts-length, leasts_on, pairs_are_two, pairs_have_two}
+use Rattle.csv_tables.proofs.WholeColumnLemmas.{HasTwo, IsPaddedColumn, exactly_two, pairs_are_two, pairs_have_two}
 use Rattle.csv_tables.proofs.WholeTableLemmas.{HasRoom, columns-drawn, least-fits, room_for_given}
 use Rattle.csv_tables.specs.Cells.{cell_for, cells_for, has_field, header_for, columns_within, row_for, with_weight, Shown, counted_from, shown_in, shown_names}
 use Rattle.csv_tables.specs.Drawn.{SelectedValue, empty_table, has_room_for, headed_table, output_table, pairs_in, pairs_table, rows_table, separated_table, unbroken_in, is_aligned_in}
-use Rattle.csv_tables.specs.Unbroken.{given_in, has_room, kept_unbroken, kept_unbroken_fields, level_in, with_kept, with_field_width, with_second}
+use Rattle.csv_tables.specs.Unbroken.{given_in, has_room, kept_unbroken, level_in, with_kept}
 use Rattle.csv_tables.specs.declared.options.DrawnColumn.{DrawnColumn}
 use Rattle.csv_tables.specs.declared.options.Look.{Look}
 use Rattle.promises.proofs.FrameLemmas.{borders}
 use Rattle.csv_promises.proofs.RecordLemmas.{with_rows-columns}
+use Rattle.csv_promises.proofs.ShownTableLemmas.{has_rows_of}
 use Rattle.csv_promises.specs.Width.{frame_room}
 
 -- ---- frames
@@ -60,31 +61,6 @@ rows_at_most n (row ∷ rows) table each below =
     let grown = no_fewer_columns (length row.cells) table.columns in
     rows_at_most n rows (with_row row table) (All-tail (λ (r : RowValue). length r.cells ≤ n) row rows each) (omega (arith, own, grown, below))
 
-second-length : (field : ℕ) (columns : List ColumnValue) → length (with_second field columns) ≡ length columns
-second-length field [] = refl
-second-length field (names ∷ []) = refl
-second-length field (names ∷ fields ∷ more) = refl
-
-separated-length : (has : Bool) (table : TableValue) → length (separated_table has table).columns ≡ length table.columns
-separated-length true table = refl
-separated-length false table = refl
-
-kept-length : (width : Option ℕ) (whole : List Bool) (table : TableValue) → length (kept_unbroken width whole table).columns ≡ length table.columns
-kept-length None whole table = refl
-kept-length (Some w) whole table = by_room (has_room (Some w) whole table)
-  where
-    by_room : (b : Bool) → length (if b then with_kept (given_in w whole table) table else table).columns ≡ length table.columns
-    by_room true = leasts-length (given_in w whole table) table.columns
-    by_room false = refl
-
-kept_fields-length : (width : Option ℕ) (table : TableValue) → length (kept_unbroken_fields width table).columns ≡ length table.columns
-kept_fields-length None table = refl
-kept_fields-length (Some w) table = by_room _ _
-  where
-    by_room : (b : Bool) (field : ℕ) → length (if b then with_field_width field table else table).columns ≡ length table.columns
-    by_room true field = second-length field table.columns
-    by_room false field = refl
-
 cells-length : (look : Look) (is_bold : Bool) (shown : List Shown) → length (cells_for look is_bold shown).cells ≡ length shown
 cells-length look is_bold shown = length-map shown (λ (s : Shown). with_weight is_bold (cell_for look s.alignment s.text))
 
@@ -117,10 +93,8 @@ rows_few look is_aligned content =
 
 -- a drawn table has two columns at most where records are expanded, else no more than are drawn
 most_columns : (is_expanded has : Bool) (look : Look) (content : SelectedValue) → length (separated_table has (output_table is_expanded look content)).columns ≤ (if is_expanded then 2 else places_of content)
-most_columns true has look content = omega (arith, pairs_have_two look content, kept_fields-length look.width (pairs_table look content), separated-length has (output_table true look content))
-most_columns false has look content =
-    let rows = rows_table look (is_aligned_in look content) content in
-    omega (arith, rows_few look (is_aligned_in look content) content, kept-length look.width (unbroken_in content) rows, separated-length has (output_table false look content))
+most_columns true has look content = omega (arith, pairs_have_two look content, (has_rows_of look content true has).as_many)
+most_columns false has look content = omega (arith, rows_few look (is_aligned_in look content) content, (has_rows_of look content false has).as_many)
 
 -- so a frame of so many has room
 pub frame_has_room : (is_expanded has : Bool) (look : Look) (content : SelectedValue) (n : ℕ) → 1 ≤ n → (if is_expanded then 2 else places_of content) ≤ n → least_total (separated_table has (output_table is_expanded look content)) ≤ frame_room n
@@ -187,64 +161,19 @@ some_columns look content some reach = by_names content.names refl
         with_rows-columns 1 (rows_made look content) (headed_table look content.is_numbered content.columns (Some names))
         (omega (arith, some, header_few look content names, no_fewer_columns (length (header_for look content.is_numbered content.columns names).cells) []))
 
--- all columns of it are shown
-rows_shown : (has : Bool) (look : Look) (content : SelectedValue) → length (rows_table look (is_aligned_in look content) content).columns ≤ shown_count (separated_table has (output_table false look content))
-rows_shown has look content = by_width look.width
-  where
-    table : TableValue
-    table = rows_table look (is_aligned_in look content) content
+-- all columns of a drawn table are shown
+all_are_shown : (is_expanded has : Bool) (look : Look) (content : SelectedValue) → shown_count (separated_table has (output_table is_expanded look content)) ≡ length (plain_table is_expanded (is_aligned_in look content) look content).columns
+all_are_shown is_expanded has look content =
+    let own = has_rows_of look content is_expanded has in
+    ap length own.shown ∙ length-enumerate_from 0 (separated_table has (output_table is_expanded look content)).columns ∙ own.as_many
 
-    own : AllByRecursion IsNewColumn table.columns
-    own = recursion_from_All IsNewColumn table.columns (any_built false (is_aligned_in look content) look content).columns
-
-    shown : (kept : List ℕ) (h : Bool) → length table.columns ≤ shown_count (separated_table h (with_kept kept table))
-    shown kept true = omega (arith, ap length (all_shown kept table.columns own), length-enumerate_from 0 (leasts_on kept table.columns), leasts-length kept table.columns)
-    shown kept false = omega (arith, ap length (all_shown kept table.columns own), length-enumerate_from 0 (leasts_on kept table.columns), leasts-length kept table.columns)
-
-    by_width : (width : Option ℕ) → length table.columns ≤ shown_count (separated_table has (kept_unbroken width (unbroken_in content) table))
-    by_width None = shown [] has
-    by_width (Some w) = by_room (has_room (Some w) (unbroken_in content) table)
-      where
-        by_room : (b : Bool) → length table.columns ≤ shown_count (separated_table has (if b then with_kept (given_in w (unbroken_in content) table) table else table))
-        by_room true = shown (given_in w (unbroken_in content) table) has
-        by_room false = shown [] has
-
--- and both columns of expanded records, where one has a field
+-- those of expanded records are two, where one has a field
 pairs_shown : (has : Bool) (look : Look) (content : SelectedValue) (row : RowValue) (more : List RowValue) → flat_map (pairs_in look content) content.rows ≡ row ∷ more → 1 ≤ shown_count (separated_table has (output_table true look content))
-pairs_shown has look content row more some = by_width look.width
-  where
-    table : TableValue
-    table = pairs_table look content
-
-    own : AllByRecursion IsNewColumn table.columns
-    own = recursion_from_All IsNewColumn table.columns (any_built true false look content).columns
-
-    two : length table.columns ≡ 2
-    two =
-        ap (λ (rows : List RowValue). length (with_rows rows (empty_table look)).columns) some
-        ∙ exactly_two row more (empty_table look) (subst (All HasTwo) some (pairs_are_two look content)) (omega arith)
-
-    whole : (h : Bool) → 1 ≤ shown_count (separated_table h table)
-    whole true = omega (arith, two, ap length (all_shown [] table.columns own), length-enumerate_from 0 table.columns)
-    whole false = omega (arith, two, ap length (all_shown [] table.columns own), length-enumerate_from 0 table.columns)
-
-    second : (field : ℕ) (columns : List ColumnValue) → length columns ≡ 2 → AllByRecursion IsNewColumn columns → 1 ≤ length (filter (λ (p : ℕ × ColumnValue). not (is_hidden_column p.1)) (enumerate_from 0 (with_second field columns)))
-    second field [] long new = absurd (omega (arith, long))
-    second field (a ∷ []) long new = absurd (omega (arith, long))
-    second field (a ∷ b ∷ []) long new = let both = ap length (both_shown table field a b new) in omega (arith, both)
-    second field (a ∷ b ∷ c ∷ rest) long new = absurd (omega (arith, long))
-
-    with_field : (field : ℕ) (h : Bool) → 1 ≤ shown_count (separated_table h (with_field_width field table))
-    with_field field true = second field table.columns two own
-    with_field field false = second field table.columns two own
-
-    by_width : (width : Option ℕ) → 1 ≤ shown_count (separated_table has (kept_unbroken_fields width table))
-    by_width None = whole has
-    by_width (Some w) = by_room _ _
-      where
-        by_room : (b : Bool) (field : ℕ) → 1 ≤ shown_count (separated_table has (if b then with_field_width field table else table))
-        by_room true field = with_field field has
-        by_room false field = whole has
+pairs_shown has look content row more some =
+    let two : length (pairs_table look content).columns ≡ 2 =
+    ap (λ (rows : List RowValue). length (with_rows rows (empty_table look)).columns) some
+    ∙ exactly_two row more (empty_table look) (subst (All HasTwo) some (pairs_are_two look content)) (omega arith) in
+    omega (arith, two, all_are_shown true has look content)
 
 -- a drawn table has a shown column
 pub column_is_shown : (is_expanded has : Bool) (look : Look) (content : SelectedValue) → 1 ≤ length content.columns → (content.names ≡ None → reaches content.columns content.rows ≡ true)
@@ -254,4 +183,4 @@ column_is_shown true has look content some reach pairs = by_pairs (flat_map (pai
     by_pairs : (rows : List RowValue) → flat_map (pairs_in look content) content.rows ≡ rows → 0 < shown_count (separated_table has (output_table true look content))
     by_pairs [] none = absurd (pairs refl none)
     by_pairs (row ∷ more) is = let own = pairs_shown has look content row more is in omega (arith, own)
-column_is_shown false has look content some reach pairs = let own = some_columns look content some reach in let shown = rows_shown has look content in omega (arith, own, shown)
+column_is_shown false has look content some reach pairs = omega (arith, some_columns look content some reach, all_are_shown false has look content)

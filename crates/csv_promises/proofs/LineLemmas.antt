@@ -1,12 +1,12 @@
 -- The lines of an output show what is visible of them.
-use Rattle.std.proofs.Common.{◌≡◌, ◌⊎◌, inl, inr, ℕ, suc, ◌+◌, Bool, true, false, List, [], ◌∷◌, ◌++◌, Option, Some, None, append-nil, append_assoc, arith, codes, decimal, flat_map, length, refl, sym, ap₂, ◌∙◌, subst}
+use Rattle.std.proofs.Common.{◌≡◌, ◌⊎◌, inl, inr, ℕ, suc, ◌+◌, Bool, true, false, List, [], ◌∷◌, ◌++◌, Option, Some, None, append-nil, arith, codes, flat_map, length, refl, sym, ap₂, ◌∙◌, subst}
 use Rattle.std.specs.Char.{is_control}
 use Rattle.std.specs.List.{All, range_with_len}
 use Rattle.std.specs.Prelude.{Contains, if◌then◌else◌}
 use Rattle.std.proofs.lemmas.Grind.{flat_map-append}
 use Rattle.std.proofs.lemmas.List.Elements.{All-append, All-contains, All-cons, All-nil, All-weaker}
 use Rattle.comfy_parts.proofs.CallerLemmas.{All-of_map, none_by_characters}
-use Rattle.comfy_parts.specs.Text.{Text, is_printable_ascii, measure}
+use Rattle.comfy_parts.specs.Text.{Text, measure}
 use Rattle.comfy_parts.specs.VisibleText.{visible_text}
 use Rattle.comfy_table.specs.Drawing.{terminated_text_of}
 use Rattle.comfy_table.specs.Laws.{AreLinesOf, HasNoBreak, HasNoControl}

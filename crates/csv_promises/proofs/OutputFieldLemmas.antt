@@ -1,7 +1,7 @@
 -- What is written of records shows all of their fields.
 use Rattle.std.proofs.Common.{◌≡◌, ◌<◌, ◌==◌, ◌||◌, inl, inr, ℕ, zero, suc, ◌+◌, Bool, true, false, List, [], ◌∷◌, ◌++◌, Option, Some, None, Ok, drop, flat_map, length, map, nat_lt, take, refl, sym, ap, ap₂, ◌∙◌, subst, arith, append_assoc, length-append, slice_index_or, unwrap_or}
 use Rattle.std.specs.List.{All, AllZip, range_with_len}
-use Rattle.std.specs.Prelude.{if◌then◌else◌, codes, decimal, option_to_list, sum_by}
+use Rattle.std.specs.Prelude.{if◌then◌else◌, codes, option_to_list, sum_by}
 use Rattle.std.specs.Str.{IsUtf8}
 use Rattle.std.proofs.Math.Seq.{take-length}
 use Rattle.std.proofs.lemmas.List.Elements.{All-head, All-nil, All-tail, All-weaker}

@@ -36,13 +36,13 @@ module _ {A : Type 0} (names : List Text) (count : ℕ) where
       by_test true is = let same : range_with_len 0 count ≡ ps = cc is in sym same
       by_test false is = found_by words [] ps is
 
--- positions that are left are these
-left_as_they_are : (positions kept : List ℕ) → some_left positions ≡ Ok kept → kept ≡ positions
-left_as_they_are positions kept = by_test (length positions == 0)
+-- positions that are left are these, and there is one
+left_as_they_are : (positions kept : List ℕ) → some_left positions ≡ Ok kept → (kept ≡ positions) × (1 ≤ length kept)
+left_as_they_are positions kept = by_test (length positions == 0) refl
   where
-    by_test : (b : Bool) → (if b then Err none_left else Ok positions) ≡ Ok kept → kept ≡ positions
-    by_test true is = absurd (cc is)
-    by_test false is = let same : positions ≡ kept = cc is in sym same
+    by_test : (b : Bool) → (length positions == 0) ≡ b → (if b then Err none_left else Ok positions) ≡ Ok kept → (kept ≡ positions) × (1 ≤ length kept)
+    by_test true test is = absurd (cc is)
+    by_test false test is = let same : positions ≡ kept = cc is in (sym same, subst (λ (own : List ℕ). 1 ≤ length own) same (grind (arith, nat_tests, test)))
 
 pub kept_positions : {A : Type 0} (names : List Text) (count : ℕ) (words dropped : List (String A)) (kept : List ℕ) → kept_columns names count words dropped ≡ Ok kept
     → kept ≡ without (if length words == 0 then range_with_len 0 count else positions_by names count words) (positions_by names count dropped)
@@ -50,7 +50,7 @@ kept_positions {A} names count words dropped kept is = by_lists (chosen_columns 
   where
     by_lists : (chosen left : Result (List ℕ) ColumnFault) → ((ps : List ℕ) → chosen ≡ Ok ps → ps ≡ (if length words == 0 then range_with_len 0 count else positions_by names count words)) → ((ps : List ℕ) → left ≡ Ok ps → ps ≡ positions_by names count dropped) → less chosen left ≡ Ok kept
         → kept ≡ without (if length words == 0 then range_with_len 0 count else positions_by names count words) (positions_by names count dropped)
-    by_lists (Ok ps) (Ok qs) all some is = left_as_they_are (without ps qs) kept is ∙ ap₂ (λ (a b : List ℕ). without a b) (all ps refl) (some qs refl)
+    by_lists (Ok ps) (Ok qs) all some is = (left_as_they_are (without ps qs) kept is).0 ∙ ap₂ (λ (a b : List ℕ). without a b) (all ps refl) (some qs refl)
     by_lists (Ok ps) (Err fault) all some is = absurd (cc is)
     by_lists (Err fault) left all some is = absurd (cc is)
 
@@ -58,11 +58,7 @@ kept_positions {A} names count words dropped kept is = by_lists (chosen_columns 
 some_are_left : (chosen dropped : Result (List ℕ) ColumnFault) (kept : List ℕ) → less chosen dropped ≡ Ok kept → 1 ≤ length kept
 some_are_left (Err fault) dropped kept is = absurd (cc is)
 some_are_left (Ok ps) (Err fault) kept is = absurd (cc is)
-some_are_left (Ok ps) (Ok qs) kept is = by_test (length (without ps qs) == 0) refl is
-  where
-    by_test : (b : Bool) → (length (without ps qs) == 0) ≡ b → (if b then Err none_left else Ok (without ps qs)) ≡ Ok kept → 1 ≤ length kept
-    by_test true test is = absurd (cc is)
-    by_test false test is = let same : without ps qs ≡ kept = cc is in subst (λ (own : List ℕ). 1 ≤ length own) same (grind (arith, nat_tests, test))
+some_are_left (Ok ps) (Ok qs) kept is = (left_as_they_are (without ps qs) kept is).1
 
 pub some_kept : {A : Type 0} (names : List Text) (count : ℕ) (words dropped : List (String A)) (kept : List ℕ) → kept_columns names count words dropped ≡ Ok kept → 1 ≤ length kept
 some_kept names count words dropped kept is = some_are_left (chosen_columns names count words) (positions_of names count dropped) kept is
