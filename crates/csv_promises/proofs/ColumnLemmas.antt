@@ -1,10 +1,12 @@
 -- How many columns are drawn of records.
-use Rattle.std.proofs.Common.{◌≡◌, ◌≤◌, ◌<◌, ◌==◌, ◌&&◌, ◌||◌, ℕ, zero, suc, ◌+◌, ◌-◌, Bool, true, false, List, [], ◌∷◌, Option, Some, None, Ok, drop, fold, get_or, length, map, max, nat_le, nat_lt, option_map, string_bytes, take, unwrap_or, refl, sym, ap, ap₂, ◌∙◌, subst, arith}
+use Rattle.std.proofs.Common.{◌≡◌, ◌≤◌, ◌<◌, ◌==◌, ◌&&◌, ◌||◌, ℕ, ◌+◌, ◌-◌, Bool, true, false, List, [], ◌∷◌, Option, Some, None, Ok, drop, fold, get_or, length, map, max, nat_le, nat_lt, option_map, string_bytes, take, unwrap_or, refl, sym, ap, ap₂, ◌∙◌, subst, arith}
 use Rattle.std.specs.List.{All, list_any, range_with_len}
 use Rattle.std.specs.Option.{option_or}
 use Rattle.std.specs.Prelude.{String, if◌then◌else◌, not}
 use Rattle.std.proofs.lemmas.List.{length-map}
-use Rattle.std.proofs.lemmas.List.Elements.{All-cons, All-filter, All-head, All-nil}
+use Rattle.std.proofs.lemmas.List.Folds.{Any-from_list_any, list_any-from_Any}
+use Rattle.std.proofs.lemmas.List.FromFn.{get_or-range_with_len, length-range_with_len}
+use Rattle.std.proofs.lemmas.List.Elements.{All-filter, All-head, All-nil}
 use Rattle.comfy_parts.proofs.CallerLemmas.{All-every, All-flat_map, All-of_map}
 use Rattle.comfy_parts.specs.Text.{Text}
 use Rattle.csv_command.specs.Columns.{column_by, column_of, columns_chosen, columns_for, end_of, first_answer, positions_between, range_at, range_of, rising, single_or}
@@ -29,8 +31,7 @@ module _ (count : ℕ) where
   Below k = k < count
 
   range_below : (a n : ℕ) → a + n ≤ count → All Below (range_with_len a n)
-  range_below a zero within = All-nil Below
-  range_below a (suc n) within = All-cons Below a (range_with_len (a + 1) n) (omega (arith, within)) (range_below (a + 1) n (omega (arith, within)))
+  range_below a n within k default below = omega (arith, within, below, length-range_with_len a n, get_or-range_with_len a n k default)
 
   column-below : (word : Text) (k : ℕ) → column_of [] count word ≡ Some k → k < count
   column-below word k is = by_number (number_for 64 word) is
@@ -129,18 +130,6 @@ in_row p (fields ∷ rows) n past below = by_test (nat_lt p (length fields)) ref
     by_test true own later = refl
     by_test false own later = later (grind (arith, own))
 
-any_more : {A : Type 0} (p q : A → Bool) → ((x : A) → p x ≡ true → q x ≡ true) → (xs : List A) → list_any p xs ≡ true → list_any q xs ≡ true
-any_more p q more [] some = some
-any_more p q more (x ∷ xs) some = by_test (p x) refl some (any_more p q more xs)
-  where
-    or_true : (b : Bool) → (b || true) ≡ true
-    or_true true = refl
-    or_true false = refl
-
-    by_test : (b : Bool) → p x ≡ b → (b || list_any p xs) ≡ true → (list_any p xs ≡ true → list_any q xs ≡ true) → (q x || list_any q xs) ≡ true
-    by_test true own some later = ap (λ (c : Bool). c || list_any q xs) (more x own)
-    by_test false own some later = ap (λ (c : Bool). q x || c) (later some) ∙ or_true (q x)
-
 -- ---- contents
 
 module _ (options : Options) (records : List (List Text)) (known : Option ℕ) (own : ColumnsValue) (found : columns_for options records ≡ Ok own) (content : SelectedValue) (is : selected_of known (layout_with options own) records ≡ content) where
@@ -205,5 +194,5 @@ module _ (options : Options) (records : List (List Text)) (known : Option ℕ) (
       by_columns : (cs : List DrawnColumn) → 1 ≤ length cs → All IsIn cs → reaches cs rows ≡ true
       by_columns [] one inside = absurd (omega (arith, one))
       by_columns (column ∷ cs) one inside =
-          any_more (λ (fields : List Text). nat_lt column.position (length fields)) (λ (fields : List Text). list_any (has_field fields) (column ∷ cs))
-          (λ fields own. ap (λ (b : Bool). b || list_any (has_field fields) cs) own) rows (in_row column.position rows 0 (omega arith) (All-head IsIn column cs inside))
+          let own = Any-from_list_any (λ (fields : List Text). nat_lt column.position (length fields)) rows (in_row column.position rows 0 (omega arith) (All-head IsIn column cs inside)) in
+          list_any-from_Any (λ (fields : List Text). list_any (has_field fields) (column ∷ cs)) rows (own.0, own.1, own.2, own.3, ap (λ (b : Bool). b || list_any (has_field own.1) cs) own.4)

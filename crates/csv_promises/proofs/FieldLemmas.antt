@@ -1,12 +1,12 @@
 -- Fields of records in rows of cells, and in the lines that show these.
 use Rattle.std.proofs.Common.{◌≡◌, ◌⊎◌, ◌<◌, ◌≤◌, inl, inr, ℕ, zero, suc, ◌+◌, Bool, true, false, List, [], ◌∷◌, Option, Some, None, cond, filter, length, map, max, flat_map, get_or, nat_lt, refl, sym, ap, ap₂, ◌∙◌, subst, arith, slice_index_or, unwrap_or, decimal, ◌++◌}
 use Rattle.std.specs.List.{All, AllByRecursion, AllZip, concat, enumerate_from, slice_get}
-use Rattle.std.specs.Prelude.{Contains, fold, MatchOption, option_map, if◌then◌else◌}
+use Rattle.std.specs.Prelude.{Contains, MatchOption, option_map, if◌then◌else◌}
 use Rattle.std.specs.Str.{IsUtf8}
 use Rattle.std.proofs.lemmas.List.Elements.{All-head, All-map, All-tail}
 use Rattle.std.proofs.lemmas.Option.{slice_get_cases, slice_get_past}
 use Rattle.std.proofs.lemmas.Simd.{map-map}
-use Rattle.std.proofs.lemmas.Str.{IsUtf8-nil, chars-nil}
+use Rattle.std.proofs.lemmas.Str.{IsUtf8-nil}
 use Rattle.comfy_parts.specs.CellValue.{CellValue, ColumnValue, RowValue}
 use Rattle.comfy_parts.specs.Columns.{style_characters}
 use Rattle.comfy_parts.specs.Text.{Text, is_printable_ascii}
@@ -15,7 +15,7 @@ use Rattle.comfy_parts.specs.declared.style.table_style.TableStyle.{TableStyle}
 use Rattle.comfy_table.specs.Lines.{cell_delimiter}
 use Rattle.comfy_table.specs.TableValue.{TableValue, shown_columns}
 use Rattle.csv.specs.Records.{field_at}
-use Rattle.csv_records.specs.Cleaning.{after_piece, cleaned, pieces, start}
+use Rattle.csv_records.specs.Cleaning.{cleaned}
 use Rattle.csv_records.proofs.CleaningLemmas.{cleaned-printable}
 use Rattle.comfy_parts.specs.declared.style.cell.CellAlignment.TheVariants.{Right}
 use Rattle.csv_tables.proofs.DecimalLawLemmas.{spaces_alone}
@@ -135,9 +135,6 @@ module _ (table : TableValue) (spaced : table.delimiter ≡ None) (shown : shown
 
 -- ---- fields with spaces behind them
 
-clean-nil : cleaned false [] ≡ []
-clean-nil = ap (λ (cs : List ℕ). (fold after_piece start (pieces false cs)).text) chars-nil
-
 spaced-same : (field drawn : Text) → HasSpacesBehind field drawn → IsUtf8 field → filled (cleaned false drawn) ≡ filled (cleaned false field)
 spaced-same field drawn (n, is) utf8 = ap (λ (t : Text). filled (cleaned false t)) is ∙ filled-spaced field n utf8
 
@@ -200,7 +197,7 @@ module _ (look : Look) (unkept : look.has_sequences ≡ false) (none : look.is_m
           (cell.0, cell.1 ∙ text_is is_aligned d fields utf8 ∙ ap filled (sym (at_column clean_at columns i d is)))
       by_column (Some d) is (inr (gone, blank)) =
           subst Is (sym (unmapped_at (cell_of is_bold) (map (show is_aligned fields) own) i (unmapped_at (show is_aligned fields) own i gone)))
-          (ap filled (at_column clean_at columns i d is) ∙ ap (λ (t : Text). filled (cleaned false t)) blank ∙ ap filled clean-nil)
+          (ap filled (at_column clean_at columns i d is) ∙ ap (λ (t : Text). filled (cleaned false t)) blank ∙ ap filled (cleaned-printable false [] refl))
 
   -- a row has cells up to the last field of its record
   reaches : (drawn : List Text) (columns : List DrawnColumn) → Reaches drawn columns (columns_within drawn columns)
