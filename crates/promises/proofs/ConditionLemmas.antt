@@ -1,5 +1,5 @@
 -- How callers meet the conditions of promises.
-use Rattle.std.proofs.Common.{◌≡◌, ◌==◌, ◌&&◌, ◌≤◌, ◌<◌, ◌-◌, ℕ, Bool, true, false, not, List, [], ◌∷◌, ◌++◌, None, Some, Option, append-nil, refl, sym, ap, ◌∙◌, subst, arith, length, max, nat_le, ap₂, flat_map}
+use Rattle.std.proofs.Common.{get_or, ◌≡◌, ◌==◌, ◌&&◌, ◌≤◌, ◌<◌, ◌-◌, ℕ, Bool, true, false, not, List, [], ◌∷◌, ◌++◌, None, Some, Option, append-nil, refl, sym, ap, ◌∙◌, subst, arith, length, max, nat_le, ap₂, flat_map}
 use Rattle.std.specs.List.{All, join_by, list_all, range_with_len, slice_split}
 use Rattle.std.specs.Int.{is_in_range}
 use Rattle.std.specs.Prelude.{decimal, encode_utf8}
@@ -10,6 +10,7 @@ use Rattle.std.proofs.lemmas.List.{append_assoc}
 use Rattle.std.proofs.lemmas.List.Elements.{All-append, All-cons, All-filter, All-head, All-map, All-nil, All-tail, All-weaker}
 use Rattle.std.proofs.lemmas.Str.{chars-IsAscii, encode_ascii}
 use Rattle.cluster_width.specs.ClusterSums.{clash, selectors_agree}
+use Rattle.std.proofs.lemmas.List.Sums.{AllPass-from_list_all, list_all-from_AllPass}
 use Rattle.comfy_parts.proofs.CallerLemmas.{All-every, ascii-printable, below_seven_bits, frame_adds, frame_apart, measure-printable, no_fewer_columns}
 use Rattle.comfy_parts.proofs.PrintableLineLemmas.{parts-all}
 use Rattle.comfy_parts.proofs.Computing.{wrapping}
@@ -35,10 +36,7 @@ one_column c printable =
     ap (λ t. nat_le (measure t) 1) text ∙ ap (λ n. nat_le n 1) size
 
 each_one : (cs : List ℕ) → list_all (is_in_range 0x20 0x7E) cs ≡ true → list_all (character_fits 1) cs ≡ true
-each_one [] all = refl
-each_one (c ∷ cs) all =
-    let both = and_parts (is_in_range 0x20 0x7E c) (list_all (is_in_range 0x20 0x7E) cs) all in
-    ap₂ (λ a b. a && b) (one_column c both.0) (each_one cs both.1)
+each_one cs all = list_all-from_AllPass (character_fits 1) cs (λ k default below. one_column _ (AllPass-from_list_all (is_in_range 0x20 0x7E) cs all k default below))
 
 -- no selector is among them
 agree : (cs : List ℕ) → list_all (is_in_range 0x20 0x7E) cs ≡ true → selectors_agree cs ≡ true
@@ -59,15 +57,11 @@ narrow_text text printable =
     characters_all : ℕ → List ℕ → Bool
     characters_all w cs = list_all (character_fits w) cs && selectors_agree cs
 
-from_test : (ts : List Text) → list_all is_printable_ascii ts ≡ true → All (CharactersFit 1) ts
-from_test [] all = All-nil (CharactersFit 1)
-from_test (t ∷ ts) all =
-    let both = and_parts (is_printable_ascii t) (list_all is_printable_ascii ts) all in
-    All-cons (CharactersFit 1) t ts (narrow_text t both.0) (from_test ts both.1)
-
 pub narrow_cell : (text : Text) → is_printable_ascii text ≡ true → IsNarrowCell (plain_cell text)
 narrow_cell text printable =
-    record { delimiter = refl; characters = from_test (slice_split (λ b. b == 0x0A) text) (parts-all (is_in_range 0x20 0x7E) (λ b. b == 0x0A) text printable) }
+    let parts = slice_split (λ b. b == 0x0A) text in
+    let each = AllPass-from_list_all is_printable_ascii parts (parts-all (is_in_range 0x20 0x7E) (λ b. b == 0x0A) text printable) in
+    record { delimiter = refl; characters = λ k default below. narrow_text _ (each k default below) }
 
 -- ---- frames
 
@@ -168,11 +162,6 @@ whole_of_parts table infos parts rows some =
 one_digit : (c : ℕ) → is_parameter c ≡ true → is_in_range 0x20 0x7E c ≡ true
 one_digit c is = grind (arith, nat_tests)
 
-each_digit : (cs : List ℕ) → list_all is_parameter cs ≡ true → list_all (is_in_range 0x20 0x7E) cs ≡ true
-each_digit [] all = refl
-each_digit (c ∷ cs) all =
-    let both = and_parts (is_parameter c) (list_all is_parameter cs) all in
-    ap₂ (λ a b. a && b) (one_digit c both.0) (each_digit cs both.1)
-
 pub printable_number : (n : ℕ) → is_printable_ascii (decimal n) ≡ true
-printable_number n = each_digit (decimal n) (decimal-parameters n)
+printable_number n =
+    list_all-from_AllPass (is_in_range 0x20 0x7E) (decimal n) (λ k default below. one_digit (get_or (decimal n) k default) (AllPass-from_list_all is_parameter (decimal n) (decimal-parameters n) k default below))

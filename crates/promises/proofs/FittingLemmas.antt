@@ -6,6 +6,7 @@ use Rattle.std.proofs.lemmas.Bool.{and_parts, not-true}
 use Rattle.std.proofs.lemmas.Bool.Decides.{nat_tests}
 use Rattle.std.proofs.lemmas.List.Elements.{All-filter, All-map, All-weaker}
 use Rattle.cluster_width.specs.ClusterSums.{is_presentation, selectors_agree}
+use Rattle.std.proofs.lemmas.List.Sums.{AllPass-from_list_all, list_all-from_AllPass}
 use Rattle.comfy_parts.proofs.CallerLemmas.{All-at, fitting-parts}
 use Rattle.comfy_parts.specs.CellValue.{CellValue, ColumnInfo, ColumnValue, RowValue, is_hidden_column}
 use Rattle.comfy_parts.specs.Columns.{AddsOneColumn, CharactersFit, IsOneColumn, character_fits, characters_fit}
@@ -45,11 +46,9 @@ more_room : (n w size : ℕ) → n ≤ w → nat_le size n ≡ true → nat_le s
 more_room n w size room fits = grind (arith, nat_tests)
 
 each_fits : (n w : ℕ) → n ≤ w → (cs : List ℕ) → list_all (within n) cs ≡ true → list_all (character_fits w) cs ≡ true
-each_fits n w room [] all = refl
-each_fits n w room (c ∷ cs) all =
-    let both = and_parts (within n c) (list_all (within n) cs) all in
-    let own = and_parts (nat_le (measure (encode_utf8 c)) n) (not (c == 0xFE01)) both.0 in
-    ap (λ b. b && list_all (character_fits w) cs) (more_room n w (measure (encode_utf8 c)) room own.0) ∙ each_fits n w room cs both.1
+each_fits n w room cs all =
+    list_all-from_AllPass (character_fits w) cs
+    (λ k default below. more_room n w _ room (and_parts (nat_le _ n) _ (AllPass-from_list_all (within n) cs all k default below)).0)
 
 no_clash : (x y : Bool) (p q : Bool) → not x ≡ true → not y ≡ true → ((x && q) || (p && y)) ≡ false
 no_clash true y p q is are = absurd (cc is)
@@ -76,13 +75,8 @@ text_fits n w room text all =
 more : (n w : ℕ) → n ≤ w → (text : Text) → CharactersFit n text → CharactersFit w text
 more n w room text fits =
     let both = fitting-parts n text fits in
-    ap₂ (λ a b. a && b) (each_more (chars text) both.0) both.1
-  where
-    each_more : (cs : List ℕ) → list_all (character_fits n) cs ≡ true → list_all (character_fits w) cs ≡ true
-    each_more [] all = refl
-    each_more (c ∷ cs) all =
-        let both = and_parts (character_fits n c) (list_all (character_fits n) cs) all in
-        ap₂ (λ a b. a && b) (more_room n w (measure (encode_utf8 c)) room both.0) (each_more cs both.1)
+    let each = AllPass-from_list_all (character_fits n) (chars text) both.0 in
+    ap₂ (λ a b. a && b) (list_all-from_AllPass (character_fits w) (chars text) (λ k default below. more_room n w _ room (each k default below))) both.1
 
 -- ---- delimiters
 

@@ -11,4 +11,4 @@ pub mod PlacedLemmas
 pub mod PromiseLemmas
 pub mod RowLemmas
 pub mod ShownLemmas
-mod TableOfRowsLemmas
+pub mod TableOfRowsLemmas

@@ -145,7 +145,7 @@ taken (column ∷ columns) new =
     omega (arith, left, right, sum_by-cons (λ (c : ColumnValue). c.padding.0 + 1 + c.padding.1 + 1) column columns, taken columns (All-tail IsNewColumn column columns new))
 
 -- rows of at most n cells make at most n columns
-few_columns : (n : ℕ) (rows : List RowValue) (table : TableValue) → length table.columns ≤ n → HaveCells n rows → length (with_rows rows table).columns ≤ n
+pub few_columns : (n : ℕ) (rows : List RowValue) (table : TableValue) → length table.columns ≤ n → HaveCells n rows → length (with_rows rows table).columns ≤ n
 few_columns n [] table below each = below
 few_columns n (row ∷ rows) table below each =
     let own = All-head (λ (r : RowValue). length r.cells ≤ n) row rows each in
