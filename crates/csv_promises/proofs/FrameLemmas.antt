@@ -26,6 +26,7 @@ use Rattle.csv_tables.specs.Unbroken.{given_in, has_room, kept_unbroken, level_i
 use Rattle.csv_tables.specs.declared.options.DrawnColumn.{DrawnColumn}
 use Rattle.csv_tables.specs.declared.options.Look.{Look}
 use Rattle.promises.proofs.FrameLemmas.{borders}
+use Rattle.promises.proofs.TableOfRowsLemmas.{few_columns}
 use Rattle.csv_promises.proofs.RecordLemmas.{with_rows-columns}
 use Rattle.csv_promises.proofs.ShownTableLemmas.{has_rows_of}
 use Rattle.csv_promises.specs.Width.{frame_room}
@@ -54,13 +55,6 @@ least table n some few padded =
 
 -- ---- how many columns there are
 
-rows_at_most : (n : ℕ) (rows : List RowValue) (table : TableValue) → All (λ (row : RowValue). length row.cells ≤ n) rows → length table.columns ≤ n → length (with_rows rows table).columns ≤ n
-rows_at_most n [] table each below = below
-rows_at_most n (row ∷ rows) table each below =
-    let own : length row.cells ≤ n = All-head (λ (r : RowValue). length r.cells ≤ n) row rows each in
-    let grown = no_fewer_columns (length row.cells) table.columns in
-    rows_at_most n rows (with_row row table) (All-tail (λ (r : RowValue). length r.cells ≤ n) row rows each) (omega (arith, own, grown, below))
-
 cells-length : (look : Look) (is_bold : Bool) (shown : List Shown) → length (cells_for look is_bold shown).cells ≡ length shown
 cells-length look is_bold shown = length-map shown (λ (s : Shown). with_weight is_bold (cell_for look s.alignment s.text))
 
@@ -74,10 +68,9 @@ header_few look content names =
 
 rows_few : (look : Look) (is_aligned : Bool) (content : SelectedValue) → length (rows_table look is_aligned content).columns ≤ places_of content
 rows_few look is_aligned content =
-    rows_at_most (places_of content) (map row (counted_from 1 content.rows)) (headed_table look content.is_numbered content.columns content.names)
+    few_columns (places_of content) (map row (counted_from 1 content.rows)) (headed_table look content.is_numbered content.columns content.names) (headed content.names)
     (All-map (λ (r : RowValue). length r.cells ≤ places_of content) row (counted_from 1 content.rows)
     (All-every (λ r. length (row r).cells ≤ places_of content) (counted_from 1 content.rows) few))
-    (headed content.names)
   where
     row : ℕ × List Text → RowValue
     row = row_for look is_aligned content.is_numbered content.columns
