@@ -1,4 +1,3 @@
-pub mod ArgumentLemmas
 pub mod ProgramLemmas
 pub mod RowLemmas
 pub mod RunLemmas

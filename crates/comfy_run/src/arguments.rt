@@ -43,7 +43,6 @@ fn width_of(argument: &str) -> Option<Option<u16>>
 }
 
 // A number of up to five digits. `parse` alone would take a plus sign and further zeros.
-#[tactic(auto, using(crate::proofs::ArgumentLemmas::long, crate::proofs::ArgumentLemmas::other, crate::proofs::ArgumentLemmas::parsed))]
 fn number_of(argument: &str) -> Option<u16>
     ensures { result ≡ number_for argument.now }
 {
