@@ -9,7 +9,7 @@ ghost use Rattle.std.specs.Cmp.{IsTotalOrder};
 ghost use Rattle.comfy_parts.specs.CellEquality.{cell_eq, cell_hash};
 ghost use Rattle.comfy_parts.specs.Columns.{FittingCharactersFit, FrameCharactersAddOneColumn, FrameTextsAreApart, HeadFits, IsOneColumnPreset, OneCharacterTakesThree, SpaceAddsOneColumn, TakesTwoAtMost, TextLinesFit, presets_all};
 ghost use Rattle.comfy_parts.specs.Comparisons.{ascends, attribute_cmp, attribute_eq, attribute_hash, attributes_in_order, color_cmp, color_eq, color_hash, colors_in_order, EqHashesAlike, EqIsSame, EqualIsSame};
-ghost use Rattle.comfy_parts.specs.Laws.{ActiveIsResumed, ClosedTextsLeaveNone, CutLinesAreFull, HeadIsLongest, IsCutOutsideNarrow, LinesAreFew, LinesAreFewest, LinesAreResumed, LinesAreVisible, LinesFit, LinesKeepTheText, NeighboursFillALine, NoneIsLeftOpen, OtherBytesAreVisible, PrintableClustersAreCharacters, PrintableAddsOneColumnEach, PrintableMeasuresItsLength, SequencesAreTakenOut, SequencesLeaveTheLines, WrappedIsOne, WrappedIsWrapped};
+ghost use Rattle.comfy_parts.specs.Laws.{ActiveIsResumed, ClosedTextsLeaveNone, CutLinesAreFull, FittingLinesEndAtFirst, HeadIsLongest, IsCutOutsideNarrow, LinesAreFew, LinesAreFewest, LinesAreResumed, LinesAreVisible, LinesFit, LinesKeepTheText, NeighboursFillALine, NoneIsLeftOpen, OtherBytesAreVisible, PrintableClustersAreCharacters, PrintableAddsOneColumnEach, PrintableMeasuresItsLength, SequencesAreTakenOut, SequencesLeaveTheLines, WideElementsAreCut, WrappedIsOne, WrappedIsWrapped};
 ghost use Rattle.comfy_parts.specs.Text.{Text};
 ghost use Rattle.comfy_parts.specs.Wrapping.{IsWrapped};
 
@@ -18,6 +18,16 @@ ghost use Rattle.comfy_parts.specs.Wrapping.{IsWrapped};
 pub fn wrapped_lines_are_one_list()
     ensures one { (w d : ℕ) (text : Text) (lines : List Text) → WrappedIsOne w d text lines }
     ensures some { (w d : ℕ) (text : Text) → WrappedIsWrapped w d text }
+{}
+
+/// A line ends after the first of its elements with which more than `w - 2` terminal columns are
+/// filled, or which is the last one, or after which the next one has no room beside one column for
+/// the delimiter. If that next one is wider than `w`, and four columns are free, the line also takes
+/// the delimiter and the head of it for all of them but one. A line whose first element is wider
+/// than `w` is that element's head, or its first character if the head is empty.
+pub fn lines_end_at_the_first_full_element()
+    ensures fitting { (w d : ℕ) (text : Text) → FittingLinesEndAtFirst w d text }
+    ensures wide { (w d : ℕ) (text : Text) → WideElementsAreCut w d text }
 {}
 
 /// Where a line ends, the text ends, or a delimiter follows, or the element there is wider than a

@@ -21,9 +21,10 @@ ghost use Rattle.comfy_table.specs.Widths.{ColumnNeeds};
 pub use comfy_parts::laws::{
     active_sequences_are_resumed, attributes_are_ordered, cells_are_equal_by_their_values,
     colors_are_ordered, cut_lines_are_full, head_is_longest, lines_are_few, lines_are_fewest,
-    lines_fit, lines_keep_the_text, lines_leave_no_sequence_open, lines_of_every_script_fit,
-    narrow_elements_stay_whole, neighbours_fill_a_line, one_character_takes_three_columns,
-    presets_have_columns_of_one, printable_adds_one_column_each, printable_measures_its_length,
+    lines_end_at_the_first_full_element, lines_fit, lines_keep_the_text,
+    lines_leave_no_sequence_open, lines_of_every_script_fit, narrow_elements_stay_whole,
+    neighbours_fill_a_line, one_character_takes_three_columns, presets_have_columns_of_one,
+    printable_adds_one_column_each, printable_measures_its_length,
     sequences_are_taken_out_in_one_pass, sequences_count_nothing,
     spaces_and_borders_add_one_column, wrapped_lines_are_one_list,
 };

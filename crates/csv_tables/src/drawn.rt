@@ -83,6 +83,7 @@ impl Pieces for DrawnRecords {
             return Ok(None);
         }
         let Ok((next, rest)) = piece_of(mem::replace(&mut self.rest, None)) else {
+            self.ready = None;
             return Err(AllocError);
         };
         self.rest = rest;

@@ -1,6 +1,6 @@
 //! Texts that come in pieces, so that they needn't be whole in memory.
 
-ghost use Rattle.std.specs.Prelude.{◌≡◌, ◌<◌, List, ℕ, Bool, true, false, IfOk, OnErr, length, string_bytes};
+ghost use Rattle.std.specs.Prelude.{◌≡◌, ◌<◌, [], List, ℕ, Bool, true, false, IfOk, OnErr, length, string_bytes};
 ghost use Rattle.devices.specs.Pieces.{IsNextPiece, text_left};
 
 use std::alloc::{AllocError, Global};
@@ -13,11 +13,13 @@ pub trait Pieces {
     // whether these are whole in memory, so that no call asks for any
     ghost is_whole: { Bool };
 
-    /// The next piece, which isn't empty; none behind the last one.
+    /// The next piece, which isn't empty; `None` after the last one. After an error nothing is left:
+    /// each further call returns `None`.
     fn next_piece(&mut self) -> Result<Option<String>, AllocError>
         ensures next { IfOk result (IsNextPiece (rest self.old) (rest self.new)) }
         ensures refused { OnErr result (is_whole ≡ false) }
-        ensures before_the_end { OnErr result (0 < length (rest self.old)) };
+        ensures before_the_end { OnErr result (0 < length (rest self.old)) }
+        ensures after { OnErr result (rest self.new ≡ []) };
 }
 
 // A text that is whole in memory: one piece, and none where it is empty.

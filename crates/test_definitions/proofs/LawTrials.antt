@@ -1,19 +1,20 @@
 -- Values of which conclusions of laws are false: a law has no body that a mutation could change.
-use Rattle.std.proofs.Common.{◌≡◌, ◌≤◌, ◌<◌, ◌⊎◌, ◌+◌, ◌*◌, ◌/◌, ◌==◌, ℕ, zero, suc, true, false, List, inl, inr, [], ◌∷◌, ◌++◌, Some, None, refl, ap, sym, ◌∙◌, arith, length, map, max, min}
-use Rattle.std.specs.Prelude.{codes, encode_utf8_all, replicate}
+use Rattle.std.proofs.Common.{◌≡◌, ◌≤◌, ◌<◌, ◌⊎◌, ◌+◌, ◌*◌, ◌/◌, ◌==◌, ⊥, ℕ, zero, suc, true, false, List, inl, inr, [], ◌∷◌, ◌++◌, Some, None, refl, ap, sym, ◌∙◌, arith, length, map, max, min, sum_by, take}
+use Rattle.std.specs.Prelude.{codes, encode_utf8_all, replicate, slice_index_or}
 use Rattle.std.specs.Str.{chars}
 use Rattle.std.specs.List.{All, AllAdjacentBelow, AllZip, slice_split}
 use Rattle.std.proofs.lemmas.List.Elements.{All-cons, All-head, All-nil}
+use Rattle.std.proofs.lemmas.List.Sums.{sum_by-cons}
 use Rattle.comfy_parts.proofs.Computing.{wrapping}
 use Rattle.comfy_parts.specs.CellValue.{CellValue, new_column, plain_cell}
 use Rattle.comfy_parts.specs.Columns.{IsOneColumnPreset, IsOneColumnStyle}
 use Rattle.comfy_parts.specs.Comparisons.{EqIsSame}
-use Rattle.comfy_parts.specs.Laws.{EndsBetweenElements, IsCutOutsideNarrow, IsLongestHead, IsResumedLine, SameButOneDelimiter, characters_without, element_around}
+use Rattle.comfy_parts.specs.Laws.{EndsAtFirst, EndsBetweenElements, IsCutOutsideNarrow, IsLongestHead, IsResumedLine, SameButOneDelimiter, bytes_to, characters_without, columns_to, element_around, ends_after}
 use Rattle.comfy_parts.specs.Presets.{ascii_full}
 use Rattle.comfy_parts.specs.Text.{AddsOneColumnEach, Text, begins_with, measure}
 use Rattle.comfy_parts.specs.VisibleLines.{CellLine}
 use Rattle.comfy_parts.specs.VisibleText.{visible_text}
-use Rattle.comfy_parts.specs.Wrapping.{IsSliceOf, IsSlicesWhere, lines_of_text, wrapped}
+use Rattle.comfy_parts.specs.Wrapping.{IsSliceOf, IsSlicesWhere, lines_of_text, part_taken, wrapped}
 use Rattle.comfy_parts.specs.declared.style.table_style.TableStyle.{TableStyle}
 use Rattle.comfy_table.specs.Drawing.{text_of}
 use Rattle.comfy_table.specs.Dynamic.{Steps}
@@ -154,6 +155,47 @@ short_head head =
     let fits : 2 ≤ 2 = omega arith in
     let is : 2 ≤ 1 = head.longest 2 fits in
     omega (arith, is)
+
+-- the elements of a text of two words with two spaces between them
+abbrev apart : List Text
+apart = codes "abcd" ∷ [] ∷ codes "efghi" ∷ []
+
+-- in ten columns its first line ends with the empty one: the next one would need eleven
+ends_with_the_gap : EndsAtFirst 10 0x20 apart 5
+unfolding wrapping
+ends_with_the_gap =
+    record { last = 1; is_first = record { holds = refl; before = before }; takes = refl }
+  where
+    before : (i : ℕ) → i < 1 → ends_after 10 0x20 apart i ≡ false
+    before zero below = refl
+    before (suc i) below = absurd (omega (arith, below))
+
+-- two words that fit a line together
+abbrev beside : List Text
+beside = codes "ab" ∷ codes "cd" ∷ []
+
+-- so the line doesn't end after the first one
+-- false: comfy_parts::laws::lines_end_at_the_first_full_element
+ends_too_early : ¬ (EndsAtFirst 5 0x20 beside 2)
+unfolding wrapping
+ends_too_early ends = at ends.last ends.is_first.holds ends.takes
+  where
+    -- what is taken of the element after the last one
+    taken : ℕ → ℕ
+    taken last =
+        part_taken 5 0x20 (columns_to 0x20 beside last) (slice_index_or beside (suc last) [])
+
+    at : (last : ℕ) → ends_after 5 0x20 beside last ≡ true
+        → 2 ≡ bytes_to 0x20 beside last + taken last → ⊥
+    at zero holds takes = let no : false ≡ true = holds in absurd (cc no)
+    at (suc k) holds takes =
+        let first : sum_by length (take (suc (suc k)) beside)
+            ≡ 2 + sum_by length (take (suc k) (codes "cd" ∷ [])) =
+        sum_by-cons length (codes "ab") (take (suc k) (codes "cd" ∷ [])) in
+        let second : sum_by length (take (suc k) (codes "cd" ∷ []))
+            ≡ 2 + sum_by length (take k []) =
+        sum_by-cons length (codes "cd") (take k []) in
+        omega (arith, first, second, takes)
 
 -- false: comfy_parts::laws::lines_keep_the_text, comfy_table::laws::cells_keep_their_text
 lost_letter : ¬ (characters_without 0x20 (codes "a") ≡ characters_without 0x20 (codes "a b"))

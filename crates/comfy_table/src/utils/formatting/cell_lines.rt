@@ -1,8 +1,9 @@
 //! The lines of a cell in its row: its text lines wrapped at the column's width, and cut to the
 //! row's height.
 
-ghost use Rattle.std.specs.Prelude.{◌≡◌, ◌++◌, ◌∷◌, ◌&&◌, [], IfOk, IfSome, OnOk, Some, map, option_map, string_bytes};
+ghost use Rattle.std.specs.Prelude.{◌≡◌, ◌++◌, ◌∷◌, ◌&&◌, [], false, IfOk, IfSome, OnOk, Some, map, option_map, string_bytes};
 ghost use Rattle.std.specs.List.{list_any};
+ghost use Rattle.comfy_parts.specs.Columns.{IsApart};
 ghost use Rattle.comfy_parts.specs.Text.{measure};
 ghost use Rattle.comfy_parts.specs.VisibleText.{has_escape};
 ghost use Rattle.comfy_parts.specs.Wrapping.{lines_of_text, wrapped};
@@ -15,10 +16,12 @@ ghost use Rattle.comfy_table.specs.TableValue.{measured_cell};
 use crate::table::Table;
 use crate::utils::formatting::styling::push_reset;
 use comfy_parts::content_split::{
-    ColumnDisplayInfo, leaves_sequence_open, measure_text_width, split_long_word, wrapped_lines,
+    ColumnDisplayInfo, adds_one_column, leaves_sequence_open, measure_text_width, split_long_word,
+    wrapped_lines,
 };
 use comfy_parts::for_tables::{has_escape, needs_no_rewrite, written_lines};
 use comfy_parts::{Cell, Result, Row};
+use std::alloc::Global;
 use std::borrow::CowStr;
 use std::marker::Model;
 
@@ -27,15 +30,56 @@ use std::marker::Model;
 pub struct Line<'a> {
     columns: usize,
     text: CowStr<'a>,
+    // the indicator after the head of a line that is cut, or nothing
+    end: &'a str,
 }
 
 impl<'a> Model for Line<'a> {
+    ghost use Rattle.std.specs.Prelude.{◌++◌};
     ghost use Rattle.std.specs.Cow.{cow_str_bytes};
     ghost use Rattle.comfy_table.specs.DrawnLines.{DrawnLine};
 
     ghost Value = { DrawnLine };
 
-    ghost view = { λ l. record { columns = l.columns; written = cow_str_bytes l.text } };
+    ghost view = { λ l. record {
+      columns = l.columns;
+      written = cow_str_bytes l.text ++ l.end.now;
+    } };
+}
+
+impl<'a> Line<'a> {
+    /// A line that is written as it is in the text of its cell.
+    fn of_text(columns: usize, text: &'a str) -> Line<'a>
+        ensures { result ≡ record { columns = columns; written = text.now } }
+    {
+        Line {
+            columns,
+            text: CowStr::Borrowed(text),
+            end: "",
+        }
+    }
+
+    /// The terminal columns of the line.
+    pub fn columns(&self) -> usize
+        ensures { result ≡ self.now.columns }
+    {
+        self.columns
+    }
+
+    /// The text that is written, in two parts: the second follows the first.
+    pub fn parts(&self) -> (&str, &str)
+        ensures { result.0.now ++ result.1.now ≡ self.now.written }
+    {
+        (self.text.as_str(), self.end)
+    }
+
+    // The whole text that is written.
+    fn written(&self, alloc: Global) -> Result<String>
+        ensures { IfOk result (λ text. string_bytes text ≡ self.now.written) }
+    {
+        let (text, end) = self.parts();
+        joined(alloc, text, end)
+    }
 }
 
 /// A cell of a row and its lines, from the top.
@@ -43,27 +87,23 @@ impl<'a> Model for Line<'a> {
 pub enum CellLines<'a> {
     // no cell stands in the column
     Missing,
-    // the columns and the text of one text line that fits and is written as it is
-    Single(&'a Cell, usize, &'a str),
+    // one text line that fits and is written as it is
+    Single(&'a Cell, Line<'a>),
     Multiple(&'a Cell, Vec<Line<'a>>),
 }
 
 impl<'a> CellLines<'a> {
-    /// A line by its position, counted from 0: the cell, the line's terminal columns, and what is
-    /// written.
-    pub fn get(&self, position: usize) -> Option<(&Cell, usize, &str)>
-        ensures { option_map (λ line.
-            (line.0.now, record { columns = line.1; written = line.2.now })) result
+    /// The cell and its line at a position, counted from 0.
+    pub fn get(&self, position: usize) -> Option<(&Cell, &Line<'a>)>
+        ensures { option_map (λ line. (line.0.now, line.1.now)) result
             ≡ line_at position (lines_of self.now) }
     {
         match self {
             CellLines::Missing => None,
-            CellLines::Single(cell, columns, text) => {
-                (position == 0).then_some((*cell, *columns, *text))
-            }
+            CellLines::Single(cell, line) => (position == 0).then_some((*cell, line)),
             CellLines::Multiple(cell, lines) => {
                 let line = lines.get(position)?;
-                Some((*cell, line.columns, line.text.as_str()))
+                Some((*cell, line))
             }
         }
     }
@@ -72,7 +112,7 @@ impl<'a> CellLines<'a> {
 /// The lines of a cell in its row. One text line that fits and is written as it is needs no list.
 /// Others stand in one of the spare lists, if there is one.
 pub fn row_cell_lines<'a>(
-    table: &Table,
+    table: &'a Table,
     row: &Row,
     cell: &'a Cell,
     info: &ColumnDisplayInfo,
@@ -83,8 +123,8 @@ pub fn row_cell_lines<'a>(
 {
     // the clause of a limit says that it is at least 1
     let _limit = row.height_limit();
-    if let Some((columns, text)) = only_line(table, cell, info) {
-        return Ok(CellLines::Single(cell, columns, text));
+    if let Some(line) = only_line(table, cell, info) {
+        return Ok(CellLines::Single(cell, line));
     }
     let lines = listed_lines(table, row, cell, info, empty_list(spare))?;
     Ok(CellLines::Multiple(cell, lines))
@@ -99,16 +139,10 @@ fn empty_list<'a>(spare: &mut Vec<Vec<Line<'a>>>) -> Vec<Line<'a>>
     list
 }
 
-// The columns and the text of a cell's one text line, if it fits and is written as it is.
-fn only_line<'a>(
-    table: &Table,
-    cell: &'a Cell,
-    info: &ColumnDisplayInfo,
-) -> Option<(usize, &'a str)>
-    ensures { IfSome result (λ line. record {
-      columns = line.0;
-      written = line.1.now;
-    } ∷ [] ≡ map drawn_line (uncut_lines table.now.custom_styling info.now.content_width
+// A cell's one text line, if it fits and is written as it is.
+fn only_line<'a>(table: &Table, cell: &'a Cell, info: &ColumnDisplayInfo) -> Option<Line<'a>>
+    ensures { IfSome result (λ line. line ∷ []
+        ≡ map drawn_line (uncut_lines table.now.custom_styling info.now.content_width
         (cell_delimiter table.now info.now.delimiter cell.now) cell.now)) }
 {
     let texts = cell.text_lines();
@@ -120,7 +154,7 @@ fn only_line<'a>(
     if is_custom_styled(table, cell) && !needs_no_rewrite(text) {
         return None;
     }
-    Some((widths[0], text))
+    Some(Line::of_text(widths[0], text))
 }
 
 // Whether what is written for the lines of the cell may differ from what is measured of them.
@@ -133,7 +167,7 @@ fn is_custom_styled(table: &Table, cell: &Cell) -> bool
 // The lines of a cell in its row, in an empty list. Most cells need none.
 #[inline(never)]
 fn listed_lines<'a>(
-    table: &Table,
+    table: &'a Table,
     row: &Row,
     cell: &'a Cell,
     info: &ColumnDisplayInfo,
@@ -149,7 +183,7 @@ fn listed_lines<'a>(
         return uncut_lines(table, cell, info, measured);
     }
     let kept = height.saturating_sub(1);
-    let cut = cut_line(table, measured[kept].text.as_str(), info)?;
+    let cut = cut_line(table, &measured[kept], info)?;
     let mut lines = uncut_lines(table, cell, info, measured)?;
     lines.truncate(kept);
     lines.push(cut)?;
@@ -192,8 +226,7 @@ fn push_lines<'a>(
         (lines_of_text info.now.content_width delimiter text.now)) }
 {
     if columns <= usize::from(info.content_width) {
-        let text = CowStr::Borrowed(text);
-        lines.push(Line { columns, text })?;
+        lines.push(Line::of_text(columns, text))?;
         return Ok(());
     }
     push_wrapped(lines, text, info, delimiter)
@@ -211,8 +244,7 @@ fn push_wrapped<'a>(
 {
     let mut wrapped = wrapped_lines(text, info, delimiter);
     while let Some((line, columns)) = wrapped.next_measured() {
-        let text = CowStr::Borrowed(line);
-        lines.push(Line { columns, text })?;
+        lines.push(Line::of_text(columns, line))?;
     }
     Ok(())
 }
@@ -247,39 +279,97 @@ fn with_texts<'a>(mut lines: Vec<Line<'a>>, texts: Vec<String>) -> Vec<Line<'a>>
     for text in texts {
         if let Some(line) = lines.get_mut(position) {
             line.text = CowStr::Owned(text);
+            line.end = "";
             position += 1;
         }
     }
     lines
 }
 
-// The line that is cut, by what is measured of it.
-fn cut_line<'a>(table: &Table, measured: &str, info: &ColumnDisplayInfo) -> Result<Line<'a>>
+// The line that is cut, by what is measured of it. Only with custom styling it has a text of its
+// own: a reset closes the sequences that are left open.
+fn cut_line<'a>(table: &'a Table, measured: &Line<'a>, info: &ColumnDisplayInfo) -> Result<Line<'a>>
     ensures { IfOk result (λ line. line
         ≡ drawn_line (cut_line table.now.custom_styling info.now.content_width table.now.indicator
-        (as_measured measured.now))) }
+        (as_measured measured.now.written))) }
 {
-    let mut text = cut_text(table, measured, info)?;
+    match &measured.text {
+        CowStr::Borrowed(text) if !table.custom_styling && measured.end.is_empty() => {
+            let (head, indicator) = cut_text(table, *text, info);
+            Ok(Line {
+                columns: joined_width(*table.columns.allocator(), head, indicator)?,
+                text: CowStr::Borrowed(head),
+                end: indicator,
+            })
+        }
+        _ => closed_line(table, measured, info),
+    }
+}
+
+// The line that is cut, in a text of its own.
+fn closed_line<'a>(table: &Table, measured: &Line, info: &ColumnDisplayInfo) -> Result<Line<'a>>
+    ensures { IfOk result (λ line. line
+        ≡ drawn_line (cut_line table.now.custom_styling info.now.content_width table.now.indicator
+        (as_measured measured.now.written))) }
+{
+    let alloc = *table.columns.allocator();
+    let measured = measured.written(alloc)?;
+    let (head, indicator) = cut_text(table, measured.as_str(), info);
+    let mut text = joined(alloc, head, indicator)?;
     let columns = measure_text_width(text.as_str());
     if table.custom_styling && leaves_sequence_open(text.as_str()) {
         push_reset(&mut text)?;
     }
-    let text = CowStr::Owned(text);
-    Ok(Line { columns, text })
+    Ok(Line {
+        columns,
+        text: CowStr::Owned(text),
+        end: "",
+    })
 }
 
-// The head of a line beside the indicator, and the indicator.
-fn cut_text(table: &Table, line: &str, info: &ColumnDisplayInfo) -> Result<String>
-    ensures { IfOk result (λ text. string_bytes text
-        ≡ cut_text info.now.content_width table.now.indicator line.now) }
+// The head of a line for the columns beside the indicator, and the indicator.
+fn cut_text<'a>(table: &'a Table, line: &'a str, info: &ColumnDisplayInfo) -> (&'a str, &'a str)
+    ensures { result.0.now ++ result.1.now
+        ≡ cut_text info.now.content_width table.now.indicator line.now }
 {
     let columns = usize::from(info.content_width);
     let indicator = fitting_indicator(table.truncation_indicator(), columns);
     let left = columns.saturating_sub(measure_text_width(indicator));
     let (head, _) = split_long_word(left, line);
-    let mut text = String::from_str(*table.columns.allocator(), head)?;
-    text.push_str(indicator)?;
-    Ok(text)
+    (head, indicator)
+}
+
+// The terminal columns of a text and another one after it. Only if the second may join the first,
+// both are measured in a text of their own.
+fn joined_width(alloc: Global, text: &str, end: &str) -> Result<usize>
+    ensures { IfOk result (λ columns. columns ≡ measure (text.now ++ end.now)) }
+{
+    if !may_join(end)
+        && let Some(columns) = measure_text_width(text).checked_add(measure_text_width(end))
+    {
+        return Ok(columns);
+    }
+    Ok(measure_text_width(joined(alloc, text, end)?.as_str()))
+}
+
+// Whether the first character of a text may join one before it.
+fn may_join(text: &str) -> bool
+    ensures { result ≡ false → IsApart text.now }
+{
+    match text.chars().next() {
+        Some(first) => !adds_one_column(first),
+        None => false,
+    }
+}
+
+// A text with another one after it.
+fn joined(alloc: Global, text: &str, end: &str) -> Result<String>
+    ensures { IfOk result (λ joined. string_bytes joined ≡ text.now ++ end.now) }
+{
+    let mut joined = String::with_capacity(alloc, text.len().saturating_add(end.len()))?;
+    joined.push_str(text)?;
+    joined.push_str(end)?;
+    Ok(joined)
 }
 
 // An indicator that is wider than the column counts as empty.

@@ -33,9 +33,10 @@ pub fn format_row(
     let cells = drawn_cells(row, columns.as_slice(), table)?;
     let cells = cells.as_slice();
     let none = Gap::new(alloc, false, None)?;
+    let mut text = String::new(alloc);
     let mut lines = Vec::new(alloc);
     for line in 0..greatest_height(cells) {
-        lines.push(row_line(alloc, &none, cells, line)?)?;
+        lines.push(row_line(&mut text, &none, cells, line)?)?;
     }
     Ok(lines)
 }
@@ -82,18 +83,20 @@ pub fn delimiter(cell: &Cell, info: &ColumnDisplayInfo, table: &Table) -> char
     table.delimiter_of(cell, info.delimiter)
 }
 
-// One line of a row. No gap stands between its pieces.
-fn row_line(alloc: Global, none: &Gap, cells: &[DrawnCell], line: usize) -> Result<Vec<String>>
+// One line of a row, with no gap between its pieces. Each is drawn in the text first, so that its
+// own memory is asked for once, for exactly its bytes.
+fn row_line(text: &mut String, none: &Gap, cells: &[DrawnCell], line: usize) -> Result<Vec<String>>
     requires { none.now ≡ [] }
     ensures { IfOk result (λ pieces. map string_bytes pieces.items
         ≡ map (piece_at line) cells.now) }
 {
-    let mut pieces = Vec::new(alloc);
+    let alloc = *text.allocator();
+    let mut pieces = Vec::with_capacity(alloc, cells.len())?;
     for cell in cells {
-        let mut piece = String::with_capacity(alloc, cell.width())?;
-        let free = cell.piece_at(line).push(&mut piece, none, 0)?;
-        push_spaces(&mut piece, free)?;
-        pieces.push(piece)?;
+        text.clear();
+        let free = cell.piece_at(line).push(text, none, 0)?;
+        push_spaces(text, free)?;
+        pieces.push(String::from_str(alloc, text.as_str())?)?;
     }
     Ok(pieces)
 }

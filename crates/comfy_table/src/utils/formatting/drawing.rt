@@ -287,6 +287,8 @@ impl<'a> Writer<'a> {
         drawn: &mut DrawnRow<'a, 'r>,
         header: &'r Row,
     ) -> Result<()>
+    where
+        'a: 'r,
         ensures ok { OnOk result (self.new
             ≡ with_written (drawn_header self.old.table self.old.infos (Some header.now))
             self.old) }
@@ -304,6 +306,8 @@ impl<'a> Writer<'a> {
 
     // The lines of these rows, with the row separator between each two rows.
     fn write_rows<'r>(&mut self, drawn: &mut DrawnRow<'a, 'r>, rows: &'r [Row]) -> Result<()>
+    where
+        'a: 'r,
         ensures ok { OnOk result (self.new
             ≡ with_written (drawn_rows self.old.table self.old.infos rows.now) self.old) }
         ensures err { OnErr result (BeginsWith self.new.output.text self.old.output.text) }
@@ -325,6 +329,8 @@ impl<'a> Writer<'a> {
         drawn: &mut DrawnRow<'a, 'r>,
         rows: &'r [Row],
     ) -> Result<()>
+    where
+        'a: 'r,
         ensures ok { OnOk result (self.new
             ≡ with_written (further_rows self.old.table self.old.infos rows.now) self.old) }
         ensures err { OnErr result (BeginsWith self.new.output.text self.old.output.text) }
@@ -345,6 +351,8 @@ impl<'a> Writer<'a> {
         gaps: &RowGaps,
         row: &'r Row,
     ) -> Result<()>
+    where
+        'a: 'r,
         ensures ok { OnOk result (self.new
             ≡ with_written (row_between gaps.now self.old.table self.old.infos row.now) self.old) }
         ensures err { OnErr result (BeginsWith self.new.output.text self.old.output.text) }

@@ -2,7 +2,6 @@
 
 ghost use Rattle.std.specs.Prelude.{◌≡◌, IfOk, length, map, nat_lt};
 ghost use Rattle.std.specs.List.{list_any};
-ghost use Rattle.comfy_parts.specs.CellValue.{info_width};
 ghost use Rattle.comfy_table.specs.DrawnCells.{drawn_cell, greatest_height, piece_at, styles_of};
 ghost use Rattle.comfy_table.specs.Pieces.{row_height};
 
@@ -46,16 +45,9 @@ impl<'a, 'r> DrawnCell<'a, 'r> {
         ensures { result ≡ length self.now.pieces }
     {
         match &self.lines {
-            CellLines::Missing | CellLines::Single(_, _, _) => 1,
+            CellLines::Missing | CellLines::Single(_, _) => 1,
             CellLines::Multiple(_, lines) => lines.len(),
         }
-    }
-
-    /// The terminal columns of its column, paddings too.
-    pub fn width(&self) -> usize
-        ensures { result ≡ info_width self.now.info }
-    {
-        self.info.width()
     }
 
     /// The piece of the cell in a line of its row, which is counted from 0.
@@ -63,9 +55,7 @@ impl<'a, 'r> DrawnCell<'a, 'r> {
         ensures { result ≡ piece_at line self.now }
     {
         match self.lines.get(line) {
-            Some((cell, columns, text)) => {
-                Piece::new(self.styles, cell, self.info, columns, text)
-            }
+            Some((cell, line)) => Piece::new(self.styles, cell, self.info, line),
             None => Piece::blank(self.info),
         }
     }
@@ -86,7 +76,7 @@ pub fn take_list<'r>(cell: DrawnCell<'_, 'r>, spare: &mut Vec<Vec<Line<'r>>>) ->
 pub fn drawn_cells<'a, 'r>(
     row: &'r Row,
     columns: &[ShownColumn<'a>],
-    table: &Table,
+    table: &'r Table,
 ) -> Result<Vec<DrawnCell<'a, 'r>>>
     ensures { IfOk result (λ cells. cells.items
         ≡ map (drawn_cell table.now row.now) columns.now) }
@@ -139,7 +129,7 @@ pub fn is_any_taller(
 fn row_height<'r>(
     row: &'r Row,
     columns: &[ShownColumn<'_>],
-    table: &Table,
+    table: &'r Table,
     spare: &mut Vec<Vec<Line<'r>>>,
 ) -> Result<usize>
     ensures { IfOk result (λ height. height
@@ -160,7 +150,7 @@ fn row_height<'r>(
 pub fn drawn_cell<'a, 'r>(
     row: &'r Row,
     column: &ShownColumn<'a>,
-    table: &Table,
+    table: &'r Table,
     styles: Styles,
     spare: &mut Vec<Vec<Line<'r>>>,
 ) -> Result<DrawnCell<'a, 'r>>

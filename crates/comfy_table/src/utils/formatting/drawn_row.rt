@@ -53,7 +53,7 @@ impl<'a, 'r> DrawnRow<'a, 'r> {
         gaps: &RowGaps,
         row: &'r Row,
         columns: &[ShownColumn<'a>],
-        table: &Table,
+        table: &'r Table,
     ) -> Result<usize>
         ensures further { OnOk result
             (AreFurther self.new (map (drawn_cell table.now row.now) columns.now)) }

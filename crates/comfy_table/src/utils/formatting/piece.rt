@@ -9,6 +9,7 @@ ghost use Rattle.comfy_table.specs.Pieces.{blank_piece, cell_alignment, free_bef
 ghost use Rattle.comfy_table.specs.Styling.{styled};
 
 use crate::table::Table;
+use crate::utils::formatting::cell_lines::Line;
 use crate::utils::formatting::gap::{Gap, push_spaces};
 use crate::utils::formatting::styling::{push_style_begin, push_style_end};
 use comfy_parts::content_split::ColumnDisplayInfo;
@@ -48,20 +49,22 @@ impl Styles {
 pub struct Piece<'a> {
     left: usize,
     text: &'a str,
+    // what follows the text without a gap
+    end: &'a str,
     right: usize,
     // the cell whose styles are written, and the spaces between them and the text
     styles: Option<(&'a Cell, (usize, usize))>,
 }
 
 impl<'a> Model for Piece<'a> {
-    ghost use Rattle.std.specs.Prelude.{option_map};
+    ghost use Rattle.std.specs.Prelude.{◌++◌, option_map};
     ghost use Rattle.comfy_parts.specs.Text.{Text};
     ghost use Rattle.comfy_table.specs.Gaps.{spaced, styled_text};
 
     ghost Value = { Text };
 
     ghost view = { λ p. spaced (p.left, p.right)
-        (styled_text (option_map (λ s. (s.0.now, s.1)) p.styles) p.text.now) };
+        (styled_text (option_map (λ s. (s.0.now, s.1)) p.styles) (p.text.now ++ p.end.now)) };
 }
 
 impl<'a> Piece<'a> {
@@ -70,29 +73,31 @@ impl<'a> Piece<'a> {
         styles: Styles,
         cell: &'a Cell,
         info: &ColumnDisplayInfo,
-        columns: usize,
-        text: &'a str,
+        line: &'a Line<'_>,
     ) -> Piece<'a>
-        ensures { result ≡ piece_with styles cell.now info.now
-            (record { columns = columns; written = text.now }) }
+        ensures { result ≡ piece_with styles cell.now info.now line.now }
     {
-        let (left, right) = spaces_beside(cell, info, columns);
+        let (text, end) = line.parts();
+        let (left, right) = spaces_beside(cell, info, line.columns());
         match styles {
             Styles::RoundTexts if has_styles(cell) => Piece {
                 left,
                 text,
+                end,
                 right,
                 styles: Some((cell, (0, 0))),
             },
             Styles::RoundPieces if has_styles(cell) => Piece {
                 left: 0,
                 text,
+                end,
                 right: 0,
                 styles: Some((cell, (left, right))),
             },
             _ => Piece {
                 left,
                 text,
+                end,
                 right,
                 styles: None,
             },
@@ -106,6 +111,7 @@ impl<'a> Piece<'a> {
         Piece {
             left,
             text,
+            end: "",
             right,
             styles: None,
         }
@@ -127,11 +133,12 @@ impl<'a> Piece<'a> {
     {
         if let Some((cell, beside)) = self.styles {
             gap.push(line, free, self.left)?;
-            push_styled(line, self.text, cell, beside)?;
+            push_styled(line, self.text, self.end, cell, beside)?;
             return Ok(self.right);
         }
         gap.push(line, free, self.left)?;
         line.push_str(self.text)?;
+        line.push_str(self.end)?;
         Ok(self.right)
     }
 }
@@ -145,16 +152,23 @@ fn has_styles(cell: &Cell) -> bool
     cell.background().is_some() || cell.foreground().is_some() || !cell.attributes().is_empty()
 }
 
-// Appends a text between spaces, in the styles of a cell. Most tables write none.
+// Appends a text in two parts between spaces, in the styles of a cell. Most tables write none.
 #[inline(never)]
-fn push_styled(line: &mut String, text: &str, cell: &Cell, beside: (usize, usize)) -> Result<()>
+fn push_styled(
+    line: &mut String,
+    text: &str,
+    end: &str,
+    cell: &Cell,
+    beside: (usize, usize),
+) -> Result<()>
     ensures { OnOk result (string_bytes line.new
-        ≡ string_bytes line.old ++ styled cell.now (spaced beside text.now)) }
+        ≡ string_bytes line.old ++ styled cell.now (spaced beside (text.now ++ end.now))) }
 {
     let (left, right) = beside;
     push_style_begin(line, cell)?;
     push_spaces(line, left)?;
     line.push_str(text)?;
+    line.push_str(end)?;
     push_spaces(line, right)?;
     push_style_end(line, cell)
 }
