@@ -376,13 +376,9 @@ def seen_by(label, run, folder):
     plain, suiting = PROGRAMS[label], SUITING[label].get(run.name)
     if not shutil.which(plain[0]):
         return {"": "not installed"}
-    seen = {"": plain}
-    if suiting:
-        seen[options_of(suiting, plain)] = suiting
-    for options, command in seen.items():
-        result = ran([*command, run.name], folder)
-        seen[options] = seen_of(run, result, result, command[0] != "column")
-    return seen
+    commands = {"": plain} | ({options_of(suiting, plain): suiting} if suiting else {})
+    results = {options: ran([*command, run.name], folder) for options, command in commands.items()}
+    return {options: seen_of(run, it, it, plain[0] != "column") for options, it in results.items()}
 
 
 def compared(program, folder):
