@@ -1,4 +1,4 @@
-"""Tables drawn as text, by the library comfy_table, whose drawing is proved: straight edges, and widths that hold.
+"""Tables drawn as text, by the library comfy_table, which is proved to draw by written rules.
 
     >>> from comfy_table_proved import tabulate
     >>> print(tabulate([["oats", 3], ["rye", -12.5]], headers=["name", "price"]))
