@@ -5,7 +5,8 @@
  *  - Each result comes only where the function's list says so, but for what it says of malloc. There is no other result.
  *  - The drawing, the message about an input, *needed and what stays unchanged are as the list says.
  *  - Texts are cut by their lengths, and arguments at zero bytes, as said, and ask for what is said.
- *  - The lines that comfy_cells_draw writes keep all that is promised of a table's lines: docs/PROVED.md of the sources.
+ *  - The lines that comfy_cells_draw writes keep all that is promised of a table's lines: docs/PROVED.md of the sources. With
+ *    COMFY_FORM_TRIMMED this is so of the lines before the white space at their ends is left out: then they aren't equally wide.
  *  - A call returns, and reads and writes only memory of its own, and that which its arguments give it.
  *
  * Not proved, but tested:

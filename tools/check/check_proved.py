@@ -3,13 +3,14 @@
 
     tools/check/check_proved.py
 
-- docs/PROVED.md: its counts are what tools/check/what_is_believed.py writes.
+- docs/PROVED.md: its counts are what tools/check/what_is_believed.py writes. It names each law and each promise, and no other.
 - The laws of comfy_table pass on all those of comfy_parts.
 - Each law, and each promise, has a trial that shows a value of which its conclusion is false, below a line
   `-- false: CRATE::laws::NAME` of a file of trials.
-- README.md: what it prints is the output of the stored run.
+- README.md: what it prints is the output of the stored run. Its figures, and one of docs/DECISIONS.md, are those of
+  docs/PERFORMANCE.md.
 - CALLING.md: each clause and signature that it quotes stands in the source of the library, of one that it tells of too, or
-  of a caller.
+  of a caller. Each name in backquotes is one of the sources.
 - docs/DIFFERENCES.md: each name that only one of the original and this library has is there (tools/check/new_items.py).
 - Each mutation changes a function that exists.
 - Each definition of specs/ and proofs/ is reached (tools/check/reach.py).
@@ -36,9 +37,18 @@ from manual import wrong_files
 from pictures import wrong_pictures
 
 LAWS_ALONE = ["cluster_width"]  # libraries without code
+LAWS_ELSEWHERE = {("comfy_parts", "presets_are_as_tabled")}  # not in `laws`, and without a trial
+LAWS_IN_PROSE = ["cluster_width", "promises"]  # PROVED names some of theirs outside of its tables
+COUNTS = "no one two three four five six seven eight nine ten eleven twelve".split()
 CALLERS = ["test_callers", "test_csv_cases"]
 TOLD_WITH = {"comfy_run": ["devices"], "csv_tables": ["csv_records", "csv_command"]}  # by one CALLING.md
 STORED = ["csvtable/stdout"]
+LINKED = ["README.md", "CONTRIBUTING.md", "docs/*.md", "crates/*/CALLING.md", "crates/case_files/FORMAT.md", "packages/*/README.md"]
+# Names in backquotes of a CALLING.md that the sources don't have, each with the reason.
+NOT_OURS = {
+    "yours": "a crate of the reader's",
+    "try_": "how the names of some calls begin",
+}
 
 
 def mutated_in(crate):
@@ -96,6 +106,78 @@ def wrong_in_calling(crate):
     ]
 
 
+def names_in(page):
+    """The names in backquotes of a page, outside of its blocks: a word, or words joined by `::`, that are all that is there, and
+    in longer code those that are written `FooBar`, `foo_bar` or `foo::bar`."""
+    for code in re.findall(r"`([^`\n]+)`", re.sub(r"```.*?```", "", page, flags=re.S)):
+        if re.fullmatch(r"[A-Za-z]\w*(?:::\w+)*", code):
+            yield from code.split("::")
+            continue
+        for word in re.findall(r"[A-Za-z]\w*(?:::\w+)*", re.sub(r'"[^"]*"', "", code)):
+            if "::" in word or "_" in word or re.search(r"[A-Z]\w*[a-z]\w*[A-Z]", word):
+                yield from word.split("::")
+
+
+def wrong_names():
+    """The names in backquotes of the pages CALLING.md that no source has outside of its comments."""
+    pages = glob.glob("crates/*/CALLING.md", root_dir=TOP)
+    paths = [path for kind in ("src/**/*.rt", "specs/**/*.antt", "proofs/**/*.antt") for path in files_of("*", kind)]
+    sources = [re.sub(r"^\s*(?://|--).*$", "", text_of(path), flags=re.M) for path in paths]
+    known = set(NOT_OURS).union(*(re.findall(r"\w+", it) for it in [*sources, *paths, text_of("crates.txt")]))
+    found = ((page, it) for page in pages for it in dict.fromkeys(names_in(text_of(page))))
+    return [f"{page} names `{it}`, which no source has" for page, it in found if it not in known]
+
+
+def named_laws(page):
+    """The crates and names of the laws and promises that the tables of a page have after their conditions. If a name has no crate,
+    the head of its table says it."""
+    place = ""
+    for line in re.findall(r"^\| .*$", page, re.M):
+        place = (re.findall(r"Function of `(\w+)", line) or [place])[0] if " | Condition | " in line else place
+        for path in re.findall(r"`([a-z]\w*(?:::\w+)*)`", " ".join(line.split(" | ")[2:])):
+            if " | Condition | " not in line:
+                yield path.split("::")[0] if "::" in path else place, path.split("::")[-1]
+
+
+def wrong_laws():
+    """The laws and promises that PROVED doesn't name, and what its tables name that is none."""
+    page = text_of("docs/PROVED.md")
+    named, wanted = set(named_laws(page)), {(it.split("::")[0], it.split("::")[-1]) for it in laws()}
+    in_prose = {it for it in wanted if it[0] in LAWS_IN_PROSE and f"`{it[1]}`" in page}
+    missing = [f"docs/PROVED.md doesn't name {'::'.join(it)}" for it in sorted(wanted - named - in_prose)]
+    return missing + [f"docs/PROVED.md names {'::'.join(it)}, which is no law" for it in sorted(named - wanted - LAWS_ELSEWHERE)]
+
+
+def table_below(heading, page):
+    """The figures of each line of the first block below a heading of a page, of which each has a point."""
+    block = re.search(rf"^#+ {re.escape(heading)}\n.*?^```text\n.*?\n(.*?)^```", page, re.M | re.S)[1]
+    return [[float(it.replace(",", "")) for it in re.findall(r"(?<=\s)[\d,]*\d\.\d+(?=[\s;])", line + "\n")] for line in block.splitlines()]
+
+
+def percent_of(ratios):
+    """The least and the greatest of some ratios, as a page writes them."""
+    return f"{round(100 * min(ratios))} to {round(100 * max(ratios))} %"
+
+
+def wrong_figures():
+    """The figures of README, and one of DECISIONS, that aren't those of PERFORMANCE; and its ratios that its figures don't give."""
+    page = text_of("docs/PERFORMANCE.md")
+    ours = table_below("`ctable`, and the original", page)
+    calls = table_below("Calls from Rust and Python", page)
+    # its figures, those of the original, and as many ratios: of each line those of `Table`
+    tables = [(it[0], it[len(it) // 2], it[len(it) // 2 + 1]) for it in calls]
+    wrong = [f"docs/PERFORMANCE.md: {it} of {original} isn't {ratio}" for it, original, ratio in ours + tables if abs(it / original - ratio) > 0.0105]
+    block = re.search(r"^100,000 records .*?\n(.*?)^```", page, re.M | re.S)[1]
+    seen = {it[0]: f"{it[1]} s, {it[2]} MB" for it in re.findall(r"^(\w+).* (\d\.\d\d) +(\d+)$", block, re.M)}
+    wanted = [
+        ("README.md", f"On {COUNTS[len(ours)]} inputs, `ctable` takes {percent_of([it[2] for it in ours])} of the processor instructions"),
+        ("README.md", f"On {COUNTS[len(calls)]} inputs, `Table` of the package for Rust takes {percent_of([it[2] for it in tables])} of them"),
+        ("README.md", "processor time, memory | " + " | ".join(seen.get(it, "") for it in ("csvtable", "csvlook", "column", "mlr")) + " |"),
+        ("docs/DECISIONS.md", f"CSV and arguments take {calls[0][2] - calls[0][1]:.2f} million instructions more"),
+    ]
+    return wrong + [f"{path} doesn't say, as docs/PERFORMANCE.md does: {it}" for path, it in wanted if it not in text_of(path)]
+
+
 def wrong_lines():
     """The lines of src/ and specs/ that are too long to be read beside others."""
     kept_on_one_line = r"\s*(?:(?:pub|ghost|unfoldable) )*use |\s*#!?\[tactic\("
@@ -122,7 +204,7 @@ def anchor_of(heading):
 def wrong_links():
     """The links of the pages that lead to no file of the repository, or to no heading of it."""
     wrong = []
-    for page in ["README.md", "CONTRIBUTING.md", *glob.glob("docs/*.md", root_dir=TOP), *glob.glob("crates/*/CALLING.md", root_dir=TOP)]:
+    for page in (it for pattern in LINKED for it in glob.glob(pattern, root_dir=TOP)):
         for link in re.findall(r"\]\(([^)\s]+)\)", text_of(page)):
             if link.startswith("https://"):
                 continue
@@ -145,6 +227,9 @@ def main():
         wrong += [f"{path} hasn't the line of README.md: {line}" for line in code.splitlines() if line not in text_of(path)]
     for path in glob.glob("crates/*/CALLING.md", root_dir=TOP):
         wrong += wrong_in_calling(path.split("/")[1])
+    wrong += wrong_names()
+    wrong += wrong_laws()
+    wrong += wrong_figures()
     wrong += wrong_trials()
     wrong += wrong_examples()
     wrong += [f"{path} isn't what tools/make/manual.py makes" for path in wrong_files()]

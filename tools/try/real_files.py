@@ -4,7 +4,9 @@
     tools/try/real_files.py PROGRAM             runs PROGRAM on each file: its status, what it writes and what it says; whether numbers
                                                 and dates stand whole at each width from 20 to 200; and each example of the man page,
                                                 which has the recipes of docs/CSVTABLE.md, where the other programs that it names are
-    tools/try/real_files.py --compare PROGRAM   prints a table of what PROGRAM, csvlook, mlr and column do, file by file
+    tools/try/real_files.py --compare PROGRAM   prints a table of what PROGRAM, csvlook, mlr and column do, file by file: without an
+                                                option, and with the option that suits the file, if there is one; below it, how many
+                                                files each draws right
 
 What is wanted stands beside each file or example, and comes from the rules in docs/CSVTABLE.md. The first form prints a line for each
 run, and ends with status 1 where one is otherwise.
@@ -294,6 +296,26 @@ PROGRAMS = {
     "column -ts,": ["column", "-t", "-s", ","],
 }
 
+# The commands with an option that suits a file, by the programs above; those of csvtable are in RUNS.
+SUITING = {
+    "csvlook -I": {
+        "bank.csv": ["csvlook", "-I", "-e", "cp1252"],
+        "utf16.csv": ["csvlook", "-I", "-e", "utf-16"],
+        "preamble.csv": ["csvlook", "-I", "-K", "3"],
+        "mixed.csv": ["csvlook", "-I", "--blanks"],
+    },
+    "mlr --icsv --opprint --barred --right cat": {
+        "bank8.csv": ["mlr", "--icsv", "--ifs", ";", "--opprint", "--barred", "--right", "cat"],
+        "sep.csv": ["mlr", "--icsv", "--ifs", ";", "--opprint", "--barred", "--right", "cat"],
+        "tabs.tsv": ["mlr", "--itsv", "--opprint", "--barred", "--right", "cat"],
+    },
+    "column -ts,": {
+        "bank8.csv": ["column", "-t", "-s", ";"],
+        "sep.csv": ["column", "-t", "-s", ";"],
+        "tabs.tsv": ["column", "-t", "-s", "\t"],
+    },
+}
+
 
 def said_in(result):
     """A line of an error, of Python's its last one, without the program's name."""
@@ -331,27 +353,52 @@ def seen_of(run, result, whole, has_frame=True):
     return ", ".join(faults) or "right"
 
 
-def row_of(program, run, folder):
-    """What each program draws of a file: csvtable without arguments, and with the arguments that it is given here."""
-    write(run, folder)
-    seen = [seen_of(run, ran([program, "-w", "80", run.name], folder), ran([program, "-w", "0", run.name], folder))] if not run.arguments else []
+def options_of(command, plain):
+    """The words of a command that the plain one doesn't have."""
+    return " ".join("TAB" if it == "\t" else it for it in command if it not in plain)
+
+
+def seen_by_csvtable(program, run, folder):
+    """What csvtable draws of a file: without an option, and with the option that it is given here."""
+    seen = {}
+    if not run.arguments:
+        seen[""] = seen_of(run, ran([program, "-w", "80", run.name], folder), ran([program, "-w", "0", run.name], folder))
     for it in RUNS:
-        if it.name == run.name and it.arguments and not it.status and (run.arguments or seen[0].startswith("refused")):
+        if it.name == run.name and it.arguments and not it.status and (run.arguments or seen[""].startswith("refused")):
             arguments = [program, *it.arguments, it.name]
-            seen.append(f"`{' '.join(it.arguments)}`: " + seen_of(it, ran([*arguments, "-w", "80"], folder), ran([*arguments, "-w", "0"], folder)))
+            seen[" ".join(it.arguments)] = seen_of(it, ran([*arguments, "-w", "80"], folder), ran([*arguments, "-w", "0"], folder))
             break
-    others = [seen_of(run, ran([*arguments, run.name], folder), ran([*arguments, run.name], folder), arguments[0] != "column") for arguments in PROGRAMS.values()]
-    return "| " + " | ".join([run.name, "; ".join(seen), *others]) + " |"
+    return seen
+
+
+def seen_by(label, run, folder):
+    """What another program draws of a file: without an option, and with the option that suits the file."""
+    plain, suiting = PROGRAMS[label], SUITING[label].get(run.name)
+    if not shutil.which(plain[0]):
+        return {"": "not installed"}
+    commands = {"": plain} | ({options_of(suiting, plain): suiting} if suiting else {})
+    results = {options: ran([*command, run.name], folder) for options, command in commands.items()}
+    return {options: seen_of(run, it, it, plain[0] != "column") for options, it in results.items()}
 
 
 def compared(program, folder):
-    print("| File | `csvtable` | " + " | ".join(f"`{it}`" for it in PROGRAMS) + " |")
-    print("|---|---|" + "---|" * len(PROGRAMS))
-    done = set()
-    for run in RUNS:
-        if run.name not in done:
-            print(row_of(program, run, folder))
-        done.add(run.name)
+    labels = ["csvtable", *PROGRAMS]
+    print("| File | " + " | ".join(f"`{it}`" for it in labels) + " |")
+    print("|---|" + "---|" * len(labels))
+    files = {run.name: run for run in reversed(RUNS)}
+    counts = {label: [0, 0] for label in labels}
+    for name in dict.fromkeys(run.name for run in RUNS):
+        run = files[name]
+        write(run, folder)
+        found = [seen_by_csvtable(program, run, folder), *(seen_by(label, run, folder) for label in PROGRAMS)]
+        for label, seen in zip(labels, found):
+            counts[label][0] += seen.get("") == "right"
+            counts[label][1] += "right" in seen.values()
+        cells = ["; ".join(f"`{options}`: {it}" if options else it for options, it in seen.items()) for seen in found]
+        print(f"| {name} | " + " | ".join(cells) + " |")
+    filled = sum(bool(run.bytes) for run in files.values())
+    print(f"| right of {filled}, without an option | " + " | ".join(str(counts[it][0]) for it in labels) + " |")
+    print(f"| right of {filled}, with the option that suits | " + " | ".join(str(counts[it][1]) for it in labels) + " |")
     return 0
 
 

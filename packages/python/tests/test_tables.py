@@ -694,7 +694,14 @@ class Interface(unittest.TestCase):
             file.write_text("name,price\noats,3\n")
             wanted = b"+------+-------+\n| name | price |\n+==============+\n| oats |     3 |\n+------+-------+\n"
             self.assertEqual(run(file, "-s", "ascii").stdout, wanted)
-        self.assertEqual(run("-", "-s", "ascii", given=b"name,price\noats,3\n").stdout, wanted)
+            for options in ["-s", "ascii"], ["-sascii"], ["-ts", "ascii", "-d,"], ["--style", "ascii"], ["--style=ascii"], ["-w", "60", "-s", "ascii"], ["-s", "ascii", "--"]:
+                self.assertEqual(run(*options, file, given=b"of standard input").stdout, wanted, options)
+            self.assertEqual(run("-c", "name", file, "-s", "ascii", "--drop", "price").stdout.count(b"|"), 4)
+            second = run(file, "-s", "ascii", file)
+            self.assertEqual((second.returncode, second.stdout), (1, b""))
+            self.assertIn(b"unexpected argument", second.stderr)
+        for arguments in ["-", "-s", "ascii"], ["-s", "ascii", "-"], ["-s", "ascii"]:
+            self.assertEqual(run(*arguments, given=b"name,price\noats,3\n").stdout, wanted)
         refused = run("no/such.csv")
         self.assertEqual((refused.returncode, refused.stdout), (1, b""))
         self.assertIn(b"No such file", refused.stderr)

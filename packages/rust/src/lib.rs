@@ -17,7 +17,7 @@
 //! A program that uses comfy-table takes this package in its place by one line of its Cargo.toml, and stays as it is:
 //!
 //! ```toml
-//! comfy-table = { package = "comfy_table_proved", path = "../comfy_table_proved" }
+//! comfy-table = { package = "comfy_table_proved", path = "../comfy_table_proved-0.1.0" }
 //! ```
 //!
 //! The module [`csvtable`] has the tables of the program csvtable, of CSV and of rows: columns of numbers stand at the right

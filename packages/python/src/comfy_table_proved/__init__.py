@@ -1,4 +1,4 @@
-"""Tables drawn as text, by the library comfy_table, whose drawing is proved: straight edges, and widths that hold.
+"""Tables drawn as text, by the library comfy_table, which is proved to draw by written rules.
 
     >>> from comfy_table_proved import tabulate
     >>> print(tabulate([["oats", 3], ["rye", -12.5]], headers=["name", "price"]))
@@ -10,8 +10,8 @@
     ╰──────┴───────╯
 
 `tabulate` draws rows, and `Table` keeps them for more; a `Cell` has colours and a side of its own. `draw_csv` takes CSV and the
-arguments of the program csvtable, and `python -m comfy_table_proved FILE` draws a file as that program does. All may be called
-from several threads.
+arguments of the program csvtable, and `python -m comfy_table_proved [OPTIONS] [FILE]` draws a file as that program does. All may
+be called from several threads.
 """
 
 from ._library import draw_csv

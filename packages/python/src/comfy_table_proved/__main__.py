@@ -1,8 +1,9 @@
-"""Draws a file of CSV as the program csvtable does: python -m comfy_table_proved [FILE [ARGUMENTS..]]; without a file standard input."""
+"""Draws a file of CSV as the program csvtable does: python -m comfy_table_proved [OPTIONS] [FILE]; without a file standard input."""
 
 from __future__ import annotations
 
 import os
+import re
 import shutil
 import sys
 
@@ -10,10 +11,10 @@ from ._library import draw_csv
 
 
 def main(arguments: list[str]) -> int:
-    file, others = ("-", arguments) if not arguments or _is_option(arguments[0]) else (arguments[0], arguments[1:])
     try:
-        data = b"" if _asks_for_text(others) else sys.stdin.buffer.read() if file == "-" else _read(file)
-        drawing = draw_csv(data, [*_of_terminal(others), *others, *([] if file == "-" else [file])])
+        file = _file_of(arguments)
+        data = b"" if _asks_for_text(arguments) else sys.stdin.buffer.read() if file == "-" else _read(file)
+        drawing = draw_csv(data, [*_of_terminal(arguments), *arguments])
     except (OSError, ValueError) as error:
         sys.stderr.write(f"{error}\n")
         return 1
@@ -31,6 +32,38 @@ def _read(file: str) -> bytes:
 
 def _is_option(argument: str) -> bool:
     return argument.startswith("-") and argument != "-"
+
+
+def _file_of(arguments: list[str]) -> str:
+    """The first word that is no option and no value of one; "-" if there is none. csvtable itself refuses a second one."""
+    valued = _with_values()
+    words = iter(arguments)
+    for word in words:
+        if word == "--":
+            return next(words, "-")
+        if not _is_option(word):
+            return word
+        if _takes_the_next(word, valued):
+            next(words, None)
+    return "-"
+
+
+def _takes_the_next(option: str, valued: set[str]) -> bool:
+    """Whether the word after an option is its value: it isn't after `--width=60` and `-w60`."""
+    if option.startswith("--"):
+        return option in valued
+    letters = [f"-{letter}" for letter in option[1:]]
+    first = next((place for place, letter in enumerate(letters) if letter in valued), None)
+    return first == len(letters) - 1
+
+
+def _with_values() -> set[str]:
+    """The options with values, which csvtable's help shows as `-w, --width <N>`."""
+    try:
+        text = draw_csv(b"", ["-h"])
+    except ValueError as error:
+        text = str(error)
+    return {name for names in re.findall(r"^ +(?:(-\w), )?(--[\w-]+) <", text, re.M) for name in names if name}
 
 
 def _asks_for_text(arguments: list[str]) -> bool:
