@@ -81,26 +81,26 @@ line_of_plain : (lines : List Text) → IsPlainDrawing the_table lines → IsThe
 unfolding encode
 line_of_plain lines is =
     record {
-      w = 0 + is.width 0 + 0;
-      are = by_rows is.rows is.are_rows is.drawn ∙ ap (λ (line : Text). line ∷ []) line_is;
+      w = 0 + is.framed.width 0 + 0;
+      are = by_rows is.framed.rows is.framed.are_rows is.framed.drawn ∙ ap (λ (line : Text). line ∷ []) line_is;
       keeps =
           let total : count top ≡ is.total = is.frame_total (own_style settings).top_border in
           let kept : is.total ≤ 3 = is.keeps_to_width 3 refl unconstrained refl in
-          let same : count top ≡ count (repeat (0 + is.width 0 + 0) (codes "=")) = ap count line_is in
+          let same : count top ≡ count (repeat (0 + is.framed.width 0 + 0) (codes "=")) = ap count line_is in
           omega (arith, total, kept, same);
     }
   where
     top : Text
-    top = frame_line (own_style settings) (own_style settings).top_border (widths_shown the_table is.width)
+    top = frame_line (own_style settings) (own_style settings).top_border (widths_shown the_table is.framed.width)
 
-    line_is : top ≡ repeat (0 + is.width 0 + 0) (codes "=")
-    line_is = append-nil (repeat (0 + is.width 0 + 0) (codes "=") ++ []) ∙ append-nil (repeat (0 + is.width 0 + 0) (codes "="))
+    line_is : top ≡ repeat (0 + is.framed.width 0 + 0) (codes "=")
+    line_is = append-nil (repeat (0 + is.framed.width 0 + 0) (codes "=") ++ []) ∙ append-nil (repeat (0 + is.framed.width 0 + 0) (codes "="))
 
     unconstrained : All (λ (p : ℕ × ColumnValue). p.1.constraint ≡ None) (shown_columns the_table)
     unconstrained = All-from_recursion (λ (p : ℕ × ColumnValue). p.1.constraint ≡ None) (shown_columns the_table) (refl, tt)
 
-    by_rows : (rows : List (List Text)) → AllZip (AreLinesOfRow the_table is.width is.cell_lines (own_style settings).content_lines) [] rows → lines ≡ (top ∷ []) ++ (is.header ++ (join_by (λ block. block) [] rows ++ [])) → lines ≡ top ∷ []
-    by_rows [] each drawn = drawn ∙ ap (λ (header : List Text). (top ∷ []) ++ (header ++ [])) is.is_header
+    by_rows : (rows : List (List Text)) → AllZip (AreLinesOfRow the_table is.framed.width is.framed.cell_lines (own_style settings).content_lines) [] rows → lines ≡ (top ∷ []) ++ (is.framed.header ++ (join_by (λ block. block) [] rows ++ [])) → lines ≡ top ∷ []
+    by_rows [] each drawn = drawn ∙ ap (λ (header : List Text). (top ∷ []) ++ (header ++ [])) is.framed.is_header
     by_rows (block ∷ rows) each drawn = absurd each
 
 line_of : (bytes : Text) (is : Shows bytes) → IsTheLine is.lines

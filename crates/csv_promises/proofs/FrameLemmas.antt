@@ -85,7 +85,7 @@ rows_few look is_aligned content =
     headed (Some names) = omega (arith, no_fewer_columns (length (header_for look content.is_numbered content.columns names).cells) [], header_few look content names)
 
 -- a drawn table has two columns at most where records are expanded, else no more than are drawn
-most_columns : (is_expanded has : Bool) (look : Look) (content : SelectedValue) → length (separated_table has (output_table is_expanded look content)).columns ≤ (if is_expanded then 2 else places_of content)
+pub most_columns : (is_expanded has : Bool) (look : Look) (content : SelectedValue) → length (separated_table has (output_table is_expanded look content)).columns ≤ (if is_expanded then 2 else places_of content)
 most_columns true has look content = omega (arith, pairs_have_two look content, (has_rows_of look content true has).as_many)
 most_columns false has look content = omega (arith, rows_few look (is_aligned_in look content) content, (has_rows_of look content false has).as_many)
 

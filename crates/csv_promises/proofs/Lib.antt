@@ -1,7 +1,7 @@
+pub mod BoldLemmas
 mod ColumnLemmas
 pub mod ExpandedLemmas
 pub mod FieldLemmas
-pub mod FilledLemmas
 mod FrameLemmas
 pub mod LineLemmas
 mod MessageLemmas
@@ -11,5 +11,6 @@ pub mod PositionLemmas
 pub mod RecordLemmas
 pub mod ResultLemmas
 pub mod ShownTableLemmas
+pub mod SpacedLemmas
 pub mod StraightLemmas
 mod WidthLemmas

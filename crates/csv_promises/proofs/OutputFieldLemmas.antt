@@ -1,15 +1,15 @@
 -- What is written of records shows all of their fields.
-use Rattle.std.proofs.Common.{◌≡◌, ◌<◌, ◌==◌, ◌||◌, inl, inr, ℕ, zero, suc, ◌+◌, Bool, true, false, List, [], ◌∷◌, ◌++◌, Option, Some, None, Ok, drop, flat_map, length, map, nat_lt, take, refl, sym, ap, ap₂, ◌∙◌, subst, arith, append_assoc, length-append, slice_index_or, unwrap_or}
+use Rattle.std.proofs.Common.{◌≡◌, ◌≤◌, ◌<◌, ◌==◌, decimal, filter, is_some, ◌||◌, inl, inr, ℕ, zero, suc, ◌+◌, Bool, true, false, List, [], ◌∷◌, ◌++◌, Option, Some, None, Ok, drop, flat_map, length, map, nat_lt, take, refl, sym, ap, ap₂, ◌∙◌, subst, arith, append_assoc, length-append, slice_index_or, unwrap_or}
 use Rattle.std.specs.List.{All, AllZip, range_with_len}
 use Rattle.std.specs.Prelude.{if◌then◌else◌, codes, option_to_list, sum_by}
 use Rattle.std.specs.Str.{IsUtf8}
 use Rattle.std.proofs.Math.Seq.{take-length}
-use Rattle.std.proofs.lemmas.List.Elements.{All-head, All-nil, All-tail, All-weaker}
+use Rattle.std.proofs.lemmas.List.Elements.{All-cons, All-head, All-map, All-nil, All-tail, All-weaker}
 use Rattle.comfy_parts.specs.CellValue.{RowValue}
 use Rattle.comfy_parts.specs.Text.{Text}
 use Rattle.comfy_table.specs.Drawing.{drawing, drawing_of_infos, infos_of, terminated_text_of}
 use Rattle.comfy_table.specs.Headline.{IsTableDrawing}
-use Rattle.comfy_table.specs.Laws.{HasNoBreak, IsStyleWithout}
+use Rattle.comfy_table.specs.Laws.{IsStyleWithout}
 use Rattle.comfy_table.specs.Parts.{ArrangedValue, with_rows_alone}
 use Rattle.comfy_table.specs.TableValue.{TableValue, header_and_rows}
 use Rattle.csv.specs.Records.{AllText}
@@ -25,8 +25,8 @@ use Rattle.csv_tables.proofs.LineLemmas.{is_table_text}
 use Rattle.csv_tables.proofs.OutputControlLemmas.{text_fields, unbroken_without}
 use Rattle.csv_tables.proofs.RowLemmas.{positions-shown, with_rows-rows}
 use Rattle.csv_command.proofs.RunLemmas.{beginning_parts}
-use Rattle.csv_tables.specs.Cells.{row_for, counted_from}
-use Rattle.csv_tables.specs.Columns.{ColumnsValue, count_of, seen}
+use Rattle.csv_tables.specs.Cells.{Shown, cell_for, columns_within, shown_cells, shown_in, with_weight, number_name, row_for, counted_from}
+use Rattle.csv_tables.specs.Columns.{ColumnsValue, count_of, name_at, seen}
 use Rattle.csv_command.specs.Columns.{columns_for}
 use Rattle.csv_tables.specs.Drawn.{SelectedValue, RendersAsTable, RendersTable, columns_of, count_below, drawn_fields, drawn_rows, empty_table, has_room_for, headed_table, is_expanded_in, limited, names_of, note_for, note_text, output_table, pairs_in, record_line, record_text, records_below, rows_table, separated_table, some_lines, table_text, is_aligned_in}
 use Rattle.csv_command.specs.Drawn.{IsDrawnOf, RendersChosen, RendersCounted, layout_with, most_drawn}
@@ -36,28 +36,23 @@ use Rattle.csv_tables.specs.declared.options.Expansion.TheVariants.{Always, Auto
 use Rattle.csv_tables.specs.declared.options.Look.{Look}
 use Rattle.csv_command.specs.declared.arguments.Options.{Options}
 use Rattle.devices.specs.Outcome.{asked_front}
-use Rattle.promises.specs.Kept.{IsFrame}
+use Rattle.comfy_parts.proofs.CallerLemmas.{All-every}
+use Rattle.std.proofs.lemmas.List.{length-map}
+use Rattle.csv_records.specs.Cleaning.{cleaned}
+use Rattle.csv_tables.specs.Fields.{field_or_blank}
+use Rattle.csv_promises.proofs.FrameLemmas.{most_columns, places_of}
+use Rattle.promises.specs.Headline.{IsUncoloured}
 use Rattle.csv_promises.proofs.ExpandedLemmas.{rows_at}
-use Rattle.csv_promises.proofs.FieldLemmas.{IsWholeRow, are_pairs, are_rows, is_header, positions_of}
+use Rattle.csv_promises.proofs.FieldLemmas.{IsRowFor, are_pairs, are_rows, is_header, positions_of}
 use Rattle.csv_promises.proofs.PositionLemmas.{chosen, kept_positions}
 use Rattle.csv_promises.proofs.RecordLemmas.{AreDrawnFirst, all_drawn, first_are_drawn, with_rows-header}
 use Rattle.csv_promises.proofs.ShownTableLemmas.{HasRowsOf, has_rows_of, part_shows}
-use Rattle.csv_promises.specs.Fields.{MayExpand, ShowsDrawn, ShowsExpanded, ShowsRecords, ShowsRows, pairs_at, positions_in, all_rows}
+use Rattle.csv_promises.specs.Fields.{IsDrawingOf, fields_at, row_behind, rows_from, MayExpand, ShowsDrawn, ShowsExpanded, ShowsRecords, ShowsRows, pairs_at, positions_in, all_rows}
 use Rattle.csv_promises.specs.Written.{IsWritten}
 
 -- of no rows nothing
-none_shown : (look : Look) → ShowsRows look [] []
-none_shown look =
-    record {
-      lines = [];
-      are = record { joined = refl; unbroken = All-nil HasNoBreak };
-      plain = [];
-      styled = tt;
-      unstyled = λ none. refl;
-      blocks = [];
-      stand = All-nil (IsFrame look.style);
-      show = tt;
-    }
+none_shown : (look : Look) (has_header : Bool) → ShowsRows look has_header [] []
+none_shown look has_header = inl (refl, refl)
 
 -- ---- tables
 
@@ -94,15 +89,20 @@ module _ (look : Look) (all : DrawsAll look) (is_numbered : Bool) (names : Optio
     abbrev is : HasRowsOf (plain_table is_expanded (is_aligned_in look content) look content) table
     is = has_rows_of look content is_expanded renders.has_separators
 
-    abbrev shows : (first n : ℕ) (fields : List (List Text)) → AllZip IsWholeRow fields (option_to_list table.header ++ take n (drop first table.rows)) → ShowsRows look fields (terminated_text_of (drawing (with_rows_alone first n table) drawn.widths))
+    abbrev shows : (first n : ℕ) (has_header : Bool) → is_some table.header ≡ has_header → (fields : List (List Text)) → AllZip IsRowFor fields (option_to_list table.header ++ take n (drop first table.rows)) → All (λ (own : List Text). length table.columns ≤ length own) fields
+        → (has_header ≡ true → All (λ (row : RowValue). All IsUncoloured row.cells) (take n (drop first table.rows))) → IsDrawingOf look has_header fields (terminated_text_of (drawing (with_rows_alone first n table) drawn.widths))
     shows = part_shows look content is_expanded renders.has_separators all.unkept all.style lines drawn
 
+    -- it has no more columns than fields
+    enough : (fields : List Text) → (if is_expanded then 2 else places_of content) ≤ length fields → length table.columns ≤ length fields
+    enough fields many = let most = most_columns is_expanded renders.has_separators look content in omega (arith, most, many)
+
   -- the table of rows
-  pub rows_shown : (text : Text) → RendersTable false look content text → All (All IsUtf8) (option_to_list names ++ rows) → ShowsRows look (all_rows is_numbered (positions_of columns) names rows) text
+  pub rows_shown : (text : Text) → RendersTable false look content text → All (All IsUtf8) (option_to_list names ++ rows) → ShowsRows look (is_some names) (all_rows is_numbered (positions_of columns) names rows) text
   rows_shown text renders utf8 =
-      subst (ShowsRows look fields) (sym (is_text false text renders))
-      (shows false text renders 0 (length (table false text renders).rows) fields
-      (subst (λ (own : List RowValue). AllZip IsWholeRow fields (option_to_list (table false text renders).header ++ own)) (sym (take-length (table false text renders).rows)) each))
+      subst (ShowsRows look (is_some names) fields) (sym (is_text false text renders))
+      (inr (shows false text renders 0 (length (table false text renders).rows) (is_some names) headed fields
+      (subst (λ (own : List RowValue). AllZip IsRowFor fields (option_to_list (table false text renders).header ++ own)) (sym (take-length (table false text renders).rows)) each) many (λ some. uncoloured)))
     where
       fields : List (List Text)
       fields = all_rows is_numbered (positions_of columns) names rows
@@ -110,22 +110,81 @@ module _ (look : Look) (all : DrawsAll look) (is_numbered : Bool) (names : Optio
       made : List RowValue
       made = map (row_for look (is_aligned_in look content) is_numbered columns) (counted_from 1 rows)
 
+      by_header : (own : Option (List Text)) → is_some (headed_table look is_numbered columns own).header ≡ is_some own
+      by_header None = refl
+      by_header (Some own) = refl
+
+      headed : is_some (table false text renders).header ≡ is_some names
+      headed = ap is_some ((is false text renders).header ∙ with_rows-header made (headed_table look is_numbered columns names)) ∙ by_header names
+
+      behind-length : (number : Text) (own : List Text) → places_of content ≤ length (row_behind is_numbered number (fields_at (positions_of columns) own))
+      behind-length number own =
+          let long : length (fields_at (positions_of columns) own) ≡ length columns = length-map (positions_of columns) (λ position. cleaned false (field_or_blank own position)) ∙ length-map columns (λ (column : DrawnColumn). column.position) in
+          by_number is_numbered long
+        where
+          by_number : (b : Bool) → length (fields_at (positions_of columns) own) ≡ length columns → length columns + (if b then 1 else 0) ≤ length (row_behind b number (fields_at (positions_of columns) own))
+          by_number true long = omega (arith, long)
+          by_number false long = omega (arith, long)
+
+      Many : List Text → Type 0
+      Many own = length (table false text renders).columns ≤ length own
+
+      many_from : (n : ℕ) (own : List (List Text)) → All Many (rows_from is_numbered (positions_of columns) n own)
+      many_from n [] = All-nil Many
+      many_from n (first ∷ more) =
+          All-cons Many (row_behind is_numbered (decimal n) (fields_at (positions_of columns) first)) (rows_from is_numbered (positions_of columns) (n + 1) more)
+          (enough false text renders (row_behind is_numbered (decimal n) (fields_at (positions_of columns) first)) (behind-length (decimal n) first)) (many_from (n + 1) more)
+
+      many : All Many fields
+      many = by_own names
+        where
+          by_own : (own : Option (List Text)) → All Many (all_rows is_numbered (positions_of columns) own rows)
+          by_own None = many_from 1 rows
+          by_own (Some own) =
+              All-cons Many (row_behind is_numbered (number_name own) (fields_at (positions_of columns) own)) (rows_from is_numbered (positions_of columns) 1 rows)
+              (enough false text renders (row_behind is_numbered (number_name own) (fields_at (positions_of columns) own)) (behind-length (number_name own) own)) (many_from 1 rows)
+
       by_names : (own : Option (List Text)) → All (All IsUtf8) (option_to_list own ++ rows)
-          → AllZip IsWholeRow (all_rows is_numbered (positions_of columns) own rows) (option_to_list (headed_table look is_numbered columns own).header ++ ((headed_table look is_numbered columns own).rows ++ made))
+          → AllZip IsRowFor (all_rows is_numbered (positions_of columns) own rows) (option_to_list (headed_table look is_numbered columns own).header ++ ((headed_table look is_numbered columns own).rows ++ made))
       by_names None each = are_rows look all.unkept all.table all.uncut columns (is_aligned_in look content) is_numbered 1 rows each
       by_names (Some own) each = (
         is_header look all.unkept all.table all.uncut columns is_numbered own (All-head (All IsUtf8) own rows each),
         are_rows look all.unkept all.table all.uncut columns (is_aligned_in look content) is_numbered 1 rows (All-tail (All IsUtf8) own rows each),
       )
 
-      of_base : AllZip IsWholeRow fields (header_and_rows (rows_table look (is_aligned_in look content) content))
+      Plain : RowValue → Type 0
+      Plain row = All IsUncoloured row.cells
+
+      plain_cells : (shown : List Shown) → All IsUncoloured (shown_cells look false shown)
+      plain_cells shown =
+          All-map IsUncoloured (λ (s : Shown). with_weight false (cell_for look s.alignment s.text)) shown
+          (All-every (λ (s : Shown). IsUncoloured (with_weight false (cell_for look s.alignment s.text))) shown (λ s. record { no_foreground = refl; no_background = refl; no_attributes = refl }))
+
+      plain_made : (own : Option (List Text)) → All Plain ((headed_table look is_numbered columns own).rows ++ made)
+      plain_made own = by_own own
+        where
+          each_made : All Plain made
+          each_made =
+              All-map Plain (row_for look (is_aligned_in look content) is_numbered columns) (counted_from 1 rows)
+              (All-every (λ (r : ℕ × List Text). Plain (row_for look (is_aligned_in look content) is_numbered columns r)) (counted_from 1 rows) (λ r. plain_cells (shown_in look (is_aligned_in look content) is_numbered (columns_within r.1 columns) r)))
+
+          by_own : (header : Option (List Text)) → All Plain ((headed_table look is_numbered columns header).rows ++ made)
+          by_own None = each_made
+          by_own (Some first) = each_made
+
+      uncoloured : All Plain (take (length (table false text renders).rows) (drop 0 (table false text renders).rows))
+      uncoloured =
+          subst (All Plain) (sym (take-length (table false text renders).rows))
+          (subst (All Plain) (sym ((is false text renders).rows ∙ with_rows-rows made (headed_table look is_numbered columns names))) (plain_made names))
+
+      of_base : AllZip IsRowFor fields (header_and_rows (rows_table look (is_aligned_in look content) content))
       of_base =
-          subst (λ (own : List RowValue). AllZip IsWholeRow fields own)
+          subst (λ (own : List RowValue). AllZip IsRowFor fields own)
           (sym (ap₂ (λ (header : Option RowValue) (own : List RowValue). option_to_list header ++ own) (with_rows-header made (headed_table look is_numbered columns names)) (with_rows-rows made (headed_table look is_numbered columns names)))) (by_names names utf8)
 
-      each : AllZip IsWholeRow fields (header_and_rows (table false text renders))
+      each : AllZip IsRowFor fields (header_and_rows (table false text renders))
       each =
-          subst (AllZip IsWholeRow fields)
+          subst (AllZip IsRowFor fields)
           (sym (ap₂ (λ (header : Option RowValue) (own : List RowValue). option_to_list header ++ own) (is false text renders).header (is false text renders).rows)) of_base
 
   -- that of expanded records
@@ -142,12 +201,22 @@ module _ (look : Look) (all : DrawsAll look) (is_numbered : Bool) (names : Optio
     rows_are : (table true text renders).rows ≡ own_rows
     rows_are = (is true text renders).rows ∙ with_rows-rows own_rows (empty_table look)
 
-    by_count : (first n : ℕ) (fields : List (List Text)) → AllZip IsWholeRow fields (take n (drop first (table true text renders).rows)) → ShowsRows look fields (terminated_text_of (some_lines own_arranged first n))
-    by_count first zero [] each = none_shown look
-    by_count first zero (own ∷ fields) each = absurd each
-    by_count first (suc n) fields each =
-        shows true text renders first (suc n) fields
-        (subst (λ (header : Option RowValue). AllZip IsWholeRow fields (option_to_list header ++ take (suc n) (drop first (table true text renders).rows))) (sym no_header) each)
+    by_count : (first n : ℕ) (fields : List (List Text)) → AllZip IsRowFor fields (take n (drop first (table true text renders).rows)) → All (λ (own : List Text). 2 ≤ length own) fields → ShowsRows look false fields (terminated_text_of (some_lines own_arranged first n))
+    by_count first zero [] each two = none_shown look false
+    by_count first zero (own ∷ fields) each two = absurd each
+    by_count first (suc n) fields each two =
+        inr (shows true text renders first (suc n) false (ap is_some no_header) fields
+        (subst (λ (header : Option RowValue). AllZip IsRowFor fields (option_to_list header ++ take (suc n) (drop first (table true text renders).rows))) (sym no_header) each)
+        (All-weaker (λ (own : List Text). 2 ≤ length own) (λ (own : List Text). length (table true text renders).columns ≤ length own) (enough true text renders) fields two) (λ some. absurd (cc some)))
+
+    -- a name and a field are two
+    pairs_two : (fields : List Text) → All (λ (own : List Text). 2 ≤ length own) (pairs_at header (positions_of columns) fields)
+    pairs_two fields =
+        All-map (λ (own : List Text). 2 ≤ length own) (λ position. cleaned false (name_at header position) ∷ cleaned false (field_or_blank fields position) ∷ []) held_positions
+        (All-every (λ position. 2 ≤ length (cleaned false (name_at header position) ∷ cleaned false (field_or_blank fields position) ∷ [])) held_positions (λ position. omega arith))
+      where
+        held_positions : List ℕ
+        held_positions = filter (λ position. nat_lt position (length fields)) (positions_of columns)
 
     -- from a record on
     from : (k : ℕ) (front rest : List (List Text)) → length front ≡ k → rows ≡ front ++ rest → ShowsExpanded look header (positions_of columns) count (k + 1) rest (flat_map (record_text content own_arranged) (range_with_len k (length rest)))
@@ -157,8 +226,8 @@ module _ (look : Look) (all : DrawsAll look) (is_numbered : Bool) (names : Optio
       flat_map (record_text content own_arranged) (range_with_len (k + 1) (length more)),
       append_assoc (record_line (k + 1) count) _ _,
       by_count first n (pairs_at header (positions_of columns) fields)
-          (subst (AllZip IsWholeRow (pairs_at header (positions_of columns) fields)) (sym (ap (λ (own : List RowValue). take n (drop first own)) rows_are ∙ rows_at look content k front fields more at splits))
-          (are_pairs look all.unkept all.table all.uncut columns header fields columns)),
+          (subst (AllZip IsRowFor (pairs_at header (positions_of columns) fields)) (sym (ap (λ (own : List RowValue). take n (drop first own)) rows_are ∙ rows_at look content k front fields more at splits))
+          (are_pairs look all.unkept all.table all.uncut columns header fields columns)) (pairs_two fields),
       from (k + 1) (front ++ fields ∷ []) more (omega (arith, length-append front (fields ∷ []), at)) (splits ∙ sym (append_assoc front (fields ∷ []) more)),
     )
       where
@@ -210,7 +279,7 @@ module _ (o : Options) (all : DrawsAll o.look) (count : Option ℕ) (records : L
 
     by_kind : (is_expanded : Bool) (text : Text) → RendersTable is_expanded look (content look all o.selection.is_numbered names rows columns count) text → ShowsDrawn is_expanded o names rows count text
     by_kind false text renders =
-        subst (λ (ps : List ℕ). ShowsRows look (all_rows o.selection.is_numbered ps names rows) text) (sym positions) (rows_shown look all o.selection.is_numbered names rows columns count text renders utf8)
+        subst (λ (ps : List ℕ). ShowsRows look (is_some names) (all_rows o.selection.is_numbered ps names rows) text) (sym positions) (rows_shown look all o.selection.is_numbered names rows columns count text renders utf8)
     by_kind true text renders =
         subst (λ (ps : List ℕ). ShowsExpanded look (unwrap_or names []) ps count 1 rows text) (sym positions) (records_shown look all o.selection.is_numbered names rows columns count text renders)
 
@@ -273,7 +342,7 @@ module _ (arguments : List Text) (context : OutputContext) (invocation : Invocat
 
       by_kind : (is_expanded : Bool) (count : Option ℕ) → ShowsDrawn is_expanded options None [] count []
       by_kind true count = refl
-      by_kind false count = none_shown options.look
+      by_kind false count = none_shown options.look false
 
       none : ShowsRecords options [] []
       none =

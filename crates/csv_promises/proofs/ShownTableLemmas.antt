@@ -1,12 +1,11 @@
 -- The table that is drawn of records, and what its parts show.
-use Rattle.std.proofs.Common.{◌≡◌, ◌||◌, ℕ, Bool, true, false, not, List, [], ◌∷◌, ◌++◌, Option, Some, None, drop, filter, length, map, take, refl, sym, ap, ◌∙◌, subst, arith, slice_index_or}
+use Rattle.std.proofs.Common.{◌≡◌, ◌≤◌, ◌⊎◌, inl, inr, is_some, ◌||◌, ℕ, Bool, true, false, not, List, [], ◌∷◌, ◌++◌, Option, Some, None, drop, filter, length, take, refl, sym, ap, ◌∙◌, subst, arith}
 use Rattle.std.specs.List.{All, AllByRecursion, AllZip, enumerate_from}
 use Rattle.std.specs.Prelude.{Contains, if◌then◌else◌, option_to_list, slice_index}
-use Rattle.std.proofs.lemmas.List.Elements.{All-contains, All-contains_itself, All-drop, All-from_recursion, All-take, All-weaker, recursion_from_All}
-use Rattle.comfy_parts.proofs.CallerLemmas.{every-append, every-parts, every-places, filter_all}
+use Rattle.std.proofs.lemmas.List.Elements.{All-append, All-cons, All-nil, All-contains, All-contains_itself, All-drop, All-from_recursion, All-take, All-weaker, recursion_from_All}
+use Rattle.comfy_parts.proofs.CallerLemmas.{every-parts, every-places, filter_all}
 use Rattle.comfy_parts.specs.CellValue.{ColumnValue, RowValue, is_hidden_column, is_hidden_constraint}
 use Rattle.comfy_parts.specs.Text.{Text}
-use Rattle.comfy_parts.specs.declared.style.table_style.TableStyle.{TableStyle}
 use Rattle.comfy_table.proofs.BuiltTableLemmas.{IsNewColumn}
 use Rattle.comfy_table.proofs.PartLemmas.{part_has_lines_of_table}
 use Rattle.comfy_table.specs.Drawing.{drawing, infos_of, terminated_text_of}
@@ -19,14 +18,15 @@ use Rattle.csv_tables.proofs.LineLemmas.{Any, any_built, any_drawn, kept_setting
 use Rattle.csv_tables.proofs.SeparatorLemmas.{separated}
 use Rattle.csv_tables.proofs.WholeColumnLemmas.{IsPaddedColumn, all_shown, leasts-length, leasts_on}
 use Rattle.csv_tables.proofs.WholeTableLemmas.{IsDrawn, drawn-is}
-use Rattle.csv_tables.specs.Drawn.{SelectedValue, empty_table, output_table, pairs_table, rows_table, separated_table, unbroken_in, is_aligned_in}
+use Rattle.csv_tables.specs.Drawn.{SelectedValue, condensed_style, empty_table, output_table, pairs_table, rows_table, separated_table, unbroken_in, is_aligned_in}
 use Rattle.csv_tables.specs.Unbroken.{field_width, has_room, kept_unbroken, given_in, kept_unbroken_fields, may_break, room_beside, room_for_two, with_field_width, with_kept, with_second}
 use Rattle.csv_tables.specs.declared.options.Look.{Look}
-use Rattle.promises.proofs.KeptLemmas.{part_stands}
-use Rattle.promises.specs.Kept.{IsFrame, ShowsRow}
-use Rattle.csv_promises.proofs.FieldLemmas.{IsWholeRow, among_weaker, frame_of, shows_fields}
+use Rattle.promises.proofs.KeptLemmas.{part_framed, part_plain, part_rows}
+use Rattle.promises.specs.Headline.{IsUncoloured}
+use Rattle.csv_promises.proofs.BoldLemmas.{IsWeighted, weighted_lines}
+use Rattle.csv_promises.proofs.FieldLemmas.{IsRowFor}
 use Rattle.csv_promises.proofs.RecordLemmas.{HasColumns, table_has_columns}
-use Rattle.csv_promises.specs.Fields.{ShowsFields, ShowsRows}
+use Rattle.csv_promises.specs.Fields.{HoldsFields, IsDrawingOf, IsInBold, IsFieldColumn}
 
 -- ---- columns
 
@@ -135,11 +135,19 @@ module _ (look : Look) (content : SelectedValue) where
     unstyled : look.has_bold_header ≡ false → should_style made ≡ false
     unstyled none = ap should_style looks ∙ ap (λ (b : Bool). b || is_tty (empty_table (separated has look))) (kept_setting (λ l. l.has_bold_header) look refl has false none)
 
-    in_look : (text : Text) → IsFrame made.style text → IsFrame look.style text
-    in_look text frame = frame_of has look text (subst (λ (style : TableStyle). IsFrame style text) (ap (λ (t : TableValue). t.style) looks) frame)
+    -- the style is that of the look, with lines between rows or without
+    style_is : (made.style ≡ look.style) ⊎ (made.style ≡ condensed_style look.style)
+    style_is = by_lines has (ap (λ (t : TableValue). t.style) looks)
+      where
+        by_lines : (h : Bool) → made.style ≡ (separated h look).style → (made.style ≡ look.style) ⊎ (made.style ≡ condensed_style look.style)
+        by_lines true same = inl same
+        by_lines false same = inr same
 
-    columns : All (HasColumns made) (header_and_rows made)
-    columns =
+    columns : All IsFieldColumn made.columns
+    columns = All-weaker IsPaddedColumn IsFieldColumn (λ column own. record { padding = own.padding; no_delimiter = own.no_delimiter }) made.columns (All-from_recursion IsPaddedColumn made.columns padded)
+
+    have_columns : All (HasColumns made) (header_and_rows made)
+    have_columns =
         subst (λ (header : Option RowValue). All (HasColumns made) (option_to_list header ++ made.rows)) (sym is.header)
         (subst (λ (rows : List RowValue). All (HasColumns made) (option_to_list base.header ++ rows)) (sym is.rows)
         (All-weaker (HasColumns base) (HasColumns made) (λ row own. omega (arith, own, is.as_many)) (header_and_rows base) (table_has_columns is_expanded (is_aligned_in look content) look content)))
@@ -159,38 +167,35 @@ module _ (look : Look) (content : SelectedValue) where
       within : All (Contains made.rows) alone
       within = All-take (Contains made.rows) count (drop first made.rows) (All-drop (Contains made.rows) first made.rows (All-contains_itself made.rows))
 
-      each_shown : (fields : List (List Text)) (rows : List RowValue) (blocks : List (List Text)) → AllZip IsWholeRow fields rows → AllByRecursion (HasColumns made) rows → AllZip (ShowsRow part) rows blocks → AllZip (ShowsFields look.style) fields blocks
-      each_shown [] [] [] whole few shows = tt
-      each_shown [] [] (block ∷ blocks) whole few shows = absurd shows
-      each_shown [] (row ∷ rows) blocks whole few shows = absurd whole
-      each_shown (own ∷ fields) [] blocks whole few shows = absurd whole
-      each_shown (own ∷ fields) (row ∷ rows) [] whole few shows = absurd shows
-      each_shown (own ∷ fields) (row ∷ rows) (block ∷ blocks) whole few shows =
-          let shown = shows_fields part (ap (λ (t : TableValue). t.delimiter) looks) is.shown padded own row block whole.0 few.0 shows.0 in (
-            record {
-              pieces = shown.pieces;
-              are_fields = shown.are_fields;
-              enough_lines = shown.enough_lines;
-              stand = λ k below. among_weaker (IsFrame made.style) (IsFrame look.style) in_look (map (λ (column : List Text). slice_index_or column k []) shown.pieces) (slice_index_or block k []) (shown.stand k below);
-            },
-            each_shown fields rows blocks whole.1 few.1 shows.1,
-          )
+      all_hold : (fields : List (List Text)) (rows : List RowValue) → AllZip IsRowFor fields rows → AllZip HoldsFields fields rows
+      all_hold [] [] each = tt
+      all_hold [] (row ∷ rows) each = absurd each
+      all_hold (own ∷ fields) [] each = absurd each
+      all_hold (own ∷ fields) (row ∷ rows) each = (each.0.hold, all_hold fields rows each.1)
 
-      pub part_shows : (fields : List (List Text)) → AllZip IsWholeRow fields (header_and_rows part) → ShowsRows look fields (terminated_text_of (drawing part drawn.widths))
-      part_shows fields whole =
+      all_weighted : (fields : List (List Text)) (rows : List RowValue) → AllZip IsRowFor fields rows → All (λ (row : RowValue). All IsWeighted row.cells) rows
+      all_weighted [] [] each = All-nil (λ (row : RowValue). All IsWeighted row.cells)
+      all_weighted [] (row ∷ rows) each = absurd each
+      all_weighted (own ∷ fields) [] each = absurd each
+      all_weighted (own ∷ fields) (row ∷ rows) each = All-cons (λ (r : RowValue). All IsWeighted r.cells) row rows each.0.weighted (all_weighted fields rows each.1)
+
+      pub part_shows : (has_header : Bool) → is_some made.header ≡ has_header → (fields : List (List Text)) → AllZip IsRowFor fields (header_and_rows part) → All (λ (own : List Text). length made.columns ≤ length own) fields → (has_header ≡ true → All (λ (row : RowValue). All IsUncoloured row.cells) alone) → IsDrawingOf look has_header fields (terminated_text_of (drawing part drawn.widths))
+      part_shows has_header header fields each as_many uncoloured =
           let plain = ap (λ (t : TableValue). t.custom_styling) looks ∙ kept_setting (λ l. l.has_sequences) look refl has false unkept in
-          let shown = part_stands made lines drawn plain alone within in
-          let both = every-parts (HasColumns made) (option_to_list made.header) made.rows (recursion_from_All (HasColumns made) _ columns) in
-          let few = every-append (HasColumns made) (option_to_list made.header) alone both.0 (recursion_from_All (HasColumns made) alone (All-weaker (Contains made.rows) (HasColumns made) (λ row own. All-contains (HasColumns made) made.rows row rows_fit own) alone within)) in
+          let framed = part_framed made lines drawn plain alone within in
+          let both = every-parts (HasColumns made) (option_to_list made.header) made.rows (recursion_from_All (HasColumns made) _ have_columns) in
+          let few =
+          All-append (HasColumns made) (option_to_list made.header) alone (All-from_recursion (HasColumns made) (option_to_list made.header) both.0)
+          (All-weaker (Contains made.rows) (HasColumns made) (λ row own. All-contains (HasColumns made) made.rows row (All-from_recursion (HasColumns made) made.rows both.1) own) alone within) in
           record {
             lines = drawing part drawn.widths;
             are = record { joined = refl; unbroken = All-weaker (Contains whole_lines) HasNoBreak (λ line own. All-contains HasNoBreak whole_lines line unbroken own) (drawing part drawn.widths) (part_has_lines_of_table made (infos_of made drawn.widths) first count) };
-            plain = shown.plain;
-            styled = shown.styled;
-            unstyled = λ none. shown.unstyled (unstyled none);
-            blocks = shown.blocks;
-            stand = among_weaker (All (IsFrame made.style)) (All (IsFrame look.style)) (λ ls. All-weaker (IsFrame made.style) (IsFrame look.style) in_look ls) shown.blocks shown.plain shown.stand;
-            show = each_shown fields (header_and_rows part) shown.blocks whole few shown.show;
+            table = part;
+            is_table = record { style = style_is; header = header; hold = all_hold fields (header_and_rows part) each; columns = columns; no_delimiter = ap (λ (t : TableValue). t.delimiter) looks; has_columns = few; as_many = as_many; shown = is.shown; no_sequences = plain };
+            framed = framed;
+            in_bold = subst (λ (ls : List Text). AllZip IsInBold ls (drawing part drawn.widths)) (sym (part_plain made lines drawn plain alone within)) (weighted_lines part (ap (λ (t : TableValue). t.style_text_only) looks) drawn.widths (all_weighted fields (header_and_rows part) each));
+            plain_rows = λ some. part_rows made lines drawn plain alone within (uncoloured some);
+            unstyled = λ none. framed.unstyled (unstyled none);
           }
         where
           whole_lines : List Text
@@ -198,6 +203,3 @@ module _ (look : Look) (content : SelectedValue) where
 
           unbroken : All HasNoBreak whole_lines
           unbroken = subst (All HasNoBreak) drawn.drawn (unbroken_lines look content is_expanded has lines style drawn)
-
-          rows_fit : All (HasColumns made) made.rows
-          rows_fit = All-from_recursion (HasColumns made) made.rows (every-parts (HasColumns made) (option_to_list made.header) made.rows (recursion_from_All (HasColumns made) _ columns)).1

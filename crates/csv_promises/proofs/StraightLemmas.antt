@@ -1,5 +1,5 @@
 -- What is written for arguments is straight: where no character takes more than one terminal column, or where no width is kept to.
-use Rattle.std.proofs.Common.{ap, ◌≡◌, ◌==◌, ◌&&◌, ◌||◌, inl, ℕ, Bool, true, false, not, List, [], ◌∷◌, Option, Some, None, is_some, append-nil, arith, chars, nat_le, refl, sym, ◌∙◌, subst, inr, ◌++◌}
+use Rattle.std.proofs.Common.{ap, ap₂, ◌≡◌, ◌==◌, ◌&&◌, ◌||◌, inl, ℕ, Bool, true, false, not, List, [], ◌∷◌, map, Option, Some, None, is_some, unwrap_or, append-nil, arith, chars, nat_le, refl, sym, ◌∙◌, subst, inr, ◌++◌}
 use Rattle.std.specs.Char.{is_control}
 use Rattle.std.specs.List.{All, list_any}
 use Rattle.std.specs.Prelude.{encode_utf8, if◌then◌else◌}
@@ -35,18 +35,20 @@ use Rattle.csv_records.proofs.OneRecordLemmas.{read_is_one}
 use Rattle.csv_records.specs.Reading.{AreRecordsFor}
 use Rattle.csv_tables.proofs.OutputControlLemmas.{text_fields, unbroken_without}
 use Rattle.csv_tables.proofs.MarkdownWidthLemmas.{whole_is_straight}
-use Rattle.csv_tables.proofs.StraightLemmas.{IsShort, narrow_is_straight, empty_is_short}
+use Rattle.csv_tables.proofs.StraightLemmas.{IsShort, fitting_is_straight, narrow_is_straight, empty_is_short}
 use Rattle.csv_command.proofs.StyleLemmas.{parsed_style_is_one_column, parsed_style_without_controls}
 use Rattle.csv_tables.proofs.TextTableLemmas.{EachLine}
-use Rattle.csv_tables.specs.Drawn.{count_below, drawn_rows, limited, names_of, records_below}
+use Rattle.csv_command.specs.Columns.{columns_by, columns_for}
+use Rattle.csv_tables.specs.Columns.{count_of, drawn_columns, seen}
+use Rattle.csv_tables.specs.Drawn.{SelectedValue, count_below, drawn_rows, limited, names_of, records_below, selected_of}
 use Rattle.csv_command.specs.Drawn.{IsDrawnOf, RendersChosen, RendersCounted, layout_with, most_drawn}
-use Rattle.csv_tables.specs.Laws.{ArePlainLines, EachText}
+use Rattle.csv_tables.specs.Laws.{ArePlainLines, CharactersFitEachWidth, EachText}
 use Rattle.promises.proofs.FittingLemmas.{text_fits}
 use Rattle.promises.specs.Tables.{HasCharactersWithin}
 use Rattle.csv_promises.proofs.LineLemmas.{nothing_is_straight, straight_text}
 use Rattle.csv_promises.proofs.RecordLemmas.{AreDrawnFirst, first_are_drawn}
 use Rattle.csv_promises.specs.Written.{IsWritten}
-use Rattle.csv_promises.specs.Straight.{EachField, IsPlainField, IsStraight}
+use Rattle.csv_promises.specs.Straight.{EachField, FieldsFitTheirColumns, IsPlainField, IsStraight}
 
 -- a character takes at most one column, and isn't U+FE01
 abbrev is_narrow : ℕ → Bool
@@ -174,6 +176,24 @@ module _ (arguments : List Text) (context : OutputContext) (invocation : Invocat
         straight_text known layout rs output is.no_markdown
         (whole_is_straight true known layout rs output one_column plain no_width (inl uncut) (plain_fields_are_short options.look is.unkept is.no_markdown rs by.text (own_fields IsPlainField each)) by.made.is_output)
 
+    -- the same columns are chosen of those that are drawn and of all records, and the same is drawn of them
+    same_columns : columns_for options records ≡ columns_for options rs
+    same_columns =
+        ap₂ (λ (names : Option (List Text)) (rows : List (List Text)). columns_by options.columns (unwrap_or names []) (count_of (unwrap_or names []) rows)) (sym by.names) (sym by.rows)
+
+    same_content : selected_of known layout records ≡ selected_of known layout rs
+    same_content =
+        ap₂ (λ (names : Option (List Text)) (rows : List (List Text)). let content : SelectedValue = record { names = names; rows = rows; columns = drawn_columns layout.columns (map (seen options.look.has_sequences) rows); count = known; is_numbered = options.selection.is_numbered } in content)
+        (sym by.names) (sym by.rows)
+
+    fitting_law : FieldsFitTheirColumns options records → IsStraight output
+    fitting_law fit =
+        straight_text known layout rs output is.no_markdown
+        (fitting_is_straight true known layout rs output is.no_markdown one_column plain each by.made.is_output)
+      where
+        each : CharactersFitEachWidth known layout rs
+        each content table widths same drawn arranged = fit known by.made.columns (same_columns ∙ by.made.are_chosen) content table widths (same_content ∙ same) drawn arranged
+
   nothing : output ≡ [] → IsStraight output
   nothing empty = subst IsStraight (sym empty) nothing_is_straight
 
@@ -184,6 +204,10 @@ module _ (arguments : List Text) (context : OutputContext) (invocation : Invocat
   -- and where no width is kept to and no row is cut
   pub whole_for : options.look.width ≡ None → options.look.max_height ≡ None → EachField IsPlainField records → IsStraight output
   whole_for no_width uncut each = by_extent (IsStraight output) nothing (λ known rs by. whole_law known rs by no_width uncut each)
+
+  -- and where each character of the fields has room in its column
+  pub fitting_for : FieldsFitTheirColumns options records → IsStraight output
+  fitting_for fit = by_extent (IsStraight output) nothing (λ known rs by. fitting_law known rs by fit)
 
 -- what isn't some is none
 pub none_where : {A : Type 0} (o : Option A) → false ≡ is_some o → o ≡ None

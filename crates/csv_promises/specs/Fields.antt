@@ -1,58 +1,88 @@
 -- Where the fields of records stand in what is written of them.
 -- Source: this library's own.
-use Rattle.std.specs.Prelude.{◌≡◌, ◌<◌, ◌≤◌, ◌==◌, ◌||◌, ℕ, ◌+◌, not, Bool, true, false, List, [], ◌∷◌, ◌++◌, Option, String, All, EachIndex, MatchOption, decimal, filter, flat_map, length, map, nat_lt, option_map, option_to_list, slice_index_or, string_bytes, unwrap_or, IsUtf8, chars, if◌then◌else◌}
-use Rattle.std.specs.List.{AllZip, concat, list_any, range_with_len}
-use Rattle.comfy_parts.specs.Text.{Text}
-use Rattle.comfy_parts.specs.declared.style.table_style.TableStyle.{TableStyle}
+use Rattle.std.specs.Prelude.{◌≡◌, ◌<◌, ◌≤◌, ◌==◌, ℕ, ◌+◌, Bool, true, false, List, [], ◌∷◌, ◌++◌, Option, None, String, codes, All, MatchOption, decimal, filter, flat_map, length, map, nat_lt, option_map, option_to_list, string_bytes, unwrap_or, IsUtf8, chars, if◌then◌else◌, is_some, ◌⊎◌, slice_get}
+use Rattle.std.specs.List.{AllZip, enumerate_from, list_any, range_with_len}
+use Rattle.comfy_parts.specs.CellValue.{CellValue, ColumnValue, RowValue, plain_cell}
+use Rattle.comfy_parts.specs.Text.{Text, spaces}
+use Rattle.comfy_table.specs.TableValue.{TableValue, header_and_rows, shown_columns}
 use Rattle.comfy_table.specs.Laws.{AreLinesOf}
 use Rattle.csv_records.specs.Cleaning.{cleaned, is_replaced}
-use Rattle.csv_tables.specs.Cells.{number_name}
+use Rattle.csv_tables.specs.Cells.{number_name, unless_blank}
 use Rattle.csv_tables.specs.Fields.{field_or_blank}
 use Rattle.csv_tables.specs.Columns.{count_of, name_at}
 use Rattle.csv_command.specs.Columns.{columns_chosen, positions_between, without}
-use Rattle.csv_tables.specs.Drawn.{drawn_rows, names_of, note_for, record_line, records_below}
+use Rattle.csv_tables.specs.Drawn.{condensed_style, drawn_rows, names_of, note_for, record_line, records_below}
 use Rattle.csv_tables.specs.declared.options.Expansion.{Expansion}
 use Rattle.csv_tables.specs.declared.options.Expansion.TheVariants.{Always, Auto, Never}
 use Rattle.csv_tables.specs.declared.options.Look.{Look}
 use Rattle.csv_command.specs.declared.arguments.Options.{Options}
-use Rattle.promises.specs.Kept.{IsFrame, StandAmong}
-use Rattle.promises.specs.Shown.{IsStyled}
+use Rattle.promises.specs.Headline.{IsFramedTable}
 
 -- ---- rows of fields
 
--- a text but for its spaces and line feeds
-abbrev pub filled : Text → Text
-filled text = filter (λ b. not ((b == 0x20) || (b == 0x0A))) text
+-- a line, and the same line with parts of it in bold: each between the sequences that begin bold
+-- and end it
+pub data IsInBold : Text → Text → Type 0 where
+  nothing : IsInBold [] []
+  plain : (part line styled : Text) → IsInBold line styled
+      → IsInBold (part ++ line) (part ++ styled)
+  bold : (part line styled : Text) → IsInBold line styled
+      → IsInBold (part ++ line) ((codes "\u{1b}[1m" ++ (part ++ codes "\u{1b}[0m")) ++ styled)
 
--- the pieces of each column are its field, but for spaces and line feeds; a field without a column
--- is blank, and so are the pieces of a column without a field
-abbrev pub AreFields : List Text → List (List Text) → Type 0
-AreFields [] [] = Unit {0}
-AreFields (field ∷ fields) [] = (filled field ≡ []) × AreFields fields []
-AreFields [] (pieces ∷ others) = (filled (concat pieces) ≡ []) × AreFields [] others
-AreFields (field ∷ fields) (pieces ∷ others) =
-    (filled (concat pieces) ≡ filled field) × AreFields fields others
+-- a cell holds a field, with spaces behind it, which line up decimal marks, or without: line by
+-- line, and an empty line where all is blank. It breaks at spaces
+pub record HoldsField (field : Text) (cell : CellValue) : Type 0 where
+  pub behind : ℕ
+  pub texts :
+      cell.text_lines ≡ (plain_cell (unless_blank (field ++ spaces behind))).text_lines
+  pub no_delimiter : cell.delimiter ≡ None
 
--- lines show fields: in each of them stands a piece of each column, from left to right, among
--- spaces and characters of the style alone; those of a column, from top to bottom, are its field
-pub record ShowsFields (style : TableStyle) (fields lines : List Text) : Type 0 where
-  pub pieces : List (List Text)
-  pub are_fields : AreFields fields pieces
-  pub enough_lines : All (λ (column : List Text). length column ≤ length lines) pieces
-  pub stand : EachIndex lines (λ k. StandAmong (IsFrame style)
-      (map (λ (column : List Text). slice_index_or column k []) pieces) (slice_index_or lines k []))
+-- each cell of a row holds the field at its place; where there is none, the field is empty. And no
+-- height cuts the row
+pub record HoldsFields (fields : List Text) (row : RowValue) : Type 0 where
+  pub each : (i : ℕ) → MatchOption (slice_get row.cells i) (field_or_blank fields i ≡ [])
+      (HoldsField (field_or_blank fields i))
+  pub uncut : row.max_height ≡ None
 
--- a text shows rows of fields: below each other stand lines for each, among lines of spaces and
--- characters of the style alone; but for SGR sequences, where the header is bold
-pub record ShowsRows (look : Look) (rows : List (List Text)) (text : Text) : Type 0 where
+-- a column with a space at each side, which breaks at spaces
+pub record IsFieldColumn (column : ColumnValue) : Type 0 where
+  pub padding : column.padding ≡ (1, 1)
+  pub no_delimiter : column.delimiter ≡ None
+
+-- a table in this look, of rows of fields, of which the first is the header, or none; lines between
+-- rows may be left out
+pub record IsTableOf (look : Look) (has_header : Bool) (rows : List (List Text))
+    (table : TableValue) : Type 0 where
+  pub style : (table.style ≡ look.style) ⊎ (table.style ≡ condensed_style look.style)
+  pub header : is_some table.header ≡ has_header
+  pub hold : AllZip HoldsFields rows (header_and_rows table)
+  pub columns : All IsFieldColumn table.columns
+  pub no_delimiter : table.delimiter ≡ None
+  -- each cell has a column, each column a field, and all are shown
+  pub has_columns :
+      All (λ (row : RowValue). length row.cells ≤ length table.columns) (header_and_rows table)
+  pub as_many : All (λ (fields : List Text). length table.columns ≤ length fields) rows
+  pub shown : shown_columns table ≡ enumerate_from 0 table.columns
+  pub no_sequences : table.custom_styling ≡ false
+
+-- a text is the lines of such a table, but for bold in the pieces around its texts, where the
+-- header is bold
+pub record IsDrawingOf (look : Look) (has_header : Bool) (rows : List (List Text)) (text : Text)
+    : Type 0 where
   pub lines : List Text
   pub are : AreLinesOf text lines
-  pub plain : List Text
-  pub styled : AllZip IsStyled plain lines
-  pub unstyled : look.has_bold_header ≡ false → lines ≡ plain
-  pub blocks : List (List Text)
-  pub stand : StandAmong (All (IsFrame look.style)) blocks plain
-  pub show : AllZip (ShowsFields look.style) rows blocks
+  pub table : TableValue
+  pub is_table : IsTableOf look has_header rows table
+  pub framed : IsFramedTable table lines
+  pub in_bold : AllZip IsInBold framed.plain lines
+  -- where there is a header, nothing below it is in bold
+  pub plain_rows : has_header ≡ true → framed.frame.rows ≡ framed.is_plain.rows
+  pub unstyled : look.has_bold_header ≡ false → lines ≡ framed.plain
+
+-- a text shows rows of fields in a table; or nothing, where there are none
+abbrev pub ShowsRows : Look → Bool → List (List Text) → Text → Type 0
+ShowsRows look has_header rows text =
+    ((rows ≡ []) × (text ≡ [])) ⊎ IsDrawingOf look has_header rows text
 
 -- ---- records
 
@@ -94,7 +124,7 @@ abbrev pub ShowsExpanded :
 ShowsExpanded look names positions count number [] text = text ≡ []
 ShowsExpanded look names positions count number (fields ∷ rows) text =
     (own : Text) × (rest : Text) × (text ≡ record_line number count ++ (own ++ rest))
-    × ShowsRows look (pairs_at names positions fields) own
+    × ShowsRows look false (pairs_at names positions fields) own
     × ShowsExpanded look names positions count (number + 1) rows rest
 
 -- the positions of the columns that some words choose, in their order
@@ -117,7 +147,7 @@ positions_in options names rows =
 abbrev pub ShowsDrawn :
     Bool → Options → Option (List Text) → List (List Text) → Option ℕ → Text → Type 0
 ShowsDrawn false options names rows count text =
-    ShowsRows options.look
+    ShowsRows options.look (is_some names)
     (all_rows options.selection.is_numbered
     (positions_in options (unwrap_or names []) rows) names rows) text
 ShowsDrawn true options names rows count text =

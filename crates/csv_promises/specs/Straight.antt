@@ -1,12 +1,17 @@
 -- Lines that show the same number of terminal columns.
 -- Source: this library's own.
-use Rattle.std.specs.Prelude.{◌≡◌, ◌⊎◌, ◌||◌, ◌≤◌, ℕ, false, List, Option, All, chars}
+use Rattle.std.specs.Prelude.{◌≡◌, ◌⊎◌, ◌||◌, ◌≤◌, ℕ, false, List, Option, Ok, All, chars}
 use Rattle.std.specs.Char.{is_control}
 use Rattle.std.specs.List.{list_any}
 use Rattle.comfy_parts.specs.Text.{Text, measure}
 use Rattle.comfy_table.specs.Laws.{AreLinesOf}
 use Rattle.csv_records.specs.Cleaning.{turns_direction}
+use Rattle.csv_command.specs.Columns.{columns_for}
+use Rattle.csv_command.specs.Drawn.{layout_with}
+use Rattle.csv_command.specs.declared.arguments.Options.{Options}
+use Rattle.csv_tables.specs.Columns.{ColumnsValue}
 use Rattle.csv_tables.specs.Drawn.{note_text, record_heading}
+use Rattle.csv_tables.specs.Laws.{CharactersFitEachWidth}
 use Rattle.promises.specs.Shown.{ShowsColumns}
 
 -- P holds of each field of each record
@@ -30,3 +35,15 @@ pub record IsStraight (text : Text) : Type 0 where
   pub are : AreLinesOf text lines
   pub columns : ℕ
   pub show : All (λ line. CountsRecords line ⊎ ShowsColumns columns line) lines
+
+-- each character of the drawn fields and names has room in its column: for the columns that options
+-- choose, in each table that may be drawn of the records, for the widths that are arranged for it
+abbrev pub FieldsFitTheirColumns : Options → List (List Text) → Type 0
+FieldsFitTheirColumns options records =
+    (known : Option ℕ) (columns : ColumnsValue) → columns_for options records ≡ Ok columns
+    → CharactersFitEachWidth known (layout_with options columns) records
+
+-- then what is written of the records is straight
+abbrev pub IsStraightWhereFieldsFit : Options → List (List Text) → Text → Type 0
+IsStraightWhereFieldsFit options records text =
+    FieldsFitTheirColumns options records → IsStraight text

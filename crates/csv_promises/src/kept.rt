@@ -11,13 +11,12 @@ use std::alloc::Global;
 
 /// What the arguments ask for, the records of a file's bytes, and what the program writes of them:
 /// nothing where the arguments ask for sequences in fields, for Markdown or for a height; or for no
-/// drawing, or where it can't be drawn so. Whatever the width and the
-/// script, each record that is drawn is shown below the one before, and the fields of the columns
-/// that are drawn from left to right, as they are cleaned: they lose only spaces and line breaks.
-/// Where records are expanded, each stands below a line that numbers it, and its fields below each
-/// other, behind the names of their columns. All else are spaces, characters of the style, SGR
-/// sequences where the header is bold, and below all a line that counts records, where not all are
-/// drawn.
+/// drawing, or where it can't be drawn so. Whatever the width and the script, the output is a table
+/// in the style that is asked for: the header, if there is one, and below it a row for each record
+/// that is drawn. Each field, as it is cleaned, stands alone in its column, between spaces: whole,
+/// or in slices that leave out nothing but spaces. Where records are expanded, each is such a table
+/// of names and fields, below a line that numbers it. All else is bold, where the header is in
+/// bold, and below all a line that counts records, where not all are drawn.
 pub fn output_with_all_fields(
     alloc: Global,
     arguments: &[&str],

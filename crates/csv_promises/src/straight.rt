@@ -2,7 +2,7 @@
 
 ghost use Rattle.std.specs.Prelude.{IfOk, IfSome, map};
 ghost use Rattle.csv_records.specs.Reading.{AreRecordsFor};
-ghost use Rattle.csv_promises.specs.Straight.{EachField, IsPlainField, IsStraight};
+ghost use Rattle.csv_promises.specs.Straight.{EachField, IsPlainField, IsStraight, IsStraightWhereFieldsFit};
 ghost use Rattle.csv_promises.specs.Written.{IsWritten};
 ghost use Rattle.promises.specs.Tables.{HasCharactersWithin};
 
@@ -33,6 +33,24 @@ pub fn straight_output(
     records_are_one();
     let (_invocation, records, sink) = written(alloc, arguments, context, input, room)?;
     Some((records, sink))
+}
+
+/// The same for texts of every script, under every width and height, and what the arguments ask
+/// for: all lines of the table show the same number of columns where each character of each drawn
+/// field has room in its column. A character takes at most two terminal columns, but for U+17D8.
+/// U+FE01 stands nowhere directly beside U+FE0E or U+FE0F.
+pub fn straight_fitting_output(
+    alloc: Global,
+    arguments: &[&str],
+    context: OutputContext<'_>,
+    input: &[u8],
+    room: usize,
+) -> Option<(Invocation, Records, MemorySink)>
+    ensures { IfSome result (λ drawn.
+        IsStraightWhereFieldsFit drawn.0.options drawn.1 drawn.2.bytes) }
+{
+    let (asked, records, sink) = written(alloc, arguments, context, input, room)?;
+    Some((asked, records, sink))
 }
 
 /// The same for texts of every script: nothing also where a width is kept to, or where rows are

@@ -43,7 +43,8 @@ use Rattle.comfy_table.specs.TableValue.{TableValue, column_content_width, colum
 use Rattle.comfy_table.specs.Widths.{ColumnNeeds, disabled_width, needs_of, shown_needs}
 use Rattle.promises.proofs.DrawnColumnLemmas.{IsWholeAt, columns-drawn, drawn_column, infos-are, whole_at}
 use Rattle.promises.proofs.RowLemmas.{height, line_is, piece_in, width_by_content}
-use Rattle.promises.specs.Headline.{AreColumnsOf, AreLinesOfCell, AreLinesOfHeader, AreLinesOfRow, AreLinesOfText, EachShownCell, AreContentLines, IsAround, IsFramed, IsHeadline, IsPiece, IsPrintable, framed, lines_in, whole_width, widths_shown}
+use Rattle.promises.proofs.PieceLemmas.{uncoloured_lines, uncoloured_rows}
+use Rattle.promises.specs.Headline.{AreColumnsOf, AreContentLines, AreLinesOfCell, AreLinesOfHeader, AreLinesOfRow, AreLinesOfText, EachShownCell, IsAround, IsFramed, IsFramedDrawing, IsFramedTable, IsHeadline, IsPiece, IsPrintable, framed, lines_in, whole_width, widths_shown, IsUncoloured}
 use Rattle.promises.specs.Shown.{IsStyled}
 use Rattle.promises.specs.Shown.IsStyled.{nothing, byte, sequence}
 
@@ -125,7 +126,7 @@ styled_kept =
 -- ---- rows of a table that is drawn without styles
 
 -- the table without styles and custom styling
-abbrev bare : TableValue → TableValue
+abbrev pub bare : TableValue → TableValue
 bare table = record table { custom_styling = false; no_tty = true; enforce_styling = false }
 
 module _ (table : TableValue) (widths : List ℕ) (long : length widths ≡ length table.columns) where
@@ -412,20 +413,9 @@ needed table (p ∷ ps) =
 
 -- ---- what every drawing promises
 
--- a table without styles at some widths, whatever these are: the header, if there is one, and all rows stand between frame lines
-pub record HasPlainLines (table : TableValue) (lines : List Text) : Type 0 where
-  pub width : ℕ → ℕ
-  pub cell_lines : ℕ × ColumnValue → CellValue → List Text
-  pub are_cell_lines : EachShownCell (λ row p cell. AreLinesOfCell (width p.0) (cell_delimiter table p.1.delimiter cell) cell (cell_lines p cell)) table
-  pub header : List Text
-  pub rows : List (List Text)
-  pub is_header : AreLinesOfHeader table width cell_lines table.header header
-  pub are_rows : AllZip (AreLinesOfRow table width cell_lines table.style.content_lines) table.rows rows
-  pub drawn : lines ≡ framed table width table.style.top_border ++ (header ++ (join_by (λ block. block) (framed table width table.style.row_separator) rows ++ framed table width table.style.bottom_border))
-
 module _ (table : TableValue) (widths : List ℕ) where
   -- so is each table whose texts and delimiters are whole characters
-  pub plain_lines : length widths ≡ length table.columns → All (λ (row : RowValue). All (IsWholeAt table row) (shown_columns table)) (measured_rows table) → HasPlainLines (measured_table table) (drawing (unstyled table) widths)
+  pub plain_lines : length widths ≡ length table.columns → All (λ (row : RowValue). All (IsWholeAt table row) (shown_columns table)) (measured_rows table) → IsFramedDrawing (measured_table table) (drawing (unstyled table) widths)
   plain_lines long whole =
       record {
         width = content_at measured widths long;
@@ -447,20 +437,50 @@ module _ (table : TableValue) (widths : List ℕ) where
   pub styled_lines : All (λ (row : RowValue). All (λ (cell : CellValue). All IsUtf8 cell.text_lines) row.cells) (measured_rows table) → AllZip IsStyled (drawing (unstyled table) widths) (drawing table widths)
   styled_lines whole = keeps_drawing Any IsStyled styled_kept table (infos_of table widths) tt (λ k default below. tt) whole (λ k default below j other under cell found i text inside. tt)
 
+-- a table that is measured as it is
+pub framed_table : (table : TableValue) (widths : List ℕ) → table.custom_styling ≡ false → length widths ≡ length table.columns → All (λ (row : RowValue). All (IsWholeAt table row) (shown_columns table)) (header_and_rows table) → AllZip IsStyled (drawing (bare table) widths) (drawing table widths)
+    → (should_style table ≡ false → drawing table widths ≡ drawing (bare table) widths) → IsFramedTable table (drawing table widths)
+framed_table table widths none long whole styled unstyled =
+    record {
+      plain = drawing (bare table) widths;
+      is_plain = record {
+        width = content_at table widths long;
+        cell_lines = lines_at table widths long;
+        are_cell_lines = λ k default under j other below cell found.
+            let is = whole k default under j other below cell found in
+            lines_of_cell (content_at table widths long (slice_index_or (shown_columns table) j other).0) (cell_delimiter table (slice_index_or (shown_columns table) j other).1.delimiter cell) cell is.0 is.1;
+        header = drawn_header (bare table) (infos_of table widths) table.header;
+        rows = map (drawn_row (bare table) (infos_of table widths) table.style.content_lines) table.rows;
+        is_header = header_is table widths long table.header;
+        are_rows = rows_are table widths long table.rows;
+        drawn = drawing_is table widths long;
+      };
+      styled = styled;
+      unstyled = unstyled;
+      frame = frame_is table widths long;
+    }
+
+pub framed-plain : (table : TableValue) (widths : List ℕ) (none : table.custom_styling ≡ false) (long : length widths ≡ length table.columns) (whole : All (λ (row : RowValue). All (IsWholeAt table row) (shown_columns table)) (header_and_rows table)) (styled : AllZip IsStyled (drawing (bare table) widths) (drawing table widths))
+    (unstyled : should_style table ≡ false → drawing table widths ≡ drawing (bare table) widths) → (framed_table table widths none long whole styled unstyled).plain ≡ drawing (bare table) widths
+unfolding framed_table
+framed-plain table widths none long whole styled unstyled = refl
+
+-- without colours its rows are the same
+pub framed-rows : (table : TableValue) (widths : List ℕ) (none : table.custom_styling ≡ false) (long : length widths ≡ length table.columns) (whole : All (λ (row : RowValue). All (IsWholeAt table row) (shown_columns table)) (header_and_rows table)) (styled : AllZip IsStyled (drawing (bare table) widths) (drawing table widths))
+    (unstyled : should_style table ≡ false → drawing table widths ≡ drawing (bare table) widths) → All (λ (row : RowValue). All IsUncoloured row.cells) table.rows
+    → (framed_table table widths none long whole styled unstyled).frame.rows ≡ (framed_table table widths none long whole styled unstyled).is_plain.rows
+unfolding framed_table frame_is
+framed-rows table widths none long whole styled unstyled each =
+    uncoloured_rows table (infos_of table widths) table.style.content_lines table.rows each
+    ∙ ap (λ (custom : Bool). map (drawn_row (record table { custom_styling = custom; no_tty = true; enforce_styling = false }) (infos_of table widths) table.style.content_lines) table.rows) none
+
 pub headline : (table : TableValue) (lines : List Text) → IsTableDrawing table lines → IsHeadline table lines
 unfolding plain_lines
 headline table lines drawn =
     record {
       plain = drawing (unstyled table) drawn.widths;
       is_plain = record {
-        width = own.width;
-        cell_lines = own.cell_lines;
-        are_cell_lines = own.are_cell_lines;
-        header = own.header;
-        rows = own.rows;
-        is_header = own.is_header;
-        are_rows = own.are_rows;
-        drawn = own.drawn;
+        framed = own;
         by_content = λ none j other below free.
             let p = slice_index_or (shown_columns table) j other in
             let kept : width_kept table.arrangement (table_width table) ≡ None = no_width table.arrangement (table_width table) none in
@@ -485,6 +505,7 @@ headline table lines drawn =
       };
       styled = subst (AllZip IsStyled (drawing (unstyled table) drawn.widths)) (sym drawn.drawn) (styled_lines table drawn.widths drawn.texts.whole_texts);
       unstyled = drawn.edges.unstyled_lines;
+      uncoloured = λ each none. drawn.drawn ∙ uncoloured_lines table drawn.widths each none;
       frame = subst (IsFramed table (content_at table drawn.widths long) (lines_at table drawn.widths long)) (sym drawn.drawn) (frame_is table drawn.widths long);
     }
   where
@@ -494,7 +515,7 @@ headline table lines drawn =
     long : length drawn.widths ≡ length table.columns
     long = drawn.arranged.one_for_each
 
-    own : HasPlainLines measured (drawing (unstyled table) drawn.widths)
+    own : IsFramedDrawing measured (drawing (unstyled table) drawn.widths)
     own = plain_lines table drawn.widths long (whole_at table lines drawn)
 
     no_width : (arrangement : ContentArrangement) (width : Option ℕ) → (arrangement ≡ Disabled) ⊎ (width ≡ None) → width_kept arrangement width ≡ None

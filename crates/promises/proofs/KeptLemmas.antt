@@ -1,7 +1,7 @@
 -- Where the texts of a table stand in its drawing.
 use Rattle.std.proofs.Common.{◌≡◌, inl, inr, ◌<◌, ◌≤◌, ℕ, zero, suc, Bool, true, false, List, [], ◌∷◌, ◌++◌, Option, Some, None, length, map, not, flat_map, refl, sym, ap, ap₂, ◌∙◌, subst, arith, append_assoc, append-nil, slice_index_or, unwrap_or, nat_le}
 use Rattle.std.specs.List.{All, AllZip, join_by, slice_get, filter_map}
-use Rattle.std.specs.Prelude.{Contains, if◌then◌else◌, option_map, option_to_list, MatchOption}
+use Rattle.std.specs.Prelude.{Contains, option_map, option_to_list, MatchOption}
 use Rattle.std.specs.Str.{IsUtf8}
 use Rattle.std.proofs.lemmas.List.Elements.{All-append, All-contains, All-contains_itself, All-from_recursion, All-head, All-tail, All-weaker, recursion_from_All}
 use Rattle.comfy_parts.proofs.CallerLemmas.{All-at, All-given, every-parts}
@@ -19,13 +19,15 @@ use Rattle.comfy_table.specs.Frame.{content_line}
 use Rattle.comfy_table.specs.Headline.{IsTableDrawing}
 use Rattle.comfy_table.specs.Laws.{unstyled}
 use Rattle.comfy_table.specs.Lines.{cell_delimiter, cut_text, cut_to_limit}
-use Rattle.comfy_table.specs.TableValue.{TableValue, cell_content_width, header_and_rows, measured_rows, measured_table, shown_columns, visible_row, with_other_rows}
+use Rattle.comfy_table.specs.TableValue.{TableValue, cell_content_width, header_and_rows, measured_rows, shown_columns, with_other_rows}
 use Rattle.promises.proofs.AmongLemmas.{Around, among_before, among_borders, among_inside, among_joined, among_later, frame_joins, lines_join, optional_frame, spaces_frame, style_frame}
 use Rattle.promises.proofs.DrawnColumnLemmas.{IsWholeAt, whole_at}
-use Rattle.promises.proofs.HeadlineLemmas.{HasPlainLines, headline, plain_lines, styled_lines}
+use Rattle.promises.proofs.HeadlineLemmas.{bare, framed-plain, framed-rows, framed_table, headline, plain_lines, styled_lines}
+use Rattle.promises.proofs.PieceLemmas.{measured-plain, plainly}
 use Rattle.promises.proofs.PlacedLemmas.{measured_plain, placed}
-use Rattle.promises.specs.Headline.{AreLinesOfCell, AreLinesOfHeader, AreLinesOfRow, AreLinesOfText, IsPiece, IsPlainDrawing, framed, lines_in, widest, widths_shown}
+use Rattle.promises.specs.Headline.{AreLinesOfCell, AreLinesOfHeader, AreLinesOfRow, AreLinesOfText, IsFramedDrawing, IsFramedTable, IsPiece, IsUncoloured, IsPlainDrawing, framed, lines_in, widest, widths_shown}
 use Rattle.promises.specs.Kept.{AreShown, AreSlicesOf, IsFrame, ShowsRow, ShowsWholeRow, StandAmong, StandInLines, text_lines_at}
+use Rattle.promises.specs.Shown.{IsStyled}
 use Rattle.promises.specs.Tables.{IsShownWhole}
 
 -- the same is made of each
@@ -34,24 +36,15 @@ same_maps f g [] same = refl
 same_maps f g (x ∷ xs) same = ap₂ (λ (y : _) (ys : List _). y ∷ ys) (All-head (λ x. f x ≡ g x) x xs same) (same_maps f g xs (All-tail (λ x. f x ≡ g x) x xs same))
 
 -- slices are slices wherever they end
-slices_anywhere : (Ends : Text → Text → Type 0) (d : ℕ) (text : Text) (lines : List Text) → IsSlicesWhere Ends d text lines → IsSlicesWhere (λ line tail. Unit {0}) d text lines
+pub slices_anywhere : (Ends : Text → Text → Type 0) (d : ℕ) (text : Text) (lines : List Text) → IsSlicesWhere Ends d text lines → IsSlicesWhere (λ line tail. Unit {0}) d text lines
 slices_anywhere Ends d text [] only = only
 slices_anywhere Ends d text (line ∷ lines) (tail, slice, ends, more) = (tail, slice, tt, slices_anywhere Ends d tail lines more)
-
--- without custom styling a table is measured as it is
-measured-plain : (table : TableValue) → table.custom_styling ≡ false → measured_table table ≡ table
-measured-plain table plain =
-    ap (λ (custom : Bool). record table {
-      header = if custom then option_map visible_row table.header else table.header;
-      rows = if custom then map visible_row table.rows else table.rows;
-      custom_styling = false;
-    }) plain ∙ ap (λ (custom : Bool). record table { custom_styling = custom }) (sym plain)
 
 -- below each other stand lines for each row, among frame lines alone
 abbrev AreBlocks : TableValue → List Text → (RowValue → List Text → Type 0) → Type 0
 AreBlocks table lines Shows = (blocks : List (List Text)) × StandAmong (All (IsFrame table.style)) blocks lines × AllZip Shows (header_and_rows table) blocks
 
-module _ (table : TableValue) (lines : List Text) (is : HasPlainLines table lines) where
+module _ (table : TableValue) (lines : List Text) (is : IsFramedDrawing table lines) where
   abbrev Frame : Text → Type 0
   Frame = IsFrame table.style
 
@@ -277,7 +270,7 @@ module _ (table : TableValue) (lines : List Text) (drawn : IsTableDrawing table 
     pub part_stands : AreShown (ShowsRow part) part (drawing part drawn.widths)
     part_stands =
         let own = plain_lines part drawn.widths drawn.arranged.one_for_each (measured_part (λ row. All (IsWholeAt table row) (shown_columns table)) (whole_at table lines drawn)) in
-        let made = all_shown part (drawing (unstyled part) drawn.widths) (subst (λ (t : TableValue). HasPlainLines t (drawing (unstyled part) drawn.widths)) (measured-plain part plain) own) in
+        let made = all_shown part (drawing (unstyled part) drawn.widths) (subst (λ (t : TableValue). IsFramedDrawing t (drawing (unstyled part) drawn.widths)) (measured-plain part plain) own) in
         record {
           plain = drawing (unstyled part) drawn.widths;
           styled = styled_lines part drawn.widths (measured_part (λ row. All (λ (cell : CellValue). All IsUtf8 cell.text_lines) row.cells) drawn.texts.whole_texts);
@@ -287,6 +280,23 @@ module _ (table : TableValue) (lines : List Text) (drawn : IsTableDrawing table 
           show = made.2;
         }
 
+    -- it is framed as the table is
+    pub part_framed : IsFramedTable part (drawing part drawn.widths)
+    part_framed =
+        let same : unstyled part ≡ bare part = ap bare (measured-plain part plain) in
+        framed_table part drawn.widths plain drawn.arranged.one_for_each
+        (subst (All (λ (row : RowValue). All (IsWholeAt table row) (shown_columns table))) (measured_plain part plain) (measured_part (λ row. All (IsWholeAt table row) (shown_columns table)) (whole_at table lines drawn)))
+        (subst (λ (t : TableValue). AllZip IsStyled (drawing t drawn.widths) (drawing part drawn.widths)) same (styled_lines part drawn.widths (measured_part (λ row. All (λ (cell : CellValue). All IsUtf8 cell.text_lines) row.cells) drawn.texts.whole_texts)))
+        (λ none. sym (unstyled_drawing part (infos_of part drawn.widths) none plain) ∙ ap (λ (t : TableValue). drawing t drawn.widths) same)
+
+    pub part_rows : All (λ (row : RowValue). All IsUncoloured row.cells) rows → part_framed.frame.rows ≡ part_framed.is_plain.rows
+    unfolding part_framed
+    part_rows each = framed-rows part drawn.widths plain _ _ _ _ each
+
+    pub part_plain : part_framed.plain ≡ drawing (plainly part) drawn.widths
+    unfolding part_framed
+    part_plain = framed-plain part drawn.widths plain _ _ _ _ ∙ ap (λ (custom : Bool). drawing (record part { custom_styling = custom; no_tty = true; enforce_styling = false }) drawn.widths) (sym plain)
+
   pub all_texts_stand : AreShown (ShowsRow table) table lines
   all_texts_stand = subst (AreShown (ShowsRow table) table) (sym drawn.drawn) (part_stands table.rows (All-contains_itself table.rows))
 
@@ -295,7 +305,7 @@ module _ (table : TableValue) (lines : List Text) (drawn : IsTableDrawing table 
       let is = headline table lines drawn in
       let own = subst (λ (t : TableValue). IsPlainDrawing t is.plain) (measured-plain table plain) is.is_plain in
       let made = whole_shown table is.plain
-      (record { width = own.width; cell_lines = own.cell_lines; are_cell_lines = own.are_cell_lines; header = own.header; rows = own.rows; is_header = own.is_header; are_rows = own.are_rows; drawn = own.drawn }) (own.by_content (inl disabled)) whole in
+      own.framed (own.by_content (inl disabled)) whole in
       record {
         plain = is.plain;
         styled = is.styled;

@@ -7,6 +7,7 @@ mod FittingTextLemmas
 pub mod FrameLemmas
 pub mod HeadlineLemmas
 pub mod KeptLemmas
+pub mod PieceLemmas
 pub mod PlacedLemmas
 pub mod PromiseLemmas
 pub mod RowLemmas

@@ -24,11 +24,21 @@ use Rattle.promises.proofs.PromiseLemmas.{keeps_promises}
 use Rattle.promises.specs.Conditions.{IsNewColumn, IsOfRows}
 use Rattle.promises.specs.Kept.{AreShown, IsFrame, ShowsWholeRow, StandAmong, text_lines_at}
 use Rattle.promises.specs.Promises.{KeepsPromises}
-use Rattle.promises.specs.Rows.{HaveCells, IsIn, IsNarrowCell, IsNarrowRow, IsRowIn, KeepsRows, table_of}
+use Rattle.promises.specs.Rows.{HaveCells, IsNarrowCell, IsNarrowRow, KeepsRows, table_of}
 use Rattle.promises.specs.Tables.{EachText, HasPlainFrame, IsPlain, IsShownWhole, IsUnconstrained, shown}
 use Rattle.promises.specs.Widths.{frame_room}
 
 -- ---- lines
+
+-- the text stands in one of the lines
+abbrev pub IsIn : List Text → Text → Type 0
+IsIn lines text =
+    (k : ℕ) × (before behind : Text) × (k < length lines)
+    × (slice_index_or lines k [] ≡ before ++ (text ++ behind))
+
+-- so does each text line of a row's cells
+abbrev pub IsRowIn : List Text → RowValue → Type 0
+IsRowIn lines row = All (λ (cell : CellValue). All (IsIn lines) cell.text_lines) row.cells
 
 -- a text of some lines stands in these and others
 in_more : (before block behind : List Text) (text : Text) → IsIn block text → IsIn (before ++ (block ++ behind)) text
@@ -236,7 +246,7 @@ module _ (style : TableStyle) (arrangement : ContentArrangement) (width : Option
             built.built-rows base IsShortRow rows (with_header header base) (All-tail IsShortRow header rows short)
             (built.built-header base IsShortRow header base (All-head IsShortRow header rows short) (record { is = refl; columns = All-nil built.IsNewColumn; header = All-nil IsShortRow; rows = All-nil IsShortRow }))
 
-    texts_are_in : (lines : List Text) → AreShown (ShowsWholeRow table) table lines → All (IsRowIn lines) (header ∷ rows)
+    pub texts_are_in : (lines : List Text) → AreShown (ShowsWholeRow table) table lines → All (IsRowIn lines) (header ∷ rows)
     texts_are_in lines shown =
         subst (λ (ls : List Text). All (IsRowIn ls) (header ∷ rows)) (sym (shown.unstyled plain.no_styles))
         (rows_are_in table made.columns (header ∷ rows) shown.blocks shown.plain made.room shown.stand (subst (λ (rs : List RowValue). AllZip (ShowsWholeRow table) rs shown.blocks) its_rows shown.show))
@@ -254,7 +264,7 @@ module _ (style : TableStyle) (arrangement : ContentArrangement) (width : Option
             let room = room_of n few in
             kept.over w (its_width ∙ known) (its_arrangement ∙ full) (plain, frame narrow characters, (some_column some, free_columns table made.columns), texts narrow) (omega (arith, enough, room));
         all_texts = kept.all_texts plain.no_sequences;
-        whole_texts = λ disabled short. texts_are_in disabled short lines (kept.whole_texts plain.no_sequences (its_arrangement ∙ disabled) (whole disabled short));
+        whole_texts = λ disabled short. kept.whole_texts plain.no_sequences (its_arrangement ∙ disabled) (whole disabled short);
       }
     where
       kept : KeepsPromises table lines

@@ -102,9 +102,9 @@ widest table i =
     max 1 (greatest (map cell_content_width (filter_map (λ (row : RowValue). slice_get row.cells i)
     (header_and_rows table))))
 
--- the lines of a table without styles: the header, if there is one, and all rows stand between
--- frame lines over the same widths
-pub record IsPlainDrawing (table : TableValue) (lines : List Text) : Type 0 where
+-- the header of a table, if there is one, and all rows stand between frame lines over the same
+-- widths
+pub record IsFramedDrawing (table : TableValue) (lines : List Text) : Type 0 where
   pub width : ℕ → ℕ
   pub cell_lines : ℕ × ColumnValue → CellValue → List Text
   pub are_cell_lines : EachShownCell (λ row p cell. AreLinesOfCell (width p.0)
@@ -117,26 +117,31 @@ pub record IsPlainDrawing (table : TableValue) (lines : List Text) : Type 0 wher
   pub drawn : lines ≡ framed table width table.style.top_border ++ (header
       ++ (join_by (λ block. block) (framed table width table.style.row_separator) rows
       ++ framed table width table.style.bottom_border))
+
+-- so do those of a table without styles, whose widths are these
+pub record IsPlainDrawing (table : TableValue) (lines : List Text) : Type 0 where
+  pub framed : IsFramedDrawing table lines
   -- without a width to keep to, a column is as wide as its widest text
   pub by_content : (table.arrangement ≡ Disabled) ⊎ (table_width table ≡ None)
-      → All (λ (p : ℕ × ColumnValue). p.1.constraint ≡ None → width p.0 ≡ widest table p.0)
+      → All (λ (p : ℕ × ColumnValue). p.1.constraint ≡ None → framed.width p.0 ≡ widest table p.0)
       (shown_columns table)
   -- so are all under `Dynamic`, where they have room
   pub keeps_contents : (w : ℕ) → table_width table ≡ Some w → NoConstraints table
       → table.arrangement ≡ Dynamic
       → border_count table.style (length (shown_columns table))
       + sum (widths_shown table (widest table)) ≤ w
-      → All (λ (p : ℕ × ColumnValue). width p.0 ≡ widest table p.0) (shown_columns table)
+      → All (λ (p : ℕ × ColumnValue). framed.width p.0 ≡ widest table p.0) (shown_columns table)
   -- each frame line counts as many characters, whatever the texts
   pub total : ℕ
   pub frame_total : (line : LineStyle)
-      → count (frame_line table.style line (widths_shown table width)) ≡ total
+      → count (frame_line table.style line (widths_shown table framed.width))
+      ≡ total
   -- so does each line of printable ASCII, where the indicator adds one column for each character
   -- wherever it is written
   pub plain_total : IsPrintable table
       → EachShownCell (λ row p cell. (h : ℕ) → row.max_height ≡ Some h
-      → h < length (cell_lines p cell)
-      → AddsOneColumnEach (fitting_indicator (width p.0) table.indicator)) table
+      → h < length (framed.cell_lines p cell)
+      → AddsOneColumnEach (fitting_indicator (framed.width p.0) table.indicator)) table
       → All (λ line. count line ≡ total) lines
   -- the width that was set, or the terminal's, holds where it has room for borders, paddings and
   -- one column for each
@@ -181,6 +186,21 @@ module _ (table : TableValue) (width : ℕ → ℕ)
         ++ (join_by (λ block. block) (framed table width table.style.row_separator) rows
         ++ framed table width table.style.bottom_border))
 
+-- lines are a table's without styles, but for SGR sequences, which stand in pieces around the
+-- texts, where styles are written
+pub record IsFramedTable (table : TableValue) (lines : List Text) : Type 0 where
+  pub plain : List Text
+  pub is_plain : IsFramedDrawing table plain
+  pub styled : AllZip IsStyled plain lines
+  pub unstyled : should_style table ≡ false → lines ≡ plain
+  pub frame : IsFramed table is_plain.width is_plain.cell_lines lines
+
+-- a cell without colours and attributes
+pub record IsUncoloured (cell : CellValue) : Type 0 where
+  pub no_foreground : cell.foreground ≡ None
+  pub no_background : cell.background ≡ None
+  pub no_attributes : cell.attributes ≡ []
+
 -- such are the lines of a table as it is measured, with custom styling of what is visible of its
 -- texts, but for SGR sequences in its pieces, where styles are written or stand in texts
 pub record IsHeadline (table : TableValue) (lines : List Text) : Type 0 where
@@ -188,11 +208,15 @@ pub record IsHeadline (table : TableValue) (lines : List Text) : Type 0 where
   pub is_plain : IsPlainDrawing (measured_table table) plain
   pub styled : AllZip IsStyled plain lines
   pub unstyled : should_style table ≡ false → table.custom_styling ≡ false → lines ≡ plain
-  pub frame : IsFramed table is_plain.width is_plain.cell_lines lines
+  pub frame : IsFramed table is_plain.framed.width
+      is_plain.framed.cell_lines lines
+  -- a table whose cells have neither colours nor attributes is drawn without sequences
+  pub uncoloured : All (λ (row : RowValue). All IsUncoloured row.cells) (header_and_rows table)
+      → table.custom_styling ≡ false → lines ≡ plain
 
 -- the columns of a headline, as wide as there
 abbrev pub AreColumnsOf : TableValue → List Text → List ColumnInfo → Type 0
 AreColumnsOf table lines columns =
     (drawing : IsHeadline table lines)
-    × (columns ≡ map (λ (p : ℕ × ColumnValue). info_of p.1 (drawing.is_plain.width p.0))
+    × (columns ≡ map (λ (p : ℕ × ColumnValue). info_of p.1 (drawing.is_plain.framed.width p.0))
     (enumerate_from 0 table.columns))

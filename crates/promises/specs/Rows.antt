@@ -1,6 +1,6 @@
 -- New tables of a header and rows, and what their drawings keep.
 -- Source: this library's own.
-use Rattle.std.specs.Prelude.{◌≡◌, ℕ, ◌+◌, ◌*◌, ◌<◌, ◌≤◌, List, [], ◌∷◌, ◌++◌, Option, Some, None, All, length, max, slice_index_or}
+use Rattle.std.specs.Prelude.{◌≡◌, ℕ, ◌+◌, ◌*◌, ◌<◌, ◌≤◌, List, ◌∷◌, Option, Some, None, All, length, max}
 use Rattle.comfy_parts.specs.CellValue.{CellValue, RowValue}
 use Rattle.comfy_parts.specs.Columns.{CharactersFit}
 use Rattle.comfy_parts.specs.Text.{Text, measure}
@@ -9,7 +9,7 @@ use Rattle.comfy_parts.specs.declared.style.table.ContentArrangement.TheVariants
 use Rattle.comfy_parts.specs.declared.style.table_style.TableStyle.{TableStyle}
 use Rattle.comfy_table.specs.NewTables.{AreEquallyWide, IsShortRow}
 use Rattle.comfy_table.specs.TableValue.{TableValue, new_table, with_header, with_rows}
-use Rattle.promises.specs.Kept.{AreShown, ShowsRow}
+use Rattle.promises.specs.Kept.{AreShown, ShowsRow, ShowsWholeRow}
 
 -- a new table of this style, arrangement and width, with a header and rows
 abbrev pub table_of : TableStyle → ContentArrangement → Option ℕ → RowValue → List RowValue
@@ -32,16 +32,6 @@ IsNarrowRow row = All IsNarrowCell row.cells
 abbrev pub HaveCells : ℕ → List RowValue → Type 0
 HaveCells n rows = All (λ (row : RowValue). length row.cells ≤ n) rows
 
--- the text stands in one of the lines
-abbrev pub IsIn : List Text → Text → Type 0
-IsIn lines text =
-    (k : ℕ) × (before behind : Text) × (k < length lines)
-    × (slice_index_or lines k [] ≡ before ++ (text ++ behind))
-
--- so does each text line of a row's cells
-abbrev pub IsRowIn : List Text → RowValue → Type 0
-IsRowIn lines row = All (λ (cell : CellValue). All (IsIn lines) cell.text_lines) row.cells
-
 -- ---- promises
 
 -- what the lines of such a table keep: they are equally wide, where each character fits one
@@ -62,4 +52,5 @@ pub record KeepsRows (style : TableStyle) (arrangement : ContentArrangement) (wi
   pub all_texts : AreShown (ShowsRow (table_of style arrangement width header rows))
       (table_of style arrangement width header rows) lines
   pub whole_texts : arrangement ≡ Disabled → All IsShortRow (header ∷ rows)
-      → All (IsRowIn lines) (header ∷ rows)
+      → AreShown (ShowsWholeRow (table_of style arrangement width header rows))
+      (table_of style arrangement width header rows) lines

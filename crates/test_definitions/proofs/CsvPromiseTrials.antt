@@ -1,36 +1,39 @@
 -- Lines that the promises on files refuse, and records for which one is made.
-use Rattle.std.proofs.Common.{◌≡◌, ◌==◌, ◌⊎◌, inl, inr, ◌≤◌, ℕ, Bool, List, [], None, Some, Option, ◌∷◌, ◌++◌, arith, codes, append-nil, decimal, length, length-append, drop, map, refl, reverse, slice_index_or, sym, ap, ◌∙◌, subst, true, false}
+use Rattle.std.proofs.Common.{◌≡◌, ◌==◌, ◌&&◌, ◌||◌, zero, suc, ◌⊎◌, inl, inr, ◌≤◌, ℕ, Bool, List, [], None, Some, Option, ◌∷◌, ◌++◌, arith, codes, append-nil, decimal, length, length-append, drop, map, refl, reverse, slice_index_or, sym, ap, ◌∙◌, subst, true, false}
 use Rattle.std.specs.Fmt.{digits}
-use Rattle.std.specs.List.{All, AllZip, concat, list_any}
+use Rattle.std.specs.List.{All, AllByRecursion, list_any, slice_get, slice_split}
+use Rattle.std.proofs.lemmas.List.Splits.{slice_split_none}
 use Rattle.std.specs.Prelude.{MatchOption, ◌<◌, encode_utf8_all, if◌then◌else◌}
 use Rattle.std.specs.Str.{NonePass, chars}
-use Rattle.std.proofs.lemmas.Bool.{and_parts, true≢false}
-use Rattle.std.proofs.lemmas.Bool.Decides.{nat_tests}
+use Rattle.std.proofs.lemmas.Bool.{or_parts, true≢false}
 use Rattle.std.proofs.lemmas.List.{append_cancel_right, reverse-append}
 use Rattle.std.proofs.lemmas.Str.{encodes_same}
-use Rattle.std.proofs.lemmas.List.Elements.{All-head, All-tail}
+use Rattle.std.proofs.lemmas.List.Elements.{All-from_recursion, All-head, All-tail}
 use lib.Utf8.{encode}
 use Rattle.comfy_parts.proofs.Computing.{wrapping}
-use Rattle.comfy_parts.specs.Presets.{nothing, utf8_full}
-use Rattle.comfy_parts.specs.Text.{Text, measure}
+use Rattle.comfy_parts.specs.CellValue.{CellValue, RowValue}
+use Rattle.comfy_parts.specs.Presets.{utf8_full}
+use Rattle.comfy_parts.specs.Text.{Text, measure, spaces}
+use Rattle.csv_tables.specs.Cells.{is_blank}
 use Rattle.csv.specs.Records.{field_at}
 use Rattle.csv_tables.specs.declared.options.Expansion.{Expansion}
 use Rattle.csv_tables.specs.declared.options.Expansion.TheVariants.{Always, Auto, Never}
 use Rattle.csv_tables.specs.declared.options.Look.{Look}
 use Rattle.csv_command.specs.declared.arguments.Options.{Options}
 use Rattle.csv_tables.specs.declared.options.RowSeparators.TheVariants.{Styled}
-use Rattle.promises.specs.Shown.{IsStyled, ShowsColumns}
+use Rattle.promises.specs.Shown.{ShowsColumns}
 use Rattle.promises.specs.Tables.{HasCharactersWithin}
 use Rattle.csv_tables.specs.Drawn.{note_for, note_text, record_line}
 use Rattle.comfy_table.specs.Drawing.{terminated_text_of}
 use Rattle.comfy_table.specs.Laws.{AreLinesOf}
-use Rattle.csv_promises.specs.Fields.{AreFields, MayExpand, ShowsDrawn, ShowsExpanded, ShowsFields, ShowsRecords, ShowsRows, StaysAsItIs, all_rows, filled, positions_in}
+use Rattle.csv_promises.specs.Fields.{HoldsField, HoldsFields, IsDrawingOf, IsInBold, MayExpand, ShowsDrawn, ShowsExpanded, ShowsRecords, ShowsRows, StaysAsItIs, all_rows, positions_in}
 use Rattle.csv_promises.specs.Messages.{IsTameLine}
 use Rattle.csv_records.specs.Cleaning.{cleaned, is_replaced}
-use Rattle.promises.specs.Kept.{IsFrame, StandAmong}
+use Rattle.csv_promises.specs.Fields.IsInBold.{nothing, plain, bold as bold_part}
 use Rattle.csv_promises.specs.Straight.{CountsRecords, IsPlainField, IsStraight}
 use Rattle.test_definitions.proofs.OutputLineTrials.{found, one_line, two_lines}
-use Rattle.test_definitions.proofs.PromiseTrials.{none_in_nothing, shows_itself, spaces_alone}
+use Rattle.test_definitions.proofs.PromiseTrials.{shows_itself}
+use Rattle.test_definitions.proofs.CsvFieldTrials.{IsOneText, begins, dashed, has_line, one_row}
 use Rattle.test_definitions.proofs.TrialTables.{utf8}
 
 -- ---- straight edges
@@ -90,6 +93,38 @@ two_widths_are_not_straight is =
         sym second.2 ∙ ap measure (shows_itself second.1 refl) ∙ one_column in
         absurd (omega (arith, wide, narrow))
 
+wide_columns : measure (utf8 "| 京 |") ≡ 6
+unfolding wrapping encode
+wide_columns = refl
+
+narrow_columns : measure (codes "| a |") ≡ 5
+unfolding wrapping encode
+narrow_columns = refl
+
+-- nor is a drawing in which a wide character counts for one column
+-- false: csv_promises::straight_fitting_output
+wide_in_a_narrow_column : ¬ (IsStraight (utf8 "| 京 |\n| a |\n"))
+unfolding encode
+wide_in_a_narrow_column is =
+    by_lines
+    (two_lines (utf8 "| 京 |") (codes "| a |") is.lines (found (utf8 "| 京 |\n| a |\n") is.lines is.are))
+  where
+    Good : Text → Type 0
+    Good line = CountsRecords line ⊎ ShowsColumns is.columns line
+
+    columns_of : (line : Text) → length line ≤ 11 → ¬ (slice_index_or line 0 0 ≡ 0x72) → Good line → ShowsColumns is.columns line
+    columns_of line short other (inl counts) = absurd (no_count line short other counts)
+    columns_of line short other (inr shows) = shows
+
+    by_lines : ¬ (is.lines ≡ utf8 "| 京 |" ∷ codes "| a |" ∷ [])
+    by_lines are =
+        let all : All Good (utf8 "| 京 |" ∷ codes "| a |" ∷ []) = subst (All Good) are is.show in
+        let first = columns_of (utf8 "| 京 |") (omega arith) (λ same. let letter : ◌≡◌ {A = ℕ} 0x7C 0x72 = same in absurd (omega (arith, letter))) (All-head Good (utf8 "| 京 |") (codes "| a |" ∷ []) all) in
+        let second = columns_of (codes "| a |") (omega arith) (λ same. let letter : ◌≡◌ {A = ℕ} 0x7C 0x72 = same in absurd (omega (arith, letter))) (All-head Good (codes "| a |") [] (All-tail Good (utf8 "| 京 |") (codes "| a |" ∷ []) all)) in
+        let wide : is.columns ≡ 6 = sym first.2 ∙ ap measure (shows_itself first.1 refl) ∙ wide_columns in
+        let narrow : is.columns ≡ 5 = sym second.2 ∙ ap measure (shows_itself second.1 refl) ∙ narrow_columns in
+        absurd (omega (arith, wide, narrow))
+
 -- fields that meet the conditions: an accent takes one column, Chinese is drawn as it is
 accent_is_narrow : HasCharactersWithin 1 (utf8 "é")
 unfolding wrapping encode
@@ -105,9 +140,9 @@ chinese_is_plain = record { plain = refl; short = omega arith }
 abbrev pub bold : Look
 bold = record { style = utf8_full; separators = Styled; expansion = Auto; width = None; fills_width = false; max_height = None; has_bold_header = true; aligns_decimals = true; has_sequences = false; is_markdown = false }
 
--- a look without a bold header and a frame
+-- a look without a bold header, in a style whose hyphen no row draws
 abbrev unbold : Look
-unbold = record bold { has_bold_header = false; style = nothing }
+unbold = record bold { has_bold_header = false; style = dashed }
 
 -- a text without lines
 no_text_lines : (lines : List Text) → AreLinesOf [] lines → lines ≡ []
@@ -118,98 +153,130 @@ no_text_lines (line ∷ lines) are = by_line line are.joined
     by_line [] same = absurd (cc same)
     by_line (b ∷ line) same = absurd (cc same)
 
--- a field has pieces
-some_piece : (rest : List Text) (pieces : List (List Text)) → AreFields (codes "a" ∷ rest) pieces → All (λ (column : List Text). length column ≤ 0) pieces → ⊥
-some_piece rest [] fields short = cc fields.0
-some_piece rest (column ∷ others) fields short = by_column column fields.0 (All-head (λ (column : List Text). length column ≤ 0) column others short)
+-- ASCII without spaces and line feeds, of which the first character is given, has one text line
+one_text : (c : ℕ) (rest : Text) → ((c == 0x20) || (c == 0x0A)) ≡ false → list_any (λ b. b == 0x0A) (c ∷ rest) ≡ false → IsOneText (c ∷ rest) (λ n. c ∷ (rest ++ spaces n))
+one_text c rest filled unbroken =
+    record {
+      one = λ n. ap (λ (b : Bool). slice_split (λ x. x == 0x0A) (if b && is_blank (rest ++ spaces n) then [] else c ∷ (rest ++ spaces n))) filled ∙ slice_split_none (λ b. b == 0x0A) (c ∷ (rest ++ spaces n)) (All-from_recursion (λ b. (b == 0x0A) ≡ false) (c ∷ (rest ++ spaces n)) (each (c ∷ rest) n unbroken));
+      unspaced = λ n more same. let letter : c ≡ 0x20 = cc same in let blank : ((c == 0x20) || (c == 0x0A)) ≡ true = ap (λ (x : ℕ). (x == 0x20) || (x == 0x0A)) letter in absurd (cc (sym blank ∙ filled));
+    }
   where
-    by_column : (column : List Text) → filled (concat column) ≡ filled (codes "a") → length column ≤ 0 → ⊥
-    by_column [] same few = absurd (cc same)
-    by_column (piece ∷ more) same few = absurd (omega (arith, few))
+    behind : (n : ℕ) → AllByRecursion (λ b. (b == 0x0A) ≡ false) (spaces n)
+    behind zero = tt
+    behind (suc n) = (refl, behind n)
 
--- nothing shows no field, under a bold header neither
-nothing_shows_no_field : (look : Look) (rest : List Text) → ¬ (ShowsRows look ((codes "a" ∷ rest) ∷ []) [])
-nothing_shows_no_field look rest is = by_lines is.plain is.lines (no_text_lines is.lines is.are) is.styled is.stand
+    each : (xs : Text) (n : ℕ) → list_any (λ b. b == 0x0A) xs ≡ false → AllByRecursion (λ b. (b == 0x0A) ≡ false) (xs ++ spaces n)
+    each [] n none = behind n
+    each (x ∷ xs) n none = let both = or_parts (x == 0x0A) (list_any (λ b. b == 0x0A) xs) none in (both.0, each xs n both.1)
+
+-- a blank field has an empty one
+blank_text : IsOneText [] (λ n. [])
+blank_text =
+    record {
+      one = λ n. ap (λ (b : Bool). slice_split (λ x. x == 0x0A) (if b then [] else spaces n)) (blank n);
+      unspaced = λ n rest same. cc same;
+    }
   where
-    by_blocks : (blocks : List (List Text)) → StandAmong (All (IsFrame look.style)) blocks [] → ¬ (AllZip (ShowsFields look.style) ((codes "a" ∷ rest) ∷ []) blocks)
-    by_blocks [] stand show = show
-    by_blocks ([] ∷ blocks) stand show = some_piece rest show.0.pieces show.0.are_fields show.0.enough_lines
-    by_blocks ((line ∷ block) ∷ blocks) (before, behind, inside, around, rest) show = none_in_nothing before block behind line inside
+    blank : (n : ℕ) → is_blank (spaces n) ≡ true
+    blank zero = refl
+    blank (suc n) = blank n
 
-    by_lines : (plain lines : List Text) → lines ≡ [] → AllZip IsStyled plain lines → ¬ (StandAmong (All (IsFrame look.style)) is.blocks plain)
-    by_lines [] lines none styled stand = by_blocks is.blocks stand is.show
-    by_lines (line ∷ plain) [] none styled stand = styled
-    by_lines (line ∷ plain) (other ∷ lines) none styled stand = cc none
+-- a row has a cell for each field that isn't empty
+some_cell : (c : ℕ) (field : Text) (fields : List Text) (row : RowValue) → HoldsFields ((c ∷ field) ∷ fields) row → ¬ (row.cells ≡ [])
+unfolding field_at
+some_cell c field fields row hold none = let gone : c ∷ field ≡ [] = subst (λ (cells : List CellValue). MatchOption (slice_get cells 0) (c ∷ field ≡ []) (HoldsField (c ∷ field))) none (hold.each 0) in cc gone
 
--- where the header isn't bold, no line is
-bold_without_a_header : ¬ (ShowsRows unbold [] (codes "\u{1b}[1m\n"))
-bold_without_a_header is = by_blocks is.blocks is.show is.stand
+second_cell : (blank : Text) (c : ℕ) (field : Text) (fields : List Text) (row : RowValue) → HoldsFields (blank ∷ (c ∷ field) ∷ fields) row → ¬ (row.cells ≡ [])
+unfolding field_at
+second_cell blank c field fields row hold none = let gone : c ∷ field ≡ [] = subst (λ (cells : List CellValue). MatchOption (slice_get cells 1) (c ∷ field ≡ []) (HoldsField (c ∷ field))) none (hold.each 1) in cc gone
+
+-- nothing shows no field
+nothing_shows_no_field : (look : Look) → look.style ≡ dashed → look.has_bold_header ≡ false → (rest : List Text) → ¬ (ShowsRows look false ((codes "a" ∷ rest) ∷ []) [])
+nothing_shows_no_field look style weight rest (inl none) = cc none.0
+nothing_shows_no_field look style weight rest (inr is) =
+    let row = one_row look style weight (codes "a" ∷ rest) [] [] no_text_lines is in
+    let some = has_line (codes "a") rest [] (λ n. 0x61 ∷ ([] ++ spaces n)) (one_text 0x61 [] refl refl) row (some_cell 0x61 [] rest row.row row.hold) (λ n same. cc same) in
+    absurd (omega (arith, some))
+
+-- the only line of a text
+only : (line text : Text) → slice_split (λ b. b == 0x0A) text ≡ line ∷ [] ∷ [] → (own : List Text) → AreLinesOf text own → own ≡ line ∷ []
+only line text cut own are = one_line line own (sym cut ∙ found text own are)
+
+-- one row of fields, which this line shows
+abbrev ShowsRow : List Text → Text → Type 0
+ShowsRow fields line = IsDrawingOf unbold false (fields ∷ []) (line ++ codes "\n")
+
+-- an amount isn't shown by another one, whose hyphen a frame could have
+other_amount : ¬ (ShowsRow (codes "12.80" ∷ []) (codes " -12.80 "))
+other_amount is =
+    let row = one_row unbold refl refl (codes "12.80" ∷ []) (codes " -12.80 " ∷ []) (codes " -12.80 \n") (only (codes " -12.80 ") (codes " -12.80 \n") refl) is in
+    let own = begins (codes "12.80") [] (codes " -12.80 ") (λ n. 0x31 ∷ (codes "2.80" ++ spaces n)) (one_text 0x31 (codes "2.80") refl refl) row (some_cell 0x31 (codes "2.80") [] row.row row.hold) in
+    by_left own.right own.behind own.others own.tail own.left own.front own.is own.fronts
   where
-    plain : is.plain ≡ codes "\u{1b}[1m" ∷ []
-    plain = sym (is.unstyled refl) ∙ one_line (codes "\u{1b}[1m") is.lines (found (codes "\u{1b}[1m\n") is.lines is.are)
+    by_left : (right behind : ℕ) (others tail : Text) (left : ℕ) (front : Text) → codes " -12.80 " ≡ (spaces (suc left) ++ (front ++ spaces (suc right))) ++ others → ¬ (0x31 ∷ (codes "2.80" ++ spaces behind) ≡ front ++ tail)
+    by_left right behind others tail (suc left) front made fronts = let letter : ◌≡◌ {A = ℕ} 0x2D 0x20 = cc made in absurd (omega (arith, letter))
+    by_left right behind others tail zero [] made fronts = let letter : ◌≡◌ {A = ℕ} 0x2D 0x20 = cc made in absurd (omega (arith, letter))
+    by_left right behind others tail zero (x ∷ front) made fronts =
+        let hyphen : 0x2D ≡ x = cc made in
+        let one : 0x31 ≡ x = cc fronts in absurd (omega (arith, hyphen, one))
 
-    by_blocks : (blocks : List (List Text)) → AllZip (ShowsFields unbold.style) [] blocks → ¬ (StandAmong (All (IsFrame nothing)) blocks is.plain)
-    by_blocks (block ∷ blocks) show stand = show
-    by_blocks [] show stand =
-        let blank : false ≡ true = spaces_alone (codes "\u{1b}[1m") (All-head (IsFrame nothing) (codes "\u{1b}[1m") [] (subst (All (IsFrame nothing)) plain stand)) in
-        cc blank
-
--- pieces that lack a letter aren't those of a field, those that lack a space are
-pub lost_space : AreFields (codes "a b" ∷ []) ((codes "a" ∷ codes "b" ∷ []) ∷ [])
-lost_space = (refl, tt)
-
-lost_letter : ¬ (AreFields (codes "ab" ∷ []) ((codes "a" ∷ []) ∷ []))
-lost_letter are = let same : ◌≡◌ {A = Text} (codes "a") (codes "ab") = are.0 in cc same
-
--- nor are those of another column
-other_column : ¬ (AreFields (codes "a" ∷ codes "b" ∷ []) ((codes "b" ∷ []) ∷ (codes "a" ∷ []) ∷ []))
-other_column are = let same : ◌≡◌ {A = Text} (codes "b") (codes "a") = are.0 in let letter : ◌≡◌ {A = ℕ} 0x62 0x61 = cc same in absurd (omega (arith, letter))
-
--- a record isn't shown by another amount and another word
-another_amount : ¬ (ShowsFields nothing (codes "12.80" ∷ codes "Rent" ∷ []) (codes " -912.8099  No Rental " ∷ []))
-another_amount is = by_pieces is.pieces is.are_fields is.enough_lines (is.stand 0 (omega arith))
+-- a field doesn't stand in a column to the left of its own, where the field there is blank
+wrong_column : ¬ (ShowsRow ([] ∷ codes "1280" ∷ []) (codes " 1280    "))
+wrong_column is =
+    let row = one_row unbold refl refl ([] ∷ codes "1280" ∷ []) (codes " 1280    " ∷ []) (codes " 1280    \n") (only (codes " 1280    ") (codes " 1280    \n") refl) is in
+    let own = begins [] (codes "1280" ∷ []) (codes " 1280    ") (λ n. []) blank_text row (second_cell [] 0x31 (codes "280") [] row.row row.hold) in
+    by_left own.right own.others own.tail own.left own.front own.is own.fronts
   where
-    minus : (x : ℕ) (rest : Text) → 0x2D ≡ x → ¬ (filled (x ∷ rest) ≡ codes "12.80")
-    minus x rest is same =
-        let own : 0x2D ∷ filled rest ≡ codes "12.80" = subst (λ (y : ℕ). filled (y ∷ rest) ≡ codes "12.80") (sym is) same in
-        let letter : ◌≡◌ {A = ℕ} 0x2D 0x31 = cc own in absurd (omega (arith, letter))
+    by_left : (right : ℕ) (others tail : Text) (left : ℕ) (front : Text) → codes " 1280    " ≡ (spaces (suc left) ++ (front ++ spaces (suc right))) ++ others → ¬ (◌≡◌ {A = Text} [] (front ++ tail))
+    by_left right others tail (suc left) front made fronts = let letter : ◌≡◌ {A = ℕ} 0x31 0x20 = cc made in absurd (omega (arith, letter))
+    by_left right others tail zero [] made fronts = let letter : ◌≡◌ {A = ℕ} 0x31 0x20 = cc made in absurd (omega (arith, letter))
+    by_left right others tail zero (x ∷ front) made fronts = cc fronts
 
-    by_before : (before piece behind : Text) → IsFrame nothing before → filled piece ≡ codes "12.80" → ¬ (codes " -912.8099  No Rental " ≡ before ++ (piece ++ behind))
-    by_before [] [] behind frame same made = cc same
-    by_before [] (x ∷ []) behind frame same made = let own : filled (0x20 ∷ []) ≡ codes "12.80" = subst (λ (y : ℕ). filled (y ∷ []) ≡ codes "12.80") (sym (let letter : 0x20 ≡ x = cc made in letter)) same in cc own
-    by_before [] (x ∷ y ∷ piece) behind frame same made =
-        let space : 0x20 ≡ x = cc made in
-        let letter : 0x2D ≡ y = cc made in
-        minus y piece letter (subst (λ (z : ℕ). filled (z ∷ y ∷ piece) ≡ codes "12.80") (sym space) same)
-    by_before (b ∷ []) [] behind frame same made = cc same
-    by_before (b ∷ []) (x ∷ piece) behind frame same made = minus x piece (cc made) same
-    by_before (b ∷ c ∷ before) piece behind frame same made =
-        let all = spaces_alone (b ∷ c ∷ before) frame in
-        let letter : 0x2D ≡ c = cc made in
-        let blank : (c == 0x20) ≡ true = (and_parts (c == 0x20) _ (and_parts (b == 0x20) _ all).1).0 in
-        let space_is : c ≡ 0x20 = grind (arith, nat_tests, blank) in absurd (omega (arith, letter, space_is))
+-- and gains no space
+gained_space : ¬ (ShowsRow (codes "therapist" ∷ []) (codes " the rapist "))
+gained_space is =
+    let row = one_row unbold refl refl (codes "therapist" ∷ []) (codes " the rapist " ∷ []) (codes " the rapist \n") (only (codes " the rapist ") (codes " the rapist \n") refl) is in
+    let own = begins (codes "therapist") [] (codes " the rapist ") (λ n. 0x74 ∷ (codes "herapist" ++ spaces n)) (one_text 0x74 (codes "herapist") refl refl) row (some_cell 0x74 (codes "herapist") [] row.row row.hold) in
+    by_left own.behind own.tail own.left own.right own.front own.fronts (own.is ∙ ap (λ (t : Text). (spaces (suc own.left) ++ (own.front ++ spaces (suc own.right))) ++ t) (own.alone refl))
+  where
+    by_left : (behind : ℕ) (tail : Text) (left right : ℕ) (front : Text) → 0x74 ∷ (codes "herapist" ++ spaces behind) ≡ front ++ tail → ¬ (codes " the rapist " ≡ (spaces (suc left) ++ (front ++ spaces (suc right))) ++ [])
+    by_left behind tail (suc left) right front fronts made = let letter : ◌≡◌ {A = ℕ} 0x74 0x20 = cc made in absurd (omega (arith, letter))
+    by_left behind tail zero right [] fronts made = let letter : ◌≡◌ {A = ℕ} 0x74 0x20 = cc made in absurd (omega (arith, letter))
+    by_left behind tail zero right (a ∷ []) fronts made = let letter : ◌≡◌ {A = ℕ} 0x68 0x20 = cc made in absurd (omega (arith, letter))
+    by_left behind tail zero right (a ∷ b ∷ []) fronts made = let letter : ◌≡◌ {A = ℕ} 0x65 0x20 = cc made in absurd (omega (arith, letter))
+    by_left behind tail zero zero (a ∷ b ∷ c ∷ []) fronts made = cc made
+    by_left behind tail zero (suc right) (a ∷ b ∷ c ∷ []) fronts made = let letter : ◌≡◌ {A = ℕ} 0x72 0x20 = cc made in absurd (omega (arith, letter))
+    by_left behind tail zero right (a ∷ b ∷ c ∷ d ∷ front) fronts made =
+        let blank : 0x20 ≡ d = cc made in
+        let letter : 0x72 ≡ d = cc fronts in absurd (omega (arith, blank, letter))
 
-    by_column : (column : List Text) → filled (concat column) ≡ codes "12.80" → length column ≤ 1 → filled (slice_index_or column 0 []) ≡ codes "12.80"
-    by_column [] same few = cc same
-    by_column (piece ∷ []) same few = ap filled (sym (append-nil piece)) ∙ same
-    by_column (piece ∷ other ∷ column) same few = absurd (omega (arith, few))
+-- nor hidden: a line holds no sequence but those of bold
+hidden : ¬ (IsInBold (codes " a ") (codes "\u{1b}[8m a "))
+hidden is = by_parts is refl refl
+  where
+    by_parts : {line styled : Text} → IsInBold line styled → line ≡ codes " a " → ¬ (styled ≡ codes "\u{1b}[8m a ")
+    by_parts nothing none same = cc none
+    by_parts (plain [] line styled own) line_is same = by_parts own line_is same
+    by_parts (plain (x ∷ part) line styled own) line_is same =
+        let space : x ≡ 0x20 = cc line_is in
+        let escape : x ≡ 0x1B = cc same in absurd (omega (arith, space, escape))
+    by_parts (bold_part part line styled own) line_is same = let letter : ◌≡◌ {A = ℕ} 0x31 0x38 = ap (λ (t : Text). slice_index_or t 2 0) same in absurd (omega (arith, letter))
 
-    by_pieces : (pieces : List (List Text)) → AreFields (codes "12.80" ∷ codes "Rent" ∷ []) pieces → All (λ (column : List Text). length column ≤ 1) pieces
-        → ¬ (StandAmong (IsFrame nothing) (map (λ (column : List Text). slice_index_or column 0 []) pieces) (codes " -912.8099  No Rental "))
-    by_pieces [] fields few stand = cc fields.0
-    by_pieces (column ∷ others) fields few (before, behind, made, frame, rest) =
-        by_before before (slice_index_or column 0 []) behind frame (by_column column fields.0 (All-head (λ (column : List Text). length column ≤ 1) column others few)) made
-
--- a field with a column of its own isn't lost, a blank one may be
-lost_field : ¬ (AreFields (codes "a" ∷ codes "b" ∷ []) ((codes "a" ∷ []) ∷ []))
-lost_field are = cc are.1.0
-
-pub lost_blank : AreFields (codes "a" ∷ codes " " ∷ []) ((codes "a" ∷ []) ∷ [])
-lost_blank = (refl, (refl, tt))
-
--- a column without a field holds no letter
-letter_without_a_field : ¬ (AreFields [] ((codes "a" ∷ []) ∷ []))
-letter_without_a_field are = cc are.0
+-- and what begins in bold ends so
+left_open : ¬ (IsInBold (codes "a") (codes "\u{1b}[1ma"))
+left_open is = by_parts is refl refl
+  where
+    by_parts : {line styled : Text} → IsInBold line styled → line ≡ codes "a" → ¬ (styled ≡ codes "\u{1b}[1ma")
+    by_parts nothing none same = cc none
+    by_parts (plain [] line styled own) line_is same = by_parts own line_is same
+    by_parts (plain (x ∷ part) line styled own) line_is same =
+        let letter : x ≡ 0x61 = cc line_is in
+        let escape : x ≡ 0x1B = cc same in absurd (omega (arith, letter, escape))
+    by_parts (bold_part part line styled own) line_is same =
+        let long = ap length same in
+        let whole = length-append (codes "\u{1b}[1m" ++ (part ++ codes "\u{1b}[0m")) styled in
+        let inner = length-append part (codes "\u{1b}[0m") in
+        absurd (omega (arith, long, whole, inner))
 
 -- ---- expanded records
 
@@ -234,9 +301,9 @@ no_name : ¬ (OneExpanded (codes "record 1 of 1\n"))
 unfolding digits field_at
 no_name (own, rest, is, shows, more) = by_own own (ap (drop 14) is) shows
   where
-    by_own : (own : Text) → ◌≡◌ {A = Text} [] (own ++ rest) → ¬ (ShowsRows unbold ((cleaned false (codes "a") ∷ cleaned false (codes "a") ∷ []) ∷ []) own)
+    by_own : (own : Text) → ◌≡◌ {A = Text} [] (own ++ rest) → ¬ (ShowsRows unbold false ((cleaned false (codes "a") ∷ cleaned false (codes "a") ∷ []) ∷ []) own)
     by_own (b ∷ own) same shows = absurd (cc same)
-    by_own [] same shows = nothing_shows_no_field unbold (cleaned false (codes "a") ∷ []) (subst (λ (name : Text). ShowsRows unbold ((name ∷ cleaned false (codes "a") ∷ []) ∷ []) []) a_stays shows)
+    by_own [] same shows = nothing_shows_no_field unbold refl refl (cleaned false (codes "a") ∷ []) (subst (λ (name : Text). ShowsRows unbold false ((name ∷ cleaned false (codes "a") ∷ []) ∷ []) []) a_stays shows)
 
 -- nothing stands behind the last record
 text_behind : ¬ (ShowsExpanded unbold [] [] (Some 1) 2 [] (codes " a \n"))
@@ -265,10 +332,10 @@ in_rows = record unbold { expansion = Never }
 lost_record : (options : Options) → options.columns.chosen.items ≡ [] → options.columns.dropped.items ≡ [] → options.selection.is_numbered ≡ false → ¬ (ShowsRecords (asked Never None options) ((codes "a" ∷ []) ∷ []) [])
 unfolding field_at
 lost_record options chosen dropped unnumbered is =
-    nothing_shows_no_field in_rows [] (subst (λ (field : Text). ShowsRows in_rows ((field ∷ []) ∷ []) []) a_stays
-    (subst (ShowsRows in_rows ((cleaned false (codes "a") ∷ []) ∷ [])) (sym (is.joined ∙ append-nil is.drawn))
-    (subst (λ (positions : List ℕ). ShowsRows in_rows (all_rows false positions None ((codes "a" ∷ []) ∷ [])) is.drawn) first
-    (subst (λ (b : Bool). ShowsRows in_rows (all_rows b (positions_in (asked Never None options) [] ((codes "a" ∷ []) ∷ [])) None ((codes "a" ∷ []) ∷ [])) is.drawn) unnumbered
+    nothing_shows_no_field in_rows refl refl [] (subst (λ (field : Text). ShowsRows in_rows false ((field ∷ []) ∷ []) []) a_stays
+    (subst (ShowsRows in_rows false ((cleaned false (codes "a") ∷ []) ∷ [])) (sym (is.joined ∙ append-nil is.drawn))
+    (subst (λ (positions : List ℕ). ShowsRows in_rows false (all_rows false positions None ((codes "a" ∷ []) ∷ [])) is.drawn) first
+    (subst (λ (b : Bool). ShowsRows in_rows false (all_rows b (positions_in (asked Never None options) [] ((codes "a" ∷ []) ∷ [])) None ((codes "a" ∷ []) ∷ [])) is.drawn) unnumbered
     (subst (λ (b : Bool). ShowsDrawn b (asked Never None options) None ((codes "a" ∷ []) ∷ []) is.count is.drawn) is.expansion is.shows)))))
   where
     first : positions_in (asked Never None options) [] ((codes "a" ∷ []) ∷ []) ≡ 0 ∷ []

@@ -24,7 +24,7 @@ use Rattle.comfy_table.specs.Laws.{NoConstraints, count, least_total}
 use Rattle.comfy_table.specs.Lines.{cell_delimiter, cut_text, cut_to_limit, fitting_indicator}
 use Rattle.comfy_table.specs.Parts.{ArrangedValue, IsArrangedTable}
 use Rattle.comfy_table.specs.TableValue.{TableValue, ellipsis, header_and_rows, measured_table, new_table, shown_columns, width_or_terminal, with_header, with_rows}
-use Rattle.promises.specs.Headline.{AreColumnsOf, AreContentLines, AreLinesOfHeader, AreLinesOfRow, IsAround, AreLinesOfText, EachShownCell, IsHeadline, IsPiece, IsPlainDrawing, IsPrintable, lines_in}
+use Rattle.promises.specs.Headline.{AreColumnsOf, AreContentLines, AreLinesOfHeader, AreLinesOfRow, IsAround, AreLinesOfText, EachShownCell, IsHeadline, IsPiece, IsPlainDrawing, IsPrintable, IsUncoloured, lines_in}
 use Rattle.promises.specs.Promises.{KeepsPromises}
 use Rattle.promises.specs.Shown.{IsStyled}
 use Rattle.promises.specs.Straight.{AreStraightWhereCharactersFit}
@@ -79,61 +79,61 @@ ArePadded w texts lines = AllZip (IsPadded w) texts lines
 module _ (enforce : Bool) (arrangement : ContentArrangement) (kept : Option ℕ) (indicator : Text) (limit : Option ℕ) (texts lines : List Text) (is : IsPlainDrawing (one_cell enforce arrangement kept indicator limit texts) lines) where
   -- the lines of the cell, cut
   abbrev cut_lines : List Text
-  cut_lines = lines_in (one_cell enforce arrangement kept indicator limit texts) is.width is.cell_lines (row_of limit texts) place
+  cut_lines = lines_in (one_cell enforce arrangement kept indicator limit texts) is.framed.width is.framed.cell_lines (row_of limit texts) place
 
   abbrev IsBlock : List Text → Type 0
-  IsBlock block = AreLinesOfRow (one_cell enforce arrangement kept indicator limit texts) is.width is.cell_lines nothing.content_lines (row_of limit texts) block
+  IsBlock block = AreLinesOfRow (one_cell enforce arrangement kept indicator limit texts) is.framed.width is.framed.cell_lines nothing.content_lines (row_of limit texts) block
 
   -- without a width the column is as wide as its widest text
-  pub width_is : arrangement ≡ Disabled → greatest (map measure texts) ≤ 65535 → is.width 0 ≡ max 1 (greatest (map measure texts))
+  pub width_is : arrangement ≡ Disabled → greatest (map measure texts) ≤ 65535 → is.framed.width 0 ≡ max 1 (greatest (map measure texts))
   width_is disabled short = let own = is.by_content (inl disabled) 0 place (omega arith) refl in omega (arith, own, short)
 
   -- else it fills the width
-  pub room_is : (w : ℕ) → arrangement ≡ DynamicFullWidth → kept ≡ Some w → 3 ≤ w → 1 + is.width 0 + 1 ≡ w
+  pub room_is : (w : ℕ) → arrangement ≡ DynamicFullWidth → kept ≡ Some w → 3 ≤ w → 1 + is.framed.width 0 + 1 ≡ w
   room_is w full known room =
       let all = is.fills_width w (ap (λ (o : Option ℕ). width_or_terminal o false None) known) (unconstrained enforce arrangement kept indicator limit texts) full (omega arith) in
       let least : least_total (one_cell enforce arrangement kept indicator limit texts) ≡ 3 = refl in
       let line = is.frame_total nothing.top_border in
-      let counts = frame_lines_count nothing nothing.top_border (record (info_of (new_column 0) 0) { content_width = is.width 0 } ∷ []) in
+      let counts = frame_lines_count nothing nothing.top_border (record (info_of (new_column 0) 0) { content_width = is.framed.width 0 } ∷ []) in
       omega (arith, all, least, line, counts, room)
 
   -- each line of the block is one of its texts, padded
-  block_is : (block : List Text) → IsBlock block → (cut : List Text) → cut_lines ≡ cut → ArePadded (is.width 0) cut block
+  block_is : (block : List Text) → IsBlock block → (cut : List Text) → cut_lines ≡ cut → ArePadded (is.framed.width 0) cut block
   block_is block own cut same = by_lines block cut (own.as_high ∙ ap (λ (ls : List Text). max (length ls) 0) same) (λ k below. at k below)
     where
-      at : (k : ℕ) → k < length block → IsPadded (is.width 0) (slice_index_or cut k []) (slice_index_or block k [])
+      at : (k : ℕ) → k < length block → IsPadded (is.framed.width 0) (slice_index_or cut k []) (slice_index_or block k [])
       at k below =
           let here = own.drawn k below in
-          subst (λ (ls : List Text). IsPadded (is.width 0) (slice_index_or ls k []) (slice_index_or block k [])) same
-          (padded_of is.width (slice_index_or cut_lines k []) (slice_index_or block k []) here.0 here.1 here.2)
+          subst (λ (ls : List Text). IsPadded (is.framed.width 0) (slice_index_or ls k []) (slice_index_or block k [])) same
+          (padded_of is.framed.width (slice_index_or cut_lines k []) (slice_index_or block k []) here.0 here.1 here.2)
 
-      by_lines : (block cut : List Text) → length block ≡ max (length cut) 0 → ((k : ℕ) → k < length block → IsPadded (is.width 0) (slice_index_or cut k []) (slice_index_or block k [])) → ArePadded (is.width 0) cut block
+      by_lines : (block cut : List Text) → length block ≡ max (length cut) 0 → ((k : ℕ) → k < length block → IsPadded (is.framed.width 0) (slice_index_or cut k []) (slice_index_or block k [])) → ArePadded (is.framed.width 0) cut block
       by_lines [] [] long each = tt
       by_lines [] (x ∷ cut) long each = absurd (omega (arith, long))
       by_lines (line ∷ block) [] long each = absurd (omega (arith, long))
       by_lines (line ∷ block) (x ∷ cut) long each = (each 0 (omega arith), by_lines block cut (omega (arith, long)) (λ k below. each (suc k) (omega (arith, below))))
 
   -- so are the lines of the drawing
-  pub lines_are : (cut : List Text) → cut_lines ≡ cut → ArePadded (is.width 0) cut lines
-  lines_are cut same = by_rows is.rows is.are_rows is.drawn
+  pub lines_are : (cut : List Text) → cut_lines ≡ cut → ArePadded (is.framed.width 0) cut lines
+  lines_are cut same = by_rows is.framed.rows is.framed.are_rows is.framed.drawn
     where
-      by_rows : (rows : List (List Text)) → AllZip (AreLinesOfRow (one_cell enforce arrangement kept indicator limit texts) is.width is.cell_lines nothing.content_lines) (row_of limit texts ∷ []) rows → lines ≡ is.header ++ (join_by (λ block. block) [] rows ++ []) → ArePadded (is.width 0) cut lines
+      by_rows : (rows : List (List Text)) → AllZip (AreLinesOfRow (one_cell enforce arrangement kept indicator limit texts) is.framed.width is.framed.cell_lines nothing.content_lines) (row_of limit texts ∷ []) rows → lines ≡ is.framed.header ++ (join_by (λ block. block) [] rows ++ []) → ArePadded (is.framed.width 0) cut lines
       by_rows [] each drawn = absurd each
       by_rows (block ∷ other ∷ rows) each drawn = absurd each.1
       by_rows (block ∷ []) each drawn =
-          let all : lines ≡ block = drawn ∙ ap (λ (header : List Text). header ++ ((block ++ []) ++ [])) is.is_header ∙ append-nil (block ++ []) ∙ append-nil block in
-          subst (λ (ls : List Text). ArePadded (is.width 0) cut ls) (sym all) (block_is block each.0 cut same)
+          let all : lines ≡ block = drawn ∙ ap (λ (header : List Text). header ++ ((block ++ []) ++ [])) is.framed.is_header ∙ append-nil (block ++ []) ∙ append-nil block in
+          subst (λ (ls : List Text). ArePadded (is.framed.width 0) cut ls) (sym all) (block_is block each.0 cut same)
 
   -- the lines of texts that all fit are these texts
-  pub texts_stay : All (λ text. measure text ≤ is.width 0) texts → is.cell_lines place (cell_of texts) ≡ texts
-  texts_stay fit = let own = is.are_cell_lines 0 (row_of limit texts) (omega arith) 0 place (omega arith) (cell_of texts) refl in own.2 ∙ by_texts texts own.0 fit own.1
+  pub texts_stay : All (λ text. measure text ≤ is.framed.width 0) texts → is.framed.cell_lines place (cell_of texts) ≡ texts
+  texts_stay fit = let own = is.framed.are_cell_lines 0 (row_of limit texts) (omega arith) 0 place (omega arith) (cell_of texts) refl in own.2 ∙ by_texts texts own.0 fit own.1
     where
-      by_texts : (texts : List Text) (of_texts : List (List Text)) → All (λ text. measure text ≤ is.width 0) texts → AllZip (AreLinesOfText (is.width 0) 0x20) texts of_texts → flat_map (λ (of_text : List Text). of_text) of_texts ≡ texts
+      by_texts : (texts : List Text) (of_texts : List (List Text)) → All (λ text. measure text ≤ is.framed.width 0) texts → AllZip (AreLinesOfText (is.framed.width 0) 0x20) texts of_texts → flat_map (λ (of_text : List Text). of_text) of_texts ≡ texts
       by_texts [] [] fit zip = refl
       by_texts [] (own ∷ of_texts) fit zip = absurd zip
       by_texts (text ∷ texts) [] fit zip = absurd zip
       by_texts (text ∷ texts) (own ∷ of_texts) fit zip =
-          ap₂ (λ (a b : List Text). a ++ b) (zip.0.whole (All-head (λ (t : Text). measure t ≤ is.width 0) text texts fit)) (by_texts texts of_texts (All-tail (λ (t : Text). measure t ≤ is.width 0) text texts fit) zip.1)
+          ap₂ (λ (a b : List Text). a ++ b) (zip.0.whole (All-head (λ (t : Text). measure t ≤ is.framed.width 0) text texts fit)) (by_texts texts of_texts (All-tail (λ (t : Text). measure t ≤ is.framed.width 0) text texts fit) zip.1)
 
 -- ---- drawings that are none
 
@@ -145,10 +145,10 @@ two = refl
 -- what a drawing of such a text is, where nothing cuts it
 pub of_two : (enforce : Bool) (text : Text) → measure text ≡ 2 → (limit : Option ℕ) → ((cut : Text → Text) → cut_to_limit {A = Text} cut limit (text ∷ []) ≡ text ∷ []) → (lines : List Text) → IsPlainDrawing (one_cell enforce Disabled None ellipsis limit (text ∷ [])) lines → ArePadded 2 (text ∷ []) lines
 of_two enforce text wide limit uncut lines is =
-    let width : is.width 0 ≡ 2 = let own = width_is enforce Disabled None ellipsis limit (text ∷ []) lines is refl (omega (arith, wide)) in omega (arith, own, wide) in
-    let stay = texts_stay enforce Disabled None ellipsis limit (text ∷ []) lines is (All-from_recursion (λ text. measure text ≤ is.width 0) (text ∷ []) (omega (arith, width, wide), tt)) in
+    let width : is.framed.width 0 ≡ 2 = let own = width_is enforce Disabled None ellipsis limit (text ∷ []) lines is refl (omega (arith, wide)) in omega (arith, own, wide) in
+    let stay = texts_stay enforce Disabled None ellipsis limit (text ∷ []) lines is (All-from_recursion (λ text. measure text ≤ is.framed.width 0) (text ∷ []) (omega (arith, width, wide), tt)) in
     subst (λ (w : ℕ). ArePadded w (text ∷ []) lines) width
-    (lines_are enforce Disabled None ellipsis limit (text ∷ []) lines is (text ∷ []) (ap (cut_to_limit (cut_text (is.width 0) ellipsis) limit) stay ∙ uncut _))
+    (lines_are enforce Disabled None ellipsis limit (text ∷ []) lines is (text ∷ []) (ap (cut_to_limit (cut_text (is.framed.width 0) ellipsis) limit) stay ∙ uncut _))
 
 ab_is : (enforce : Bool) (limit : Option ℕ) → ((cut : Text → Text) → cut_to_limit {A = Text} cut limit (codes "ab" ∷ []) ≡ codes "ab" ∷ []) → (lines : List Text) → IsPlainDrawing (one_cell enforce Disabled None ellipsis limit (codes "ab" ∷ [])) lines → ArePadded 2 (codes "ab" ∷ []) lines
 ab_is enforce limit uncut lines is = of_two enforce (codes "ab") two limit uncut lines is
@@ -215,6 +215,13 @@ blinking is = blinking-differs (ab_headline None (λ cut. refl) (codes "\u{1b}[5
 unpadded-differs : ¬ (codes "ab " ∷ [] ≡ the_drawing)
 unpadded-differs same = cc same
 
+-- where styles are written, a cell that has none isn't hidden
+hidden_without_colours : ¬ (IsHeadline (one_cell true Disabled None ellipsis None (codes "ab" ∷ [])) (codes "\u{1b}[8m ab " ∷ []))
+hidden_without_colours is =
+    let each = All-from_recursion (λ (row : RowValue). All IsUncoloured row.cells) (header_and_rows (one_cell true Disabled None ellipsis None (codes "ab" ∷ []))) (All-from_recursion IsUncoloured (cell_of (codes "ab" ∷ []) ∷ []) (record { no_foreground = refl; no_background = refl; no_attributes = refl }, tt), tt) in
+    let same : ◌≡◌ {A = List Text} (codes "\u{1b}[8m ab " ∷ []) (codes " ab " ∷ []) = is.uncoloured each refl ∙ ab_drawn true None (λ cut. refl) is.plain is.is_plain in
+    let escape : ◌≡◌ {A = ℕ} 0x1B 0x20 = cc same in absurd (omega (arith, escape))
+
 unpadded : ¬ (IsHeadline (free_cell None (codes "ab" ∷ [])) (codes "ab " ∷ []))
 unpadded is = unpadded-differs (ab_headline None (λ cut. refl) (codes "ab " ∷ []) is)
 
@@ -249,7 +256,7 @@ other_header (block, own, made) =
 
 -- nor one without the line below it
 no_separator : ¬ (IsHeadline (with_header (plain_row []) (new_table ascii_full)) (codes "++" ∷ codes "++" ∷ []))
-no_separator is = let (block, own, made) = is.is_plain.is_header in too_few is.is_plain.header _ block _ _ _ (is.unstyled refl refl ∙ is.is_plain.drawn) made
+no_separator is = let (block, own, made) = is.is_plain.framed.is_header in too_few is.is_plain.framed.header _ block _ _ _ (is.unstyled refl refl ∙ is.is_plain.framed.drawn) made
   where
     too_few : (header rows block : List Text) (top separator bottom : Text) → codes "++" ∷ codes "++" ∷ [] ≡ top ∷ (header ++ (rows ++ bottom ∷ [])) → ¬ (header ≡ block ++ separator ∷ [])
     too_few header rows block top separator bottom made is =
@@ -313,10 +320,10 @@ cut_is : (lines : List Text) → IsHeadline (free_cell (Some 1) (codes "ab" ∷ 
 cut_is lines headline =
     let texts : List Text = codes "ab" ∷ codes "cd" ∷ [] in
     let is = plain_of Disabled None ellipsis (Some 1) texts lines headline in
-    let width : is.width 0 ≡ 2 = let own = width_is false Disabled None ellipsis (Some 1) texts lines is refl (omega (arith, two, two_more)) in omega (arith, own, two, two_more) in
-    let stay = texts_stay false Disabled None ellipsis (Some 1) texts lines is (All-from_recursion (λ text. measure text ≤ is.width 0) texts (omega (arith, width, two), (omega (arith, width, two_more), tt))) in
+    let width : is.framed.width 0 ≡ 2 = let own = width_is false Disabled None ellipsis (Some 1) texts lines is refl (omega (arith, two, two_more)) in omega (arith, own, two, two_more) in
+    let stay = texts_stay false Disabled None ellipsis (Some 1) texts lines is (All-from_recursion (λ text. measure text ≤ is.framed.width 0) texts (omega (arith, width, two), (omega (arith, width, two_more), tt))) in
     let cut : cut_lines false Disabled None ellipsis (Some 1) texts lines is ≡ a_and_mark ∷ [] =
-    ap (cut_to_limit (cut_text (is.width 0) ellipsis) (Some 1)) stay ∙ ap (λ w. cut_to_limit {A = Text} (cut_text w ellipsis) (Some 1) texts) width ∙ cut_of_two in
+    ap (cut_to_limit (cut_text (is.framed.width 0) ellipsis) (Some 1)) stay ∙ ap (λ w. cut_to_limit {A = Text} (cut_text w ellipsis) (Some 1) texts) width ∙ cut_of_two in
     subst (λ (w : ℕ). ArePadded w (a_and_mark ∷ []) lines) width (lines_are false Disabled None ellipsis (Some 1) texts lines is (a_and_mark ∷ []) cut)
 
 -- so it isn't drawn as if nothing were cut
@@ -348,10 +355,10 @@ narrow_is : (lines : List Text) → IsHeadline (one_cell false Disabled None dot
 narrow_is lines headline =
     let texts : List Text = codes "a" ∷ codes "b" ∷ [] in
     let is = plain_of Disabled None dots (Some 1) texts lines headline in
-    let width : is.width 0 ≡ 1 = let own = width_is false Disabled None dots (Some 1) texts lines is refl (omega (arith, one)) in omega (arith, own, one) in
-    let stay = texts_stay false Disabled None dots (Some 1) texts lines is (All-from_recursion (λ text. measure text ≤ is.width 0) texts (omega (arith, width, one), (omega (arith, width, one), tt))) in
+    let width : is.framed.width 0 ≡ 1 = let own = width_is false Disabled None dots (Some 1) texts lines is refl (omega (arith, one)) in omega (arith, own, one) in
+    let stay = texts_stay false Disabled None dots (Some 1) texts lines is (All-from_recursion (λ text. measure text ≤ is.framed.width 0) texts (omega (arith, width, one), (omega (arith, width, one), tt))) in
     let cut : cut_lines false Disabled None dots (Some 1) texts lines is ≡ codes "a" ∷ [] =
-    ap (cut_to_limit (cut_text (is.width 0) dots) (Some 1)) stay ∙ ap (λ w. cut_to_limit {A = Text} (cut_text w dots) (Some 1) texts) width ∙ cut_of_one in
+    ap (cut_to_limit (cut_text (is.framed.width 0) dots) (Some 1)) stay ∙ ap (λ w. cut_to_limit {A = Text} (cut_text w dots) (Some 1) texts) width ∙ cut_of_one in
     subst (λ (w : ℕ). ArePadded w (codes "a" ∷ []) lines) width (lines_are false Disabled None dots (Some 1) texts lines is (codes "a" ∷ []) cut)
 
 -- nor a part of it
@@ -374,7 +381,7 @@ nothing_measures = refl
 no_line_for_nothing : ¬ (IsHeadline (free_cell None ([] ∷ [])) [])
 no_line_for_nothing headline =
     let is = plain_of Disabled None ellipsis None ([] ∷ []) [] headline in
-    let stay = texts_stay false Disabled None ellipsis None ([] ∷ []) [] is (All-from_recursion (λ text. measure text ≤ is.width 0) ([] ∷ []) (omega (arith, nothing_measures), tt)) in
+    let stay = texts_stay false Disabled None ellipsis None ([] ∷ []) [] is (All-from_recursion (λ text. measure text ≤ is.framed.width 0) ([] ∷ []) (omega (arith, nothing_measures), tt)) in
     lines_are false Disabled None ellipsis None ([] ∷ []) [] is ([] ∷ []) stay
 
 -- ---- a text that is wider than its column
@@ -392,10 +399,10 @@ wrapped_is : (w : ℕ) (text : Text) (lines : List Text) → w < measure text �
 wrapped_is w text lines wide some headline =
     let is = plain_of DynamicFullWidth (Some (w + 2)) ellipsis None (text ∷ []) lines headline in
     let room = room_is false DynamicFullWidth (Some (w + 2)) ellipsis None (text ∷ []) lines is (w + 2) refl refl (omega (arith, some)) in
-    let width : is.width 0 ≡ w = omega (arith, room) in
-    let own = is.are_cell_lines 0 (row_of None (text ∷ [])) (omega arith) 0 place (omega arith) (cell_of (text ∷ [])) refl in
+    let width : is.framed.width 0 ≡ w = omega (arith, room) in
+    let own = is.framed.are_cell_lines 0 (row_of None (text ∷ [])) (omega arith) 0 place (omega arith) (cell_of (text ∷ [])) refl in
     subst (λ (n : ℕ). ArePadded n (wrapped w 0x20 text) lines) width
-    (lines_are false DynamicFullWidth (Some (w + 2)) ellipsis None (text ∷ []) lines is (wrapped w 0x20 text) (own.2 ∙ by_texts (is.width 0) width own.0 own.1))
+    (lines_are false DynamicFullWidth (Some (w + 2)) ellipsis None (text ∷ []) lines is (wrapped w 0x20 text) (own.2 ∙ by_texts (is.framed.width 0) width own.0 own.1))
   where
     by_texts : (n : ℕ) → n ≡ w → (of_texts : List (List Text)) → AllZip (AreLinesOfText n 0x20) (text ∷ []) of_texts → flat_map (λ (of_text : List Text). of_text) of_texts ≡ wrapped w 0x20 text
     by_texts n same [] zip = absurd zip
@@ -438,11 +445,11 @@ torn_in_a_wide_table headline = by_lines.1
     is : IsPlainDrawing (one_cell false Dynamic (Some 80) ellipsis None (codes "ab" ∷ [])) (codes " a " ∷ codes " b " ∷ [])
     is = plain_of Dynamic (Some 80) ellipsis None (codes "ab" ∷ []) (codes " a " ∷ codes " b " ∷ []) headline
 
-    width : is.width 0 ≡ 2
+    width : is.framed.width 0 ≡ 2
     width = let own = is.keeps_contents 80 refl (unconstrained false Dynamic (Some 80) ellipsis None (codes "ab" ∷ [])) refl (omega (arith, two)) 0 place (omega arith) in omega (arith, own, two)
 
-    by_lines : ArePadded (is.width 0) (codes "ab" ∷ []) (codes " a " ∷ codes " b " ∷ [])
-    by_lines = lines_are false Dynamic (Some 80) ellipsis None (codes "ab" ∷ []) (codes " a " ∷ codes " b " ∷ []) is (codes "ab" ∷ []) (texts_stay false Dynamic (Some 80) ellipsis None (codes "ab" ∷ []) (codes " a " ∷ codes " b " ∷ []) is (All-from_recursion (λ text. measure text ≤ is.width 0) (codes "ab" ∷ []) (omega (arith, width, two), tt)))
+    by_lines : ArePadded (is.framed.width 0) (codes "ab" ∷ []) (codes " a " ∷ codes " b " ∷ [])
+    by_lines = lines_are false Dynamic (Some 80) ellipsis None (codes "ab" ∷ []) (codes " a " ∷ codes " b " ∷ []) is (codes "ab" ∷ []) (texts_stay false Dynamic (Some 80) ellipsis None (codes "ab" ∷ []) (codes " a " ∷ codes " b " ∷ []) is (All-from_recursion (λ text. measure text ≤ is.framed.width 0) (codes "ab" ∷ []) (omega (arith, width, two), tt)))
 
 -- nor is one wider than the width that is kept, where that has room
 abbrev narrow_table : TableValue
@@ -467,7 +474,7 @@ beyond_the_width headline =
     let few = is.keeps_to_width 4 refl (unconstrained false Dynamic (Some 4) ellipsis None (codes "abcdef" ∷ [])) refl in
     let least : least_total narrow_table ≡ 3 = refl in
     let counts : count (codes " abcdef ") ≡ is.total = is.plain_total printable
-    (of_its_cell (λ row p cell. (h : ℕ) → row.max_height ≡ Some h → h < length (is.cell_lines p cell) → AddsOneColumnEach (fitting_indicator (is.width p.0) narrow_table.indicator)) (λ h cut. absurd (cc cut))) 0 [] (omega arith) in
+    (of_its_cell (λ row p cell. (h : ℕ) → row.max_height ≡ Some h → h < length (is.framed.cell_lines p cell) → AddsOneColumnEach (fitting_indicator (is.framed.width p.0) narrow_table.indicator)) (λ h cut. absurd (cc cut))) 0 [] (omega arith) in
     omega (arith, few, least, counts, eight)
   where
     printable : IsPrintable narrow_table
@@ -545,10 +552,10 @@ another_styled_text is =
 coloured_inside : ¬ (IsHeadline (styled_cell (codes "ab" ∷ [])) (codes " a\u{1b}[31mb " ∷ []))
 coloured_inside is = by_rows is.frame.rows is.frame.are_rows (is.frame.drawn ∙ ap (λ (header : List Text). header ++ (join_by (λ (block : List Text). block) [] is.frame.rows ++ [])) is.frame.is_header)
   where
-    is_text : lines_in (styled_cell (codes "ab" ∷ [])) is.is_plain.width is.is_plain.cell_lines (row_of None (codes "ab" ∷ [])) place ≡ codes "ab" ∷ []
+    is_text : lines_in (styled_cell (codes "ab" ∷ [])) is.is_plain.framed.width is.is_plain.framed.cell_lines (row_of None (codes "ab" ∷ [])) place ≡ codes "ab" ∷ []
     is_text =
-        let width : is.is_plain.width 0 ≡ 2 = let own = width_is true Disabled None ellipsis None (codes "ab" ∷ []) is.plain is.is_plain refl (omega (arith, two)) in omega (arith, own, two) in
-        texts_stay true Disabled None ellipsis None (codes "ab" ∷ []) is.plain is.is_plain (All-from_recursion (λ text. measure text ≤ is.is_plain.width 0) (codes "ab" ∷ []) (omega (arith, width, two), tt))
+        let width : is.is_plain.framed.width 0 ≡ 2 = let own = width_is true Disabled None ellipsis None (codes "ab" ∷ []) is.plain is.is_plain refl (omega (arith, two)) in omega (arith, own, two) in
+        texts_stay true Disabled None ellipsis None (codes "ab" ∷ []) is.plain is.is_plain (All-from_recursion (λ text. measure text ≤ is.is_plain.framed.width 0) (codes "ab" ∷ []) (omega (arith, width, two), tt))
 
     around : (piece : Text) → IsAround (codes "ab") piece → ¬ (codes " a\u{1b}[31mb " ≡ piece)
     around piece own same = no_ab_inside (codes " a\u{1b}[31mb ") refl own.before own.after (same ∙ own.drawn)
@@ -558,7 +565,7 @@ coloured_inside is = by_rows is.frame.rows is.frame.are_rows (is.frame.drawn ∙
     by_pieces (piece ∷ other ∷ pieces) zip made = zip.1
     by_pieces (piece ∷ []) zip made = around piece zip.0 (made ∙ append-nil (piece ++ []) ∙ append-nil piece)
 
-    by_rows : (rows : List (List Text)) → AllZip (AreContentLines (styled_cell (codes "ab" ∷ [])) is.is_plain.width is.is_plain.cell_lines nothing.content_lines) (row_of None (codes "ab" ∷ []) ∷ []) rows
+    by_rows : (rows : List (List Text)) → AllZip (AreContentLines (styled_cell (codes "ab" ∷ [])) is.is_plain.framed.width is.is_plain.framed.cell_lines nothing.content_lines) (row_of None (codes "ab" ∷ []) ∷ []) rows
         → ¬ (codes " a\u{1b}[31mb " ∷ [] ≡ join_by (λ (block : List Text). block) [] rows ++ [])
     by_rows [] each made = each
     by_rows (block ∷ other ∷ rows) each made = each.1
@@ -575,13 +582,13 @@ unfilled headline = by_line (lines_are false DynamicFullWidth (Some 8) ellipsis 
     is : IsPlainDrawing (wide_cell 8 (codes "ab" ∷ [])) (codes " ab " ∷ [])
     is = plain_of DynamicFullWidth (Some 8) ellipsis None (codes "ab" ∷ []) (codes " ab " ∷ []) headline
 
-    room : 1 + is.width 0 + 1 ≡ 8
+    room : 1 + is.framed.width 0 + 1 ≡ 8
     room = room_is false DynamicFullWidth (Some 8) ellipsis None (codes "ab" ∷ []) (codes " ab " ∷ []) is 8 refl refl (omega arith)
 
-    stay : is.cell_lines place (cell_of (codes "ab" ∷ [])) ≡ codes "ab" ∷ []
-    stay = texts_stay false DynamicFullWidth (Some 8) ellipsis None (codes "ab" ∷ []) (codes " ab " ∷ []) is (All-from_recursion (λ text. measure text ≤ is.width 0) (codes "ab" ∷ []) (omega (arith, room, two), tt))
+    stay : is.framed.cell_lines place (cell_of (codes "ab" ∷ [])) ≡ codes "ab" ∷ []
+    stay = texts_stay false DynamicFullWidth (Some 8) ellipsis None (codes "ab" ∷ []) (codes " ab " ∷ []) is (All-from_recursion (λ text. measure text ≤ is.framed.width 0) (codes "ab" ∷ []) (omega (arith, room, two), tt))
 
-    by_line : ¬ (IsPadded (is.width 0) (codes "ab") (codes " ab "))
+    by_line : ¬ (IsPadded (is.framed.width 0) (codes "ab") (codes " ab "))
     by_line own =
         let few : 4 ≡ length (spaces own.left ++ (codes "ab" ++ spaces own.right)) = ap length own.drawn in
         let wide = own.wide in
@@ -591,7 +598,7 @@ unfilled headline = by_line (lines_are false DynamicFullWidth (Some 8) ellipsis 
 narrower_column : ¬ (AreColumnsOf (free_cell None (codes "ab" ∷ [])) (codes " ab " ∷ []) (info_of (new_column 0) 1 ∷ []))
 narrower_column (is, are) =
     let width = width_is false Disabled None ellipsis None (codes "ab" ∷ []) is.plain is.is_plain refl (omega (arith, two)) in
-    let same : 1 ≡ max 1 (is.is_plain.width 0) = ap (λ (columns : List ColumnInfo). (slice_index_or columns 0 (info_of (new_column 0) 0)).content_width) are in
+    let same : 1 ≡ max 1 (is.is_plain.framed.width 0) = ap (λ (columns : List ColumnInfo). (slice_index_or columns 0 (info_of (new_column 0) 0)).content_width) are in
     omega (arith, width, same, two)
 
 one_column_more : ¬ (AreColumnsOf (free_cell None (codes "ab" ∷ [])) (codes " ab " ∷ []) (info_of (new_column 0) 2 ∷ info_of (new_column 1) 2 ∷ []))

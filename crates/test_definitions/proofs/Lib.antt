@@ -4,6 +4,7 @@ mod ClosedLineTrials
 mod ColumnTrials
 mod ConditionTrials
 mod ControlTrials
+mod CsvFieldTrials
 mod CsvPromiseTrials
 mod CsvWidthTrials
 mod DecimalTrials

@@ -637,7 +637,7 @@ changed_line (above, last, added, short, before, after) = by_above above last ad
 
 -- false: promises::headline
 no_lines_are_no_table : ¬ (IsHeadline (table_of "3 mai" "oats") [])
-no_lines_are_no_table is = cc (is.unstyled refl refl ∙ is.is_plain.drawn)
+no_lines_are_no_table is = cc (is.unstyled refl refl ∙ is.is_plain.framed.drawn)
 
 -- ---- tables that don't meet the conditions
 

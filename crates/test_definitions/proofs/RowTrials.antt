@@ -10,7 +10,8 @@ use Rattle.comfy_parts.specs.Text.{Text, measure}
 use Rattle.comfy_parts.specs.declared.style.table.ContentArrangement.{ContentArrangement}
 use Rattle.comfy_parts.specs.declared.style.table.ContentArrangement.TheVariants.{Disabled, Dynamic, DynamicFullWidth}
 use Rattle.comfy_table.specs.NewTables.{IsShortRow}
-use Rattle.promises.specs.Rows.{HaveCells, IsIn, IsNarrowCell, IsNarrowRow, IsRowIn, KeepsRows}
+use Rattle.promises.proofs.TableOfRowsLemmas.{IsIn, IsRowIn, texts_are_in}
+use Rattle.promises.specs.Rows.{HaveCells, IsNarrowCell, IsNarrowRow, KeepsRows}
 use Rattle.test_definitions.proofs.LawTrials.{shorter_line}
 use Rattle.test_definitions.proofs.PromiseTrials as promises
 use Rattle.test_definitions.proofs.PromiseTrials.{no_lines_lose_texts}
@@ -74,7 +75,7 @@ torn : ¬ (Keeps Disabled None (codes " a b " ∷ []))
 torn keeps = by_line own.0 own.3 own.1 own.4
   where
     own : IsIn (codes " a b " ∷ []) (codes "ab")
-    own = All-head (IsRowIn (codes " a b " ∷ [])) header [] (keeps.whole_texts refl short) 0 (plain_cell []) (omega arith) 0 [] (omega arith)
+    own = All-head (IsRowIn (codes " a b " ∷ [])) header [] (texts_are_in nothing Disabled None header [] refl short (codes " a b " ∷ []) (keeps.whole_texts refl short)) 0 (plain_cell []) (omega arith) 0 [] (omega arith)
 
     by_line : (k : ℕ) → k < 1 → (before : Text) → ¬ (slice_index_or (codes " a b " ∷ []) k [] ≡ before ++ (codes "ab" ++ own.2))
     by_line zero below before made = no_ab_inside (codes " a b ") refl before own.2 made

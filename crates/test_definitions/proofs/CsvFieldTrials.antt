@@ -1,0 +1,268 @@
+-- Lines that show no field of a record, a wrong one, or in a wrong place.
+use Rattle.std.proofs.Common.{◌≡◌, ◌==◌, ◌⊎◌, inl, inr, ◌<◌, ◌≤◌, ℕ, zero, suc, Bool, true, false, List, [], ◌∷◌, ◌++◌, Option, None, Some, is_some, arith, append-nil, append_assoc, flat_map, length, map, nat_le, refl, slice_index_or, sym, ap, ap₂, ◌∙◌, subst, unwrap_or}
+use Rattle.std.specs.List.{All, AllZip, enumerate_from, join_by, slice_get, slice_split}
+use Rattle.std.specs.Prelude.{EachIndex, MatchOption, encode_utf8_all, option_map, option_to_list, replicate}
+use Rattle.std.proofs.lemmas.Bool.Decides.{nat_tests}
+use Rattle.std.proofs.lemmas.List.Elements.{All-head}
+use Rattle.std.proofs.lemmas.Str.{encode_ascii}
+use Rattle.comfy_parts.specs.CellValue.{CellValue, ColumnValue, RowValue}
+use Rattle.comfy_parts.specs.Presets.{nothing}
+use Rattle.comfy_parts.specs.Text.{IsOnly, Text, greatest, measure, spaces}
+use Rattle.comfy_parts.specs.Wrapping.{IsSlicesWhere}
+use Rattle.comfy_parts.specs.declared.style.table_style.TableStyle.{TableStyle}
+use Rattle.comfy_table.specs.Frame.{content_line, optional_frame_line}
+use Rattle.comfy_table.specs.Laws.{AreLinesOf}
+use Rattle.comfy_table.specs.Lines.{cell_delimiter, cut_text, cut_to_limit}
+use Rattle.comfy_table.specs.TableValue.{TableValue, shown_columns}
+use Rattle.csv.specs.Records.{field_at}
+use Rattle.csv_tables.specs.Cells.{unless_blank}
+use Rattle.csv_tables.specs.Drawn.{condensed_style}
+use Rattle.csv_tables.specs.Fields.{field_or_blank}
+use Rattle.csv_tables.specs.declared.options.Look.{Look}
+use Rattle.promises.proofs.KeptLemmas.{slices_anywhere}
+use Rattle.promises.specs.Headline.{AreLinesOfCell, AreLinesOfHeader, AreLinesOfRow, AreLinesOfText, IsFramedDrawing, IsPiece, lines_in, widths_shown}
+use Rattle.csv_promises.specs.Fields.{HoldsField, HoldsFields, IsDrawingOf, IsFieldColumn}
+
+-- a style with a hyphen, which no line draws where there is no header
+abbrev pub dashed : TableStyle
+dashed = record nothing { header_separator = record { left = None; fill = Some 0x2D; junction = None; right = None } }
+
+-- the lines of a drawing of one row of fields, in a style without borders, are those of that row
+pub record IsOneRow (fields : List Text) (lines : List Text) : Type 0 where
+  pub table : TableValue
+  pub row : RowValue
+  pub hold : HoldsFields fields row
+  pub width : ℕ → ℕ
+  pub cell_lines : ℕ × ColumnValue → CellValue → List Text
+  pub are_cell_lines : All (λ (p : ℕ × ColumnValue). (cell : CellValue) → slice_get row.cells p.0 ≡ Some cell → AreLinesOfCell (width p.0) (cell_delimiter table p.1.delimiter cell) cell (cell_lines p cell)) (enumerate_from 0 table.columns)
+  pub as_high : length lines ≡ greatest (map (λ (p : ℕ × ColumnValue). length (lines_in table width cell_lines row p)) (enumerate_from 0 table.columns))
+  pub drawn : EachIndex lines (λ k. (pieces : List Text) × AllZip (λ (p : ℕ × ColumnValue). IsPiece p.1 (width p.0) (slice_index_or (lines_in table width cell_lines row p) k [])) (enumerate_from 0 table.columns) pieces
+      × (slice_index_or lines k [] ≡ join_by (λ (piece : Text). piece) [] pieces ++ []))
+  pub columns : All IsFieldColumn table.columns
+  pub no_delimiter : table.delimiter ≡ None
+  pub has_columns : length row.cells ≤ length table.columns
+  pub as_many : length table.columns ≤ length fields
+
+pub one_row : (look : Look) → look.style ≡ dashed → look.has_bold_header ≡ false → (fields lines : List Text) (text : Text) → ((own : List Text) → AreLinesOf text own → own ≡ lines) → IsDrawingOf look false (fields ∷ []) text → IsOneRow fields lines
+one_row look own_style plain_header fields lines text cut is = by_header is.table.header is.table.rows is.is_table.header is.is_table.hold is.framed.is_plain.is_header is.framed.is_plain.are_rows is.framed.is_plain.are_cell_lines is.is_table.has_columns
+  where
+    table : TableValue
+    table = is.table
+
+    plain : IsFramedDrawing table is.framed.plain
+    plain = is.framed.is_plain
+
+    same : is.framed.plain ≡ lines
+    same = sym (is.unstyled plain_header) ∙ cut is.lines is.are
+
+    style : table.style ≡ dashed
+    style = by_style (subst (λ (s : TableStyle). (table.style ≡ s) ⊎ (table.style ≡ condensed_style s)) own_style is.is_table.style)
+      where
+        by_style : (table.style ≡ dashed) ⊎ (table.style ≡ condensed_style dashed) → table.style ≡ dashed
+        by_style (inl own) = own
+        by_style (inr own) = own
+
+    drawn : lines ≡ plain.header ++ (join_by (λ (block : List Text). block) [] plain.rows ++ [])
+    drawn =
+        sym same
+        ∙ subst (λ (s : TableStyle). is.framed.plain ≡ optional_frame_line s s.top_border (widths_shown table plain.width) ++ (plain.header ++ (join_by (λ (block : List Text). block) (optional_frame_line s s.row_separator (widths_shown table plain.width)) plain.rows
+        ++ optional_frame_line s s.bottom_border (widths_shown table plain.width)))) style plain.drawn
+
+    by_header : (header : Option RowValue) (rows : List RowValue) → is_some header ≡ false → AllZip HoldsFields (fields ∷ []) (option_to_list header ++ rows) → AreLinesOfHeader table plain.width plain.cell_lines header plain.header
+        → AllZip (AreLinesOfRow table plain.width plain.cell_lines table.style.content_lines) rows plain.rows
+        → All (λ (row : RowValue). All (λ (p : ℕ × ColumnValue). (cell : CellValue) → slice_get row.cells p.0 ≡ Some cell → AreLinesOfCell (plain.width p.0) (cell_delimiter table p.1.delimiter cell) cell (plain.cell_lines p cell)) (shown_columns table)) (option_to_list header ++ rows)
+        → All (λ (row : RowValue). length row.cells ≤ length table.columns) (option_to_list header ++ rows) → IsOneRow fields lines
+    by_header (Some header) rows none hold own are texts few = absurd (cc none)
+    by_header None [] none hold own are texts few = absurd hold
+    by_header None (row ∷ other ∷ rows) none hold own are texts few = absurd hold.1
+    by_header None (row ∷ []) none hold own are texts few = by_rows plain.rows refl are
+      where
+        Own : RowValue → Type 0
+        Own r = All (λ (p : ℕ × ColumnValue). (cell : CellValue) → slice_get r.cells p.0 ≡ Some cell → AreLinesOfCell (plain.width p.0) (cell_delimiter table p.1.delimiter cell) cell (plain.cell_lines p cell)) (shown_columns table)
+
+        by_rows : (blocks : List (List Text)) → plain.rows ≡ blocks → AllZip (AreLinesOfRow table plain.width plain.cell_lines table.style.content_lines) (row ∷ []) blocks → IsOneRow fields lines
+        by_rows [] is_rows zip = absurd zip
+        by_rows (block ∷ other ∷ blocks) is_rows zip = absurd zip.1
+        by_rows (block ∷ []) is_rows zip =
+            let block_is : lines ≡ block =
+            drawn ∙ ap₂ (λ (h : List Text) (bs : List (List Text)). h ++ (join_by (λ (b : List Text). b) [] bs ++ [])) own is_rows ∙ append-nil (block ++ []) ∙ append-nil block in
+            subst (IsOneRow fields) (sym block_is)
+            (record {
+              table = table;
+              row = row;
+              hold = hold.0;
+              width = plain.width;
+              cell_lines = plain.cell_lines;
+              are_cell_lines = subst (All (λ (p : ℕ × ColumnValue). (cell : CellValue) → slice_get row.cells p.0 ≡ Some cell → AreLinesOfCell (plain.width p.0) (cell_delimiter table p.1.delimiter cell) cell (plain.cell_lines p cell))) is.is_table.shown (All-head Own row [] texts);
+              as_high = subst (λ (ps : List (ℕ × ColumnValue)). length block ≡ greatest (map (λ (p : ℕ × ColumnValue). length (lines_in table plain.width plain.cell_lines row p)) ps)) is.is_table.shown zip.0.as_high;
+              drawn = λ k below.
+                  let here = zip.0.drawn k below in (
+                    here.0,
+                    subst (λ (ps : List (ℕ × ColumnValue)). AllZip (λ (p : ℕ × ColumnValue). IsPiece p.1 (plain.width p.0) (slice_index_or (lines_in table plain.width plain.cell_lines row p) k [])) ps here.0) is.is_table.shown here.1,
+                    here.2 ∙ ap (λ (s : TableStyle). content_line s s.content_lines here.0) style,
+                  );
+              columns = is.is_table.columns;
+              no_delimiter = is.is_table.no_delimiter;
+              as_many = All-head (λ (own : List Text). length table.columns ≤ length own) fields [] is.is_table.as_many;
+              has_columns = All-head (λ (r : RowValue). length r.cells ≤ length table.columns) row [] few;
+            })
+
+-- what a cell has for a field with so many spaces behind it: one text line, which begins with no space
+pub record IsOneText (field : Text) (made : ℕ → Text) : Type 0 where
+  pub one : (n : ℕ) → slice_split (λ b. b == 0x0A) (unless_blank (field ++ spaces n)) ≡ made n ∷ []
+  pub unspaced : (n : ℕ) (rest : Text) → ¬ (made n ≡ 0x20 ∷ rest)
+
+module _ (field : Text) (fields lines : List Text) (made : ℕ → Text) (text_is : IsOneText field made) (is : IsOneRow (field ∷ fields) lines) (some : ¬ (is.row.cells ≡ [])) where
+  abbrev lines_of : ColumnValue → List Text
+  lines_of column = lines_in is.table is.width is.cell_lines is.row (0, column)
+
+  -- the first column has the lines of the field
+  record HasFirst (columns : List ColumnValue) : Type 0 where
+    column : ColumnValue
+    more : List ColumnValue
+    are : columns ≡ column ∷ more
+    behind : ℕ
+    own : (lines_of column ≡ made behind ∷ []) ⊎ IsSlicesWhere (λ line tail. Unit {0}) 0x20 (made behind) (lines_of column)
+
+  first : HasFirst is.table.columns
+  unfolding field_at
+  first = by_cells is.row.cells refl (is.hold.each 0)
+    where
+      by_cells : (cells : List CellValue) → is.row.cells ≡ cells → MatchOption (slice_get is.row.cells 0) (field_or_blank (field ∷ fields) 0 ≡ []) (HoldsField (field_or_blank (field ∷ fields) 0)) → HasFirst is.table.columns
+      by_cells [] are own = absurd (some are)
+      by_cells (cell ∷ cells) are own = by_columns is.table.columns refl is.columns is.are_cell_lines
+        where
+          found : slice_get is.row.cells 0 ≡ Some cell
+          found = ap (λ (cs : List CellValue). slice_get cs 0) are
+
+          holds : HoldsField field cell
+          holds = subst (λ (o : Option CellValue). MatchOption o (field ≡ []) (HoldsField field)) found own
+
+          by_columns : (columns : List ColumnValue) → is.table.columns ≡ columns → All IsFieldColumn columns
+              → All (λ (p : ℕ × ColumnValue). (cell : CellValue) → slice_get is.row.cells p.0 ≡ Some cell → AreLinesOfCell (is.width p.0) (cell_delimiter is.table p.1.delimiter cell) cell (is.cell_lines p cell)) (enumerate_from 0 columns) → HasFirst columns
+          by_columns [] none pads each = let long = ap length are in let short = ap length none in absurd (omega (arith, long, short, is.has_columns))
+          by_columns (column ∷ more) same pads each =
+              let pad : IsFieldColumn column = All-head IsFieldColumn column more pads in
+              let cell_is = All-head (λ (p : ℕ × ColumnValue). (cell : CellValue) → slice_get is.row.cells p.0 ≡ Some cell → AreLinesOfCell (is.width p.0) (cell_delimiter is.table p.1.delimiter cell) cell (is.cell_lines p cell)) (0, column) (enumerate_from 1 more) each cell found in
+              let space : cell_delimiter is.table column.delimiter cell ≡ 0x20 =
+              ap₂ (λ (a b : Option ℕ). unwrap_or a (unwrap_or b (unwrap_or is.table.delimiter 0x20))) holds.no_delimiter pad.no_delimiter ∙ ap (λ (o : Option ℕ). unwrap_or o 0x20) is.no_delimiter in
+              let text : cell.text_lines ≡ made holds.behind ∷ [] = holds.texts ∙ text_is.one holds.behind in
+              let whole : lines_of column ≡ is.cell_lines (0, column) cell =
+              ap₂ (λ (o : Option CellValue) (limit : Option ℕ). unwrap_or (option_map (λ (c : CellValue). cut_to_limit (cut_text (is.width 0) is.table.indicator) limit (is.cell_lines (0, column) c)) o) ([] ∷ [])) found is.hold.uncut in
+              record {
+                column = column;
+                more = more;
+                are = refl;
+                behind = holds.behind;
+                own = by_texts (is.width 0) (made holds.behind) cell_is.0 (subst (λ (ts : List Text). AllZip (AreLinesOfText (is.width 0) 0x20) ts cell_is.0) text (subst (λ (d : ℕ). AllZip (AreLinesOfText (is.width 0) d) cell.text_lines cell_is.0) space cell_is.1)) (lines_of column) (whole ∙ cell_is.2);
+              }
+            where
+              by_texts : (w : ℕ) (text : Text) (of_texts : List (List Text)) → AllZip (AreLinesOfText w 0x20) (text ∷ []) of_texts → (own : List Text) → own ≡ flat_map (λ (of_text : List Text). of_text) of_texts → (own ≡ text ∷ []) ⊎ IsSlicesWhere (λ line tail. Unit {0}) 0x20 text own
+              by_texts w text [] zip own same = absurd zip
+              by_texts w text (of_text ∷ other ∷ of_texts) zip own same = absurd zip.1
+              by_texts w text (of_text ∷ []) zip own same = by_test (nat_le (measure text) w) refl
+                where
+                  own_is : own ≡ of_text
+                  own_is = same ∙ append-nil of_text
+
+                  by_test : (b : Bool) → nat_le (measure text) w ≡ b → (own ≡ text ∷ []) ⊎ IsSlicesWhere (λ line tail. Unit {0}) 0x20 text own
+                  by_test true room = let fits : measure text ≤ w = grind (arith, nat_tests, room) in inl (own_is ∙ zip.0.whole fits)
+                  by_test false wide = let tall : w < measure text = grind (arith, nat_tests, wide) in inr (subst (IsSlicesWhere (λ line tail. Unit {0}) 0x20 text) (sym own_is) (slices_anywhere _ 0x20 text of_text (zip.0.slices tall)))
+
+  -- where it isn't blank, it has a line
+  pub has_line : ((n : ℕ) → ¬ (made n ≡ [])) → 1 ≤ length lines
+  has_line filled = by_columns is.table.columns first is.as_high
+    where
+      some_line : (own : List Text) (n : ℕ) → (own ≡ made n ∷ []) ⊎ IsSlicesWhere (λ line tail. Unit {0}) 0x20 (made n) own → 1 ≤ length own
+      some_line own n (inl whole) = let long = ap length whole in omega (arith, long)
+      some_line (line ∷ own) n (inr slices) = omega arith
+      some_line [] n (inr (zero, blank)) = absurd (filled n blank)
+      some_line [] n (inr (suc m, blank)) = absurd (text_is.unspaced n (encode_utf8_all (replicate m 0x20)) (blank ∙ ap (λ (t : Text). t ++ encode_utf8_all (replicate m 0x20)) (encode_ascii 0x20 (omega arith))))
+
+      by_columns : (columns : List ColumnValue) → HasFirst columns → length lines ≡ greatest (map (λ (p : ℕ × ColumnValue). length (lines_in is.table is.width is.cell_lines is.row p)) (enumerate_from 0 columns)) → 1 ≤ length lines
+      by_columns [] has high = absurd (cc has.are)
+      by_columns (column ∷ more) has high =
+          let same : column ≡ has.column = cc has.are in
+          let long = some_line (lines_of has.column) has.behind has.own in
+          let own : length (lines_of column) ≡ length (lines_of has.column) = ap (λ (c : ColumnValue). length (lines_of c)) same in
+          omega (arith, high, long, own)
+
+-- a line begins with a space or more, the front of a text, and again a space
+pub record BeginsWith (made : ℕ → Text) (is_alone : Bool) (line : Text) : Type 0 where
+  pub left : ℕ
+  pub right : ℕ
+  pub front : Text
+  pub others : Text
+  pub is : line ≡ (spaces (suc left) ++ (front ++ spaces (suc right))) ++ others
+  pub alone : is_alone ≡ true → others ≡ []
+  pub behind : ℕ
+  pub tail : Text
+  pub fronts : made behind ≡ front ++ tail
+
+module _ (field : Text) (fields : List Text) (line : Text) (made : ℕ → Text) (text_is : IsOneText field made) (is : IsOneRow (field ∷ fields) (line ∷ [])) (some : ¬ (is.row.cells ≡ [])) where
+  -- so does the line of a row whose first field is this
+  pub begins : BeginsWith made (length fields == 0) line
+  begins = by_columns is.table.columns (first field fields (line ∷ []) made text_is is some) is.columns here.0 here.1 here.2 is.as_many
+    where
+      here : (pieces : List Text) × AllZip (λ (p : ℕ × ColumnValue). IsPiece p.1 (is.width p.0) (slice_index_or (lines_in is.table is.width is.cell_lines is.row p) 0 [])) (enumerate_from 0 is.table.columns) pieces × (line ≡ join_by (λ (piece : Text). piece) [] pieces ++ [])
+      here = is.drawn 0 (omega arith)
+
+      -- the first line is a front of the text
+      front_of : (own : List Text) (n : ℕ) → (own ≡ made n ∷ []) ⊎ IsSlicesWhere (λ line tail. Unit {0}) 0x20 (made n) own → (tail : Text) × (made n ≡ slice_index_or own 0 [] ++ tail)
+      front_of own n (inl whole) = ([], sym (append-nil (slice_index_or own 0 []) ∙ ap (λ (ls : List Text). slice_index_or ls 0 []) whole))
+      front_of [] n (inr blank) = (made n, refl)
+      front_of (one ∷ own) n (inr (tail, slice, ends, more)) = by_gap slice.gap slice.gap_is_delimiters slice.splits
+        where
+          by_gap : (gap : Text) → IsOnly 0x20 gap → made n ≡ gap ++ (one ++ tail) → (tail : Text) × (made n ≡ one ++ tail)
+          by_gap gap (zero, none) splits = (tail, splits ∙ ap (λ (g : Text). g ++ (one ++ tail)) none)
+          by_gap gap (suc m, only) splits =
+              absurd (text_is.unspaced n (encode_utf8_all (replicate m 0x20) ++ (one ++ tail)) (splits ∙ ap (λ (g : Text). g ++ (one ++ tail)) (only ∙ ap (λ (t : Text). t ++ encode_utf8_all (replicate m 0x20)) (encode_ascii 0x20 (omega arith)))))
+
+      by_columns : (columns : List ColumnValue) → HasFirst field fields (line ∷ []) made text_is is some columns → All IsFieldColumn columns → (pieces : List Text)
+          → AllZip (λ (p : ℕ × ColumnValue). IsPiece p.1 (is.width p.0) (slice_index_or (lines_in is.table is.width is.cell_lines is.row p) 0 [])) (enumerate_from 0 columns) pieces
+          → line ≡ join_by (λ (piece : Text). piece) [] pieces ++ [] → length columns ≤ suc (length fields) → BeginsWith made (length fields == 0) line
+      by_columns [] has pads pieces zip made_is few = absurd (cc has.are)
+      by_columns (column ∷ more) has pads [] zip made_is few = absurd zip
+      by_columns (column ∷ more) has pads (piece ∷ pieces) zip made_is few = by_left zip.0.left zip.0.right zip.0.drawn room.0 room.1
+        where
+          pad : column.padding ≡ (1, 1)
+          pad = (All-head IsFieldColumn column more pads).padding
+
+          room : (1 ≤ zip.0.left) × (1 ≤ zip.0.right)
+          room =
+              let one : column.padding.0 ≡ 1 = ap (λ (x : ℕ × ℕ). x.0) pad in
+              let other : column.padding.1 ≡ 1 = ap (λ (x : ℕ × ℕ). x.1) pad in
+              (omega (arith, one, zip.0.padded.0), omega (arith, other, zip.0.padded.1))
+
+          same : column ≡ has.column
+          same = cc has.are
+
+          fronts : (tail : Text) × (made has.behind ≡ slice_index_or (lines_in is.table is.width is.cell_lines is.row (0, column)) 0 [] ++ tail)
+          fronts = subst (λ (c : ColumnValue). (tail : Text) × (made has.behind ≡ slice_index_or (lines_in is.table is.width is.cell_lines is.row (0, c)) 0 [] ++ tail)) (sym same) (front_of (lines_in is.table is.width is.cell_lines is.row (0, has.column)) has.behind has.own)
+
+          joined : (others : List Text) → AllZip (λ (p : ℕ × ColumnValue). IsPiece p.1 (is.width p.0) (slice_index_or (lines_in is.table is.width is.cell_lines is.row p) 0 [])) (enumerate_from 1 more) others
+              → (rest : Text) × (join_by (λ (piece : Text). piece) [] (piece ∷ others) ++ [] ≡ piece ++ rest) × ((length fields == 0) ≡ true → rest ≡ [])
+          joined others own = (flat_map (λ (other : Text). [] ++ other) others ++ [], append_assoc piece (flat_map (λ (other : Text). [] ++ other) others) [], λ alone. by_more others more own alone few)
+            where
+              by_more : (others : List Text) (cs : List ColumnValue) → AllZip (λ (p : ℕ × ColumnValue). IsPiece p.1 (is.width p.0) (slice_index_or (lines_in is.table is.width is.cell_lines is.row p) 0 [])) (enumerate_from 1 cs) others → (length fields == 0) ≡ true → suc (length cs) ≤ suc (length fields)
+                  → flat_map (λ (other : Text). [] ++ other) others ++ [] ≡ []
+              by_more [] cs zips alone short = refl
+              by_more (other ∷ others) [] zips alone short = absurd zips
+              by_more (other ∷ others) (c ∷ cs) zips alone short = absurd (grind (arith, nat_tests, alone, short))
+
+          by_left : (l r : ℕ) → piece ≡ spaces l ++ (slice_index_or (lines_in is.table is.width is.cell_lines is.row (0, column)) 0 [] ++ spaces r) → 1 ≤ l → 1 ≤ r → BeginsWith made (length fields == 0) line
+          by_left zero r drawn some_left some_right = absurd (omega (arith, some_left))
+          by_left (suc l) zero drawn some_left some_right = absurd (omega (arith, some_right))
+          by_left (suc l) (suc r) drawn some_left some_right =
+              let rest = joined pieces zip.1 in
+              record {
+                left = l;
+                right = r;
+                front = slice_index_or (lines_in is.table is.width is.cell_lines is.row (0, column)) 0 [];
+                others = rest.0;
+                is = made_is ∙ rest.1 ∙ ap (λ (t : Text). t ++ rest.0) drawn;
+                alone = rest.2;
+                behind = has.behind;
+                tail = fronts.0;
+                fronts = fronts.1;
+              }
