@@ -2,7 +2,6 @@ use Rattle.std.proofs.Common.{ap, ap₂, ◌++◌, ◌∙◌, refl, sym}
 use Rattle.comfy_parts.specs.Text.{Text}
 use Rattle.comfy_table.proofs.SpaceLemmas.{all-styled, bare-is, line-styled, no_styles, padded-is}
 use Rattle.comfy_table.specs.DrawnCells.{piece_with}
-use Rattle.comfy_table.specs.DrawnLines.{DrawnLine}
 use Rattle.comfy_table.specs.Pieces.{padded}
 use Rattle.comfy_table.specs.Styling.{styled}
 use Rattle.comfy_table.specs.declared.utils.formatting.piece.Styles.{Styles}
