@@ -1,5 +1,6 @@
 //! Tests of `comfy_table`.
 
+mod answers;
 mod parts;
 mod promised;
 mod refused_rows;
