@@ -124,13 +124,23 @@ fn drawn_or_refused(
 #[test]
 fn a_byte_that_is_not_utf8_is_reported(rt: HostRuntime) {
     let refused = drawn_or_refused(&rt, b"a,b\n1,2\n3,\xff\n", None);
-    assert!(rt; matches!(&refused, Err(CsvError::Decode(DecodeError::NotUtf8 { line: 3, .. }))));
+    assert!(rt;
+        matches!(
+            &refused,
+            Err(CsvError::Decode(DecodeError::NotUtf8 { line: 3, .. }))
+        )
+    );
 }
 
 #[test]
 fn an_archive_is_reported(rt: HostRuntime) {
     let refused = drawn_or_refused(&rt, b"PK\x03\x04\n1,2\n", None);
-    assert!(rt; matches!(&refused, Err(CsvError::Decode(DecodeError::NotText(NotText::Zip)))));
+    assert!(rt;
+        matches!(
+            &refused,
+            Err(CsvError::Decode(DecodeError::NotText(NotText::Zip)))
+        )
+    );
 }
 
 #[test]
@@ -142,5 +152,10 @@ fn a_quote_without_an_end_is_reported(rt: HostRuntime) {
 #[test]
 fn a_column_that_is_not_there_is_reported(rt: HostRuntime) {
     let refused = drawn_or_refused(&rt, b"a,b\n", Some("c"));
-    assert!(rt; matches!(&refused, Err(CsvError::Columns(ColumnsError::NoColumn(_, _)))));
+    assert!(rt;
+        matches!(
+            &refused,
+            Err(CsvError::Columns(ColumnsError::NoColumn(_, _)))
+        )
+    );
 }

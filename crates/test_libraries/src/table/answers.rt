@@ -29,12 +29,7 @@ fn longest_lines_are_those_of_wrapped_cells(rt: HostRuntime) {
 }
 
 // After this header the table has this many columns.
-fn assert_columns_after<T: IntoRow>(
-    rt: &impl Abort,
-    table: &mut Table,
-    header: T,
-    wanted: usize,
-) {
+fn assert_columns_after<T: IntoRow>(rt: &impl Abort, table: &mut Table, header: T, wanted: usize) {
     table.try_set_header(header).expect(rt, "memory");
     assert!(rt; table.column_count().expect(rt, "memory") == wanted);
 }
