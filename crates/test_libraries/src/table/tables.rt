@@ -197,6 +197,8 @@ fn the_widest_table_is_drawn(rt: HostRuntime) {
         .set_width(65535);
     let infos = arrange_content(&table).expect(&rt, "memory");
     assert_number(&rt, infos.len(), 1);
-    assert!(rt; infos[0].content_width == 65531);
+    for info in &infos {
+        assert!(rt; info.content_width == 65531);
+    }
     assert_counts(&rt, &table, 65535);
 }
