@@ -1,5 +1,6 @@
 //! Tests of `comfy_table`.
 
+mod answers;
 mod parts;
 mod pieces;
 mod promised;
