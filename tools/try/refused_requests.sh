@@ -4,8 +4,9 @@
 # itself. Each such run of the first three must end with status 1, print nothing, and say that there is no memory. One of
 # test_refused must say that the call was refused as promised, or end with status 3 and print nothing, where the request
 # wasn't the call's. Of a call that adds three rows it must also say how many are kept: 0 at first, then 1, then 2, as
-# later requests are refused. And format_row must make fewer than 300 requests for a cell of 100 lines, arrange_content as
-# many for 1,000 rows as for one.
+# later requests are refused. And format_row must make fewer than 250 requests for 100 pieces, also of wide texts, of styled
+# cells and of cut cells: two for each piece and its line or its cell, and few more. arrange_content must make as many for
+# 1,000 rows as for one.
 #
 # usage: tools/try/refused_requests.sh
 # It builds the programs where they aren't, which proves them. CC is the compiler of refuse.c, which refuses the requests
@@ -93,15 +94,16 @@ build test_cases
 awk '/^case\theight-(0-is-1-line|with-an-indicator-of-three-dots)$/, /^end$/' "$crates/test_cases/stdin" > "$work/two.cases"
 refuse test_cases "$work/two.cases" 'Error: out of memory'
 build test_refused
+formatted=0
 while IFS= read -r call; do
   refuse_call "$call"
   case $call in
-    utils::format_row) formatted=$own ;;
+    utils::format_row*) formatted=$((own > formatted ? own : formatted)) ;;
     'utils::arrange_content of 1 row') one=$own ;;
     'utils::arrange_content of 1000 rows') thousand=$own ;;
   esac
 done < "$crates/test_refused/stdin"
-if [ "$formatted" -ge 300 ] || [ "$one" -ne "$thousand" ]; then
+if [ "$formatted" -ge 250 ] || [ "$one" -ne "$thousand" ]; then
   echo "$0: format_row or arrange_content makes other numbers of requests: $formatted, $one, $thousand" >&2
   exit 1
 fi

@@ -1,8 +1,6 @@
 -- No character takes more than two terminal columns, but U+17D8, which takes three.
-use Rattle.std.proofs.Common.{◌≡◌, ◌≢◌, ◌≤◌, ◌==◌, ℕ, false, refl, ap, subst, sym, arith}
+use Rattle.std.proofs.Common.{◌≢◌, ◌≤◌, ℕ, false, refl, subst, sym, arith}
 use Rattle.std.proofs.lemmas.Bool.Decides.{nat_tests}
-use Rattle.std.specs.Char.{IsScalar}
-use Rattle.std.specs.Prelude.{encode_utf8}
 use Rattle.cluster_width.proofs.SpaceMeasureLemmas.{one_character}
 use Rattle.unicode_width.proofs.Computing.{unicode_width}
 use Rattle.unicode_width.specs.Kind.{kind}
@@ -10,7 +8,6 @@ use Rattle.unicode_width.specs.Width.{alone, of_kind, past_emoji, plain, single,
 use Rattle.unicode_width.specs.declared.kind.Kind.{Kind}
 use Rattle.unicode_width.specs.declared.kind.Kind.TheVariants as kinds
 use Rattle.comfy_parts.specs.Columns.{OneCharacterTakesThree, TakesTwoAtMost}
-use Rattle.comfy_parts.specs.Text.{measure}
 
 pub khmer_sign_takes_three : OneCharacterTakesThree
 unfolding unicode_width

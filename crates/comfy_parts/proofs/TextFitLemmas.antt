@@ -1,5 +1,5 @@
 -- The lines of text lines whose words fit are no wider than their column.
-use Rattle.std.proofs.Common.{◌<◌, ◌+◌, ◌≤◌, inl, inr, ⊎_elim, ℕ, ◌==◌, List, [], ◌∷◌, ◌++◌, ◌&&◌, nat_le, slice_index_or, ap, ◌∙◌, subst, arith}
+use Rattle.std.proofs.Common.{◌<◌, ◌≤◌, inl, inr, ⊎_elim, ℕ, ◌==◌, List, [], ◌∷◌, ◌++◌, ◌&&◌, nat_le, slice_index_or, ap, ◌∙◌, subst, arith}
 use Rattle.std.specs.Char.{IsScalar}
 use Rattle.std.specs.List.{All, list_all, slice_split}
 use Rattle.std.specs.Prelude.{chars, encode_utf8_all, IsUtf8}

@@ -20,11 +20,12 @@ pub fn wrapped_lines_are_one_list()
     ensures some { (w d : ℕ) (text : Text) → WrappedIsWrapped w d text }
 {}
 
-/// A line ends after the first of its elements with which more than `w - 2` terminal columns are
-/// filled, or which is the last one, or after which the next one has no room beside one column for
-/// the delimiter. If that next one is wider than `w`, and four columns are free, the line also takes
-/// the delimiter and the head of it for all of them but one. A line whose first element is wider
-/// than `w` is that element's head, or its first character if the head is empty.
+/// Where a line ends, by sums over the elements of its text. A line takes the elements up to the
+/// first one with which more than `w - 2` terminal columns are filled, or after which no element is
+/// left, or after which the next one has no room beside one column for the delimiter. If that next
+/// one is wider than `w`, and four columns are free, the line also takes the delimiter and the
+/// head of it for all free columns but one. A line whose first element is wider than `w` is that
+/// element's head, or its first character if the head is empty.
 pub fn lines_end_at_the_first_full_element()
     ensures fitting { (w d : ℕ) (text : Text) → FittingLinesEndAtFirst w d text }
     ensures wide { (w d : ℕ) (text : Text) → WideElementsAreCut w d text }

@@ -13,8 +13,8 @@ pub trait Pieces {
     // whether these are whole in memory, so that no call asks for any
     ghost is_whole: { Bool };
 
-    /// The next piece, which isn't empty; `None` after the last one. After an error nothing is left:
-    /// each further call returns `None`.
+    /// The next piece, which isn't empty, or `None` after the last one. After an error nothing is
+    /// left: each further call returns `None`.
     fn next_piece(&mut self) -> Result<Option<String>, AllocError>
         ensures next { IfOk result (IsNextPiece (rest self.old) (rest self.new)) }
         ensures refused { OnErr result (is_whole ≡ false) }

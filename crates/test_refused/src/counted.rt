@@ -5,7 +5,7 @@ use crate::outcome::{Outcome, succeeded};
 use comfy_table::utils::arrangement::arrange_content;
 use comfy_table::utils::formatting::content_format::format_row;
 use comfy_table::utils::formatting::content_split::ColumnDisplayInfo;
-use comfy_table::{Column, ContentArrangement, IntoRow, Result, Table};
+use comfy_table::{Cell, Color, Column, ContentArrangement, IntoRow, Result, Table};
 use std::alloc::Global;
 
 // Texts that are wider than the room for them.
@@ -14,20 +14,45 @@ const WRAPPED: [&str; 2] = ["Now add some lines", "multi line stuff"];
 /// What came of the call of this name, with a new table.
 pub fn outcome_of(alloc: Global, table: &mut Table, call: &str) -> Result<Outcome> {
     match call {
-        "format_row" => outcome_of_formatting(alloc, table),
+        "format_row" => outcome_of_formatting(alloc, table, "a", 40),
+        "format_row of wide texts" => outcome_of_formatting(alloc, table, "年", 20),
+        "format_row of styled cells" => {
+            table.enforce_styling();
+            outcome_of_formatting(alloc, table, "a", 40)
+        }
+        "format_row of cut cells" => outcome_of_cutting(alloc, table),
         "arrange_content of 1 row" => outcome_of_arranging(table, 1),
         "arrange_content of 1000 rows" => outcome_of_arranging(table, 1000),
         _ => Ok(Outcome::Unknown),
     }
 }
 
-// Formats a cell of 100 words, each as wide as the column.
-fn outcome_of_formatting(alloc: Global, table: &Table) -> Result<Outcome> {
-    let word = "a".repeat(alloc, 40)?;
+// Formats a red cell of 100 words, each as wide as the column and of so many of these characters.
+fn outcome_of_formatting(
+    alloc: Global,
+    table: &Table,
+    character: &str,
+    count: usize,
+) -> Result<Outcome> {
+    let word = character.repeat(alloc, count)?;
     let text = vec![in alloc; word.as_str(); 100]?.join(alloc, " ")?;
-    let row = [text.as_str()].into_row(alloc)?;
+    let cell = Cell::new(alloc, text.as_str())?.fg(Color::Red);
+    let row = [cell].into_row(alloc)?;
     let infos = [ColumnDisplayInfo::new(&Column::new(0), 40)];
     let is_formatted = succeeded(format_row(&row, &infos, table));
+    Ok(Outcome::of(is_formatted))
+}
+
+// Formats a row of one line, of 100 cells that are cut.
+fn outcome_of_cutting(alloc: Global, table: &Table) -> Result<Outcome> {
+    let mut row = vec![in alloc; "two lines"; 100]?.into_row(alloc)?;
+    row.max_height(1);
+    let column = Column::new(0);
+    let mut infos = Vec::new(alloc);
+    for _ in 0..100 {
+        infos.push(ColumnDisplayInfo::new(&column, 5))?;
+    }
+    let is_formatted = succeeded(format_row(&row, infos.as_slice(), table));
     Ok(Outcome::of(is_formatted))
 }
 

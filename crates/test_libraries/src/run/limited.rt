@@ -3,7 +3,8 @@
 use super::large::{Pieces, options, text_of};
 use crate::support::assert_bytes;
 use comfy_run::run::{FromReader, ToWriter};
-use csv_command::draw;
+use csv_command::{ColumnsError, CsvError, draw};
+use csv_records::{DecodeError, NotText};
 use std::alloc::{Alloc, Global};
 use std::io::{self, Read};
 use std::process::Abort;
@@ -87,4 +88,74 @@ fn as_much_is_read_as_the_limit_asks_for(rt: HostRuntime) {
         assert!(rt; drawn(&rt, 40_000, false, most).0 == 200_004);
         assert!(rt; drawn(&rt, 3, true, most).0 == 200_004);
     }
+}
+
+// These bytes, and then 80,000 bytes of records: more than is read at first.
+fn large_input(rt: &(impl Abort + Alloc<A = Global>), front: &[u8]) -> Vec<u8> {
+    let mut input = Vec::from_slice(rt.alloc(), front).expect(rt, "memory");
+    for _ in 0..20_000 {
+        input.extend_from_slice(b"5,6\n").expect(rt, "memory");
+    }
+    input
+}
+
+// What is drawn of such an input under a limit of two records, in the column of this name if any.
+fn drawn_or_refused(
+    rt: &(impl Abort + Alloc<A = Global>),
+    front: &[u8],
+    column: Option<&str>,
+) -> Result<Vec<u8>, CsvError> {
+    let input = large_input(rt, front);
+    let mut bytes = Vec::new(rt.alloc());
+    let mut options = options(rt.alloc(), None, false);
+    options.selection.limit = Some(2);
+    if let Some(column) = column {
+        let word = String::from_str(rt.alloc(), column).expect(rt, "memory");
+        options.columns.chosen.push(word).expect(rt, "memory");
+    }
+    let mut source = FromReader::new(input.as_slice());
+    let mut sink = ToWriter::new(&mut bytes);
+    draw(rt.alloc(), &mut source, &mut sink, &options)?;
+    Ok(bytes)
+}
+
+// If the beginning of an input has no text or no records of its own, all of it is read. The error
+// then says what is wrong with it, and not that memory ran out.
+#[test]
+fn a_byte_that_is_not_utf8_is_reported(rt: HostRuntime) {
+    let refused = drawn_or_refused(&rt, b"a,b\n1,2\n3,\xff\n", None);
+    assert!(rt;
+        matches!(
+            &refused,
+            Err(CsvError::Decode(DecodeError::NotUtf8 { line: 3, .. }))
+        )
+    );
+}
+
+#[test]
+fn an_archive_is_reported(rt: HostRuntime) {
+    let refused = drawn_or_refused(&rt, b"PK\x03\x04\n1,2\n", None);
+    assert!(rt;
+        matches!(
+            &refused,
+            Err(CsvError::Decode(DecodeError::NotText(NotText::Zip)))
+        )
+    );
+}
+
+#[test]
+fn a_quote_without_an_end_is_reported(rt: HostRuntime) {
+    let refused = drawn_or_refused(&rt, b"sep=,\na,b\n1,2\n3,4\n5,\"6\n", None);
+    assert!(rt; matches!(&refused, Err(CsvError::Records(_))));
+}
+
+#[test]
+fn a_column_that_is_not_there_is_reported(rt: HostRuntime) {
+    let refused = drawn_or_refused(&rt, b"a,b\n", Some("c"));
+    assert!(rt;
+        matches!(
+            &refused,
+            Err(CsvError::Columns(ColumnsError::NoColumn(_, _)))
+        )
+    );
 }

@@ -7,8 +7,9 @@ use crate::support::{
 use comfy_table::utils::arrangement::arrange_content;
 use comfy_table::utils::build_table;
 use comfy_table::utils::formatting::content_format::{format_content, format_row};
-use comfy_table::{Cell, ColumnCellIter, Table};
+use comfy_table::{Cell, Column, ColumnCellIter, ContentArrangement, Table};
 use std::alloc::{Alloc, Global};
+use std::mem;
 use std::process::Abort;
 
 // The table of the README.
@@ -108,6 +109,65 @@ fn rows_and_columns_are_borrowed_mutably_in_order(rt: HostRuntime) {
     assert_drawn(&rt, &table, "+---+--+\n|  …|cd|\n+---+--+");
 }
 
+// Sets the height of each row, and no padding in any column.
+fn set_all_parts(table: &mut Table) {
+    for row in table.row_iter_mut() {
+        row.max_height(1);
+    }
+    for column in table.column_iter_mut() {
+        column.set_padding((0, 0));
+    }
+}
+
+#[test]
+fn each_row_and_column_is_borrowed_mutably(rt: HostRuntime) {
+    let mut table = table_of(&rt, ["a\nb", "cd"]);
+    set_all_parts(&mut table);
+    assert_drawn(&rt, &table, "+-+--+\n|…|cd|\n+-+--+");
+}
+
+// Puts a column in the place of another, which it returns.
+fn replace_column(rt: &impl Abort, table: &mut Table, position: usize, column: Column) -> Column {
+    let place = table.column_mut(position).expect(rt, "a column");
+    mem::replace(place, column)
+}
+
+// Exchanges the first two columns of a table.
+fn exchange_columns(rt: &impl Abort, table: &mut Table) {
+    let first = replace_column(rt, table, 0, Column::new(0));
+    let second = replace_column(rt, table, 1, first);
+    let _ = replace_column(rt, table, 0, second);
+}
+
+const EXCHANGED: &str = "\
++----+--+
+| ab |cd|
++----+--+";
+
+#[test]
+fn columns_are_found_by_their_positions(rt: HostRuntime) {
+    let mut table = table_of(&rt, ["ab", "cd"]);
+    if let Some(column) = table.column_mut(0) {
+        column.set_padding((0, 0));
+    }
+    exchange_columns(&rt, &mut table);
+    assert_drawn(&rt, &table, EXCHANGED);
+    for column in table.column_iter_mut() {
+        column.index = 7;
+    }
+    assert_drawn(&rt, &table, EXCHANGED);
+}
+
+#[test]
+fn cells_without_a_column_are_left_out(rt: HostRuntime) {
+    let mut table = table_of(&rt, ["a"]);
+    let longer = row_of(&rt, ["x", "y", "z"]);
+    if let Some(row) = table.row_mut(0) {
+        let _ = mem::replace(row, longer);
+    }
+    assert_drawn(&rt, &table, "+---+\n| x |\n+---+");
+}
+
 fn pad_widely(table: &mut Table) {
     for column in table.column_iter_mut() {
         column.set_padding((65535, 65535));
@@ -126,4 +186,19 @@ fn the_widest_paddings_are_drawn(rt: HostRuntime) {
     let mut table = table_of(&rt, ["a"]);
     pad_widely(&mut table);
     assert_counts(&rt, &table, 131073);
+}
+
+// A border and a padding on each side leave 65531 terminal columns.
+#[test]
+fn the_widest_table_is_drawn(rt: HostRuntime) {
+    let mut table = table_of(&rt, ["a"]);
+    table
+        .set_content_arrangement(ContentArrangement::DynamicFullWidth)
+        .set_width(65535);
+    let infos = arrange_content(&table).expect(&rt, "memory");
+    assert_number(&rt, infos.len(), 1);
+    for info in &infos {
+        assert!(rt; info.content_width == 65531);
+    }
+    assert_counts(&rt, &table, 65535);
 }

@@ -64,9 +64,12 @@ impl<'a, 'r> DrawnCell<'a, 'r> {
 /// Takes a cell that isn't drawn any more. The list of its lines is kept, unless it is long.
 #[inline(always)]
 pub fn take_list<'r>(cell: DrawnCell<'_, 'r>, spare: &mut Vec<Vec<Line<'r>>>) -> Result<()> {
-    if let CellLines::Multiple(_, lines) = cell.lines
-        && lines.capacity() <= KEPT_LINES
-    {
+    let lines = match cell.lines {
+        CellLines::Missing => return Ok(()),
+        CellLines::Single(_cell, _line) => return Ok(()),
+        CellLines::Multiple(_cell, lines) => lines,
+    };
+    if lines.capacity() <= KEPT_LINES {
         spare.push(lines)?;
     }
     Ok(())

@@ -1,11 +1,10 @@
-use Rattle.std.proofs.Common.{All, List, IfSome, ap, refl, subst, sym, ◌∙◌}
+use Rattle.std.proofs.Common.{All, List, IfSome, ap, refl, subst, ◌∙◌}
 use Rattle.std.specs.Str.{IsUtf8}
 use Rattle.comfy_parts.specs.CellValue.{ColumnValue, IsColumn, IsDelimiter, IsRow}
 use Rattle.comfy_table.proofs.HeadlineLemmas.{table_drawing, utf8_indicator}
 use Rattle.comfy_table.proofs.OneDrawingLemmas.{arranged_is_one}
 use Rattle.comfy_table.specs.Drawing.{drawing_of_infos, infos_of}
 use Rattle.comfy_table.specs.Headline.{IsTableDrawing}
-use Rattle.comfy_table.specs.Parts.{IsArrangedTable}
 use Rattle.comfy_table.specs.TableValue.{KeepsParts, TableValue}
 use Rattle.comfy_table.proofs.table.arranged.ArrangedTable.infos_of.Goals as goal
 

@@ -2,7 +2,6 @@ use Rattle.std.proofs.Common.{ap, ap₂, ◌++◌, ◌∙◌, refl, sym}
 use Rattle.comfy_parts.specs.Text.{Text}
 use Rattle.comfy_table.proofs.SpaceLemmas.{all-styled, bare-is, line-styled, no_styles, padded-is}
 use Rattle.comfy_table.specs.DrawnCells.{piece_with}
-use Rattle.comfy_table.specs.DrawnLines.{DrawnLine}
 use Rattle.comfy_table.specs.Pieces.{padded}
 use Rattle.comfy_table.specs.Styling.{styled}
 use Rattle.comfy_table.specs.declared.utils.formatting.piece.Styles.{Styles}
@@ -14,8 +13,8 @@ returns-in-RoundTexts c =
     let cell = c.args.cell.now in
     let info = c.args.info.now in
     let spaces = c.spaces_beside-left.ensures in
-    line-styled cell info c.columns.result _ _ spaces.left spaces.right (c.parts-text.result.0.now ++ c.parts-text.result.1.now)
-    ∙ ap₂ (λ n (t : Text). padded cell info n (styled cell t)) c.columns.ensures c.parts-text.ensures
+    line-styled cell info c.columns.result _ _ spaces.left spaces.right (c.parts.result.0.now ++ c.parts.result.1.now)
+    ∙ ap₂ (λ n (t : Text). padded cell info n (styled cell t)) c.columns.ensures c.parts.ensures
     ∙ ap (λ (styles : Styles). piece_with styles cell info c.args.line.now) (sym c.in-RoundTexts.is)
 
 pub returns-in-RoundPieces : goal.returns-in-RoundPieces
@@ -23,8 +22,8 @@ returns-in-RoundPieces c =
     let cell = c.args.cell.now in
     let info = c.args.info.now in
     let spaces = c.spaces_beside-left.ensures in
-    all-styled cell info c.columns.result _ _ spaces.left spaces.right (c.parts-text.result.0.now ++ c.parts-text.result.1.now)
-    ∙ ap₂ (λ n (t : Text). styled cell (padded cell info n t)) c.columns.ensures c.parts-text.ensures
+    all-styled cell info c.columns.result _ _ spaces.left spaces.right (c.parts.result.0.now ++ c.parts.result.1.now)
+    ∙ ap₂ (λ n (t : Text). styled cell (padded cell info n t)) c.columns.ensures c.parts.ensures
     ∙ ap (λ (styles : Styles). piece_with styles cell info c.args.line.now) (sym c.in-RoundPieces.is)
 
 pub returns-in_default : goal.returns-in_default
@@ -32,11 +31,11 @@ returns-in_default c =
     let cell = c.args.cell.now in
     let info = c.args.info.now in
     let columns = c.columns.result in
-    let text = c.parts-text.result.0.now ++ c.parts-text.result.1.now in
+    let text = c.parts.result.0.now ++ c.parts.result.1.now in
     let left = c.spaces_beside-left.ensures.left in
     let right = c.spaces_beside-left.ensures.right in
     let bare = bare-is cell info columns _ _ left right c.args.styles text in
-    let same = ap₂ (λ n (t : Text). piece_with c.args.styles cell info (record { columns = n; written = t })) c.columns.ensures c.parts-text.ensures in
+    let same = ap₂ (λ n (t : Text). piece_with c.args.styles cell info (record { columns = n; written = t })) c.columns.ensures c.parts.ensures in
     elim c.in_default.branch [
       | in_default-via-in-RoundTexts+else-has_styles w ↦
           let none = w.if-has_styles.false in
