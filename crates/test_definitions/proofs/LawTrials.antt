@@ -190,10 +190,10 @@ ends_too_early ends = at ends.last ends.is_first.holds ends.takes
     at zero holds takes = let no : false ≡ true = holds in absurd (cc no)
     at (suc k) holds takes =
         let first : sum_by length (take (suc (suc k)) beside)
-            ≡ 2 + sum_by length (take (suc k) (codes "cd" ∷ [])) =
+        ≡ 2 + sum_by length (take (suc k) (codes "cd" ∷ [])) =
         sum_by-cons length (codes "ab") (take (suc k) (codes "cd" ∷ [])) in
         let second : sum_by length (take (suc k) (codes "cd" ∷ []))
-            ≡ 2 + sum_by length (take k []) =
+        ≡ 2 + sum_by length (take k []) =
         sum_by-cons length (codes "cd") (take k []) in
         omega (arith, first, second, takes)
 
