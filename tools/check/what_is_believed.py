@@ -19,9 +19,11 @@ declaration. What a model's fields hold is said by the clauses of calls, so thei
 followed; and an invariant is proved of each value.
 
 The promise's own file comes first. A promise is printed with its body, since what it returns is
-part of it. Comments count as lines; clauses, bodies and headings don't. Public types that are
-declared and have no model, which callers know, are counted apart, with the first paragraph of their
-doc comments. Other libraries are counted in a line for each.
+part of it, and so are the functions of its crate that this body calls, if other crates can't call
+them. Their lines are counted apart. Comments count as lines; clauses, bodies and headings don't.
+Public types that are declared and have no model, which callers know, are counted apart too, with the
+first paragraph of their doc comments. Other libraries are counted in a line for each, with the names
+in them. All of their code is believed besides, as README says of the toolchain.
 """
 import re
 import sys
@@ -160,6 +162,19 @@ def body_of(one):
     return "\n" + re.search(r"^\{(?:\}|.*?^\})", "\n".join(below), re.M | re.S)[0]
 
 
+def called_by(promises):
+    """The functions of the crate that the bodies of promises call, and those that these call, but no public ones."""
+    found, waiting = {}, list(promises)
+    while waiting:
+        one = waiting.pop(0)
+        for name in dict.fromkeys(re.findall(r"(?<![\w.:])([a-z_]\w*)\(", body_of(one))):
+            for function in functions_of(crate_of(one.path)).get(name, []):
+                if not function.is_public and function.signature not in found:
+                    found[function.signature] = function.signature.text + body_of(function.signature)
+                    waiting.append(function.signature)
+    return found
+
+
 def shown(starts):
     """What a reader must believe for a promise."""
     found, others = believed(starts)
@@ -170,10 +185,17 @@ def shown(starts):
             yield from [one.head] if one.head not in ("", head) else []
             yield f"{one.text}{body_of(one)}\n"
             head = one.head
+    called = called_by(filter(is_function, starts))
+    for one, text in called.items():
+        yield from [f"-- {one.path.removeprefix('crates/')}, called above", f"{text}\n"]
     declared = sum(it.lines() for it in found if is_declared(it))
+    lines = sum(text.count("\n") + 1 for text in called.values())
     yield f"{count_of(found)} lines of definitions, and {declared} that declare public types."
+    if lines:
+        yield f"{lines} lines of functions that the body calls."
     yield "Of other libraries, below these:"
     yield from lines_of_others(others)
+    yield "Besides: what README.md says that you have to trust."
 
 
 def lines_of_others(others):
