@@ -9,14 +9,17 @@ use csv_records::Records;
 use devices::MemorySink;
 use std::alloc::Global;
 
-/// What the arguments ask for, the records of a file's bytes, and what the program writes of them:
-/// nothing where the arguments ask for sequences in fields, for Markdown or for a height; or for no
-/// drawing, or where it can't be drawn so. Whatever the width and the script, the output is a table
-/// in the style that is asked for: the header, if there is one, and below it a row for each record
-/// that is drawn. Each field, as it is cleaned, stands alone in its column, between spaces: whole,
-/// or in slices that leave out nothing but spaces. Where records are expanded, each is such a table
-/// of names and fields, below a line that numbers it. All else is bold, where the header is in
-/// bold, and below all a line that counts records, where not all are drawn.
+/// The arguments as they are understood, the records of a file's bytes, and the output that the
+/// program writes of them, under every width and for every script. The output is a table in the
+/// style that is asked for: the header, if there is one, and below it one row for each drawn
+/// record. Each field, as it is cleaned, is alone in its column, between spaces: whole, or in
+/// slices that end where texts wrap and leave out only spaces. If records are expanded, each is
+/// such a table of names and fields, below a line with its number. If the header is bold, the
+/// sequences that begin and end bold are in its pieces. If not all records are drawn, a line below
+/// them counts them.
+///
+/// It is `None` if the arguments ask for `--ansi`, Markdown, a height or no drawing, if the whole
+/// input can't be read or drawn so, or if memory runs out.
 pub fn output_with_all_fields(
     alloc: Global,
     arguments: &[&str],

@@ -14,11 +14,13 @@ use csv_tables::laws::outputs_are_straight;
 use devices::MemorySink;
 use std::alloc::Global;
 
-/// The records of a file's bytes, and what the program writes of them for these arguments: nothing
-/// where the arguments ask for sequences in fields or for Markdown, or for no drawing, or where it
-/// can't be drawn so. Where no character of a field takes more than one
-/// terminal column, all lines of the table show the same number of columns, under every width and
-/// height, with a bold header too, and where records are expanded.
+/// The records of a file's bytes, and the output that the program writes of them for these
+/// arguments. All lines of the output show the same number of terminal columns, except those that
+/// count records, under every width and height, with a bold header, and if records are expanded.
+///
+/// This holds if each character of each field takes at most one terminal column, and none is
+/// U+FE01. It is `None` if the arguments ask for `--ansi`, Markdown or no drawing, if the whole
+/// input can't be read or drawn so, or if memory runs out.
 pub fn straight_output(
     alloc: Global,
     arguments: &[&str],
@@ -35,10 +37,11 @@ pub fn straight_output(
     Some((records, sink))
 }
 
-/// The same for texts of every script, under every width and height, and what the arguments ask
-/// for: all lines of the table show the same number of columns where each character of each drawn
-/// field has room in its column. A character takes at most two terminal columns, but for U+17D8.
-/// U+FE01 stands nowhere directly beside U+FE0E or U+FE0F.
+/// As `straight_output`, for texts of every script, with the arguments as they were understood.
+///
+/// This holds if each character of each drawn field and name has room in its column, and U+FE01 is
+/// nowhere directly next to U+FE0E or U+FE0F. A character takes at most two terminal columns,
+/// except U+17D8, which takes three.
 pub fn straight_fitting_output(
     alloc: Global,
     arguments: &[&str],
@@ -53,9 +56,10 @@ pub fn straight_fitting_output(
     Some((asked, records, sink))
 }
 
-/// The same for texts of every script: nothing also where a width is kept to, or where rows are
-/// cut. Where each field is drawn as it is and takes at most 65535 terminal columns, all lines of
-/// the table show the same number of columns.
+/// As `straight_output`, for texts of every script. It is `None` also under a width and under `-m`.
+///
+/// This holds if each field takes at most 65535 terminal columns, and has no control character and
+/// none that turns the direction of text, so that it is drawn as it is.
 pub fn straight_whole_output(
     alloc: Global,
     arguments: &[&str],
@@ -74,7 +78,8 @@ pub fn straight_whole_output(
     Some((records, sink))
 }
 
-// What the arguments ask for, the records of an input, and what is written of them.
+// The arguments as they are understood, the records of an input, and the output for both. `None`
+// for fields with sequences and for Markdown, and after any error.
 pub(crate) fn written(
     alloc: Global,
     arguments: &[&str],

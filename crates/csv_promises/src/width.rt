@@ -9,13 +9,15 @@ use csv_records::Records;
 use devices::MemorySink;
 use std::alloc::Global;
 
-/// What the arguments ask for, the records of a file's bytes, and what the program writes of them:
-/// nothing where the arguments ask for sequences in fields or for Markdown, or for no drawing, or
-/// where it can't be drawn so. Where a width is kept and no character of a field takes more than
-/// one terminal column, no line shows more than the width, or than the frame takes, but those that
-/// count records. Where the width is filled and has room for the frame, each line shows exactly as
-/// many. The frame is that of two columns where records are expanded or may be, else of all that
-/// are drawn.
+/// The arguments as they are understood, the records of a file's bytes, and the output that the
+/// program writes of them. Under a width no line shows more terminal columns than the width, or
+/// than the frame takes, except lines that count records. If the width is filled and has room for
+/// the frame, each line shows exactly as many. The frame is that of two columns if records are or
+/// may be expanded, and otherwise that of all drawn columns.
+///
+/// This holds if each character of each field takes at most one terminal column, and none is
+/// U+FE01. It is `None` if the arguments ask for `--ansi`, Markdown or no drawing, if the whole
+/// input can't be read or drawn so, or if memory runs out.
 pub fn output_within(
     alloc: Global,
     arguments: &[&str],

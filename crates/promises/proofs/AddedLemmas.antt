@@ -7,10 +7,9 @@ use Rattle.comfy_parts.specs.Text.{Text, greatest}
 use Rattle.comfy_parts.specs.VisibleText.{visible_text}
 use Rattle.comfy_parts.specs.declared.style.table.ContentArrangement.{ContentArrangement}
 use Rattle.comfy_parts.specs.declared.style.table.ContentArrangement.TheVariants.{Disabled}
-use Rattle.comfy_table.specs.AddedRows.{IsWithinContents, ShownLinesStay, added_lines, bottom_lines, lines_above_bottom}
+use Rattle.comfy_table.specs.AddedRows.{IsWithinContents, ShownLinesStay, added_lines, lines_above_bottom}
 use Rattle.comfy_table.specs.Arrangement.{IsDrawingOf, width_kept}
 use Rattle.comfy_table.specs.Drawing.{infos_of, outer_widths}
-use Rattle.comfy_table.specs.Frame.{frame_line, is_drawn}
 use Rattle.comfy_table.specs.TableValue.{TableValue, cell_content_width, column_content_width, header_and_rows, measured_cell, table_width, with_row}
 use Rattle.promises.proofs.PlacedLemmas.{measured_plain}
 use Rattle.promises.specs.Added.{HasRoomFor, Stay}
@@ -42,19 +41,11 @@ within_contents table row plain room i cell found =
     let column : contents i wider.0 wider.1 wider.3 (header_and_rows table) ≡ column_content_width table i = ap (contents i wider.0 wider.1 wider.3) (sym (measured_plain table plain)) in
     omega (arith, most, measured, column, wider.4)
 
--- the bottom border is one line at most
-bottom_is_one : (table : TableValue) (widths : List ℕ) → length (bottom_lines table (infos_of table widths)) ≤ 1
-bottom_is_one table widths = by_test (is_drawn table.style.bottom_border)
-  where
-    by_test : (b : Bool) → length (if b then frame_line table.style table.style.bottom_border (outer_widths (infos_of table widths)) ∷ [] else []) ≤ 1
-    by_test true = omega arith
-    by_test false = omega arith
-
 -- lines stay where the row has room
 pub lines_stay : (table : TableValue) (row : RowValue) (lines others : List Text) → ShownLinesStay table row lines others → IsDrawingOf table lines → IsDrawingOf (with_row row table) others
-    → table.arrangement ≡ Disabled → table.custom_styling ≡ false → HasRoomFor table row → Stay lines others
+    → table.arrangement ≡ Disabled → table.custom_styling ≡ false → HasRoomFor table row → Stay table lines others
 lines_stay table row lines others law first second disabled plain room =
     let no_width = ap (λ (a : ContentArrangement). width_kept a (table_width table)) disabled in
     let made = law no_width room.columns (within_contents table row plain room) first second in
     let infos = infos_of table made.0 in
-    (lines_above_bottom table infos, bottom_lines table infos, added_lines table infos row, bottom_is_one table made.0, made.1.0, made.1.1)
+    (lines_above_bottom table infos, added_lines table infos row, outer_widths infos, made.1.0, made.1.1)

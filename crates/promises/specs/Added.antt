@@ -4,6 +4,7 @@ use Rattle.std.specs.Prelude.{◌≡◌, ℕ, ◌≤◌, false, List, ◌++◌, 
 use Rattle.comfy_parts.specs.CellValue.{CellValue, RowValue}
 use Rattle.comfy_parts.specs.Text.{Text}
 use Rattle.comfy_parts.specs.declared.style.table.ContentArrangement.TheVariants.{Disabled}
+use Rattle.comfy_table.specs.Frame.{optional_frame_line}
 use Rattle.comfy_table.specs.HiddenColumns.{without_hidden}
 use Rattle.comfy_table.specs.TableValue.{TableValue, cell_content_width, header_and_rows}
 
@@ -19,17 +20,19 @@ pub record HasRoomFor (table : TableValue) (row : RowValue) : Type 0 where
   pub widths : (i : ℕ) (cell : CellValue) → slice_get row.cells i ≡ Some cell
       → StandsBelowAsWide table i cell
 
--- all lines stay as they were; further ones stand below them, or above the last one
-abbrev pub Stay : List Text → List Text → Type 0
-Stay lines others =
-    (above : List Text) × (last : List Text) × (added : List Text) × (length last ≤ 1)
-    × (lines ≡ above ++ last) × (others ≡ above ++ (added ++ last))
+-- all lines stay as they were; further ones are above the bottom border, or last if it isn't drawn
+abbrev pub Stay : TableValue → List Text → List Text → Type 0
+Stay table lines others =
+    (above : List Text) × (added : List Text) × (widths : List ℕ)
+    × (lines ≡ above ++ optional_frame_line table.style table.style.bottom_border widths)
+    × (others
+    ≡ above ++ (added ++ optional_frame_line table.style table.style.bottom_border widths))
 
 -- so they do where the added row has room, and no width is kept to
 abbrev pub StayWithRow : TableValue → RowValue → List Text → List Text → Type 0
 StayWithRow table row lines others =
     table.arrangement ≡ Disabled → table.custom_styling ≡ false → HasRoomFor table row
-    → Stay lines others
+    → Stay table lines others
 
 -- tables that are the same but for hidden columns have the same lines
 abbrev pub AreSameButForHidden : TableValue → TableValue → List Text → List Text → Type 0

@@ -1,4 +1,4 @@
-//! Tables beside others: what is hidden tells nothing, and what was shown stays.
+//! Two drawings: hidden columns change nothing, and a further row leaves the lines above it.
 
 ghost use Rattle.std.specs.Prelude.{IfOk};
 ghost use Rattle.promises.specs.Added.{AreSameButForHidden, StayWithRow};
@@ -6,7 +6,7 @@ ghost use Rattle.promises.specs.Added.{AreSameButForHidden, StayWithRow};
 use comfy_table::laws::{hidden_columns_tell_nothing, shown_lines_stay};
 use comfy_table::{Lines, Result, Row, Table};
 
-/// Two tables that are the same but for hidden columns have the same lines.
+/// Two tables that are equal except for hidden columns have the same lines.
 pub fn lines_of_both(table: &Table, other: &Table) -> Result<(Lines, Lines)>
     ensures { IfOk result (λ drawn. AreSameButForHidden table.now other.now drawn.0 drawn.1) }
 {
@@ -16,8 +16,11 @@ pub fn lines_of_both(table: &Table, other: &Table) -> Result<(Lines, Lines)>
     Ok((lines, others))
 }
 
-/// The lines of a table before and after a row was added. Where the row has room, all lines stay
-/// as they were.
+/// The lines of a table before and after a row was added. All lines stay as they were, and further
+/// ones are above the bottom border.
+///
+/// This holds under `Disabled`, if `custom_styling` is off, the row has no more cells than there
+/// are columns, and each of its cells is below a cell that is at least as wide.
 pub fn lines_before_and_after(table: &mut Table, row: Row) -> Result<(Lines, Lines)>
     ensures { IfOk result (λ drawn. StayWithRow table.old row drawn.0 drawn.1) }
 {

@@ -5,23 +5,34 @@ ghost use Rattle.promises.specs.Straight.{AreShownStraight, AreStraight, AreStra
 
 use comfy_table::{ArrangedTable, Lines, Result, Table};
 
-/// Where no character takes more than one terminal column, as `characters_fit(line, 1)` tests, all
-/// lines are equally wide, under every arrangement, width, constraint and height.
+/// All lines are equally wide, under every arrangement, width, constraint and height.
+///
+/// This holds if each character of each text takes at most one terminal column, as
+/// `characters_fit(line, 1)` tests, the frame is plain (`HasPlainFrame`), no styles are written,
+/// and `custom_styling` is off.
 pub fn straight_lines(table: &Table) -> Result<Lines>
     ensures { IfOk result (λ lines. AreStraight table.now lines) }
 {
     table.lines()
 }
 
-/// Without a width to keep to, all lines are equally wide, for texts of every script.
+/// All lines are equally wide, for texts of every script.
+///
+/// This holds under `Disabled`, if no shown column has a constraint, no row has a `max_height`, no
+/// text line takes more than 65535 terminal columns, the frame is plain (`HasPlainFrame`), no
+/// styles are written, and `custom_styling` is off.
 pub fn straight_whole_lines(table: &Table) -> Result<Lines>
     ensures { IfOk result (λ lines. AreStraightWhole table.now lines) }
 {
     table.lines()
 }
 
-/// Where each character has room in its column, as `characters_fit(line, width)` tests, all lines
-/// are equally wide, whatever the script. The columns of the drawing are returned with the lines.
+/// All lines are equally wide, for texts of every script and under every width. The columns of the
+/// drawing are returned with the lines.
+///
+/// This holds if each character of a shown text has room in its column, as
+/// `characters_fit(line, width)` tests for these columns, the frame is plain (`HasPlainFrame`), no
+/// styles are written, and `custom_styling` is off.
 pub fn straight_fitting_lines(table: &Table) -> Result<(ArrangedTable<'_>, Lines)>
     ensures { IfOk result (λ drawn. AreStraightWhereCharactersFit table.now drawn.0.infos drawn.1) }
 {
@@ -30,9 +41,11 @@ pub fn straight_fitting_lines(table: &Table) -> Result<(ArrangedTable<'_>, Lines
     Ok((arranged, lines))
 }
 
-/// With colours and attributes, all lines show the same number of terminal columns, where no
-/// character takes more than one, as `characters_fit(line, 1)` tests, and no shown text holds a
-/// control character.
+/// All lines show the same number of terminal columns, with colours and attributes too.
+///
+/// This holds if each character of each text takes at most one terminal column, as
+/// `characters_fit(line, 1)` tests, the frame is plain (`HasPlainFrame`), and shown texts,
+/// indicator and style hold no control character.
 pub fn straight_styled_lines(table: &Table) -> Result<Lines>
     ensures { IfOk result (λ lines. AreShownStraight table.now lines) }
 {

@@ -1,5 +1,5 @@
 -- Tables for which the premises of the promises hold, and texts that these promises refuse.
-use Rattle.std.proofs.Common.{◌≡◌, ◌==◌, ◌&&◌, ◌⊎◌, inl, inr, ◌≤◌, ◌<◌, ℕ, zero, suc, Bool, true, false, not, List, [], ◌∷◌, ◌++◌, ◌∙◌, length, length-append, max, flat_map, append-nil, Contains, Option, Some, None, codes, refl, sym, ap, ap₂, subst, arith, slice_index_or}
+use Rattle.std.proofs.Common.{◌≡◌, ◌==◌, ◌&&◌, ◌⊎◌, inl, inr, ◌≤◌, ◌<◌, ℕ, zero, suc, Bool, true, false, not, List, [], ◌∷◌, ◌++◌, ◌∙◌, length, length-append, max, flat_map, append-nil, append_assoc, Contains, Option, Some, None, codes, refl, sym, ap, ap₂, subst, arith, slice_index_or}
 use Rattle.std.specs.List.{All, AllZip, list_all, slice_get}
 use Rattle.std.specs.Char.{is_control}
 use Rattle.std.specs.Prelude.{encode_utf8_all, replicate, slice_index}
@@ -19,12 +19,13 @@ use Rattle.comfy_parts.proofs.Computing.{wrapping}
 use Rattle.comfy_parts.specs.CellValue.{ColumnInfo, info_of, new_column, CellValue, ColumnValue, RowValue, plain_cell, plain_row}
 use Rattle.comfy_parts.specs.Columns.{CharactersFit, IsOneColumn, style_characters}
 use Rattle.comfy_parts.specs.Presets as presets
-use Rattle.comfy_parts.specs.Presets.{utf8_full}
+use Rattle.comfy_parts.specs.Presets.{ascii_full, utf8_full}
 use Rattle.comfy_parts.specs.Text.{HasNo, IsOnly, Text, measure}
 use Rattle.comfy_parts.specs.Wrapping.{IsSlicesWhere}
 use Rattle.comfy_parts.specs.declared.style.table.ContentArrangement.{ContentArrangement}
 use Rattle.comfy_parts.specs.declared.style.table.ContentArrangement.TheVariants.{Disabled, Dynamic, DynamicFullWidth}
 use Rattle.comfy_parts.specs.declared.style.column.ColumnConstraint.TheVariants.{ContentWidth, Hidden}
+use Rattle.comfy_table.specs.Frame.{frame_line, optional_frame_line}
 use Rattle.comfy_table.specs.HiddenColumns.{without_hidden}
 use Rattle.comfy_table.specs.TableValue.{cell_content_width, TableValue, header_and_rows, new_table, shown_columns, constrained, with_rows}
 use Rattle.promises.specs.Added.{AreSameButForHidden, HasRoomFor, StandsBelowAsWide, Stay, StayWithRow}
@@ -623,8 +624,8 @@ no_lines_lose_whole_texts is = by_blocks is.blocks (subst (StandAmong (All (IsFr
 other_line : ¬ (uneven ≡ codes "ab" ∷ codes "b" ∷ [])
 other_line is = let letter : ◌≡◌ {A = ℕ} 0x61 0x62 = cc is in absurd (omega (arith, letter))
 
-changed_line : ¬ (Stay (codes "a" ∷ []) (codes "b" ∷ []))
-changed_line (above, last, added, short, before, after) = by_above above last added before after
+changed_line : (table : TableValue) → ¬ (Stay table (codes "a" ∷ []) (codes "b" ∷ []))
+changed_line table (above, added, widths, before, after) = by_above above (optional_frame_line table.style table.style.bottom_border widths) added before after
   where
     other : ¬ (codes "a" ≡ codes "b")
     other is = let letter : ◌≡◌ {A = ℕ} 0x61 0x62 = cc is in absurd (omega (arith, letter))
@@ -704,21 +705,37 @@ wider_cell room = by_row own.0 own.1 own.2 own.3 own.4
         omega (arith, wide, one)
 
 -- a line stands above those that were there, or one of them is gone
-line_above : ¬ (Stay (codes "a" ∷ codes "b" ∷ []) (codes "c" ∷ codes "a" ∷ codes "b" ∷ []))
-line_above (above, last, added, short, before, after) = by_above above before after
+line_above : ¬ (Stay (word_table (codes "a")) (codes "a" ∷ codes "b" ∷ []) (codes "c" ∷ codes "a" ∷ codes "b" ∷ []))
+line_above (above, added, widths, before, after) = by_above above before after
   where
     other : ¬ (codes "a" ≡ codes "c")
     other is = let letter : ◌≡◌ {A = ℕ} 0x61 0x63 = cc is in absurd (omega (arith, letter))
 
-    by_above : (above : List Text) → codes "a" ∷ codes "b" ∷ [] ≡ above ++ last → ¬ (codes "c" ∷ codes "a" ∷ codes "b" ∷ [] ≡ above ++ (added ++ last))
-    by_above [] before after = let two = ap length before in absurd (omega (arith, two, short))
+    by_above : (above : List Text) → codes "a" ∷ codes "b" ∷ [] ≡ above ++ [] → ¬ (codes "c" ∷ codes "a" ∷ codes "b" ∷ [] ≡ above ++ (added ++ []))
+    by_above [] before after = cc before
     by_above (x ∷ above) before after = let own : codes "a" ≡ codes "c" = cc (before, after) in other own
 
-lost_line : ¬ (Stay (codes "a" ∷ codes "b" ∷ []) (codes "a" ∷ []))
-lost_line (above, last, added, short, before, after) =
+lost_line : (table : TableValue) → ¬ (Stay table (codes "a" ∷ codes "b" ∷ []) (codes "a" ∷ []))
+lost_line table (above, added, widths, before, after) =
+    let last = optional_frame_line table.style table.style.bottom_border widths in
     let two = ap length before in
     let one = ap length after in
     omega (arith, two, one, length-append above last, length-append above (added ++ last), length-append added last)
+
+-- or a row is added below the bottom border
+row_below_the_border : ¬ (Stay (new_table ascii_full) (codes "| a |" ∷ codes "+---+" ∷ []) (codes "| a |" ∷ codes "+---+" ∷ codes "| b |" ∷ []))
+unfolding encode
+row_below_the_border (above, added, widths, before, after) =
+    let border = frame_line ascii_full ascii_full.bottom_border widths in
+    let last = by_front (above ++ added) border (after ∙ sym (append_assoc above added (border ∷ []))) in
+    let corner : ◌≡◌ {A = ℕ} 0x7C 0x2B = ap (λ (t : Text). slice_index t 0) last in
+    absurd (omega (arith, corner))
+  where
+    by_front : (front : List Text) (border : Text) → codes "| a |" ∷ codes "+---+" ∷ codes "| b |" ∷ [] ≡ front ++ border ∷ [] → codes "| b |" ≡ border
+    by_front [] border is = let few : 3 ≡ 1 = ap length is in absurd (omega (arith, few))
+    by_front (x ∷ []) border is = let few : 3 ≡ 2 = ap length is in absurd (omega (arith, few))
+    by_front (x ∷ y ∷ []) border is = cc is
+    by_front (x ∷ y ∷ z ∷ front) border is = let many = ap length is in absurd (omega (arith, many, length-append front (border ∷ [])))
 
 -- a text is too long to be drawn whole
 long_text : ¬ (IsShownWhole (record (word_table []) { rows = plain_row (record (plain_cell []) { text_lines = replicate 65536 0x61 ∷ [] } ∷ []) ∷ [] }))
@@ -761,7 +778,7 @@ a_hidden_text_tells is = other_line (is hidden_is_gone)
 
 -- false: promises::lines_before_and_after
 a_line_changes : ¬ (StayWithRow (table_of "3 mai é" "Отчёт") (row_of "day" "text") (codes "a" ∷ []) (codes "b" ∷ []))
-a_line_changes is = changed_line (is refl refl has_room)
+a_line_changes is = changed_line (table_of "3 mai é" "Отчёт") (is refl refl has_room)
 
 -- none of these keeps all promises
 -- false: promises::laws::drawings_keep_the_promises
