@@ -9,7 +9,8 @@ use Rattle.comfy_table.specs.declared.utils.formatting.cell_lines.CellLines.TheV
 -- the cell and its lines, from the top
 abbrev pub lines_of : CellLines → Option (CellValue × List DrawnLine)
 lines_of Missing = None
-lines_of (Single cell line) = Some (cell.now, line ∷ [])
+lines_of (Single cell columns text) =
+    Some (cell.now, record { columns = columns; written = text.now } ∷ [])
 lines_of (Multiple cell lines) = Some (cell.now, lines.items)
 
 -- line k, counted from 0, with its cell

@@ -59,26 +59,11 @@ impl<'a> Line<'a> {
         }
     }
 
-    /// The terminal columns of the line.
-    pub fn columns(&self) -> usize
-        ensures { result ≡ self.now.columns }
-    {
-        self.columns
-    }
-
-    /// The text that is written, in two parts: the second follows the first.
-    pub fn parts(&self) -> (&str, &str)
-        ensures { result.0.now ++ result.1.now ≡ self.now.written }
-    {
-        (self.text.as_str(), self.end)
-    }
-
     // The whole text that is written.
     fn written(&self, alloc: Global) -> Result<String>
         ensures { IfOk result (λ text. string_bytes text ≡ self.now.written) }
     {
-        let (text, end) = self.parts();
-        joined(alloc, text, end)
+        joined(alloc, self.text.as_str(), self.end)
     }
 }
 
@@ -87,23 +72,31 @@ impl<'a> Line<'a> {
 pub enum CellLines<'a> {
     // no cell stands in the column
     Missing,
-    // one text line that fits and is written as it is
-    Single(&'a Cell, Line<'a>),
+    // the columns and the text of one text line that fits and is written as it is
+    Single(&'a Cell, usize, &'a str),
     Multiple(&'a Cell, Vec<Line<'a>>),
 }
 
 impl<'a> CellLines<'a> {
-    /// The cell and its line at a position, counted from 0.
-    pub fn get(&self, position: usize) -> Option<(&Cell, &Line<'a>)>
-        ensures { option_map (λ line. (line.0.now, line.1.now)) result
-            ≡ line_at position (lines_of self.now) }
+    /// A line by its position, counted from 0: the cell, the line's terminal columns, and the two
+    /// parts of the text that is written for it.
+    pub fn get(&self, position: usize) -> Option<(&Cell, usize, &str, &str)>
+        ensures { option_map (λ line. (
+          line.0.now,
+          record {
+            columns = line.1;
+            written = line.2.now ++ line.3.now;
+          },
+        )) result ≡ line_at position (lines_of self.now) }
     {
         match self {
             CellLines::Missing => None,
-            CellLines::Single(cell, line) => (position == 0).then_some((*cell, line)),
+            CellLines::Single(cell, columns, text) => {
+                (position == 0).then_some((*cell, *columns, *text, ""))
+            }
             CellLines::Multiple(cell, lines) => {
                 let line = lines.get(position)?;
-                Some((*cell, line))
+                Some((*cell, line.columns, line.text.as_str(), line.end))
             }
         }
     }
@@ -123,8 +116,8 @@ pub fn row_cell_lines<'a>(
 {
     // the clause of a limit says that it is at least 1
     let _limit = row.height_limit();
-    if let Some(line) = only_line(table, cell, info) {
-        return Ok(CellLines::Single(cell, line));
+    if let Some((columns, text)) = only_line(table, cell, info) {
+        return Ok(CellLines::Single(cell, columns, text));
     }
     let lines = listed_lines(table, row, cell, info, empty_list(spare))?;
     Ok(CellLines::Multiple(cell, lines))
@@ -139,10 +132,16 @@ fn empty_list<'a>(spare: &mut Vec<Vec<Line<'a>>>) -> Vec<Line<'a>>
     list
 }
 
-// A cell's one text line, if it fits and is written as it is.
-fn only_line<'a>(table: &Table, cell: &'a Cell, info: &ColumnDisplayInfo) -> Option<Line<'a>>
-    ensures { IfSome result (λ line. line ∷ []
-        ≡ map drawn_line (uncut_lines table.now.custom_styling info.now.content_width
+// The columns and the text of a cell's one text line, if it fits and is written as it is.
+fn only_line<'a>(
+    table: &Table,
+    cell: &'a Cell,
+    info: &ColumnDisplayInfo,
+) -> Option<(usize, &'a str)>
+    ensures { IfSome result (λ line. record {
+      columns = line.0;
+      written = line.1.now;
+    } ∷ [] ≡ map drawn_line (uncut_lines table.now.custom_styling info.now.content_width
         (cell_delimiter table.now info.now.delimiter cell.now) cell.now)) }
 {
     let texts = cell.text_lines();
@@ -154,7 +153,7 @@ fn only_line<'a>(table: &Table, cell: &'a Cell, info: &ColumnDisplayInfo) -> Opt
     if is_custom_styled(table, cell) && !needs_no_rewrite(text) {
         return None;
     }
-    Some(Line::of_text(widths[0], text))
+    Some((widths[0], text))
 }
 
 // Whether what is written for the lines of the cell may differ from what is measured of them.

@@ -45,7 +45,7 @@ impl<'a, 'r> DrawnCell<'a, 'r> {
         ensures { result ≡ length self.now.pieces }
     {
         match &self.lines {
-            CellLines::Missing | CellLines::Single(_, _) => 1,
+            CellLines::Missing | CellLines::Single(_, _, _) => 1,
             CellLines::Multiple(_, lines) => lines.len(),
         }
     }
@@ -55,7 +55,9 @@ impl<'a, 'r> DrawnCell<'a, 'r> {
         ensures { result ≡ piece_at line self.now }
     {
         match self.lines.get(line) {
-            Some((cell, line)) => Piece::new(self.styles, cell, self.info, line),
+            Some((cell, columns, text, end)) => {
+                Piece::new(self.styles, cell, self.info, columns, text, end)
+            }
             None => Piece::blank(self.info),
         }
     }
@@ -64,12 +66,9 @@ impl<'a, 'r> DrawnCell<'a, 'r> {
 /// Takes a cell that isn't drawn any more. The list of its lines is kept, unless it is long.
 #[inline(always)]
 pub fn take_list<'r>(cell: DrawnCell<'_, 'r>, spare: &mut Vec<Vec<Line<'r>>>) -> Result<()> {
-    let lines = match cell.lines {
-        CellLines::Missing => return Ok(()),
-        CellLines::Single(_cell, _line) => return Ok(()),
-        CellLines::Multiple(_cell, lines) => lines,
-    };
-    if lines.capacity() <= KEPT_LINES {
+    if let CellLines::Multiple(_, lines) = cell.lines
+        && lines.capacity() <= KEPT_LINES
+    {
         spare.push(lines)?;
     }
     Ok(())

@@ -9,7 +9,6 @@ ghost use Rattle.comfy_table.specs.Pieces.{blank_piece, cell_alignment, free_bef
 ghost use Rattle.comfy_table.specs.Styling.{styled};
 
 use crate::table::Table;
-use crate::utils::formatting::cell_lines::Line;
 use crate::utils::formatting::gap::{Gap, push_spaces};
 use crate::utils::formatting::styling::{push_style_begin, push_style_end};
 use comfy_parts::content_split::ColumnDisplayInfo;
@@ -68,17 +67,20 @@ impl<'a> Model for Piece<'a> {
 }
 
 impl<'a> Piece<'a> {
-    /// The piece of a line: the text that is written for it, aligned by the line's columns.
+    /// The piece of a line: the text that is written for it, in two parts, aligned by the line's
+    /// columns.
     pub fn new(
         styles: Styles,
         cell: &'a Cell,
         info: &ColumnDisplayInfo,
-        line: &'a Line<'_>,
+        columns: usize,
+        text: &'a str,
+        end: &'a str,
     ) -> Piece<'a>
-        ensures { result ≡ piece_with styles cell.now info.now line.now }
+        ensures { result ≡ piece_with styles cell.now info.now
+            (record { columns = columns; written = text.now ++ end.now }) }
     {
-        let (text, end) = line.parts();
-        let (left, right) = spaces_beside(cell, info, line.columns());
+        let (left, right) = spaces_beside(cell, info, columns);
         match styles {
             Styles::RoundTexts if has_styles(cell) => Piece {
                 left,
@@ -138,7 +140,9 @@ impl<'a> Piece<'a> {
         }
         gap.push(line, free, self.left)?;
         line.push_str(self.text)?;
-        line.push_str(self.end)?;
+        if !self.end.is_empty() {
+            line.push_str(self.end)?;
+        }
         Ok(self.right)
     }
 }
