@@ -28,6 +28,7 @@ impl Pieces for TwoTexts {
             return Ok(None);
         };
         if self.is_refused {
+            self.second = None;
             return Err(AllocError);
         }
         Ok(Some(piece))
