@@ -1,5 +1,5 @@
 -- Values of which conclusions of laws are false: a law has no body that a mutation could change.
-use Rattle.std.proofs.Common.{◌≡◌, ◌≤◌, ◌<◌, ◌⊎◌, ◌+◌, ◌*◌, ◌/◌, ◌==◌, ⊥, ℕ, zero, suc, true, false, List, inl, inr, [], ◌∷◌, ◌++◌, Some, None, refl, ap, sym, ◌∙◌, arith, length, map, max, min, sum_by, take}
+use Rattle.std.proofs.Common.{◌≡◌, ◌≤◌, ◌<◌, ◌⊎◌, ◌+◌, ◌*◌, ◌/◌, ◌==◌, ℕ, zero, suc, true, false, List, inl, inr, [], ◌∷◌, ◌++◌, Some, None, refl, ap, sym, ◌∙◌, arith, length, map, max, min, sum_by, take}
 use Rattle.std.specs.Prelude.{codes, encode_utf8_all, replicate, slice_index_or}
 use Rattle.std.specs.Str.{chars}
 use Rattle.std.specs.List.{All, AllAdjacentBelow, AllZip, slice_split}
