@@ -29,15 +29,15 @@ pub data IsInBold : Text → Text → Type 0 where
   bold : (part line styled : Text) → IsInBold line styled
       → IsInBold (part ++ line) ((codes "\u{1b}[1m" ++ (part ++ codes "\u{1b}[0m")) ++ styled)
 
--- a cell holds a field, with spaces behind it, which line up decimal marks, or without: line by
--- line, and an empty line where all is blank. It breaks at spaces
+-- a cell holds a field, perhaps with spaces after it, which line up decimal marks: line by line,
+-- or an empty line if all is blank. It breaks at spaces
 pub record HoldsField (field : Text) (cell : CellValue) : Type 0 where
   pub behind : ℕ
   pub texts :
       cell.text_lines ≡ (plain_cell (unless_blank (field ++ spaces behind))).text_lines
   pub no_delimiter : cell.delimiter ≡ None
 
--- each cell of a row holds the field at its place; where there is none, the field is empty. And no
+-- each cell of a row holds the field at its place; if a cell is missing, the field is empty. No
 -- height cuts the row
 pub record HoldsFields (fields : List Text) (row : RowValue) : Type 0 where
   pub each : (i : ℕ) → MatchOption (slice_get row.cells i) (field_or_blank fields i ≡ [])
@@ -75,7 +75,7 @@ pub record IsDrawingOf (look : Look) (has_header : Bool) (rows : List (List Text
   pub is_table : IsTableOf look has_header rows table
   pub framed : IsFramedTable table lines
   pub in_bold : AllZip IsInBold framed.plain lines
-  -- where there is a header, nothing below it is in bold
+  -- if there is a header, nothing below it is in bold
   pub plain_rows : has_header ≡ true → framed.frame.rows ≡ framed.is_plain.rows
   pub unstyled : look.has_bold_header ≡ false → lines ≡ framed.plain
 

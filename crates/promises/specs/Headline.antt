@@ -102,7 +102,7 @@ widest table i =
     max 1 (greatest (map cell_content_width (filter_map (λ (row : RowValue). slice_get row.cells i)
     (header_and_rows table))))
 
--- the header of a table, if there is one, and all rows stand between frame lines over the same
+-- the header of a table, if there is one, and all rows are between frame lines over the same
 -- widths
 pub record IsFramedDrawing (table : TableValue) (lines : List Text) : Type 0 where
   pub width : ℕ → ℕ
@@ -186,8 +186,8 @@ module _ (table : TableValue) (width : ℕ → ℕ)
         ++ (join_by (λ block. block) (framed table width table.style.row_separator) rows
         ++ framed table width table.style.bottom_border))
 
--- lines are a table's without styles, but for SGR sequences, which stand in pieces around the
--- texts, where styles are written
+-- lines are those of a table without styles, except for SGR sequences: if styles are written, these
+-- are in pieces around the texts
 pub record IsFramedTable (table : TableValue) (lines : List Text) : Type 0 where
   pub plain : List Text
   pub is_plain : IsFramedDrawing table plain

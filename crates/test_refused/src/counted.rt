@@ -27,7 +27,7 @@ pub fn outcome_of(alloc: Global, table: &mut Table, call: &str) -> Result<Outcom
     }
 }
 
-// Formats a red cell of 100 words, each as wide as the column and of so many of these characters.
+// Formats a red cell of 100 words. Each has this many of the characters, and fills the column.
 fn outcome_of_formatting(
     alloc: Global,
     table: &Table,
