@@ -1,109 +1,131 @@
--- The lines of an output show what is visible of them.
-use Rattle.std.proofs.Common.{◌≡◌, ◌⊎◌, inl, inr, ℕ, suc, ◌+◌, Bool, true, false, List, [], ◌∷◌, ◌++◌, Option, Some, None, append-nil, arith, codes, flat_map, length, refl, sym, ap₂, ◌∙◌, subst}
+-- What is written of records is what is drawn of them, line by line, and a note.
+use Rattle.std.proofs.Common.{◌≡◌, ◌<◌, ℕ, zero, suc, ◌+◌, Bool, true, false, List, [], ◌∷◌, ◌++◌, Option, Some, None, append_assoc, arith, codes, flat_map, length, nat_lt, refl, sym, ap, ap₂, ◌∙◌, subst, ◌||◌, ◌&&◌, ◌==◌, not}
 use Rattle.std.specs.Char.{is_control}
 use Rattle.std.specs.List.{All, range_with_len}
 use Rattle.std.specs.Prelude.{Contains, if◌then◌else◌}
-use Rattle.std.proofs.lemmas.Grind.{flat_map-append}
-use Rattle.std.proofs.lemmas.List.Elements.{All-append, All-contains, All-cons, All-nil, All-weaker}
+use Rattle.std.proofs.lemmas.List.Elements.{All-contains, All-nil, All-weaker}
 use Rattle.comfy_parts.proofs.CallerLemmas.{All-of_map, none_by_characters}
 use Rattle.comfy_parts.specs.Text.{Text, measure}
 use Rattle.comfy_parts.specs.VisibleText.{visible_text}
 use Rattle.comfy_table.specs.Drawing.{terminated_text_of}
-use Rattle.comfy_table.specs.Laws.{AreLinesOf, HasNoBreak, HasNoControl}
-use Rattle.csv_tables.proofs.FieldLemmas.{printable_unbroken}
-use Rattle.csv_tables.proofs.OutputControlLemmas.{heading_is_printable, note_is_printable}
-use Rattle.csv_tables.specs.Drawn.{SelectedValue, are_more, note_for, note_text, record_heading, record_line}
+use Rattle.comfy_table.specs.Laws.{HasNoBreak, HasNoControl}
+use Rattle.csv_command.specs.Drawn.{layout_with}
+use Rattle.csv_command.specs.declared.arguments.Options.{Options}
+use Rattle.csv_tables.specs.Columns.{ColumnsValue}
+use Rattle.csv_tables.specs.Drawn.{SelectedValue, drawn_rows, has_room_for, is_aligned_in, is_expanded_in, limited, names_of, note_for, note_text, record_line, records_below}
 use Rattle.csv_tables.specs.Laws.{HasLines, IsOutputWith, IsStraightOutput, numbered_lines}
-use Rattle.csv_tables.specs.declared.options.Layout.{Layout}
+use Rattle.csv_tables.specs.declared.options.Expansion.{Expansion}
+use Rattle.csv_tables.specs.declared.options.Expansion.TheVariants.{Always, Auto, Never}
 use Rattle.promises.proofs.ShownLemmas.{shows_visible}
 use Rattle.promises.specs.Shown.{ShowsColumns}
-use Rattle.csv_promises.specs.Straight.{CountsRecords, IsStraight}
+use Rattle.csv_promises.specs.Counted.{AreExpanded, DrawsLines, EachDrawnLine, HasEachLine, IsCount, IsDrawnWithNote, MayExpand}
+use Rattle.csv_promises.specs.Straight.{IsStraight}
 
--- ---- lines of texts
+-- ---- no records
 
-lines_append : (text other : Text) (lines others : List Text) → AreLinesOf text lines → AreLinesOf other others → AreLinesOf (text ++ other) (lines ++ others)
-lines_append text other lines others own more =
+pub no_records : (has_header : Bool) → (names_of has_header [] ≡ None) × (records_below has_header [] ≡ [])
+no_records true = (refl, refl)
+no_records false = (refl, refl)
+
+no_limited : (limit : Option ℕ) → ◌≡◌ {A = List (List Text)} (limited limit []) []
+no_limited None = refl
+no_limited (Some zero) = refl
+no_limited (Some (suc n)) = refl
+
+pub no_rows : (options : Options) → drawn_rows options.selection [] ≡ []
+no_rows options = ap (limited options.selection.limit) (no_records options.selection.has_header).1 ∙ no_limited options.selection.limit
+
+-- of no records nothing is drawn, and there is no note
+pub none_drawn : (Draws : Bool → Option ℕ → Text → Type 0) (options : Options) → ((is_expanded : Bool) (count : Option ℕ) → Draws is_expanded count []) → IsDrawnWithNote Draws options [] []
+none_drawn Draws options empty =
+    let kind = either options.look.expansion in
     record {
-      joined = ap₂ (λ (a b : Text). a ++ b) own.joined more.joined ∙ sym (flat_map-append (λ (line : Text). line ++ 0x0A ∷ []) lines others);
-      unbroken = All-append HasNoBreak lines others own.unbroken more.unbroken;
+      count = Some (length (records_below options.selection.has_header []));
+      is_count = refl;
+      is_expanded = kind.0;
+      expansion = kind.1;
+      drawn = [];
+      draws = empty kind.0 (Some (length (records_below options.selection.has_header [])));
+      joined = nothing options.selection.limit ∙ ap (λ (below : List (List Text)). note_for false options.selection.limit (Some (length below))) (sym (no_records options.selection.has_header).1);
     }
+  where
+    nothing : (limit : Option ℕ) → [] ≡ note_for false limit (Some 0)
+    nothing None = refl
+    nothing (Some n) = by_test (nat_lt n 0) (grind arith)
+      where
+        by_test : (b : Bool) → b ≡ false → [] ≡ (if b then [] ++ (note_text n (Some 0) ++ codes "\n") else [])
+        by_test true is = absurd (cc is)
+        by_test false is = refl
 
-one_line : (line : Text) → HasNoBreak line → AreLinesOf (line ++ 0x0A ∷ []) (line ∷ [])
-one_line line none = record { joined = sym (append-nil (line ++ 0x0A ∷ [])); unbroken = All-cons HasNoBreak line [] none (All-nil HasNoBreak) }
-
-pub no_lines : AreLinesOf [] []
-no_lines = record { joined = refl; unbroken = All-nil HasNoBreak }
+    either : (expansion : Expansion) → (is_expanded : Bool) × MayExpand expansion is_expanded
+    either Always = (true, refl)
+    either Never = (false, refl)
+    either Auto = (false, tt)
 
 -- ---- lines of outputs
 
--- lines that are good, as all that count records are
-module _ (IsGood : Text → Type 0) (counts : (line : Text) → CountsRecords line → IsGood line) where
-  -- a text with such lines
-  pub record HasGoodLines (text : Text) : Type 0 where
-    pub lines : List Text
-    pub are : AreLinesOf text lines
-    pub good : All IsGood lines
+pub may_expand : (expansion : Expansion) (room is_expanded : Bool) → is_expanded ≡ is_expanded_in expansion room → MayExpand expansion is_expanded
+may_expand Always room is_expanded own = own
+may_expand Never room is_expanded own = own
+may_expand Auto room is_expanded own = tt
 
-  both : (text other : Text) → HasGoodLines text → HasGoodLines other → HasGoodLines (text ++ other)
-  both text other own more =
-      record { lines = own.lines ++ more.lines; are = lines_append text other own.lines more.lines own.are more.are; good = All-append IsGood own.lines more.lines own.good more.good }
+-- lines that are good
+module _ (IsGood : Text → Type 0) where
+  -- a text without lines
+  pub no_lines : HasEachLine IsGood []
+  no_lines = record { lines = []; are = record { joined = refl; unbroken = All-nil HasNoBreak }; each = All-nil IsGood }
 
-  -- the line on a record
-  record_counts : (n : ℕ) (m : Option ℕ) → HasGoodLines (record_line n m)
-  record_counts n m =
-      let line = record_heading n m in
-      record {
-        lines = line ∷ [];
-        are = one_line line (printable_unbroken line (heading_is_printable n m));
-        good = All-cons IsGood line [] (counts line (n, m, inl refl)) (All-nil IsGood);
-      }
-
-  -- and that on further records
-  note_counts : (limit : Option ℕ) (count : Option ℕ) → HasGoodLines (note_for false limit count)
-  note_counts None count = record { lines = []; are = no_lines; good = All-nil IsGood }
-  note_counts (Some limit) count = by_test (are_more limit count)
+  -- of no records there are none
+  pub nothing_drawn : (options : Options) → EachDrawnLine IsGood options [] []
+  nothing_drawn options =
+      none_drawn (DrawsLines IsGood (drawn_rows options.selection [])) options (λ is_expanded count. subst (λ (rows : List (List Text)). DrawsLines IsGood rows is_expanded count []) (sym (no_rows options)) (by_kind is_expanded count))
     where
-      line : Text
-      line = note_text limit count
+      by_kind : (is_expanded : Bool) (count : Option ℕ) → DrawsLines IsGood [] is_expanded count []
+      by_kind true count = refl
+      by_kind false count = no_lines
 
-      note : HasGoodLines (line ++ codes "\n")
-      note =
-          record {
-            lines = line ∷ [];
-            are = one_line line (printable_unbroken line (note_is_printable limit count));
-            good = All-cons IsGood line [] (counts line (limit, count, inr refl)) (All-nil IsGood);
-          }
-
-      by_test : (b : Bool) → HasGoodLines (if b then [] ++ (line ++ codes "\n") else [])
-      by_test true = note
-      by_test false = record { lines = []; are = no_lines; good = All-nil IsGood }
-
-  -- the text of a table, whose lines are good
-  table_lines : (is_expanded : Bool) (content : SelectedValue) (lines : List Text) (text : Text) → HasLines is_expanded content lines text → All IsGood lines → HasGoodLines text
-  table_lines false content lines text are good = record { lines = lines; are = are; good = good }
-  table_lines true content lines text (parts, within, unbroken, is) good = subst HasGoodLines (sym is) (records (range_with_len 0 (length content.rows)))
+  -- those of what is drawn
+  table_lines : (is_expanded : Bool) (content : SelectedValue) (lines : List Text) (text : Text) → HasLines is_expanded content lines text → All IsGood lines → DrawsLines IsGood content.rows is_expanded content.count text
+  table_lines false content lines text are good = record { lines = lines; are = are; each = good }
+  table_lines true content lines text (parts, within, unbroken, is) good =
+      subst (AreExpanded (λ fields own. HasEachLine IsGood own) content.count 1 content.rows) (sym is) (from 0 content.rows)
     where
-      part : (at : ℕ) → HasGoodLines (terminated_text_of (parts at))
+      part : (at : ℕ) → HasEachLine IsGood (terminated_text_of (parts at))
       part at =
           record {
             lines = parts at;
             are = record { joined = refl; unbroken = All-weaker (Contains lines) HasNoBreak (λ line in_lines. All-contains HasNoBreak lines line unbroken in_lines) (parts at) (within at) };
-            good = All-weaker (Contains lines) IsGood (λ line in_lines. All-contains IsGood lines line good in_lines) (parts at) (within at);
+            each = All-weaker (Contains lines) IsGood (λ line in_lines. All-contains IsGood lines line good in_lines) (parts at) (within at);
           }
 
-      records : (places : List ℕ) → HasGoodLines (flat_map (numbered_lines content.count parts) places)
-      records [] = record { lines = []; are = no_lines; good = All-nil IsGood }
-      records (at ∷ places) =
-          both (numbered_lines content.count parts at) (flat_map (numbered_lines content.count parts) places)
-          (both (record_line (at + 1) content.count) (terminated_text_of (parts at)) (record_counts (at + 1) content.count) (part at)) (records places)
+      from : (k : ℕ) (rows : List (List Text)) → AreExpanded (λ fields own. HasEachLine IsGood own) content.count (k + 1) rows (flat_map (numbered_lines content.count parts) (range_with_len k (length rows)))
+      from k [] = refl
+      from k (fields ∷ rows) = (
+        terminated_text_of (parts k),
+        flat_map (numbered_lines content.count parts) (range_with_len (k + 1) (length rows)),
+        append_assoc (record_line (k + 1) content.count) _ _,
+        part k,
+        from (k + 1) rows,
+      )
 
-  -- the output of a table, with the line on further records
-  pub output_lines : (known : Option ℕ) (layout : Layout) (records : List (List Text)) (output : Text) (lines : List Text) → layout.look.is_markdown ≡ false → IsOutputWith known layout records output lines → All IsGood lines → HasGoodLines output
-  output_lines known layout records output lines none made good =
-      let limit = layout.selection.limit in
-      subst HasGoodLines (sym made.joined)
-      (both made.text (note_for layout.look.is_markdown limit made.content.count) (table_lines made.is_expanded made.content lines made.text made.has_lines good)
-      (subst (λ (b : Bool). HasGoodLines (note_for b limit made.content.count)) (sym none) (note_counts limit made.content.count)))
+  -- an output of records, or of the first of these, and the note
+  pub output_lines : (options : Options) (records rs : List (List Text)) (known : Option ℕ) (columns : ColumnsValue) (output : Text) (lines : List Text) → options.look.is_markdown ≡ false → IsCount options records known
+      → drawn_rows options.selection rs ≡ drawn_rows options.selection records → IsOutputWith known (layout_with options columns) rs output lines → All IsGood lines → EachDrawnLine IsGood options records output
+  output_lines options records rs known columns output lines none is_count same made good =
+      record {
+        count = known;
+        is_count = is_count;
+        is_expanded = made.is_expanded;
+        expansion = may_expand options.look.expansion ((length made.content.rows == 0) || has_room_for options.look made.content (is_aligned_in options.look made.content)) made.is_expanded (made.expansion ∙ shown options.look.is_markdown none _);
+        drawn = made.text;
+        draws = subst (λ (rows : List (List Text)). DrawsLines IsGood rows made.is_expanded known made.text) same
+            (subst (λ (c : SelectedValue). DrawsLines IsGood c.rows made.is_expanded c.count made.text) (sym made.is_content) (table_lines made.is_expanded made.content lines made.text made.has_lines good));
+        joined = made.joined ∙ ap₂ (λ (b : Bool) (n : Option ℕ). made.text ++ note_for b options.selection.limit n) none (ap (λ (c : SelectedValue). c.count) (sym made.is_content));
+      }
+    where
+      shown : (b : Bool) → b ≡ false → (e : Bool) → (not b && e) ≡ e
+      shown true is e = absurd (cc is)
+      shown false is e = refl
 
 -- what is visible of a line without control characters is shown
 pub shown_line : (columns : ℕ) (line : Text) → HasNoControl (visible_text line) → measure (visible_text line) ≡ columns → ShowsColumns columns line
@@ -111,15 +133,10 @@ shown_line columns line none is =
     (visible_text line, shows_visible (suc (length line)) line (omega arith) (none_by_characters is_control 0x1B (omega arith) refl (visible_text line) none), is)
 
 -- an output that isn't for Markdown is straight where its lines without their sequences are
-pub straight_text : (known : Option ℕ) (layout : Layout) (records : List (List Text)) (output : Text) → layout.look.is_markdown ≡ false → IsStraightOutput true known layout records output → IsStraight output
-straight_text known layout records output none is =
-    let columns = is.equally_wide.0 in
-    let IsGood = λ (line : Text). CountsRecords line ⊎ ShowsColumns columns line in
-    let seen = All-of_map (λ (line : Text). measure line ≡ columns) visible_text is.lines is.equally_wide.1 in
+pub straight_text : (options : Options) (records rs : List (List Text)) (known : Option ℕ) (columns : ColumnsValue) (output : Text) → options.look.is_markdown ≡ false → IsCount options records known → drawn_rows options.selection rs ≡ drawn_rows options.selection records
+    → IsStraightOutput true known (layout_with options columns) rs output → IsStraight options records output
+straight_text options records rs known columns output none is_count same is =
+    let wide = is.equally_wide.0 in
+    let seen = All-of_map (λ (line : Text). measure line ≡ wide) visible_text is.lines is.equally_wide.1 in
     let clear = All-of_map HasNoControl visible_text is.lines (is.clear refl) in
-    let own = output_lines IsGood (λ line. inl) known layout records output is.lines none is.is_output (λ k default below. inr (shown_line columns _ (clear k default below) (seen k default below))) in
-    record { lines = own.lines; are = own.are; columns = columns; show = own.good }
-
--- nothing is straight
-pub nothing_is_straight : IsStraight []
-nothing_is_straight = record { lines = []; are = no_lines; columns = 0; show = All-nil (λ (line : Text). CountsRecords line ⊎ ShowsColumns 0 line) }
+    (wide, output_lines (ShowsColumns wide) options records rs known columns output is.lines none is_count same is.is_output (λ k default below. shown_line wide _ (clear k default below) (seen k default below)))

@@ -16,26 +16,18 @@ use Rattle.csv.specs.Records.{AllText}
 use Rattle.csv_command.proofs.StyleLemmas.{parsed_style_without_controls}
 use Rattle.csv_command.specs.declared.arguments.Invocation.{Invocation}
 use Rattle.csv_command.specs.declared.arguments.OutputContext.{OutputContext}
-use Rattle.csv_records.proofs.BeginningLemmas.{first_records_stay}
-use Rattle.csv_records.proofs.OneRecordLemmas.{read_is_one}
-use Rattle.csv_records.specs.Beginning.{whole_lines}
-use Rattle.csv_records.specs.Reading.{AreRecordsFor}
 use Rattle.csv_tables.proofs.BuiltLemmas.{plain_table}
 use Rattle.csv_tables.proofs.LineLemmas.{is_table_text}
 use Rattle.csv_tables.proofs.OutputControlLemmas.{text_fields, unbroken_without}
 use Rattle.csv_tables.proofs.RowLemmas.{positions-shown, with_rows-rows}
-use Rattle.csv_command.proofs.RunLemmas.{beginning_parts}
 use Rattle.csv_tables.specs.Cells.{Shown, cell_for, columns_within, shown_cells, shown_in, with_weight, number_name, row_for, counted_from}
 use Rattle.csv_tables.specs.Columns.{ColumnsValue, count_of, name_at, seen}
 use Rattle.csv_command.specs.Columns.{columns_for}
 use Rattle.csv_tables.specs.Drawn.{SelectedValue, RendersAsTable, RendersTable, columns_of, count_below, drawn_fields, drawn_rows, empty_table, has_room_for, headed_table, is_expanded_in, limited, names_of, note_for, note_text, output_table, pairs_in, record_line, record_text, records_below, rows_table, separated_table, some_lines, table_text, is_aligned_in}
-use Rattle.csv_command.specs.Drawn.{IsDrawnOf, RendersChosen, RendersCounted, layout_with, most_drawn}
+use Rattle.csv_command.specs.Drawn.{RendersChosen, layout_with}
 use Rattle.csv_tables.specs.declared.options.DrawnColumn.{DrawnColumn}
-use Rattle.csv_tables.specs.declared.options.Expansion.{Expansion}
-use Rattle.csv_tables.specs.declared.options.Expansion.TheVariants.{Always, Auto, Never}
 use Rattle.csv_tables.specs.declared.options.Look.{Look}
 use Rattle.csv_command.specs.declared.arguments.Options.{Options}
-use Rattle.devices.specs.Outcome.{asked_front}
 use Rattle.comfy_parts.proofs.CallerLemmas.{All-every}
 use Rattle.std.proofs.lemmas.List.{length-map}
 use Rattle.csv_records.specs.Cleaning.{cleaned}
@@ -45,9 +37,12 @@ use Rattle.promises.specs.Headline.{IsUncoloured}
 use Rattle.csv_promises.proofs.ExpandedLemmas.{rows_at}
 use Rattle.csv_promises.proofs.FieldLemmas.{IsRowFor, are_pairs, are_rows, is_header, positions_of}
 use Rattle.csv_promises.proofs.PositionLemmas.{chosen, kept_positions}
-use Rattle.csv_promises.proofs.RecordLemmas.{AreDrawnFirst, all_drawn, first_are_drawn, with_rows-header}
+use Rattle.csv_promises.proofs.RecordLemmas.{all_drawn, with_rows-header}
 use Rattle.csv_promises.proofs.ShownTableLemmas.{HasRowsOf, has_rows_of, part_shows}
-use Rattle.csv_promises.specs.Fields.{IsDrawingOf, fields_at, row_behind, rows_from, MayExpand, ShowsDrawn, ShowsExpanded, ShowsRecords, ShowsRows, pairs_at, positions_in, all_rows}
+use Rattle.csv_promises.proofs.LineLemmas.{may_expand, no_records, no_rows, none_drawn}
+use Rattle.csv_promises.proofs.StraightLemmas.{IsDrawnBy, by_extent}
+use Rattle.csv_promises.specs.Counted.{AreExpanded, MayExpand}
+use Rattle.csv_promises.specs.Fields.{IsDrawingOf, fields_at, row_behind, rows_from, ShowsDrawn, ShowsPairs, ShowsRecords, ShowsRows, pairs_at, positions_in, all_rows}
 use Rattle.csv_promises.specs.Written.{IsWritten}
 
 -- of no rows nothing
@@ -219,7 +214,7 @@ module _ (look : Look) (all : DrawsAll look) (is_numbered : Bool) (names : Optio
         held_positions = filter (λ position. nat_lt position (length fields)) (positions_of columns)
 
     -- from a record on
-    from : (k : ℕ) (front rest : List (List Text)) → length front ≡ k → rows ≡ front ++ rest → ShowsExpanded look header (positions_of columns) count (k + 1) rest (flat_map (record_text content own_arranged) (range_with_len k (length rest)))
+    from : (k : ℕ) (front rest : List (List Text)) → length front ≡ k → rows ≡ front ++ rest → AreExpanded (ShowsPairs look header (positions_of columns)) count (k + 1) rest (flat_map (record_text content own_arranged) (range_with_len k (length rest)))
     from k front [] at splits = refl
     from k front (fields ∷ more) at splits = (
       terminated_text_of (some_lines own_arranged first n),
@@ -237,15 +232,10 @@ module _ (look : Look) (all : DrawsAll look) (is_numbered : Bool) (names : Optio
         n : ℕ
         n = drawn_fields content (slice_index_or rows k [])
 
-    pub records_shown : ShowsExpanded look header (positions_of columns) count 1 rows text
-    records_shown = subst (ShowsExpanded look header (positions_of columns) count 1 rows) (sym (is_text true text renders)) (from 0 [] rows refl refl)
+    pub records_shown : AreExpanded (ShowsPairs look header (positions_of columns)) count 1 rows text
+    records_shown = subst (AreExpanded (ShowsPairs look header (positions_of columns)) count 1 rows) (sym (is_text true text renders)) (from 0 [] rows refl refl)
 
 -- ---- outputs
-
-may_expand : (expansion : Expansion) (room is_expanded : Bool) → is_expanded ≡ is_expanded_in expansion room → MayExpand expansion is_expanded
-may_expand Always room is_expanded own = own
-may_expand Never room is_expanded own = own
-may_expand Auto room is_expanded own = tt
 
 -- an output shows these names, where there are any, and these rows, with the line on further records
 record IsShown (o : Options) (names : Option (List Text)) (rows : List (List Text)) (count : Option ℕ) (output : Text) : Type 0 where
@@ -281,7 +271,7 @@ module _ (o : Options) (all : DrawsAll o.look) (count : Option ℕ) (records : L
     by_kind false text renders =
         subst (λ (ps : List ℕ). ShowsRows look (is_some names) (all_rows o.selection.is_numbered ps names rows) text) (sym positions) (rows_shown look all o.selection.is_numbered names rows columns count text renders utf8)
     by_kind true text renders =
-        subst (λ (ps : List ℕ). ShowsExpanded look (unwrap_or names []) ps count 1 rows text) (sym positions) (records_shown look all o.selection.is_numbered names rows columns count text renders)
+        subst (λ (ps : List ℕ). AreExpanded (ShowsPairs look (unwrap_or names []) ps) count 1 rows text) (sym positions) (records_shown look all o.selection.is_numbered names rows columns count text renders)
 
   output_shown : (output : Text) → RendersChosen count o records output → IsShown o names rows count output
   output_shown output made =
@@ -302,43 +292,16 @@ module _ (o : Options) (all : DrawsAll o.look) (count : Option ℕ) (records : L
       text : RendersAsTable look own made.is_output.text
       text = subst (λ (c : SelectedValue). RendersAsTable look c made.is_output.text) same (is_table_text count (layout_with o made.columns) records output made.is_output all.table)
 
--- ---- no records
-
-no_records : (has_header : Bool) → (names_of has_header [] ≡ None) × (records_below has_header [] ≡ [])
-no_records true = (refl, refl)
-no_records false = (refl, refl)
-
 -- so of what is written for arguments
 module _ (arguments : List Text) (context : OutputContext) (invocation : Invocation) (input : Text) (records : List (List Text)) (output : Text) (is : IsWritten arguments context invocation input records output) where
   abbrev options : Options
   options = invocation.options
 
   pub fields_shown : options.look.max_height ≡ None → ShowsRecords options records output
-  fields_shown uncut = by_made is.made
+  fields_shown uncut = by_extent arguments context invocation input records output is (ShowsRecords options records output) nothing drawn_by
     where
       all : DrawsAll options.look
       all = record { unkept = is.unkept; table = is.no_markdown; uncut = uncut; style = unbroken_without options.look.style (parsed_style_without_controls arguments context invocation is.is_asked) }
-
-      header : Bool
-      header = options.selection.has_header
-
-      nothing : (limit : Option ℕ) → [] ≡ note_for false limit (Some 0)
-      nothing None = refl
-      nothing (Some n) = by_test (nat_lt n 0) (grind arith)
-        where
-          by_test : (b : Bool) → b ≡ false → [] ≡ (if b then [] ++ (note_text n (Some 0) ++ codes "\n") else [])
-          by_test true is = absurd (cc is)
-          by_test false is = refl
-
-      no_rows : (limit : Option ℕ) → ◌≡◌ {A = List (List Text)} (limited limit []) []
-      no_rows None = refl
-      no_rows (Some zero) = refl
-      no_rows (Some (suc n)) = refl
-
-      either : (expansion : Expansion) → (is_expanded : Bool) × MayExpand expansion is_expanded
-      either Always = (true, refl)
-      either Never = (false, refl)
-      either Auto = (false, tt)
 
       by_kind : (is_expanded : Bool) (count : Option ℕ) → ShowsDrawn is_expanded options None [] count []
       by_kind true count = refl
@@ -346,46 +309,18 @@ module _ (arguments : List Text) (context : OutputContext) (invocation : Invocat
 
       none : ShowsRecords options [] []
       none =
-          let count = Some (length (records_below header [])) in
-          let kind = either options.look.expansion in
-          record {
-            count = count;
-            is_count = refl;
-            is_expanded = kind.0;
-            expansion = kind.1;
-            drawn = [];
-            shows =
-                subst (λ (own : Option (List Text)). ShowsDrawn kind.0 options own (drawn_rows options.selection []) count []) (sym (no_records header).0)
-                (subst (λ (own : List (List Text)). ShowsDrawn kind.0 options None own count []) (sym (ap (limited options.selection.limit) (no_records header).1 ∙ no_rows options.selection.limit)) (by_kind kind.0 count));
-            joined = nothing options.selection.limit ∙ ap (λ (below : List (List Text)). note_for false options.selection.limit (Some (length below))) (sym (no_records header).1);
-          }
+          none_drawn (λ is_expanded. ShowsDrawn is_expanded options (names_of options.selection.has_header []) (drawn_rows options.selection [])) options
+          (λ is_expanded count.
+          subst (λ (own : Option (List Text)). ShowsDrawn is_expanded options own (drawn_rows options.selection []) count []) (sym (no_records options.selection.has_header).0)
+          (subst (λ (own : List (List Text)). ShowsDrawn is_expanded options None own count []) (sym (no_rows options)) (by_kind is_expanded count)))
 
-      any : (rs : List (List Text)) → RendersCounted options rs output → All AllText rs → ShowsRecords options rs output
-      any [] empty texts = subst (ShowsRecords options []) (sym empty) none
-      any (r ∷ rs) made texts =
-          let shown = output_shown options all (Some (count_below options.selection (r ∷ rs))) (r ∷ rs) texts output made in
-          record { count = Some (count_below options.selection (r ∷ rs)); is_count = refl; is_expanded = shown.is_expanded; expansion = shown.expansion; drawn = shown.drawn; shows = shown.shows; joined = shown.joined }
+      nothing : records ≡ [] → output ≡ [] → ShowsRecords options records output
+      nothing empty no_output = subst (λ (rs : List (List Text)). ShowsRecords options rs output) (sym empty) (subst (ShowsRecords options []) (sym no_output) none)
 
-      by_made : IsDrawnOf options input output → ShowsRecords options records output
-      by_made (inl (none_enough, made)) = any records (subst (λ (rs : List (List Text)). RendersCounted options rs output) (read_is_one options.input input made.records records made.are_records is.are) made.is_output) is.are.are_records.are_records.are_text
-      by_made (inr (n, asked, made)) =
-          let parts = beginning_parts n input in
-          let enough = made.are_enough in
-          let limit = enough.has_limit.limit in
-          let found = first_records_stay options.input (most_drawn header limit) (whole_lines (asked_front n input)) parts.0 made.records records enough.are (subst (λ (t : Text). AreRecordsFor options.input t records) parts.1 is.are) in
-          let first : AreDrawnFirst header limit made.records records = subst (AreDrawnFirst header limit made.records) (sym found.1) (first_are_drawn header limit made.records found.0 enough.are.more) in
-          let same : drawn_rows options.selection made.records ≡ drawn_rows options.selection records =
-          subst (λ (l : Option ℕ). limited l (records_below header made.records) ≡ limited l (records_below header records)) (sym enough.has_limit.is) first.rows in
-          let shown : IsShown options (names_of header records) (drawn_rows options.selection records) None output =
-          subst (λ (own : Option (List Text)). IsShown options own (drawn_rows options.selection records) None output) first.names
-          (subst (λ (own : List (List Text)). IsShown options (names_of header made.records) own None output) same
-          (output_shown options all None made.records enough.are.are_records.are_records.are_text output made.is_output)) in
-          record {
-            count = None;
-            is_count = subst (λ (l : Option ℕ). length (limited l (records_below header records)) < length (records_below header records)) (sym enough.has_limit.is) first.fewer;
-            is_expanded = shown.is_expanded;
-            expansion = shown.expansion;
-            drawn = shown.drawn;
-            shows = shown.shows;
-            joined = shown.joined;
-          }
+      drawn_by : (known : Option ℕ) (rs : List (List Text)) → IsDrawnBy arguments context invocation input records output is known rs → ShowsRecords options records output
+      drawn_by known rs by =
+          let shown : IsShown options (names_of options.selection.has_header records) (drawn_rows options.selection records) known output =
+          subst (λ (own : Option (List Text)). IsShown options own (drawn_rows options.selection records) known output) by.names
+          (subst (λ (own : List (List Text)). IsShown options (names_of options.selection.has_header rs) own known output) by.rows
+          (output_shown options all known rs by.text output by.made)) in
+          record { count = known; is_count = by.counted; is_expanded = shown.is_expanded; expansion = shown.expansion; drawn = shown.drawn; draws = shown.shows; joined = shown.joined }

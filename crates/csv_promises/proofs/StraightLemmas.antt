@@ -1,5 +1,5 @@
 -- What is written for arguments is straight: where no character takes more than one terminal column, or where no width is kept to.
-use Rattle.std.proofs.Common.{ap, ap₂, ◌≡◌, ◌==◌, ◌&&◌, ◌||◌, inl, ℕ, Bool, true, false, not, List, [], ◌∷◌, map, Option, Some, None, is_some, unwrap_or, append-nil, arith, chars, nat_le, refl, sym, ◌∙◌, subst, inr, ◌++◌}
+use Rattle.std.proofs.Common.{ap, ap₂, length, ◌<◌, ◌≡◌, ◌==◌, ◌&&◌, ◌||◌, inl, ℕ, Bool, true, false, not, List, [], ◌∷◌, map, Option, Some, None, is_some, unwrap_or, append-nil, arith, chars, nat_le, refl, sym, ◌∙◌, subst, inr, ◌++◌}
 use Rattle.std.specs.Char.{is_control}
 use Rattle.std.specs.List.{All, list_any}
 use Rattle.std.specs.Prelude.{encode_utf8, if◌then◌else◌}
@@ -42,12 +42,14 @@ use Rattle.csv_command.specs.Columns.{columns_by, columns_for}
 use Rattle.csv_tables.specs.Columns.{count_of, drawn_columns, seen}
 use Rattle.csv_tables.specs.Drawn.{SelectedValue, count_below, drawn_rows, limited, names_of, records_below, selected_of}
 use Rattle.csv_command.specs.Drawn.{IsDrawnOf, RendersChosen, RendersCounted, layout_with, most_drawn}
-use Rattle.csv_tables.specs.Laws.{ArePlainLines, CharactersFitEachWidth, EachText}
+use Rattle.csv_tables.specs.Laws.{ArePlainLines, CharactersFitEachWidth, EachText, IsStraightOutput}
 use Rattle.promises.proofs.FittingLemmas.{text_fits}
 use Rattle.promises.specs.Tables.{HasCharactersWithin}
-use Rattle.csv_promises.proofs.LineLemmas.{nothing_is_straight, straight_text}
+use Rattle.csv_promises.proofs.LineLemmas.{nothing_drawn, straight_text}
 use Rattle.csv_promises.proofs.RecordLemmas.{AreDrawnFirst, first_are_drawn}
 use Rattle.csv_promises.specs.Written.{IsWritten}
+use Rattle.promises.specs.Shown.{ShowsColumns}
+use Rattle.csv_promises.specs.Counted.{EachDrawnLine, IsCount}
 use Rattle.csv_promises.specs.Straight.{EachField, FieldsFitTheirColumns, IsPlainField, IsStraight}
 
 -- a character takes at most one column, and isn't U+FE01
@@ -124,16 +126,17 @@ module _ (arguments : List Text) (context : OutputContext) (invocation : Invocat
     pub front : records ≡ rs ++ more
     pub names : names_of h rs ≡ names_of h records
     pub rows : drawn_rows options.selection rs ≡ drawn_rows options.selection records
+    pub counted : IsCount options records known
 
-  -- it is nothing, or so drawn
-  pub by_extent : (Good : Type 0) → (output ≡ [] → Good) → ((known : Option ℕ) (rs : List (List Text)) → IsDrawnBy known rs → Good) → Good
+  -- it is nothing, if there are no records, or so drawn
+  pub by_extent : (Good : Type 0) → (records ≡ [] → output ≡ [] → Good) → ((known : Option ℕ) (rs : List (List Text)) → IsDrawnBy known rs → Good) → Good
   by_extent Good empty law = by_made is.made
     where
       any : (rs : List (List Text)) → records ≡ rs → RendersCounted options rs output → Good
-      any [] same nothing = empty nothing
+      any [] same nothing = empty same nothing
       any (r ∷ rs) same drawn =
           law (Some (count_below options.selection (r ∷ rs))) (r ∷ rs)
-          (record { text = subst (All AllText) same texts; made = drawn; more = []; front = same ∙ sym (append-nil (r ∷ rs)); names = ap (names_of h) (sym same); rows = ap (drawn_rows options.selection) (sym same) })
+          (record { text = subst (All AllText) same texts; made = drawn; more = []; front = same ∙ sym (append-nil (r ∷ rs)); names = ap (names_of h) (sym same); rows = ap (drawn_rows options.selection) (sym same); counted = ap (count_below options.selection) (sym same) })
 
       by_made : IsDrawnOf options input output → Good
       by_made (inl (none, made)) = any records refl (subst (λ (rs : List (List Text)). RendersCounted options rs output) (read_is_one options.input input made.records records made.are_records is.are) made.is_output)
@@ -152,6 +155,7 @@ module _ (arguments : List Text) (context : OutputContext) (invocation : Invocat
             front = found.1;
             names = first.names;
             rows = subst (λ (l : Option ℕ). limited l (records_below h made.records) ≡ limited l (records_below h records)) (sym enough.has_limit.is) first.rows;
+            counted = (enough.has_limit.uncounted, subst (λ (l : Option ℕ). length (limited l (records_below h records)) < length (records_below h records)) (sym enough.has_limit.is) first.fewer);
           })
 
   module _ (known : Option ℕ) (rs : List (List Text)) (by : IsDrawnBy known rs) where
@@ -168,12 +172,16 @@ module _ (arguments : List Text) (context : OutputContext) (invocation : Invocat
     pub own_fit : EachField (HasCharactersWithin 1) records → EachText (CharactersFit 1) options.look rs
     own_fit each = fields_fit options.look is.unkept is.no_markdown rs by.text (own_fields (HasCharactersWithin 1) each)
 
-    narrow_law : EachField (HasCharactersWithin 1) records → IsStraight output
-    narrow_law each = straight_text known layout rs output is.no_markdown (narrow_is_straight true known layout rs output is.no_markdown one_column plain (own_fit each) by.made.is_output)
+    -- an output whose lines are straight is so
+    straight : IsStraightOutput true known layout rs output → IsStraight options records output
+    straight = straight_text options records rs known by.made.columns output is.no_markdown by.counted by.rows
 
-    whole_law : options.look.width ≡ None → options.look.max_height ≡ None → EachField IsPlainField records → IsStraight output
+    narrow_law : EachField (HasCharactersWithin 1) records → IsStraight options records output
+    narrow_law each = straight (narrow_is_straight true known layout rs output is.no_markdown one_column plain (own_fit each) by.made.is_output)
+
+    whole_law : options.look.width ≡ None → options.look.max_height ≡ None → EachField IsPlainField records → IsStraight options records output
     whole_law no_width uncut each =
-        straight_text known layout rs output is.no_markdown
+        straight
         (whole_is_straight true known layout rs output one_column plain no_width (inl uncut) (plain_fields_are_short options.look is.unkept is.no_markdown rs by.text (own_fields IsPlainField each)) by.made.is_output)
 
     -- the same columns are chosen of those that are drawn and of all records, and the same is drawn of them
@@ -186,28 +194,33 @@ module _ (arguments : List Text) (context : OutputContext) (invocation : Invocat
         ap₂ (λ (names : Option (List Text)) (rows : List (List Text)). let content : SelectedValue = record { names = names; rows = rows; columns = drawn_columns layout.columns (map (seen options.look.has_sequences) rows); count = known; is_numbered = options.selection.is_numbered } in content)
         (sym by.names) (sym by.rows)
 
-    fitting_law : FieldsFitTheirColumns options records → IsStraight output
+    fitting_law : FieldsFitTheirColumns options records → IsStraight options records output
     fitting_law fit =
-        straight_text known layout rs output is.no_markdown
+        straight
         (fitting_is_straight true known layout rs output is.no_markdown one_column plain each by.made.is_output)
       where
         each : CharactersFitEachWidth known layout rs
         each content table widths same drawn arranged = fit known by.made.columns (same_columns ∙ by.made.are_chosen) content table widths (same_content ∙ same) drawn arranged
 
-  nothing : output ≡ [] → IsStraight output
-  nothing empty = subst IsStraight (sym empty) nothing_is_straight
+  -- of no records no line is drawn
+  pub nothing : (P : Text → Type 0) → records ≡ [] → output ≡ [] → EachDrawnLine P options records output
+  nothing P none empty =
+      subst (λ (rs : List (List Text)). EachDrawnLine P options rs output) (sym none) (subst (EachDrawnLine P options []) (sym empty) (nothing_drawn P options))
+
+  no_line : records ≡ [] → output ≡ [] → IsStraight options records output
+  no_line none empty = (0, nothing (ShowsColumns 0) none empty)
 
   -- where no character takes more than one terminal column
-  pub narrow_for : EachField (HasCharactersWithin 1) records → IsStraight output
-  narrow_for each = by_extent (IsStraight output) nothing (λ known rs by. narrow_law known rs by each)
+  pub narrow_for : EachField (HasCharactersWithin 1) records → IsStraight options records output
+  narrow_for each = by_extent (IsStraight options records output) no_line (λ known rs by. narrow_law known rs by each)
 
   -- and where no width is kept to and no row is cut
-  pub whole_for : options.look.width ≡ None → options.look.max_height ≡ None → EachField IsPlainField records → IsStraight output
-  whole_for no_width uncut each = by_extent (IsStraight output) nothing (λ known rs by. whole_law known rs by no_width uncut each)
+  pub whole_for : options.look.width ≡ None → options.look.max_height ≡ None → EachField IsPlainField records → IsStraight options records output
+  whole_for no_width uncut each = by_extent (IsStraight options records output) no_line (λ known rs by. whole_law known rs by no_width uncut each)
 
   -- and where each character of the fields has room in its column
-  pub fitting_for : FieldsFitTheirColumns options records → IsStraight output
-  fitting_for fit = by_extent (IsStraight output) nothing (λ known rs by. fitting_law known rs by fit)
+  pub fitting_for : FieldsFitTheirColumns options records → IsStraight options records output
+  fitting_for fit = by_extent (IsStraight options records output) no_line (λ known rs by. fitting_law known rs by fit)
 
 -- what isn't some is none
 pub none_where : {A : Type 0} (o : Option A) → false ≡ is_some o → o ≡ None

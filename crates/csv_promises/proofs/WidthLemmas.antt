@@ -8,7 +8,7 @@ use Rattle.comfy_parts.proofs.CallerLemmas.{All-of_map}
 use Rattle.comfy_parts.specs.CellValue.{RowValue}
 use Rattle.comfy_parts.specs.Text.{Text, measure}
 use Rattle.comfy_parts.specs.VisibleText.{visible_text}
-use Rattle.comfy_table.specs.Laws.{AreLinesOf, HasNoBreak, HasNoControl, least_total}
+use Rattle.comfy_table.specs.Laws.{HasNoBreak, HasNoControl, least_total}
 use Rattle.comfy_table.specs.Parts.{ArrangedValue}
 use Rattle.comfy_table.specs.TableValue.{TableValue}
 use Rattle.comfy_table.specs.Widths.{shown_count}
@@ -18,7 +18,7 @@ use Rattle.csv_command.specs.declared.arguments.Invocation.{Invocation}
 use Rattle.csv_command.specs.declared.arguments.OutputContext.{OutputContext}
 use Rattle.csv_tables.proofs.LineLemmas.{IsKept, drawn, drawn_table, expansion, is_table_text, output_keeps_to, with_lines}
 use Rattle.csv_tables.proofs.StraightLemmas.{clear, narrow_lines}
-use Rattle.csv_tables.specs.Drawn.{SelectedValue, RendersAsTable, RendersRecords, drawn_fields, has_room_for, is_expanded_in, output_table, pairs_in, separated_table, some_lines, table_text, is_aligned_in}
+use Rattle.csv_tables.specs.Drawn.{SelectedValue, RendersAsTable, RendersRecords, drawn_fields, drawn_rows, has_room_for, is_expanded_in, output_table, pairs_in, separated_table, some_lines, table_text, is_aligned_in}
 use Rattle.csv_tables.specs.Cells.{held, pair_for}
 use Rattle.csv_tables.specs.Fields.{field_or_blank}
 use Rattle.csv_tables.specs.Columns.{name_at}
@@ -32,11 +32,12 @@ use Rattle.comfy_parts.specs.Columns.{CharactersFit, IsOneColumnStyle}
 use Rattle.promises.specs.Tables.{HasCharactersWithin}
 use Rattle.csv_promises.proofs.ColumnLemmas.{drawn_count, no_rows-is, reaches_one, some_column}
 use Rattle.csv_promises.proofs.FrameLemmas.{column_is_shown, frame_has_room, width_has_room, places_of}
-use Rattle.csv_promises.proofs.LineLemmas.{HasGoodLines, no_lines, output_lines, shown_line}
-use Rattle.csv_promises.proofs.StraightLemmas.{IsDrawnBy, by_extent, one_column, own_fit, plain}
+use Rattle.csv_promises.proofs.LineLemmas.{output_lines, shown_line}
+use Rattle.csv_promises.proofs.StraightLemmas.{IsDrawnBy, by_extent, nothing, one_column, own_fit, plain}
 use Rattle.csv_promises.specs.Fields.{positions_in}
-use Rattle.csv_promises.specs.Straight.{CountsRecords, EachField}
-use Rattle.csv_promises.specs.Width.{KeepToWidth, KeepsTo, all_columns, columns_by, frame_room, framed_columns}
+use Rattle.csv_promises.specs.Counted.{EachDrawnLine, IsCount}
+use Rattle.csv_promises.specs.Straight.{EachField}
+use Rattle.csv_promises.specs.Width.{KeepsTo, all_columns, columns_by, frame_room, framed_columns}
 use Rattle.csv_promises.specs.Written.{IsWritten}
 
 -- ---- expanded records without a field
@@ -73,7 +74,8 @@ module _ (look : Look) (content : SelectedValue) (arranged : ArrangedValue) (non
 -- ---- what is drawn by options
 
 module _ (w : ℕ) (o : Options) (known : Option ℕ) (records : List (List Text)) (output : Text) (wide : o.look.width ≡ Some w) (table : o.look.is_markdown ≡ false) (one_column : IsOneColumnStyle o.look.style) (plain : ArePlainLines true o.look records)
-    (fit : EachText (CharactersFit 1) o.look records) (made : RendersChosen known o records output) where
+    (fit : EachText (CharactersFit 1) o.look records) (made : RendersChosen known o records output)
+    (whole : List (List Text)) (is_count : IsCount o whole known) (same : drawn_rows o.selection records ≡ drawn_rows o.selection whole) where
   abbrev layout : Layout
   layout = layout_with o made.columns
 
@@ -131,14 +133,14 @@ module _ (w : ℕ) (o : Options) (known : Option ℕ) (records : List (List Text
       (by_look o.look.expansion (length content.rows == 0) (has_room_for o.look content (is_aligned_in o.look content)) text.is_expanded expanded refl)
 
   abbrev IsGood : Text → Type 0
-  IsGood line = CountsRecords line ⊎ KeepsTo w frame o.look.fills_width line
+  IsGood line = KeepsTo w frame o.look.fills_width line
 
   abbrev Good : Type 0
-  Good = HasGoodLines IsGood (λ line. inl) output
+  Good = EachDrawnLine IsGood o whole output
 
   -- all lines keep to it where a column is shown
   kept : 0 < shown_count t → Good
-  kept some = output_lines IsGood (λ line. inl) known layout records output lines table (with_lines known layout records output own text table plain.unbroken) each
+  kept some = output_lines IsGood o whole records known made.columns output lines table is_count same (with_lines known layout records output own text table plain.unbroken) each
     where
       counted : All (λ (line : Text). IsKept w o.look.fills_width t (measure (visible_text line))) lines
       counted =
@@ -153,12 +155,12 @@ module _ (w : ℕ) (o : Options) (known : Option ℕ) (records : List (List Text
           let line = slice_index_or lines k default in
           let line_is = counted k default under some in
           let exact = line_is.1 in
-          inr (record { columns = measure (visible_text line); shows = shown_line (measure (visible_text line)) line (clear_lines k default under) refl; within = omega (arith, line_is.0, least_fits); exact = λ filled room. let is = exact filled in omega (arith, is, room, least_fits) })
+          record { columns = measure (visible_text line); shows = shown_line (measure (visible_text line)) line (clear_lines k default under) refl; within = omega (arith, line_is.0, least_fits); exact = λ filled room. let is = exact filled in omega (arith, is, room, least_fits) }
 
   -- else there are none
   empty : text.is_expanded ≡ true → flat_map (pairs_in o.look content) content.rows ≡ [] → Good
   empty is none =
-      output_lines IsGood (λ line. inl) known layout records output [] table
+      output_lines IsGood o whole records known made.columns output [] table is_count same
       (record {
         content = content;
         is_content = own.is_content;
@@ -186,23 +188,23 @@ module _ (arguments : List Text) (context : OutputContext) (invocation : Invocat
   abbrev options : Options
   options = invocation.options
 
-  pub keeps_width : (w : ℕ) → options.look.width ≡ Some w → EachField (HasCharactersWithin 1) records → KeepToWidth w (frame_room (framed_columns options records)) options.look.fills_width output
-  keeps_width w wide each = by_extent arguments context invocation input records output is (KeepToWidth w frame options.look.fills_width output) nothing drawn_by
+  pub keeps_width : (w : ℕ) → options.look.width ≡ Some w → EachField (HasCharactersWithin 1) records → EachDrawnLine (KeepsTo w (frame_room (framed_columns options records)) options.look.fills_width) options records output
+  keeps_width w wide each = by_extent arguments context invocation input records output is (Good frame) (nothing arguments context invocation input records output is (KeepsTo w frame options.look.fills_width)) drawn_by
     where
       frame : ℕ
       frame = frame_room (framed_columns options records)
 
-      nothing : output ≡ [] → KeepToWidth w frame options.look.fills_width output
-      nothing empty = record { lines = []; are = subst (λ (t : Text). AreLinesOf t []) (sym empty) no_lines; keep = All-nil (λ (line : Text). CountsRecords line ⊎ KeepsTo w frame options.look.fills_width line) }
+      Good : ℕ → Type 0
+      Good f = EachDrawnLine (KeepsTo w f options.look.fills_width) options records output
 
       framed : Option (List Text) → List (List Text) → ℕ
       framed names rows =
           frame_room (columns_by options.look.expansion (not (length rows == 0)) (length (positions_in options (unwrap_or names []) rows) + (if options.selection.is_numbered then 1 else 0)))
 
-      drawn_by : (known : Option ℕ) (rs : List (List Text)) → IsDrawnBy arguments context invocation input records output is known rs → KeepToWidth w frame options.look.fills_width output
+      drawn_by : (known : Option ℕ) (rs : List (List Text)) → IsDrawnBy arguments context invocation input records output is known rs → Good frame
       drawn_by known rs by =
           let fits = own_fit arguments context invocation input records output is known rs by each in
           let own =
-          keep w options known rs output wide is.no_markdown (one_column arguments context invocation input records output is) (plain arguments context invocation input records output is known rs by) fits by.made in
+          keep w options known rs output wide is.no_markdown (one_column arguments context invocation input records output is) (plain arguments context invocation input records output is known rs by) fits by.made records by.counted by.rows in
           let same_frame : frame_room (framed_columns options rs) ≡ frame = ap₂ framed by.names by.rows in
-          subst (λ (f : ℕ). KeepToWidth w f options.look.fills_width output) same_frame (record { lines = own.lines; are = own.are; keep = own.good })
+          subst Good same_frame own

@@ -11,11 +11,10 @@ use Rattle.csv_tables.specs.Cells.{number_name, unless_blank}
 use Rattle.csv_tables.specs.Fields.{field_or_blank}
 use Rattle.csv_tables.specs.Columns.{count_of, name_at}
 use Rattle.csv_command.specs.Columns.{columns_chosen, positions_between, without}
-use Rattle.csv_tables.specs.Drawn.{condensed_style, drawn_rows, names_of, note_for, record_line, records_below}
-use Rattle.csv_tables.specs.declared.options.Expansion.{Expansion}
-use Rattle.csv_tables.specs.declared.options.Expansion.TheVariants.{Always, Auto, Never}
+use Rattle.csv_tables.specs.Drawn.{condensed_style, drawn_rows, names_of}
 use Rattle.csv_tables.specs.declared.options.Look.{Look}
 use Rattle.csv_command.specs.declared.arguments.Options.{Options}
+use Rattle.csv_promises.specs.Counted.{AreExpanded, IsDrawnWithNote}
 use Rattle.promises.specs.Headline.{IsFramedTable}
 
 -- ---- rows of fields
@@ -117,15 +116,10 @@ pairs_at names positions fields =
     ∷ cleaned false (field_or_blank fields position) ∷ [])
     (filter (λ position. nat_lt position (length fields)) positions)
 
--- a text shows expanded records, from that of this number on: below a line `record 2 of 7`, or
--- `record 2`, stand the names and fields of each
-abbrev pub ShowsExpanded :
-    Look → List Text → List ℕ → Option ℕ → ℕ → List (List Text) → Text → Type 0
-ShowsExpanded look names positions count number [] text = text ≡ []
-ShowsExpanded look names positions count number (fields ∷ rows) text =
-    (own : Text) × (rest : Text) × (text ≡ record_line number count ++ (own ++ rest))
-    × ShowsRows look false (pairs_at names positions fields) own
-    × ShowsExpanded look names positions count (number + 1) rows rest
+-- a text shows the names and fields of an expanded record
+abbrev pub ShowsPairs : Look → List Text → List ℕ → List Text → Text → Type 0
+ShowsPairs look names positions fields text =
+    ShowsRows look false (pairs_at names positions fields) text
 
 -- the positions of the columns that some words choose, in their order
 abbrev pub positions_by : {A : Type 0} → List Text → ℕ → List (String A) → List ℕ
@@ -151,31 +145,16 @@ ShowsDrawn false options names rows count text =
     (all_rows options.selection.is_numbered
     (positions_in options (unwrap_or names []) rows) names rows) text
 ShowsDrawn true options names rows count text =
-    ShowsExpanded options.look (unwrap_or names [])
-    (positions_in options (unwrap_or names []) rows) count 1 rows text
+    AreExpanded (ShowsPairs options.look (unwrap_or names [])
+    (positions_in options (unwrap_or names []) rows)) count 1 rows text
 
--- records are expanded always, never, or where there is no room for rows
-abbrev pub MayExpand : Expansion → Bool → Type 0
-MayExpand Always is_expanded = is_expanded ≡ true
-MayExpand Never is_expanded = is_expanded ≡ false
-MayExpand Auto is_expanded = Unit {0}
-
--- a text shows records: the header, where there is one, and as many below it as options ask for;
--- and says below them how many there are, where there are more. That is the number of records below
--- the header; or it isn't known, but that there are more
-pub record ShowsRecords (options : Options) (records : List (List Text)) (text : Text)
-    : Type 0 where
-  pub count : Option ℕ
-  pub is_count : MatchOption count
-      (length (drawn_rows options.selection records)
-      < length (records_below options.selection.has_header records))
-      (λ n. n ≡ length (records_below options.selection.has_header records))
-  pub is_expanded : Bool
-  pub expansion : MayExpand options.look.expansion is_expanded
-  pub drawn : Text
-  pub shows : ShowsDrawn is_expanded options (names_of options.selection.has_header records)
-      (drawn_rows options.selection records) count drawn
-  pub joined : text ≡ drawn ++ note_for false options.selection.limit count
+-- a text shows records: the header, if there is one, and below it as many as options ask for, and
+-- the note on others
+abbrev pub ShowsRecords : Options → List (List Text) → Text → Type 0
+ShowsRecords options records text =
+    IsDrawnWithNote (λ is_expanded. ShowsDrawn is_expanded options
+    (names_of options.selection.has_header records) (drawn_rows options.selection records)) options
+    records text
 
 -- a field of which no character is replaced stays as it is
 abbrev pub StaysAsItIs : Bool → Text → Type 0

@@ -1,3 +1,4 @@
+pub mod Counted
 pub mod Fields
 pub mod Messages
 pub mod Straight

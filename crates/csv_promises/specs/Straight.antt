@@ -1,18 +1,17 @@
 -- Lines that show the same number of terminal columns.
 -- Source: this library's own.
-use Rattle.std.specs.Prelude.{◌≡◌, ◌⊎◌, ◌||◌, ◌≤◌, ℕ, false, List, Option, Ok, All, chars}
+use Rattle.std.specs.Prelude.{◌≡◌, ◌||◌, ◌≤◌, ℕ, false, List, Option, Ok, All, chars}
 use Rattle.std.specs.Char.{is_control}
 use Rattle.std.specs.List.{list_any}
 use Rattle.comfy_parts.specs.Text.{Text, measure}
-use Rattle.comfy_table.specs.Laws.{AreLinesOf}
 use Rattle.csv_records.specs.Cleaning.{turns_direction}
 use Rattle.csv_command.specs.Columns.{columns_for}
 use Rattle.csv_command.specs.Drawn.{layout_with}
 use Rattle.csv_command.specs.declared.arguments.Options.{Options}
 use Rattle.csv_tables.specs.Columns.{ColumnsValue}
-use Rattle.csv_tables.specs.Drawn.{note_text, record_heading}
 use Rattle.csv_tables.specs.Laws.{CharactersFitEachWidth}
 use Rattle.promises.specs.Shown.{ShowsColumns}
+use Rattle.csv_promises.specs.Counted.{EachDrawnLine}
 
 -- P holds of each field of each record
 abbrev pub EachField : (Text → Type 0) → List (List Text) → Type 0
@@ -24,17 +23,11 @@ pub record IsPlainField (field : Text) : Type 0 where
   pub plain : list_any (λ c. is_control c || turns_direction c) (chars field) ≡ false
   pub short : measure field ≤ 65535
 
--- a line counts records: above one that is drawn alone, or below all that are drawn
-abbrev pub CountsRecords : Text → Type 0
-CountsRecords line =
-    (n : ℕ) × (m : Option ℕ) × ((line ≡ record_heading n m) ⊎ (line ≡ note_text n m))
-
--- all lines of a text show the same number of terminal columns, but those that count records
-pub record IsStraight (text : Text) : Type 0 where
-  pub lines : List Text
-  pub are : AreLinesOf text lines
-  pub columns : ℕ
-  pub show : All (λ line. CountsRecords line ⊎ ShowsColumns columns line) lines
+-- all lines that are written of records show the same number of terminal columns, but those that
+-- count records
+abbrev pub IsStraight : Options → List (List Text) → Text → Type 0
+IsStraight options records text =
+    (columns : ℕ) × EachDrawnLine (ShowsColumns columns) options records text
 
 -- each character of the drawn fields and names has room in its column: for the columns that options
 -- choose, in each table that may be drawn of the records, for the widths that are arranged for it
@@ -46,4 +39,4 @@ FieldsFitTheirColumns options records =
 -- then what is written of the records is straight
 abbrev pub IsStraightWhereFieldsFit : Options → List (List Text) → Text → Type 0
 IsStraightWhereFieldsFit options records text =
-    FieldsFitTheirColumns options records → IsStraight text
+    FieldsFitTheirColumns options records → IsStraight options records text

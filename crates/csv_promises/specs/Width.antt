@@ -1,8 +1,7 @@
 -- Lines that keep to a width.
 -- Source: this library's own.
-use Rattle.std.specs.Prelude.{◌≡◌, ◌==◌, ◌⊎◌, ◌+◌, ◌*◌, ◌≤◌, ℕ, Bool, true, not, List, Some, All, length, max, if◌then◌else◌}
+use Rattle.std.specs.Prelude.{◌≡◌, ◌==◌, ◌+◌, ◌*◌, ◌≤◌, ℕ, Bool, true, not, List, Some, All, length, max, if◌then◌else◌}
 use Rattle.comfy_parts.specs.Text.{Text}
-use Rattle.comfy_table.specs.Laws.{AreLinesOf}
 use Rattle.csv_command.specs.declared.arguments.Options.{Options}
 use Rattle.csv_tables.specs.Drawn.{drawn_rows, names_or_none}
 use Rattle.csv_tables.specs.declared.options.Expansion.{Expansion}
@@ -10,7 +9,8 @@ use Rattle.csv_tables.specs.declared.options.Expansion.TheVariants.{Always, Auto
 use Rattle.promises.specs.Shown.{ShowsColumns}
 use Rattle.promises.specs.Tables.{HasCharactersWithin}
 use Rattle.csv_promises.specs.Fields.{positions_in}
-use Rattle.csv_promises.specs.Straight.{CountsRecords, EachField}
+use Rattle.csv_promises.specs.Counted.{EachDrawnLine}
+use Rattle.csv_promises.specs.Straight.{EachField}
 
 -- the borders around so many columns, their paddings, and one terminal column for each
 abbrev pub frame_room : ℕ → ℕ
@@ -44,15 +44,10 @@ pub record KeepsTo (width frame : ℕ) (is_filled : Bool) (line : Text) : Type 0
   pub within : columns ≤ max width frame
   pub exact : is_filled ≡ true → frame ≤ width → columns ≡ width
 
--- so does each line of a text, but those that count records
-pub record KeepToWidth (width frame : ℕ) (is_filled : Bool) (text : Text) : Type 0 where
-  pub lines : List Text
-  pub are : AreLinesOf text lines
-  pub keep : All (λ line. CountsRecords line ⊎ KeepsTo width frame is_filled line) lines
-
 -- what is written of records keeps to the width that options have, where no character of a field
 -- takes more than one terminal column
 abbrev pub KeepsItsWidth : Options → List (List Text) → Text → Type 0
 KeepsItsWidth options records text =
     (width : ℕ) → options.look.width ≡ Some width → EachField (HasCharactersWithin 1) records
-    → KeepToWidth width (frame_room (framed_columns options records)) options.look.fills_width text
+    → EachDrawnLine (KeepsTo width (frame_room (framed_columns options records))
+    options.look.fills_width) options records text

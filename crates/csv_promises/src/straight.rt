@@ -8,9 +8,7 @@ ghost use Rattle.promises.specs.Tables.{HasCharactersWithin};
 
 use crate::harmless::output_for;
 use csv_command::{CsvError, Invocation, Options, OutputContext, parse};
-use csv_records::laws::records_are_one;
 use csv_records::{Records, decoded, read_records};
-use csv_tables::laws::outputs_are_straight;
 use devices::MemorySink;
 use std::alloc::Global;
 
@@ -27,14 +25,13 @@ pub fn straight_output(
     context: OutputContext<'_>,
     input: &[u8],
     room: usize,
-) -> Option<(Records, MemorySink)>
+) -> Option<(Invocation, Records, MemorySink)>
     ensures { IfSome result (λ drawn.
-        EachField (HasCharactersWithin 1) drawn.0 → IsStraight drawn.1.bytes) }
+        EachField (HasCharactersWithin 1) drawn.1
+        → IsStraight drawn.0.options drawn.1 drawn.2.bytes) }
 {
-    outputs_are_straight();
-    records_are_one();
-    let (_invocation, records, sink) = written(alloc, arguments, context, input, room)?;
-    Some((records, sink))
+    let (invocation, records, sink) = written(alloc, arguments, context, input, room)?;
+    Some((invocation, records, sink))
 }
 
 /// As `straight_output`, for texts of every script, with the arguments as they were understood.
@@ -66,16 +63,15 @@ pub fn straight_whole_output(
     context: OutputContext<'_>,
     input: &[u8],
     room: usize,
-) -> Option<(Records, MemorySink)>
-    ensures { IfSome result (λ drawn. EachField IsPlainField drawn.0 → IsStraight drawn.1.bytes) }
+) -> Option<(Invocation, Records, MemorySink)>
+    ensures { IfSome result (λ drawn.
+        EachField IsPlainField drawn.1 → IsStraight drawn.0.options drawn.1 drawn.2.bytes) }
 {
-    outputs_are_straight();
-    records_are_one();
     let (invocation, records, sink) = written(alloc, arguments, context, input, room)?;
     if invocation.options.look.width.is_some() || invocation.options.look.max_height.is_some() {
         return None;
     }
-    Some((records, sink))
+    Some((invocation, records, sink))
 }
 
 // The arguments as they are understood, the records of an input, and the output for both. `None`

@@ -1,0 +1,64 @@
+-- What is written of records: what is drawn of them, and the lines that count them.
+-- Source: this library's own.
+use Rattle.std.specs.Prelude.{◌≡◌, ◌<◌, ℕ, ◌+◌, Bool, true, false, List, [], ◌∷◌, ◌++◌, Option, All, MatchOption, length}
+use Rattle.comfy_parts.specs.Text.{Text}
+use Rattle.comfy_table.specs.Laws.{AreLinesOf}
+use Rattle.csv_command.specs.declared.arguments.Options.{Options}
+use Rattle.csv_tables.specs.Drawn.{drawn_rows, note_for, record_line, records_below}
+use Rattle.csv_tables.specs.declared.options.Expansion.{Expansion}
+use Rattle.csv_tables.specs.declared.options.Expansion.TheVariants.{Always, Auto, Never}
+
+-- records are expanded always, never, or perhaps
+abbrev pub MayExpand : Expansion → Bool → Type 0
+MayExpand Always is_expanded = is_expanded ≡ true
+MayExpand Never is_expanded = is_expanded ≡ false
+MayExpand Auto is_expanded = Unit {0}
+
+-- the number of records below the header. It may be unknown if options don't ask for a count, and
+-- then there are more than are drawn
+abbrev pub IsCount : Options → List (List Text) → Option ℕ → Type 0
+IsCount options records count =
+    MatchOption count
+    ((options.counts_all ≡ false)
+    × (length (drawn_rows options.selection records)
+    < length (records_below options.selection.has_header records)))
+    (λ n. n ≡ length (records_below options.selection.has_header records))
+
+-- what is written of records: what is drawn of them, expanded or not, and then the note
+-- `3 of 12 records`, or `first 3 records; there are more`, if not all are drawn
+pub record IsDrawnWithNote (Draws : Bool → Option ℕ → Text → Type 0) (options : Options)
+    (records : List (List Text)) (text : Text) : Type 0 where
+  pub count : Option ℕ
+  pub is_count : IsCount options records count
+  pub is_expanded : Bool
+  pub expansion : MayExpand options.look.expansion is_expanded
+  pub drawn : Text
+  pub draws : Draws is_expanded count drawn
+  pub joined : text ≡ drawn ++ note_for false options.selection.limit count
+
+-- a text is that of expanded records, from that of this number on: a line `record 2 of 7`, or
+-- `record 2`, and below it a text for the record's fields
+abbrev pub AreExpanded : (List Text → Text → Type 0) → Option ℕ → ℕ → List (List Text) → Text
+    → Type 0
+AreExpanded Shows count number [] text = text ≡ []
+AreExpanded Shows count number (fields ∷ rows) text =
+    (own : Text) × (rest : Text) × (text ≡ record_line number count ++ (own ++ rest))
+    × Shows fields own × AreExpanded Shows count (number + 1) rows rest
+
+-- P holds of each line of a text
+pub record HasEachLine (P : Text → Type 0) (text : Text) : Type 0 where
+  pub lines : List Text
+  pub are : AreLinesOf text lines
+  pub each : All P lines
+
+-- P holds of each drawn line, so not of the numbers of expanded records
+abbrev pub DrawsLines :
+    (Text → Type 0) → List (List Text) → Bool → Option ℕ → Text → Type 0
+DrawsLines P rows false count text = HasEachLine P text
+DrawsLines P rows true count text =
+    AreExpanded (λ fields own. HasEachLine P own) count 1 rows text
+
+-- P holds of each line that is written of records, but for those that count records
+abbrev pub EachDrawnLine : (Text → Type 0) → Options → List (List Text) → Text → Type 0
+EachDrawnLine P options records text =
+    IsDrawnWithNote (DrawsLines P (drawn_rows options.selection records)) options records text
