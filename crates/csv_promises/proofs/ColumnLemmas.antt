@@ -151,6 +151,10 @@ module _ (options : Options) (records : List (List Text)) (known : Option ℕ) (
   placed : map (λ (column : DrawnColumn). column.position) columns ≡ own.drawn
   placed = positions-shown own (map (seen options.look.has_sequences) rows)
 
+  -- the drawn columns are those that options choose
+  pub chosen_positions : map (λ (column : DrawnColumn). column.position) columns ≡ positions_in options names rows
+  chosen_positions = placed ∙ positions
+
   long : length columns ≡ length own.drawn
   long = omega (arith, length-map columns (λ (column : DrawnColumn). column.position), ap length placed)
 

@@ -1,10 +1,12 @@
-pub mod BoldLemmas
 mod ColumnLemmas
+mod FrameLemmas
+mod MessageLemmas
+mod WidthLemmas
+pub mod BoldLemmas
 pub mod ExpandedLemmas
 pub mod FieldLemmas
-mod FrameLemmas
 pub mod LineLemmas
-mod MessageLemmas
+mod MarkdownLemmas
 pub mod OutputFieldLemmas
 pub mod OutputLemmas
 pub mod PositionLemmas
@@ -13,4 +15,4 @@ pub mod ResultLemmas
 pub mod ShownTableLemmas
 pub mod SpacedLemmas
 pub mod StraightLemmas
-mod WidthLemmas
+pub mod WrittenLemmas

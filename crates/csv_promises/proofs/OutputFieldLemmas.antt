@@ -40,7 +40,7 @@ use Rattle.csv_promises.proofs.PositionLemmas.{chosen, kept_positions}
 use Rattle.csv_promises.proofs.RecordLemmas.{all_drawn, with_rows-header}
 use Rattle.csv_promises.proofs.ShownTableLemmas.{HasRowsOf, has_rows_of, part_shows}
 use Rattle.csv_promises.proofs.LineLemmas.{may_expand, no_records, no_rows, none_drawn}
-use Rattle.csv_promises.proofs.StraightLemmas.{IsDrawnBy, by_extent}
+use Rattle.csv_promises.proofs.WrittenLemmas.{IsDrawnBy, by_extent}
 use Rattle.csv_promises.specs.Counted.{AreExpanded, MayExpand}
 use Rattle.csv_promises.specs.Fields.{IsDrawingOf, fields_at, row_behind, rows_from, ShowsDrawn, ShowsPairs, ShowsRecords, ShowsRows, pairs_at, positions_in, all_rows}
 use Rattle.csv_promises.specs.Written.{IsWritten}
@@ -293,15 +293,15 @@ module _ (o : Options) (all : DrawsAll o.look) (count : Option ℕ) (records : L
       text = subst (λ (c : SelectedValue). RendersAsTable look c made.is_output.text) same (is_table_text count (layout_with o made.columns) records output made.is_output all.table)
 
 -- so of what is written for arguments
-module _ (arguments : List Text) (context : OutputContext) (invocation : Invocation) (input : Text) (records : List (List Text)) (output : Text) (is : IsWritten arguments context invocation input records output) where
+module _ (arguments : List Text) (context : OutputContext) (invocation : Invocation) (input : Text) (records : List (List Text)) (output : Text) (is : IsWritten false arguments context invocation input records output) where
   abbrev options : Options
   options = invocation.options
 
   pub fields_shown : options.look.max_height ≡ None → ShowsRecords options records output
-  fields_shown uncut = by_extent arguments context invocation input records output is (ShowsRecords options records output) nothing drawn_by
+  fields_shown uncut = by_extent false arguments context invocation input records output is (ShowsRecords options records output) nothing drawn_by
     where
       all : DrawsAll options.look
-      all = record { unkept = is.unkept; table = is.no_markdown; uncut = uncut; style = unbroken_without options.look.style (parsed_style_without_controls arguments context invocation is.is_asked) }
+      all = record { unkept = is.unkept; table = is.kind; uncut = uncut; style = unbroken_without options.look.style (parsed_style_without_controls arguments context invocation is.is_asked) }
 
       by_kind : (is_expanded : Bool) (count : Option ℕ) → ShowsDrawn is_expanded options None [] count []
       by_kind true count = refl
@@ -317,7 +317,7 @@ module _ (arguments : List Text) (context : OutputContext) (invocation : Invocat
       nothing : records ≡ [] → output ≡ [] → ShowsRecords options records output
       nothing empty no_output = subst (λ (rs : List (List Text)). ShowsRecords options rs output) (sym empty) (subst (ShowsRecords options []) (sym no_output) none)
 
-      drawn_by : (known : Option ℕ) (rs : List (List Text)) → IsDrawnBy arguments context invocation input records output is known rs → ShowsRecords options records output
+      drawn_by : (known : Option ℕ) (rs : List (List Text)) → IsDrawnBy false arguments context invocation input records output is known rs → ShowsRecords options records output
       drawn_by known rs by =
           let shown : IsShown options (names_of options.selection.has_header records) (drawn_rows options.selection records) known output =
           subst (λ (own : Option (List Text)). IsShown options own (drawn_rows options.selection records) known output) by.names

@@ -27,29 +27,19 @@ use Rattle.csv_tables.specs.declared.options.Look.{Look}
 use Rattle.csv_command.specs.declared.arguments.Options.{Options}
 use Rattle.csv_tables.specs.declared.options.Layout.{Layout}
 use Rattle.csv_tables.proofs.CleanCharacterLemmas.{lines_pass}
-use Rattle.csv_records.proofs.BeginningLemmas.{first_records_stay}
-use Rattle.csv_records.specs.Beginning.{whole_lines}
-use Rattle.csv_command.proofs.RunLemmas.{beginning_parts}
-use Rattle.devices.specs.Outcome.{asked_front}
-use Rattle.csv_records.proofs.OneRecordLemmas.{read_is_one}
-use Rattle.csv_records.specs.Reading.{AreRecordsFor}
 use Rattle.csv_tables.proofs.OutputControlLemmas.{text_fields, unbroken_without}
 use Rattle.csv_tables.proofs.MarkdownWidthLemmas.{whole_is_straight}
 use Rattle.csv_tables.proofs.StraightLemmas.{IsShort, fitting_is_straight, narrow_is_straight, empty_is_short}
 use Rattle.csv_command.proofs.StyleLemmas.{parsed_style_is_one_column, parsed_style_without_controls}
 use Rattle.csv_tables.proofs.TextTableLemmas.{EachLine}
-use Rattle.csv_command.specs.Columns.{columns_by, columns_for}
-use Rattle.csv_tables.specs.Columns.{count_of, drawn_columns, seen}
-use Rattle.csv_tables.specs.Drawn.{SelectedValue, count_below, drawn_rows, limited, names_of, records_below, selected_of}
-use Rattle.csv_command.specs.Drawn.{IsDrawnOf, RendersChosen, RendersCounted, layout_with, most_drawn}
+use Rattle.csv_command.specs.Drawn.{layout_with}
 use Rattle.csv_tables.specs.Laws.{ArePlainLines, CharactersFitEachWidth, EachText, IsStraightOutput}
 use Rattle.promises.proofs.FittingLemmas.{text_fits}
 use Rattle.promises.specs.Tables.{HasCharactersWithin}
-use Rattle.csv_promises.proofs.LineLemmas.{nothing_drawn, straight_text}
-use Rattle.csv_promises.proofs.RecordLemmas.{AreDrawnFirst, first_are_drawn}
+use Rattle.csv_promises.proofs.LineLemmas.{straight_text}
+use Rattle.csv_promises.proofs.WrittenLemmas.{IsDrawnBy, by_extent, nothing, own_fields, same_columns, same_content}
 use Rattle.csv_promises.specs.Written.{IsWritten}
 use Rattle.promises.specs.Shown.{ShowsColumns}
-use Rattle.csv_promises.specs.Counted.{EachDrawnLine, IsCount}
 use Rattle.csv_promises.specs.Straight.{EachField, FieldsFitTheirColumns, IsPlainField, IsStraight}
 
 -- a character takes at most one column, and isn't U+FE01
@@ -97,17 +87,10 @@ module _ (look : Look) (unkept : look.has_sequences ≡ false) (none : look.is_m
 
 -- ---- outputs
 
--- what holds of all elements holds of the first ones
-All-front : {A : Type 0} (P : A → Type 0) (xs ys : List A) → All P (xs ++ ys) → All P xs
-All-front P [] ys all = All-nil P
-All-front P (x ∷ xs) ys all = All-cons P x xs (All-head P x (xs ++ ys) all) (All-front P xs ys (All-tail P x (xs ++ ys) all))
-
-module _ (arguments : List Text) (context : OutputContext) (invocation : Invocation) (input : Text) (records : List (List Text)) (output : Text) (is : IsWritten arguments context invocation input records output) where
+-- of a table that isn't for Markdown
+module _ (arguments : List Text) (context : OutputContext) (invocation : Invocation) (input : Text) (records : List (List Text)) (output : Text) (is : IsWritten false arguments context invocation input records output) where
   abbrev options : Options
   options = invocation.options
-
-  abbrev h : Bool
-  h = options.selection.has_header
 
   clear : IsStyleWithoutControls options.look.style
   clear = parsed_style_without_controls arguments context invocation is.is_asked
@@ -115,112 +98,56 @@ module _ (arguments : List Text) (context : OutputContext) (invocation : Invocat
   pub one_column : IsOneColumnStyle options.look.style
   one_column = parsed_style_is_one_column arguments context invocation is.is_asked
 
-  texts : All AllText records
-  texts = is.are.are_records.are_records.are_text
+  abbrev IsDrawn : Option ℕ → List (List Text) → Type 0
+  IsDrawn = IsDrawnBy false arguments context invocation input records output is
 
-  -- the output is drawn of these, as many as are drawn: of all records, or of the first ones
-  pub record IsDrawnBy (known : Option ℕ) (rs : List (List Text)) : Type 0 where
-    pub text : All AllText rs
-    pub made : RendersChosen known options rs output
-    pub more : List (List Text)
-    pub front : records ≡ rs ++ more
-    pub names : names_of h rs ≡ names_of h records
-    pub rows : drawn_rows options.selection rs ≡ drawn_rows options.selection records
-    pub counted : IsCount options records known
-
-  -- it is nothing, if there are no records, or so drawn
-  pub by_extent : (Good : Type 0) → (records ≡ [] → output ≡ [] → Good) → ((known : Option ℕ) (rs : List (List Text)) → IsDrawnBy known rs → Good) → Good
-  by_extent Good empty law = by_made is.made
-    where
-      any : (rs : List (List Text)) → records ≡ rs → RendersCounted options rs output → Good
-      any [] same nothing = empty same nothing
-      any (r ∷ rs) same drawn =
-          law (Some (count_below options.selection (r ∷ rs))) (r ∷ rs)
-          (record { text = subst (All AllText) same texts; made = drawn; more = []; front = same ∙ sym (append-nil (r ∷ rs)); names = ap (names_of h) (sym same); rows = ap (drawn_rows options.selection) (sym same); counted = ap (count_below options.selection) (sym same) })
-
-      by_made : IsDrawnOf options input output → Good
-      by_made (inl (none, made)) = any records refl (subst (λ (rs : List (List Text)). RendersCounted options rs output) (read_is_one options.input input made.records records made.are_records is.are) made.is_output)
-      by_made (inr (n, asked, made)) =
-          let beginning = whole_lines (asked_front n input) in
-          let parts = beginning_parts n input in
-          let enough = made.are_enough in
-          let limit = enough.has_limit.limit in
-          let found = first_records_stay options.input (most_drawn h limit) beginning parts.0 made.records records enough.are (subst (λ (t : Text). AreRecordsFor options.input t records) parts.1 is.are) in
-          let first : AreDrawnFirst h limit made.records records = subst (AreDrawnFirst h limit made.records) (sym found.1) (first_are_drawn h limit made.records found.0 enough.are.more) in
-          law None made.records
-          (record {
-            text = enough.are.are_records.are_records.are_text;
-            made = made.is_output;
-            more = found.0;
-            front = found.1;
-            names = first.names;
-            rows = subst (λ (l : Option ℕ). limited l (records_below h made.records) ≡ limited l (records_below h records)) (sym enough.has_limit.is) first.rows;
-            counted = (enough.has_limit.uncounted, subst (λ (l : Option ℕ). length (limited l (records_below h records)) < length (records_below h records)) (sym enough.has_limit.is) first.fewer);
-          })
-
-  module _ (known : Option ℕ) (rs : List (List Text)) (by : IsDrawnBy known rs) where
+  module _ (known : Option ℕ) (rs : List (List Text)) (by : IsDrawn known rs) where
     abbrev layout : Layout
     layout = layout_with options by.made.columns
 
     pub plain : ArePlainLines true options.look rs
     plain = record { seen = (clear, by.text); unbroken = unbroken_without options.look.style clear; no_sequences = is.unkept }
 
-    -- what holds of all fields holds of those that are drawn
-    own_fields : (P : Text → Type 0) → EachField P records → EachField P rs
-    own_fields P each = All-front (All P) rs by.more (subst (All (All P)) by.front each)
+    own : (P : Text → Type 0) → EachField P records → EachField P rs
+    own = own_fields false arguments context invocation input records output is known rs by
 
     pub own_fit : EachField (HasCharactersWithin 1) records → EachText (CharactersFit 1) options.look rs
-    own_fit each = fields_fit options.look is.unkept is.no_markdown rs by.text (own_fields (HasCharactersWithin 1) each)
+    own_fit each = fields_fit options.look is.unkept is.kind rs by.text (own (HasCharactersWithin 1) each)
 
     -- an output whose lines are straight is so
     straight : IsStraightOutput true known layout rs output → IsStraight options records output
-    straight = straight_text options records rs known by.made.columns output is.no_markdown by.counted by.rows
+    straight = straight_text options records rs known by.made.columns output is.kind by.counted by.rows
 
     narrow_law : EachField (HasCharactersWithin 1) records → IsStraight options records output
-    narrow_law each = straight (narrow_is_straight true known layout rs output is.no_markdown one_column plain (own_fit each) by.made.is_output)
+    narrow_law each = straight (narrow_is_straight true known layout rs output is.kind one_column plain (own_fit each) by.made.is_output)
 
     whole_law : options.look.width ≡ None → options.look.max_height ≡ None → EachField IsPlainField records → IsStraight options records output
     whole_law no_width uncut each =
         straight
-        (whole_is_straight true known layout rs output one_column plain no_width (inl uncut) (plain_fields_are_short options.look is.unkept is.no_markdown rs by.text (own_fields IsPlainField each)) by.made.is_output)
-
-    -- the same columns are chosen of those that are drawn and of all records, and the same is drawn of them
-    same_columns : columns_for options records ≡ columns_for options rs
-    same_columns =
-        ap₂ (λ (names : Option (List Text)) (rows : List (List Text)). columns_by options.columns (unwrap_or names []) (count_of (unwrap_or names []) rows)) (sym by.names) (sym by.rows)
-
-    same_content : selected_of known layout records ≡ selected_of known layout rs
-    same_content =
-        ap₂ (λ (names : Option (List Text)) (rows : List (List Text)). let content : SelectedValue = record { names = names; rows = rows; columns = drawn_columns layout.columns (map (seen options.look.has_sequences) rows); count = known; is_numbered = options.selection.is_numbered } in content)
-        (sym by.names) (sym by.rows)
+        (whole_is_straight true known layout rs output one_column plain no_width (inl uncut) (plain_fields_are_short options.look is.unkept is.kind rs by.text (own IsPlainField each)) by.made.is_output)
 
     fitting_law : FieldsFitTheirColumns options records → IsStraight options records output
     fitting_law fit =
         straight
-        (fitting_is_straight true known layout rs output is.no_markdown one_column plain each by.made.is_output)
+        (fitting_is_straight true known layout rs output is.kind one_column plain each by.made.is_output)
       where
         each : CharactersFitEachWidth known layout rs
-        each content table widths same drawn arranged = fit known by.made.columns (same_columns ∙ by.made.are_chosen) content table widths (same_content ∙ same) drawn arranged
-
-  -- of no records no line is drawn
-  pub nothing : (P : Text → Type 0) → records ≡ [] → output ≡ [] → EachDrawnLine P options records output
-  nothing P none empty =
-      subst (λ (rs : List (List Text)). EachDrawnLine P options rs output) (sym none) (subst (EachDrawnLine P options []) (sym empty) (nothing_drawn P options))
+        each content table widths same drawn arranged = fit known by.made.columns (same_columns false arguments context invocation input records output is known rs by ∙ by.made.are_chosen) content table widths (same_content false arguments context invocation input records output is known rs by ∙ same) drawn arranged
 
   no_line : records ≡ [] → output ≡ [] → IsStraight options records output
-  no_line none empty = (0, nothing (ShowsColumns 0) none empty)
+  no_line none empty = (0, nothing false arguments context invocation input records output is (ShowsColumns 0) none empty)
 
   -- where no character takes more than one terminal column
   pub narrow_for : EachField (HasCharactersWithin 1) records → IsStraight options records output
-  narrow_for each = by_extent (IsStraight options records output) no_line (λ known rs by. narrow_law known rs by each)
+  narrow_for each = by_extent false arguments context invocation input records output is (IsStraight options records output) no_line (λ known rs by. narrow_law known rs by each)
 
   -- and where no width is kept to and no row is cut
   pub whole_for : options.look.width ≡ None → options.look.max_height ≡ None → EachField IsPlainField records → IsStraight options records output
-  whole_for no_width uncut each = by_extent (IsStraight options records output) no_line (λ known rs by. whole_law known rs by no_width uncut each)
+  whole_for no_width uncut each = by_extent false arguments context invocation input records output is (IsStraight options records output) no_line (λ known rs by. whole_law known rs by no_width uncut each)
 
   -- and where each character of the fields has room in its column
   pub fitting_for : FieldsFitTheirColumns options records → IsStraight options records output
-  fitting_for fit = by_extent (IsStraight options records output) no_line (λ known rs by. fitting_law known rs by fit)
+  fitting_for fit = by_extent false arguments context invocation input records output is (IsStraight options records output) no_line (λ known rs by. fitting_law known rs by fit)
 
 -- what isn't some is none
 pub none_where : {A : Type 0} (o : Option A) → false ≡ is_some o → o ≡ None

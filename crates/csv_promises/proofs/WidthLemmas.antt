@@ -33,7 +33,8 @@ use Rattle.promises.specs.Tables.{HasCharactersWithin}
 use Rattle.csv_promises.proofs.ColumnLemmas.{drawn_count, no_rows-is, reaches_one, some_column}
 use Rattle.csv_promises.proofs.FrameLemmas.{column_is_shown, frame_has_room, width_has_room, places_of}
 use Rattle.csv_promises.proofs.LineLemmas.{output_lines, shown_line}
-use Rattle.csv_promises.proofs.StraightLemmas.{IsDrawnBy, by_extent, nothing, one_column, own_fit, plain}
+use Rattle.csv_promises.proofs.StraightLemmas.{one_column, own_fit, plain}
+use Rattle.csv_promises.proofs.WrittenLemmas.{IsDrawnBy, by_extent, nothing}
 use Rattle.csv_promises.specs.Fields.{positions_in}
 use Rattle.csv_promises.specs.Counted.{EachDrawnLine, IsCount}
 use Rattle.csv_promises.specs.Straight.{EachField}
@@ -184,12 +185,12 @@ module _ (w : ℕ) (o : Options) (known : Option ℕ) (records : List (List Text
 
 -- ---- what is written for arguments
 
-module _ (arguments : List Text) (context : OutputContext) (invocation : Invocation) (input : Text) (records : List (List Text)) (output : Text) (is : IsWritten arguments context invocation input records output) where
+module _ (arguments : List Text) (context : OutputContext) (invocation : Invocation) (input : Text) (records : List (List Text)) (output : Text) (is : IsWritten false arguments context invocation input records output) where
   abbrev options : Options
   options = invocation.options
 
   pub keeps_width : (w : ℕ) → options.look.width ≡ Some w → EachField (HasCharactersWithin 1) records → EachDrawnLine (KeepsTo w (frame_room (framed_columns options records)) options.look.fills_width) options records output
-  keeps_width w wide each = by_extent arguments context invocation input records output is (Good frame) (nothing arguments context invocation input records output is (KeepsTo w frame options.look.fills_width)) drawn_by
+  keeps_width w wide each = by_extent false arguments context invocation input records output is (Good frame) (nothing false arguments context invocation input records output is (KeepsTo w frame options.look.fills_width)) drawn_by
     where
       frame : ℕ
       frame = frame_room (framed_columns options records)
@@ -201,10 +202,10 @@ module _ (arguments : List Text) (context : OutputContext) (invocation : Invocat
       framed names rows =
           frame_room (columns_by options.look.expansion (not (length rows == 0)) (length (positions_in options (unwrap_or names []) rows) + (if options.selection.is_numbered then 1 else 0)))
 
-      drawn_by : (known : Option ℕ) (rs : List (List Text)) → IsDrawnBy arguments context invocation input records output is known rs → Good frame
+      drawn_by : (known : Option ℕ) (rs : List (List Text)) → IsDrawnBy false arguments context invocation input records output is known rs → Good frame
       drawn_by known rs by =
           let fits = own_fit arguments context invocation input records output is known rs by each in
           let own =
-          keep w options known rs output wide is.no_markdown (one_column arguments context invocation input records output is) (plain arguments context invocation input records output is known rs by) fits by.made records by.counted by.rows in
+          keep w options known rs output wide is.kind (one_column arguments context invocation input records output is) (plain arguments context invocation input records output is known rs by) fits by.made records by.counted by.rows in
           let same_frame : frame_room (framed_columns options rs) ≡ frame = ap₂ framed by.names by.rows in
           subst Good same_frame own

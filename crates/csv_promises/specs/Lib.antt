@@ -1,5 +1,6 @@
 pub mod Counted
 pub mod Fields
+pub mod MarkdownTable
 pub mod Messages
 pub mod Straight
 pub mod Width

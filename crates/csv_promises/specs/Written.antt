@@ -1,6 +1,6 @@
 -- Private: what is written of an input for arguments.
 -- Source: this library's own.
-use Rattle.std.specs.Prelude.{◌≡◌, false, List}
+use Rattle.std.specs.Prelude.{◌≡◌, Bool, false, List}
 use Rattle.comfy_parts.specs.Text.{Text}
 use Rattle.csv_command.specs.Arguments.{IsParsed}
 use Rattle.csv_command.specs.declared.arguments.Invocation.{Invocation}
@@ -8,12 +8,13 @@ use Rattle.csv_command.specs.declared.arguments.OutputContext.{OutputContext}
 use Rattle.csv_records.specs.Reading.{AreRecordsFor}
 use Rattle.csv_command.specs.Drawn.{IsDrawnOf}
 
--- arguments ask for a table of cleaned fields in which no sequences are kept; and these are the
--- records of an input, and what is written of it
-pub record IsWritten (arguments : List Text) (context : OutputContext) (invocation : Invocation)
-    (input : Text) (records : List (List Text)) (output : Text) : Type 0 where
+-- arguments ask for a table for Markdown, or for another one, in which no sequences are kept; and
+-- these are the records of an input, and what is written of it
+pub record IsWritten (is_markdown : Bool) (arguments : List Text) (context : OutputContext)
+    (invocation : Invocation) (input : Text) (records : List (List Text)) (output : Text)
+    : Type 0 where
   pub is_asked : IsParsed arguments context invocation
   pub unkept : invocation.options.look.has_sequences ≡ false
-  pub no_markdown : invocation.options.look.is_markdown ≡ false
+  pub kind : invocation.options.look.is_markdown ≡ is_markdown
   pub are : AreRecordsFor invocation.options.input input records
   pub made : IsDrawnOf invocation.options input output
