@@ -26,13 +26,13 @@ use Rattle.csv_command.proofs.OneParseLemmas.{finds_are_one}
 use Rattle.csv_command.proofs.OutputControlLemmas.{beginning_without_controls, input_without_controls}
 use Rattle.csv_command.specs.OneOutput.{AreSameOptions}
 use Rattle.comfy_parts.specs.VisibleText.{visible_text}
-use Rattle.csv_tables.specs.Controls.{HasNoStrayControl}
+use Rattle.csv_tables.specs.Controls.{HasNothingHarmful}
 use Rattle.csv_command.specs.Drawn.{IsDrawnOf}
 use Rattle.csv_records.specs.Beginning.{whole_lines}
 use Rattle.devices.specs.Outcome.{asked_front}
 use Rattle.csv_command.specs.Laws.{InvocationIsOne, ParsedOutputHoldsNoControls, DrawnHoldsNoControls, DrawnIsOne}
 use Rattle.csv_command.proofs.StyleLemmas.{parsed_style_without_controls}
-use Rattle.csv_tables.specs.Controls.{IsStyleWithoutControls}
+use Rattle.csv_tables.specs.Controls.{IsHarmlessStyle}
 use Rattle.csv_records.specs.declared.options.InputOptions.{InputOptions}
 use Rattle.csv_records.specs.declared.encoding.Encoding.{Encoding}
 use Rattle.csv_command.specs.Refusals.{not_a_terminal}
@@ -154,10 +154,10 @@ drawn_is_one arguments input drawing other first second =
 pub parsed_without_controls : (arguments : List Text) (context : OutputContext) (invocation : Invocation) (input output : Text) → ParsedOutputHoldsNoControls arguments context invocation input output
 parsed_without_controls arguments context invocation input output is = by_extent
   where
-    style : IsStyleWithoutControls invocation.options.look.style
+    style : IsHarmlessStyle invocation.options.look.style
     style = parsed_style_without_controls arguments context invocation is
 
-    by_extent : IsDrawnOf invocation.options input output → HasNoStrayControl (visible_text output)
+    by_extent : IsDrawnOf invocation.options input output → HasNothingHarmful (visible_text output)
     by_extent (inl (none, made)) = input_without_controls invocation.options input output style made
     by_extent (inr (n, asked, made)) = beginning_without_controls invocation.options (whole_lines (asked_front n input)) output style made
 

@@ -1,7 +1,6 @@
--- Each style that arguments can ask for has characters of one terminal column, and no control character.
+-- Each style that arguments can ask for has characters of one terminal column, and none that is replaced in fields.
 use Rattle.std.proofs.Common.{◌≡◌, ℕ, Bool, not, true, List, [], ◌∷◌, Option, Some, None, codes, option_map, unwrap_or, refl, subst, sym}
 use Rattle.std.proofs.lemmas.Bool.{and_parts, cond_both, not-true}
-use Rattle.std.specs.Char.{is_control}
 use Rattle.std.specs.List.{find, list_all, list_any}
 use Rattle.std.specs.Option.{option_or}
 use Rattle.clap.specs.Words.{first_value}
@@ -14,7 +13,8 @@ use Rattle.csv_command.specs.Arguments.{IsParsed}
 use Rattle.csv_command.specs.Styles.{is_named, named_style, own_styles, style_for, style_within}
 use Rattle.csv_command.specs.declared.arguments.Invocation.{Invocation}
 use Rattle.csv_command.specs.declared.arguments.OutputContext.{OutputContext}
-use Rattle.csv_tables.specs.Controls.{IsStyleWithoutControls}
+use Rattle.csv_records.specs.Cleaning.{is_replaced}
+use Rattle.csv_tables.specs.Controls.{IsHarmlessStyle}
 
 module _ (p : TableStyle → Bool) where
   -- a style passes, or `UTF8_FULL` in the place of none
@@ -40,9 +40,9 @@ pub styles_are_one_column : (name : Option Text) → IsOneColumnStyle (style_for
 styles_are_one_column None = one_column_characters (style_for None) refl
 styles_are_one_column (Some word) = one_column_characters (named_style word) (named_passes has_frame_characters refl refl refl word)
 
-pub styles_without_controls : (name : Option Text) → IsStyleWithoutControls (style_for name)
+pub styles_without_controls : (name : Option Text) → IsHarmlessStyle (style_for name)
 styles_without_controls None = refl
-styles_without_controls (Some word) = not-true _ (named_passes (λ style. not (list_any (λ (c : Option ℕ). is_control (unwrap_or c 0x20)) (style_characters style))) refl refl refl word)
+styles_without_controls (Some word) = not-true _ (named_passes (λ style. not (list_any (λ (c : Option ℕ). is_replaced (unwrap_or c 0x20)) (style_characters style))) refl refl refl word)
 
 -- ---- styles of arguments
 
@@ -50,5 +50,5 @@ module _ (arguments : List Text) (context : OutputContext) (invocation : Invocat
   pub parsed_style_is_one_column : IsOneColumnStyle invocation.options.look.style
   parsed_style_is_one_column = subst IsOneColumnStyle (sym is.options.look.style) (styles_are_one_column (first_value is.found (codes "style")))
 
-  pub parsed_style_without_controls : IsStyleWithoutControls invocation.options.look.style
-  parsed_style_without_controls = subst IsStyleWithoutControls (sym is.options.look.style) (styles_without_controls (first_value is.found (codes "style")))
+  pub parsed_style_without_controls : IsHarmlessStyle invocation.options.look.style
+  parsed_style_without_controls = subst IsHarmlessStyle (sym is.options.look.style) (styles_without_controls (first_value is.found (codes "style")))

@@ -9,7 +9,7 @@ ghost use Rattle.csv_command.specs.Styles.{style_for};
 ghost use Rattle.csv_command.specs.declared.arguments.Invocation.{Invocation};
 ghost use Rattle.csv_command.specs.declared.arguments.Options.{Options};
 ghost use Rattle.csv_command.specs.declared.arguments.OutputContext.{OutputContext};
-ghost use Rattle.csv_tables.specs.Controls.{IsStyleWithoutControls};
+ghost use Rattle.csv_tables.specs.Controls.{IsHarmlessStyle};
 
 /// Without its SGR sequences an output holds no control character but line feeds, whatever bytes
 /// the input has, under every width, limit and height, in Markdown and in bold, also where a
@@ -33,7 +33,7 @@ pub fn outputs_are_one()
 
 /// No style that arguments can ask for has a control character.
 pub fn named_styles_hold_no_controls()
-    ensures { (name : Option Text) → IsStyleWithoutControls (style_for name) }
+    ensures { (name : Option Text) → IsHarmlessStyle (style_for name) }
 {}
 
 /// Without its SGR sequences an output that arguments ask for holds no control character but line

@@ -18,7 +18,7 @@ use Rattle.csv_tables.specs.declared.options.Expansion.{Expansion}
 use Rattle.csv_tables.specs.declared.options.Expansion.TheVariants.{Always, Auto, Never}
 use Rattle.promises.proofs.ShownLemmas.{shows_visible}
 use Rattle.promises.specs.Shown.{ShowsColumns}
-use Rattle.csv_promises.specs.Counted.{AreExpanded, DrawsLines, EachDrawnLine, HasEachLine, IsCount, IsDrawnWithNote, MayExpand}
+use Rattle.csv_promises.specs.Counted.{AreExpanded, DrawsLines, EachDrawnLine, HasEachLine, IsCount, IsWrittenFor, MayExpand}
 use Rattle.csv_promises.specs.Straight.{IsStraight}
 
 -- ---- no records
@@ -36,7 +36,7 @@ pub no_rows : (options : Options) → drawn_rows options.selection [] ≡ []
 no_rows options = ap (limited options.selection.limit) (no_records options.selection.has_header).1 ∙ no_limited options.selection.limit
 
 -- of no records nothing is drawn, and there is no note
-pub none_drawn : (Draws : Bool → Option ℕ → Text → Type 0) (options : Options) → ((is_expanded : Bool) (count : Option ℕ) → Draws is_expanded count []) → IsDrawnWithNote Draws options [] []
+pub none_drawn : (Draws : Bool → Option ℕ → Text → Type 0) (options : Options) → ((is_expanded : Bool) (count : Option ℕ) → Draws is_expanded count []) → IsWrittenFor Draws options [] []
 none_drawn Draws options empty =
     let kind = either options.look.expansion in
     record {

@@ -18,7 +18,8 @@ use Rattle.csv_command.specs.declared.arguments.Invocation.{Invocation}
 use Rattle.csv_command.specs.declared.arguments.OutputContext.{OutputContext}
 use Rattle.csv_tables.proofs.BuiltLemmas.{plain_table}
 use Rattle.csv_tables.proofs.LineLemmas.{is_table_text}
-use Rattle.csv_tables.proofs.OutputControlLemmas.{text_fields, unbroken_without}
+use Rattle.csv_tables.proofs.OutputControlLemmas.{unbroken_without}
+use Rattle.csv_tables.proofs.FieldControlLemmas.{text_fields}
 use Rattle.csv_tables.proofs.RowLemmas.{positions-shown, with_rows-rows}
 use Rattle.csv_tables.specs.Cells.{Shown, cell_for, columns_within, shown_cells, shown_in, with_weight, number_name, row_for, counted_from}
 use Rattle.csv_tables.specs.Columns.{ColumnsValue, count_of, name_at, seen}

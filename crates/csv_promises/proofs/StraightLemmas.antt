@@ -20,14 +20,15 @@ use Rattle.csv_records.proofs.CleaningLemmas.{drawn_so}
 use Rattle.csv_tables.proofs.BlankLemmas.{unless_blank-keeps}
 use Rattle.csv_tables.specs.Cells.{field_text, marked, unless_blank}
 use Rattle.csv_records.specs.Cleaning.{cleaned, turns_direction}
-use Rattle.csv_tables.specs.Controls.{IsStyleWithoutControls}
+use Rattle.csv_tables.specs.Controls.{IsHarmlessStyle}
 use Rattle.csv_command.specs.declared.arguments.Invocation.{Invocation}
 use Rattle.csv_command.specs.declared.arguments.OutputContext.{OutputContext}
 use Rattle.csv_tables.specs.declared.options.Look.{Look}
 use Rattle.csv_command.specs.declared.arguments.Options.{Options}
 use Rattle.csv_tables.specs.declared.options.Layout.{Layout}
 use Rattle.csv_tables.proofs.CleanCharacterLemmas.{lines_pass}
-use Rattle.csv_tables.proofs.OutputControlLemmas.{text_fields, unbroken_without}
+use Rattle.csv_tables.proofs.OutputControlLemmas.{unbroken_without}
+use Rattle.csv_tables.proofs.FieldControlLemmas.{text_fields}
 use Rattle.csv_tables.proofs.MarkdownWidthLemmas.{whole_is_straight}
 use Rattle.csv_tables.proofs.StraightLemmas.{IsShort, fitting_is_straight, narrow_is_straight, empty_is_short}
 use Rattle.csv_command.proofs.StyleLemmas.{parsed_style_is_one_column, parsed_style_without_controls}
@@ -92,7 +93,7 @@ module _ (arguments : List Text) (context : OutputContext) (invocation : Invocat
   abbrev options : Options
   options = invocation.options
 
-  clear : IsStyleWithoutControls options.look.style
+  clear : IsHarmlessStyle options.look.style
   clear = parsed_style_without_controls arguments context invocation is.is_asked
 
   pub one_column : IsOneColumnStyle options.look.style

@@ -25,16 +25,24 @@ IsCount options records count =
     (λ n. n ≡ length (records_below options.selection.has_header records))
 
 -- what is written of records: what is drawn of them, expanded or not, and then the note
--- `3 of 12 records`, or `first 3 records; there are more`, if not all are drawn
-pub record IsDrawnWithNote (Draws : Bool → Option ℕ → Text → Type 0) (options : Options)
-    (records : List (List Text)) (text : Text) : Type 0 where
+-- `3 of 12 records`, or `first 3 records; there are more`, if the limit leaves some out
+pub record IsDrawnWithNote (Draws : Bool → Option ℕ → Text → Type 0)
+    (MayCount : Option ℕ → Type 0) (wanted : Expansion) (limit : Option ℕ) (text : Text)
+    : Type 0 where
   pub count : Option ℕ
-  pub is_count : IsCount options records count
+  pub is_count : MayCount count
   pub is_expanded : Bool
-  pub expansion : MayExpand options.look.expansion is_expanded
+  pub expansion : MayExpand wanted is_expanded
   pub drawn : Text
   pub draws : Draws is_expanded count drawn
-  pub joined : text ≡ drawn ++ note_for false options.selection.limit count
+  pub joined : text ≡ drawn ++ note_for false limit count
+
+-- so it is for options
+abbrev pub IsWrittenFor : (Bool → Option ℕ → Text → Type 0) → Options → List (List Text) → Text
+    → Type 0
+IsWrittenFor Draws options records text =
+    IsDrawnWithNote Draws (IsCount options records) options.look.expansion options.selection.limit
+    text
 
 -- a text is that of expanded records, from that of this number on: a line `record 2 of 7`, or
 -- `record 2`, and below it a text for the record's fields
@@ -61,4 +69,4 @@ DrawsLines P rows true count text =
 -- P holds of each line that is written of records, but for those that count records
 abbrev pub EachDrawnLine : (Text → Type 0) → Options → List (List Text) → Text → Type 0
 EachDrawnLine P options records text =
-    IsDrawnWithNote (DrawsLines P (drawn_rows options.selection records)) options records text
+    IsWrittenFor (DrawsLines P (drawn_rows options.selection records)) options records text

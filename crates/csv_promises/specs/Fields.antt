@@ -14,7 +14,7 @@ use Rattle.csv_command.specs.Columns.{columns_chosen, positions_between, without
 use Rattle.csv_tables.specs.Drawn.{condensed_style, drawn_rows, names_of}
 use Rattle.csv_tables.specs.declared.options.Look.{Look}
 use Rattle.csv_command.specs.declared.arguments.Options.{Options}
-use Rattle.csv_promises.specs.Counted.{AreExpanded, IsDrawnWithNote}
+use Rattle.csv_promises.specs.Counted.{AreExpanded, IsWrittenFor}
 use Rattle.promises.specs.Headline.{IsFramedTable}
 
 -- ---- rows of fields
@@ -152,7 +152,7 @@ ShowsDrawn true options names rows count text =
 -- the note on others
 abbrev pub ShowsRecords : Options → List (List Text) → Text → Type 0
 ShowsRecords options records text =
-    IsDrawnWithNote (λ is_expanded. ShowsDrawn is_expanded options
+    IsWrittenFor (λ is_expanded. ShowsDrawn is_expanded options
     (names_of options.selection.has_header records) (drawn_rows options.selection records)) options
     records text
 

@@ -29,7 +29,7 @@ pub fn output_with_all_fields(
 ) -> Option<(Invocation, Records, MemorySink)>
     ensures { IfSome result (λ drawn. ShowsRecords drawn.0.options drawn.1 drawn.2.bytes) }
 {
-    let (invocation, records, sink) = written(alloc, arguments, context, input, room)?;
+    let (invocation, records, sink) = written(alloc, arguments, context, input, room, false)?;
     if invocation.options.look.max_height.is_some() {
         return None;
     }

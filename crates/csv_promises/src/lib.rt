@@ -5,5 +5,6 @@
 
 pub mod harmless;
 pub mod kept;
+pub mod markdown;
 pub mod straight;
 pub mod width;

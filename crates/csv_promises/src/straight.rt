@@ -30,7 +30,7 @@ pub fn straight_output(
         EachField (HasCharactersWithin 1) drawn.1
         → IsStraight drawn.0.options drawn.1 drawn.2.bytes) }
 {
-    let (invocation, records, sink) = written(alloc, arguments, context, input, room)?;
+    let (invocation, records, sink) = written(alloc, arguments, context, input, room, false)?;
     Some((invocation, records, sink))
 }
 
@@ -49,7 +49,7 @@ pub fn straight_fitting_output(
     ensures { IfSome result (λ drawn.
         IsStraightWhereFieldsFit drawn.0.options drawn.1 drawn.2.bytes) }
 {
-    let (asked, records, sink) = written(alloc, arguments, context, input, room)?;
+    let (asked, records, sink) = written(alloc, arguments, context, input, room, false)?;
     Some((asked, records, sink))
 }
 
@@ -67,29 +67,31 @@ pub fn straight_whole_output(
     ensures { IfSome result (λ drawn.
         EachField IsPlainField drawn.1 → IsStraight drawn.0.options drawn.1 drawn.2.bytes) }
 {
-    let (invocation, records, sink) = written(alloc, arguments, context, input, room)?;
+    let (invocation, records, sink) = written(alloc, arguments, context, input, room, false)?;
     if invocation.options.look.width.is_some() || invocation.options.look.max_height.is_some() {
         return None;
     }
     Some((invocation, records, sink))
 }
 
-// The arguments as they are understood, the records of an input, and the output for both. `None`
-// for fields with sequences and for Markdown, and after any error.
+// The arguments as they are understood, the records of an input, and the output for both, for
+// Markdown or not. `None` for fields with sequences, for arguments that ask for the other, and
+// after any error.
 pub(crate) fn written(
     alloc: Global,
     arguments: &[&str],
     context: OutputContext<'_>,
     input: &[u8],
     room: usize,
+    is_markdown: bool,
 ) -> Option<(Invocation, Records, MemorySink)>
     ensures { IfSome result (λ w.
-        IsWritten (map (λ x. x.now) arguments.entry.now) context.entry w.0 input.now w.1
-        w.2.bytes) }
+        IsWritten is_markdown (map (λ x. x.now) arguments.entry.now) context.entry w.0 input.now
+        w.1 w.2.bytes) }
 {
     let invocation = parse(alloc, arguments, context).ok()?;
     let look = invocation.options.look;
-    if look.has_sequences || look.is_markdown {
+    if look.has_sequences || look.is_markdown != is_markdown {
         return None;
     }
     let records = records_for(alloc, input, &invocation.options).ok()?;

@@ -27,6 +27,6 @@ pub fn output_within(
 ) -> Option<(Invocation, Records, MemorySink)>
     ensures { IfSome result (λ drawn. KeepsItsWidth drawn.0.options drawn.1 drawn.2.bytes) }
 {
-    let (invocation, records, sink) = written(alloc, arguments, context, input, room)?;
+    let (invocation, records, sink) = written(alloc, arguments, context, input, room, false)?;
     Some((invocation, records, sink))
 }

@@ -24,7 +24,7 @@ use Rattle.csv_tables.proofs.BuiltLemmas.{each_content, each_counted, names-leng
 use Rattle.csv_tables.proofs.MarkdownLineLemmas.{IsWhole, gives_back}
 use Rattle.csv_tables.proofs.MarkdownRowLemmas.{FitsAmong, IsOnly, all_fit, first_line, height_of, infos_placed, markdown_row, one_high, one_text_line, only_pieces, pieces_of, placed, IsCellAt, IsShortAt}
 use Rattle.csv_tables.proofs.MarkdownWidthLemmas.{all_columns, by_contents, drawn_for_markdown, headed, header, known, rows_measured, sides-length, table, with_names}
-use Rattle.csv_tables.proofs.OutputControlLemmas.{text_fields}
+use Rattle.csv_tables.proofs.FieldControlLemmas.{text_fields}
 use Rattle.csv_tables.proofs.OutputLemmas.{markdown_parts, markdown_unbroken}
 use Rattle.csv_tables.proofs.RowLemmas.{with_rows-rows}
 use Rattle.csv_tables.proofs.StraightLemmas.{IsShort, empty_is_short, short_printable}

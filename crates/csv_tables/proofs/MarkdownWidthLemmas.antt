@@ -40,7 +40,7 @@ use Rattle.csv_tables.specs.declared.options.Layout.{Layout}
 use Rattle.csv_tables.proofs.BuiltLemmas.{Built, EachOf, each_content, names-length, row-length, plain_shown}
 use Rattle.csv_tables.proofs.OutputLemmas.{each_markdown_line}
 use Rattle.comfy_table.specs.Parts.{ArrangedValue, IsArrangedTable}
-use Rattle.csv_tables.proofs.OutputControlLemmas.{free_markdown, markdown_lines_of, printable_is_seen, rule_is_clear, rule_is_printable}
+use Rattle.csv_tables.proofs.OutputControlLemmas.{free_markdown, markdown_lines_of, no_controls, printable_is_seen, rule_is_clear, rule_is_printable}
 use Rattle.csv_tables.proofs.LineLemmas.{Any, any_built, never_expanded}
 use Rattle.csv_tables.proofs.StraightLemmas.{IsSeenTable, IsShort, empty_is_short, rows_are_straight, short_printable, short_rows}
 use Rattle.csv_tables.proofs.TextTableLemmas.{EachLine, rows_of_texts, short_drawn, blank}
@@ -299,7 +299,7 @@ clear_markdown false look content arranged drawn plain is = absurd (cc is)
 clear_markdown true look content arranged drawn free is =
     let rule = markdown_rule look content in
     All-map HasNoControl visible_text (markdown_lines rule arranged)
-    (each_markdown_line (λ (line : Text). HasNoControl (visible_text line)) look content arranged rule drawn (drawn.headline.controls.without_controls free) (λ some. rule_is_clear (sides content) _))
+    (each_markdown_line (λ (line : Text). HasNoControl (visible_text line)) look content arranged rule drawn (drawn.headline.controls.without_controls free) (λ some. no_controls _ (rule_is_clear (sides content) (max_content_widths (markdown_table look content)))))
 
 -- ---- outputs
 

@@ -1,10 +1,9 @@
--- A text of which nothing harmful is visible has text lines of which no control character is: no sequence spans a line feed.
+-- A text of which nothing harmful is visible has text lines of which no replaced character is: no sequence spans a line feed.
 use Rattle.std.proofs.Common.{◌≡◌, ℕ, inl, inr, Bool, true, false, cond, ◌==◌, ◌&&◌, not, List, [], ◌∷◌, ◌++◌, encode_utf8, encode_utf8_all, map, refl, sym, ap, ◌∙◌, subst, arith, append-nil, eqb-true}
 use Rattle.std.proofs.lemmas.Bool.{or_parts}
 use Rattle.std.proofs.lemmas.List.Elements.{All-cons, All-head, All-nil, All-tail}
 use Rattle.std.proofs.lemmas.List.Splits.{slice_split-cons_no}
 use Rattle.std.proofs.lemmas.Str.{NoCharPasses-append, NoCharPasses-nil}
-use Rattle.std.specs.Char.{is_control}
 use Rattle.std.specs.List.{All, flat_map, list_any, onto_first, slice_split}
 use Rattle.std.specs.Str.{NoCharPasses, NonePass}
 use lib.Utf8.{encode}
@@ -13,8 +12,8 @@ use Rattle.comfy_parts.specs.CellValue.{plain_cell}
 use Rattle.comfy_parts.specs.Text.{HasNo, Text}
 use Rattle.comfy_parts.specs.VisibleText.{Part, parts, visible_bytes, visible_text}
 use Rattle.csv_records.proofs.PieceLemmas.{sequence_of}
-use Rattle.csv_records.specs.Cleaning.{visible_of}
-use Rattle.csv_tables.specs.Controls.{HasNoStrayControl, is_stray_control}
+use Rattle.csv_records.specs.Cleaning.{is_harmful, is_replaced, visible_of}
+use Rattle.csv_tables.specs.Controls.{HasNothingHarmful}
 
 -- ---- the first text line
 
@@ -50,9 +49,9 @@ lines-front (b ∷ bs) text clear first others are =
 
 -- ---- texts without harmful characters
 
--- a harmless character that is no line feed is no control character
-harmless_is_plain : (c : ℕ) → is_stray_control c ≡ false → (c == 0x0A) ≡ false → is_control c ≡ false
-harmless_is_plain c harmless other = by_test (is_control c) (c == 0x0A) harmless other
+-- a harmless character that is no line feed isn't replaced
+harmless_is_plain : (c : ℕ) → is_harmful c ≡ false → (c == 0x0A) ≡ false → is_replaced c ≡ false
+harmless_is_plain c harmless other = by_test (is_replaced c) (c == 0x0A) harmless other
   where
     by_test : (control feed : Bool) → (control && not feed) ≡ false → feed ≡ false → control ≡ false
     by_test false feed harmless other = refl
@@ -61,22 +60,22 @@ harmless_is_plain c harmless other = by_test (is_control c) (c == 0x0A) harmless
 
 module _ where
   abbrev IsPlain : Text → Type 0
-  IsPlain text = NoCharPasses is_control text
+  IsPlain text = NoCharPasses is_replaced text
 
   behind_line_feed : (text : Text) → All IsPlain (text_lines text) → All IsPlain (text_lines (encode_utf8 0x0A ++ text))
   unfolding encode
-  behind_line_feed text each = All-cons IsPlain [] (text_lines text) (NoCharPasses-nil is_control) each
+  behind_line_feed text each = All-cons IsPlain [] (text_lines text) (NoCharPasses-nil is_replaced) each
 
-  behind_character : (c : ℕ) (text : Text) → is_control c ≡ false → (c == 0x0A) ≡ false → All IsPlain (text_lines text) → All IsPlain (text_lines (encode_utf8 c ++ text))
+  behind_character : (c : ℕ) (text : Text) → is_replaced c ≡ false → (c == 0x0A) ≡ false → All IsPlain (text_lines text) → All IsPlain (text_lines (encode_utf8 c ++ text))
   behind_character c text plain other each =
       let lines = lines_of text in
       let own : All IsPlain (lines.first ∷ lines.others) = subst (All IsPlain) lines.are each in
       let one : IsPlain (encode_utf8 c) = (c ∷ [], append-nil (encode_utf8 c), (plain, tt)) in
       subst (All IsPlain) (sym (lines-front (encode_utf8 c) text (encoded_clear 0x0A c (omega arith) other) lines.first lines.others lines.are))
-      (All-cons IsPlain (encode_utf8 c ++ lines.first) lines.others (NoCharPasses-append is_control (encode_utf8 c) lines.first one (All-head IsPlain lines.first lines.others own)) (All-tail IsPlain lines.first lines.others own))
+      (All-cons IsPlain (encode_utf8 c ++ lines.first) lines.others (NoCharPasses-append is_replaced (encode_utf8 c) lines.first one (All-head IsPlain lines.first lines.others own)) (All-tail IsPlain lines.first lines.others own))
 
-  plain_lines : (cs : List ℕ) → NonePass is_stray_control cs → All IsPlain (text_lines (encode_utf8_all cs))
-  plain_lines [] none = All-cons IsPlain [] [] (NoCharPasses-nil is_control) (All-nil IsPlain)
+  plain_lines : (cs : List ℕ) → NonePass is_harmful cs → All IsPlain (text_lines (encode_utf8_all cs))
+  plain_lines [] none = All-cons IsPlain [] [] (NoCharPasses-nil is_replaced) (All-nil IsPlain)
   plain_lines (c ∷ cs) (own, more) = by_test (c == 0x0A) refl (plain_lines cs more)
     where
       by_test : (t : Bool) → (c == 0x0A) ≡ t → All IsPlain (text_lines (encode_utf8_all cs)) → All IsPlain (text_lines (encode_utf8 c ++ encode_utf8_all cs))
@@ -123,12 +122,12 @@ shown-parts (p ∷ ps) rest (inr part, more) clear =
         let clear : HasNo 0x0A (b ∷ []) = rw is refl in
         shown-front (b ∷ []) (b ∷ []) (bytes_of ps) (flat_map visible_bytes ps) clear clear (Shows-byte b visible).shows are
 
--- ---- text lines without control characters
+-- ---- text lines without replaced characters
 
-pub lines_without_controls : (keeps : Bool) (text : Text) → HasNoStrayControl (visible_of keeps text) → All (λ (line : Text). NoCharPasses is_control (visible_of keeps line)) (plain_cell text).text_lines
-lines_without_controls false text none = subst (λ (t : Text). All IsPlain (text_lines t)) none.1 (plain_lines none.0 none.2)
-lines_without_controls true text none =
-    let clear : HasNo 0x1B (visible_text text) = none_by_characters is_stray_control 0x1B (omega arith) refl (visible_text text) none in
+pub lines_without_replaced : (keeps : Bool) (text : Text) → HasNothingHarmful (visible_of keeps text) → All (λ (line : Text). NoCharPasses is_replaced (visible_of keeps line)) (plain_cell text).text_lines
+lines_without_replaced false text none = subst (λ (t : Text). All IsPlain (text_lines t)) none.1 (plain_lines none.0 none.2)
+lines_without_replaced true text none =
+    let clear : HasNo 0x1B (visible_text text) = none_by_characters is_harmful 0x1B (omega arith) refl (visible_text text) none in
     let shown : AreShown text (visible_text text) = subst (λ (t : Text). AreShown t (visible_text text)) (scan text).bytes (shown-parts (parts text) [] (scan text).scanned clear) in
     All-of_map IsPlain visible_text (text_lines text)
     (subst (All IsPlain) (sym shown) (subst (λ (t : Text). All IsPlain (text_lines t)) none.1 (plain_lines none.0 none.2)))

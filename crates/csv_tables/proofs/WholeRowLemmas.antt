@@ -22,7 +22,7 @@ use Rattle.csv_records.specs.Cleaning.{cleaned}
 use Rattle.csv_tables.proofs.BuiltLemmas.{each_field, each_name, fields_each, number_each}
 use Rattle.csv_tables.proofs.FieldLemmas.{IsShortPrintable}
 use Rattle.csv_tables.proofs.FittingLemmas.{text_drawn}
-use Rattle.csv_tables.proofs.OutputControlLemmas.{text_fields}
+use Rattle.csv_tables.proofs.FieldControlLemmas.{text_fields}
 use Rattle.csv_tables.proofs.TextLineLemmas.{lines-front, lines_of, text_lines}
 use Rattle.csv_tables.specs.Cells.{Shown, cell_for, columns_within, field_text, is_blank, marked, pair_for, shown_fields, shown_number, text_in, with_weight}
 use Rattle.csv_tables.specs.Columns.{name_at}
@@ -66,7 +66,7 @@ encoded_lines (c ∷ cs) all =
     by_test one true is rest = subst (λ (n : ℕ). All IsLine (text_lines (encode_utf8 n ++ encode_utf8_all cs))) (sym (eqb-true c 0x0A is)) (feed_first (encode_utf8_all cs) rest)
     by_test one false is rest = character_first c (encode_utf8_all cs) (one, encoded_clear 0x0A c (omega arith) is) is rest
 
-has_lines : (text : Text) → IsUtf8 text → HasTextLines (text_lines text)
+pub has_lines : (text : Text) → IsUtf8 text → HasTextLines (text_lines text)
 has_lines text utf8 =
     let each : All IsLine (text_lines text) = subst (λ (t : Text). All IsLine (text_lines t)) utf8.1.1 (encoded_lines utf8.0 utf8.1.0) in
     record {
@@ -101,7 +101,7 @@ marked_whole : (text : Text) → IsUtf8 text → IsUtf8 (marked text)
 marked_whole text utf8 = (escaped (chars text), (escaped_scalars false None (chars text) (scalars-chars text utf8), refl))
 
 module _ (look : Look) where
-  text_whole : (field : Text) → IsUtf8 field → IsUtf8 (field_text look field)
+  pub text_whole : (field : Text) → IsUtf8 field → IsUtf8 (field_text look field)
   text_whole field utf8 = by_markdown look.is_markdown (is_blank (cleaned look.has_sequences field))
     where
       by_markdown : (is_markdown blank : Bool) → IsUtf8 (if is_markdown then marked (cleaned false field) else (if blank then [] else cleaned look.has_sequences field))

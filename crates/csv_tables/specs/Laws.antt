@@ -21,7 +21,7 @@ use Rattle.csv_records.specs.Cleaning.{visible_of}
 use Rattle.csv_records.specs.Decimals.{byte_of, digits_in, fraction_len, points_of, spaces_behind}
 use Rattle.csv_records.specs.Number.{halves, is_neutral}
 use Rattle.csv_records.specs.declared.decimals.Points.{Points}
-use Rattle.csv_tables.specs.Controls.{HasNoStrayControl, IsStyleWithoutControls}
+use Rattle.csv_tables.specs.Controls.{HasNothingHarmful, IsHarmlessStyle}
 use Rattle.csv_tables.specs.Drawn.{SelectedValue, RendersRecords, selected_of, is_expanded_for, note_for, output_table, record_line, separated_table, unbroken_in}
 use Rattle.csv_tables.specs.Unbroken.{framed_width, is_unbroken, needed_by_names}
 use Rattle.csv.specs.Records.{AllText}
@@ -88,7 +88,7 @@ IsDrawnTable look content table =
 -- no control character stands beside these
 abbrev pub AreSeen : Bool → Look → List (List Text) → Type 0
 AreSeen false look records = look.has_bold_header ≡ false
-AreSeen true look records = IsStyleWithoutControls look.style × All AllText records
+AreSeen true look records = IsHarmlessStyle look.style × All AllText records
 
 -- lines are seen so, they end where line feeds are, and no sequence of a field counts nothing
 pub record ArePlainLines (visible : Bool) (look : Look) (records : List (List Text)) : Type 0 where
@@ -219,8 +219,8 @@ FittingOutputIsStraight visible counted layout records output =
 -- then nothing harmful is visible of an output for records that are text
 abbrev pub OutputHoldsNoControls : Option ℕ → Layout → List (List Text) → Text → Type 0
 OutputHoldsNoControls counted layout records output =
-    IsStyleWithoutControls layout.look.style → All AllText records
-    → RendersRecords counted layout records output → HasNoStrayControl (visible_text output)
+    IsHarmlessStyle layout.look.style → All AllText records
+    → RendersRecords counted layout records output → HasNothingHarmful (visible_text output)
 
 -- ---- one output
 

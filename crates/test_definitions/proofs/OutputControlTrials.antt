@@ -14,7 +14,7 @@ use Rattle.comfy_table.specs.Drawing.{drawing, terminated_text_of}
 use Rattle.comfy_table.specs.TableValue.{TableValue, with_header, with_rows}
 use Rattle.csv.specs.Records.{field_at}
 use Rattle.csv_tables.specs.Cells.{field_text, header_for, row_for}
-use Rattle.csv_tables.specs.Controls.{HasNoStrayControl, IsStyleWithoutControls, is_stray_control}
+use Rattle.csv_tables.specs.Controls.{HasNothingHarmful, IsHarmlessStyle, is_harmful}
 use Rattle.csv_command.specs.Styles.{style_for}
 use Rattle.csv_tables.specs.declared.options.Expansion.TheVariants.{Auto}
 use Rattle.csv_tables.specs.declared.options.RowSeparators.TheVariants.{Styled}
@@ -25,39 +25,39 @@ use Rattle.test_definitions.proofs.TrialTables.{utf8}
 
 -- ---- texts
 
-none_of : (cs : List ℕ) → list_any is_stray_control cs ≡ false → NonePass is_stray_control cs
+none_of : (cs : List ℕ) → list_any is_harmful cs ≡ false → NonePass is_harmful cs
 none_of [] none = tt
 none_of (c ∷ cs) none =
-    let each = or_parts (is_stray_control c) (list_any is_stray_control cs) none in
+    let each = or_parts (is_harmful c) (list_any is_harmful cs) none in
     (each.0, none_of cs each.1)
 
-any_of : (cs : List ℕ) → NonePass is_stray_control cs → list_any is_stray_control cs ≡ false
+any_of : (cs : List ℕ) → NonePass is_harmful cs → list_any is_harmful cs ≡ false
 any_of [] none = refl
 any_of (c ∷ cs) none = rw none.0 (any_of cs none.1)
 
 -- a text of these characters is a text of no others
-harmless : (cs : List ℕ) → list_any is_stray_control cs ≡ false → HasNoStrayControl (encode_utf8_all cs)
+harmless : (cs : List ℕ) → list_any is_harmful cs ≡ false → HasNothingHarmful (encode_utf8_all cs)
 harmless cs none = (cs, refl, none_of cs none)
 
-harmful : (cs : List ℕ) → list_any is_stray_control cs ≡ true → ¬ (HasNoStrayControl (encode_utf8_all cs))
-harmful cs some none = true≢false (sym some ∙ any_of cs (subst (NonePass is_stray_control) (encodes_same none.0 cs none.1) none.2))
+harmful : (cs : List ℕ) → list_any is_harmful cs ≡ true → ¬ (HasNothingHarmful (encode_utf8_all cs))
+harmful cs some none = true≢false (sym some ∙ any_of cs (subst (NonePass is_harmful) (encodes_same none.0 cs none.1) none.2))
 
 -- line feeds aren't, and U+00A0 follows the last control character
-line_feed_is_harmless : HasNoStrayControl (utf8 "a\n~\u{a0}…\n")
+line_feed_is_harmless : HasNothingHarmful (utf8 "a\n~\u{a0}…\n")
 line_feed_is_harmless = harmless (codes "a\n~\u{a0}…\n") refl
 
-return_is_harmful : ¬ (HasNoStrayControl (utf8 "a\r\n"))
+return_is_harmful : ¬ (HasNothingHarmful (utf8 "a\r\n"))
 return_is_harmful = harmful (codes "a\r\n") refl
 
-c1_is_harmful : ¬ (HasNoStrayControl (utf8 "\u{9b}2J"))
+c1_is_harmful : ¬ (HasNothingHarmful (utf8 "\u{9b}2J"))
 c1_is_harmful = harmful (codes "\u{9b}2J") refl
 
-colours_are_harmless : HasNoStrayControl (visible_text (codes "\u{1b}[1ma\u{1b}[0m\n"))
+colours_are_harmless : HasNothingHarmful (visible_text (codes "\u{1b}[1ma\u{1b}[0m\n"))
 unfolding wrapping lib.Utf8.encode
 colours_are_harmless = harmless (codes "a\n") refl
 
 -- false: csv_records::laws::cleaned_fields_hold_no_controls
-clearing_is_harmful : ¬ (HasNoStrayControl (visible_text (codes "\u{1b}[2J")))
+clearing_is_harmful : ¬ (HasNothingHarmful (visible_text (codes "\u{1b}[2J")))
 unfolding wrapping lib.Utf8.encode
 clearing_is_harmful = harmful (codes "\u{1b}[2J") refl
 
@@ -67,20 +67,20 @@ clearing_is_harmful = harmful (codes "\u{1b}[2J") refl
 abbrev look : Look
 look = record { style = ascii_full; separators = Styled; expansion = Auto; width = None; fills_width = false; max_height = None; has_bold_header = true; aligns_decimals = true; has_sequences = true; is_markdown = false }
 
-its_style_is_without : IsStyleWithoutControls look.style
+its_style_is_without : IsHarmlessStyle look.style
 its_style_is_without = refl
 
 -- a style that fills with TABs
 abbrev with_tabs : TableStyle
 with_tabs = record ascii_full { top_border = record ascii_full.top_border { fill = Some 0x09 } }
 
-tabs_are_not : ¬ (IsStyleWithoutControls with_tabs)
+tabs_are_not : ¬ (IsHarmlessStyle with_tabs)
 tabs_are_not is = true≢false is
 
 -- ---- fields
 
 -- a field that clears the screen is cleaned
-cleaned_is_harmless : HasNoStrayControl (visible_text (field_text look (codes "\u{1b}[2J")))
+cleaned_is_harmless : HasNothingHarmful (visible_text (field_text look (codes "\u{1b}[2J")))
 unfolding wrapping lib.Utf8.encode chars
 cleaned_is_harmless = harmless (codes "�[2J") refl
 
@@ -107,8 +107,8 @@ output_is : visible_text (output look) ≡ utf8 "+--------+\n| a      |\n+======
 unfolding wrapping lib.Utf8.encode chars field_at
 output_is = refl
 
-output_is_harmless : HasNoStrayControl (visible_text (output look))
-output_is_harmless = subst HasNoStrayControl (sym output_is) (harmless (codes "+--------+\n| a      |\n+========+\n| �[2J�J |\n+--------+\n") refl)
+output_is_harmless : HasNothingHarmful (visible_text (output look))
+output_is_harmless = subst HasNothingHarmful (sym output_is) (harmless (codes "+--------+\n| a      |\n+========+\n| �[2J�J |\n+--------+\n") refl)
 
 -- the premise is needed
 tabs_are_written : visible_text (output (record look { style = with_tabs })) ≡ utf8 "+\t\t\t\t\t\t\t\t+\n| a      |\n+========+\n| �[2J�J |\n+--------+\n"
@@ -116,17 +116,17 @@ unfolding wrapping lib.Utf8.encode chars field_at
 tabs_are_written = refl
 
 -- false: csv_tables::laws::outputs_hold_no_controls, csv_command::laws::outputs_hold_no_controls, csv_command::laws::drawings_hold_no_controls
-output_with_tabs_is_harmful : ¬ (HasNoStrayControl (visible_text (output (record look { style = with_tabs }))))
+output_with_tabs_is_harmful : ¬ (HasNothingHarmful (visible_text (output (record look { style = with_tabs }))))
 output_with_tabs_is_harmful none =
-    harmful (codes "+\t\t\t\t\t\t\t\t+\n| a      |\n+========+\n| �[2J�J |\n+--------+\n") refl (subst HasNoStrayControl tabs_are_written none)
+    harmful (codes "+\t\t\t\t\t\t\t\t+\n| a      |\n+========+\n| �[2J�J |\n+--------+\n") refl (subst HasNothingHarmful tabs_are_written none)
 
 -- ---- styles
 
-styles_for_words : IsStyleWithoutControls (style_for (Some (codes "UTF8_FULL")))
+styles_for_words : IsHarmlessStyle (style_for (Some (codes "UTF8_FULL")))
 styles_for_words = refl
 
 -- false: csv_command::laws::named_styles_hold_no_controls
-a_style_with_tabs : ¬ (IsStyleWithoutControls with_tabs)
+a_style_with_tabs : ¬ (IsHarmlessStyle with_tabs)
 a_style_with_tabs is = true≢false is
 
 -- ---- lines of rows
