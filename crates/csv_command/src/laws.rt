@@ -11,10 +11,10 @@ ghost use Rattle.csv_command.specs.declared.arguments.Options.{Options};
 ghost use Rattle.csv_command.specs.declared.arguments.OutputContext.{OutputContext};
 ghost use Rattle.csv_tables.specs.Controls.{IsHarmlessStyle};
 
-/// Without its SGR sequences an output holds no control character but line feeds, whatever bytes
-/// the input has, under every width, limit and height, in Markdown and in bold, also where a
-/// beginning of it is enough. No character of the style is a control character. ESC stands in those
-/// sequences alone.
+/// Without its SGR sequences an output holds no control character but line feeds, and no character
+/// that turns the direction of text, whatever bytes the input has, under every width, limit and
+/// height, in Markdown and in bold, also if a beginning of it is enough. No character of the style
+/// is one of these. ESC is in those sequences alone.
 pub fn outputs_hold_no_controls()
     ensures input { (options : Options) (input output : Text)
         → InputIsDrawnWithoutControls options input output }
@@ -31,14 +31,15 @@ pub fn outputs_are_one()
         → WrittenIsOne options others input output other }
 {}
 
-/// No style that arguments can ask for has a control character.
+/// No style that arguments can ask for has a control character, or one that turns the direction of
+/// text.
 pub fn named_styles_hold_no_controls()
     ensures { (name : Option Text) → IsHarmlessStyle (style_for name) }
 {}
 
 /// Without its SGR sequences an output that arguments ask for holds no control character but line
-/// feeds, whatever bytes the input has. So it is with each drawing that `render_csv` returns, which
-/// is what a caller from C gets too.
+/// feeds, and no character that turns the direction of text, whatever bytes the input has. So it is
+/// with each drawing that `render_csv` returns, which is what a caller from C gets too.
 pub fn drawings_hold_no_controls()
     ensures invocation { (arguments : List Text) (context : OutputContext) (invocation : Invocation)
         (input output : Text)

@@ -13,13 +13,13 @@ use Rattle.comfy_table.specs.Pieces.{padded, piece}
 use Rattle.comfy_table.specs.Styling.{styled}
 use Rattle.comfy_table.specs.TableValue.{TableValue, header_and_rows, should_style}
 use Rattle.promises.proofs.PieceLemmas.{AnyText, drawing_by_pieces, plainly}
-use Rattle.csv_promises.specs.Fields.{IsInBold}
-use Rattle.csv_promises.specs.Fields.IsInBold.{nothing, plain, bold}
+use Rattle.csv_promises.specs.Harmless.{IsInBold}
+use Rattle.csv_promises.specs.Harmless.IsInBold.{nothing, plain, bold}
 
-bold_same : (text : Text) → IsInBold text text
+pub bold_same : (text : Text) → IsInBold text text
 bold_same text = subst (λ (t : Text). IsInBold t t) (append-nil text) (plain text [] [] nothing)
 
-bold_both : {line text : Text} (other ys : Text) → IsInBold line text → IsInBold other ys → IsInBold (line ++ other) (text ++ ys)
+pub bold_both : {line text : Text} (other ys : Text) → IsInBold line text → IsInBold other ys → IsInBold (line ++ other) (text ++ ys)
 bold_both other ys nothing back = back
 bold_both other ys (plain part line text front) back =
     subst (λ (t : Text). IsInBold t ((part ++ text) ++ ys)) (sym (append_assoc part line other)) (subst (IsInBold (part ++ (line ++ other))) (sym (append_assoc part text ys)) (plain part (line ++ other) (text ++ ys) (bold_both other ys front back)))

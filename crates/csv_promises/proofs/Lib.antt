@@ -5,6 +5,7 @@ mod WidthLemmas
 pub mod BoldLemmas
 pub mod ExpandedLemmas
 pub mod FieldLemmas
+pub mod HarmlessLemmas
 pub mod LineLemmas
 mod MarkdownLemmas
 pub mod OutputFieldLemmas

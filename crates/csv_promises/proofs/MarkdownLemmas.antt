@@ -137,11 +137,12 @@ module _ (arguments : List Text) (context : OutputContext) (invocation : Invocat
       have =
           subst (λ (names : Option (List Text)). AllZip HasFields (rows_for names (drawn_rows options.selection records)) (back.header ∷ back.lines)) by.names
           (subst (λ (rows : List (List Text)). AllZip HasFields (rows_for (names_of options.selection.has_header rs) rows) (back.header ∷ back.lines)) by.rows
-          (subst (λ (ps : List ℕ). AllZip HasFields (all_rows is_numbered ps (Some (unwrap_or (names_of options.selection.has_header rs) [])) (drawn_rows options.selection rs)) (back.header ∷ back.lines)) positions
-          (header_has look is_numbered columns (unwrap_or (names_of options.selection.has_header rs) []) back.header
-              (subst (λ (c : SelectedValue). GivesBack (shown_names look c.is_numbered c.columns (unwrap_or c.names [])) back.header) same back.names),
-          rows_have look is_numbered columns 1 (drawn_rows options.selection rs) back.lines
-              (subst (λ (c : SelectedValue). AllZip (λ row line. GivesBack (shown_in look false c.is_numbered c.columns row) line) (counted_from 1 c.rows) back.lines) same back.rows))))
+          (subst (λ (ps : List ℕ). AllZip HasFields (all_rows is_numbered ps (Some (unwrap_or (names_of options.selection.has_header rs) [])) (drawn_rows options.selection rs)) (back.header ∷ back.lines)) positions (
+            header_has look is_numbered columns (unwrap_or (names_of options.selection.has_header rs) []) back.header
+                (subst (λ (c : SelectedValue). GivesBack (shown_names look c.is_numbered c.columns (unwrap_or c.names [])) back.header) same back.names),
+            rows_have look is_numbered columns 1 (drawn_rows options.selection rs) back.lines
+                (subst (λ (c : SelectedValue). AllZip (λ row line. GivesBack (shown_in look false c.is_numbered c.columns row) line) (counted_from 1 c.rows) back.lines) same back.rows),
+          )))
 
       -- the rule has a part for each column
       abbrev rule : Text

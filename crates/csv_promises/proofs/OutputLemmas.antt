@@ -1,4 +1,4 @@
--- A text of which no control character is visible is harmless.
+-- A text of which nothing harmful is visible, and what a call of `draw` has written.
 use Rattle.std.proofs.Common.{Ok, inl, inr, suc, length, refl, arith}
 use Rattle.comfy_parts.proofs.CallerLemmas.{none_by_characters}
 use Rattle.comfy_parts.specs.Text.{Text}
@@ -10,9 +10,9 @@ use Rattle.csv_command.specs.Run.{IsAfter}
 use Rattle.csv_command.specs.declared.arguments.Options.{Options}
 use Rattle.devices.specs.Outcome.{RunFacts}
 use Rattle.promises.proofs.ShownLemmas.{shows_visible}
-use Rattle.promises.specs.Shown.{IsHarmless}
+use Rattle.csv_promises.specs.Harmless.{ShowsNothingHarmful}
 
-pub harmless_text : (text : Text) → HasNothingHarmful (visible_text text) → IsHarmless text
+pub harmless_text : (text : Text) → HasNothingHarmful (visible_text text) → ShowsNothingHarmful text
 harmless_text text none = (visible_text text, shows_visible (suc (length text)) text (omega arith) (none_by_characters is_harmful 0x1B (omega arith) refl (visible_text text) none), none)
 
 -- what a call of `draw` that succeeded has written

@@ -26,7 +26,8 @@ use Rattle.promises.specs.Headline.{IsUncoloured}
 use Rattle.csv_promises.proofs.BoldLemmas.{IsWeighted, weighted_lines}
 use Rattle.csv_promises.proofs.FieldLemmas.{IsRowFor}
 use Rattle.csv_promises.proofs.RecordLemmas.{HasColumns, table_has_columns}
-use Rattle.csv_promises.specs.Fields.{HoldsFields, IsDrawingOf, IsInBold, IsFieldColumn}
+use Rattle.csv_promises.specs.Fields.{HoldsFields, IsDrawingOf, IsFieldColumn}
+use Rattle.csv_promises.specs.Harmless.{IsInBold}
 
 -- ---- columns
 

@@ -15,18 +15,10 @@ use Rattle.csv_tables.specs.Drawn.{condensed_style, drawn_rows, names_of}
 use Rattle.csv_tables.specs.declared.options.Look.{Look}
 use Rattle.csv_command.specs.declared.arguments.Options.{Options}
 use Rattle.csv_promises.specs.Counted.{AreExpanded, IsWrittenFor}
+use Rattle.csv_promises.specs.Harmless.{IsInBold}
 use Rattle.promises.specs.Headline.{IsFramedTable}
 
 -- ---- rows of fields
-
--- a line, and the same line with parts of it in bold: each between the sequences that begin bold
--- and end it
-pub data IsInBold : Text → Text → Type 0 where
-  nothing : IsInBold [] []
-  plain : (part line styled : Text) → IsInBold line styled
-      → IsInBold (part ++ line) (part ++ styled)
-  bold : (part line styled : Text) → IsInBold line styled
-      → IsInBold (part ++ line) ((codes "\u{1b}[1m" ++ (part ++ codes "\u{1b}[0m")) ++ styled)
 
 -- a cell holds a field, perhaps with spaces after it, which line up decimal marks: line by line,
 -- or an empty line if all is blank. It breaks at spaces

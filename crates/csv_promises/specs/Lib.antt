@@ -1,5 +1,6 @@
 pub mod Counted
 pub mod Fields
+pub mod Harmless
 pub mod MarkdownTable
 pub mod Messages
 pub mod Straight

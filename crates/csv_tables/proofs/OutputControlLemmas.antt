@@ -421,7 +421,7 @@ titled content own = record { names = λ names is. by_names content.names own.na
     by_names (Some n) own names is = let same : n ≡ names = cc is in subst AllText same (own n refl)
 
 -- and no replaced character
-harmless_markdown : (look : Look) (content : SelectedValue) → EachOf AllText content → IsHarmlessTable (markdown_table look content)
+pub harmless_markdown : (look : Look) (content : SelectedValue) → EachOf AllText content → IsHarmlessTable (markdown_table look content)
 harmless_markdown look content text = harmless_rows (markdown_look look) refl (markdown_content content) (titled content text)
 
 pub free_markdown : (look : Look) (content : SelectedValue) → EachOf AllText content → IsFreeOfControls (markdown_table look content)

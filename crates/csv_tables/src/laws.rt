@@ -63,9 +63,10 @@ pub fn outputs_are_straight()
         → FittingOutputIsStraight visible counted layout records output }
 {}
 
-/// Without its SGR sequences an output holds no control character but line feeds, whatever text the
-/// records have, under every width, limit and height, in Markdown and in bold. No character of the
-/// style is a control character. ESC stands in those sequences alone.
+/// Without its SGR sequences an output holds no control character but line feeds, and no character
+/// that turns the direction of text, whatever text the records have, under every width, limit and
+/// height, in Markdown and in bold. No character of the style is one of these. ESC is in those
+/// sequences alone.
 pub fn outputs_hold_no_controls()
     ensures { (counted : Option ℕ) (layout : Layout) (records : List (List Text)) (output : Text)
         → OutputHoldsNoControls counted layout records output }

@@ -14,7 +14,8 @@ use Rattle.comfy_table.specs.Drawing.{drawing, terminated_text_of}
 use Rattle.comfy_table.specs.TableValue.{TableValue, with_header, with_rows}
 use Rattle.csv.specs.Records.{field_at}
 use Rattle.csv_tables.specs.Cells.{field_text, header_for, row_for}
-use Rattle.csv_tables.specs.Controls.{HasNothingHarmful, IsHarmlessStyle, is_harmful}
+use Rattle.csv_records.specs.Cleaning.{is_harmful}
+use Rattle.csv_tables.specs.Controls.{HasNothingHarmful, IsHarmlessStyle}
 use Rattle.csv_command.specs.Styles.{style_for}
 use Rattle.csv_tables.specs.declared.options.Expansion.TheVariants.{Auto}
 use Rattle.csv_tables.specs.declared.options.RowSeparators.TheVariants.{Styled}

@@ -1,0 +1,34 @@
+-- What a terminal is told by an output.
+-- Source: this library's own.
+use Rattle.std.specs.Prelude.{◌≡◌, ◌⊎◌, [], ◌++◌, true, false, codes}
+use Rattle.std.specs.Str.{NoCharPasses}
+use Rattle.comfy_parts.specs.Text.{Text}
+use Rattle.csv_records.specs.Cleaning.{is_harmful}
+use Rattle.csv_tables.specs.declared.options.Look.{Look}
+use Rattle.promises.specs.Shown.{Shows}
+
+-- a text, and the same text with parts of it in bold: each between the sequences that begin bold
+-- and end it
+pub data IsInBold : Text → Text → Type 0 where
+  nothing : IsInBold [] []
+  plain : (part line styled : Text) → IsInBold line styled
+      → IsInBold (part ++ line) (part ++ styled)
+  bold : (part line styled : Text) → IsInBold line styled
+      → IsInBold (part ++ line) ((codes "\u{1b}[1m" ++ (part ++ codes "\u{1b}[0m")) ++ styled)
+
+-- a terminal shows a text without its SGR sequences, which set colours and attributes, and is told
+-- nothing else: of what is visible no character is a control character but a line feed, and none
+-- turns the direction of text
+abbrev pub ShowsNothingHarmful : Text → Type 0
+ShowsNothingHarmful text = (visible : Text) × Shows text visible × NoCharPasses is_harmful visible
+
+-- a terminal shows an output, and is told nothing else: of what is visible no character is a
+-- control character but a line feed, and none turns the direction of text. Unless colours of
+-- fields are kept, its only sequences begin bold and end it; and without bold it has none
+pub record IsHarmlessFor (look : Look) (output : Text) : Type 0 where
+  pub visible : Text
+  pub shows : Shows output visible
+  pub harmless : NoCharPasses is_harmful visible
+  pub in_bold : (look.has_sequences ≡ false) ⊎ (look.is_markdown ≡ true) → IsInBold visible output
+  pub plain : ((look.has_sequences ≡ false) × (look.has_bold_header ≡ false))
+      ⊎ (look.is_markdown ≡ true) → output ≡ visible
