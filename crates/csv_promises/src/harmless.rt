@@ -1,38 +1,45 @@
 //! No file speaks to your terminal.
 
 ghost use Rattle.std.specs.Prelude.{IfOk, IfSome, string_bytes};
+ghost use Rattle.csv_promises.specs.Harmless.{IsHarmlessFor, ShowsNothingHarmful};
 ghost use Rattle.csv_promises.specs.Messages.{IsTameLine};
 ghost use Rattle.csv_command.specs.Drawn.{IsDrawnOf};
-ghost use Rattle.promises.specs.Shown.{IsHarmless};
 
 use csv_command::laws::drawings_hold_no_controls;
-use csv_command::{CsvError, Options, OutputContext, Refusal, draw, parse, render_csv};
+use csv_command::{CsvError, Invocation, Options, OutputContext, Refusal, draw, parse, render_csv};
 use devices::{MemorySink, MemorySource};
 use std::alloc::Global;
 
-/// What the program writes for these arguments and these bytes of a file: nothing where the
-/// arguments ask for no drawing, or where it can't be drawn so. Whatever the arguments, the
-/// terminal and the bytes are, it tells a terminal nothing but characters, line ends, colours and
-/// attributes.
+/// The arguments as they are understood, and what the program writes for them and for these bytes
+/// of a file. Whatever these are, and the terminal, it tells a terminal nothing but characters and
+/// line ends, and the sequences that begin bold and end it. Without a bold header it has no
+/// sequence. With `--ansi` it may have any sequence for colours and attributes. What is visible of
+/// it has no control character but line feeds, and no character that turns the direction of text.
+///
+/// It is `None` if the arguments ask for no drawing, if the bytes can't be drawn so, or if memory
+/// runs out.
 pub fn harmless_output(
     alloc: Global,
     arguments: &[&str],
     context: OutputContext<'_>,
     input: &[u8],
     room: usize,
-) -> Option<MemorySink>
-    ensures { IfSome result (λ sink. IsHarmless sink.bytes) }
+) -> Option<(Invocation, MemorySink)>
+    ensures { IfSome result (λ drawn. IsHarmlessFor drawn.0.options.look drawn.1.bytes) }
 {
-    drawings_hold_no_controls();
     let invocation = parse(alloc, arguments, context).ok()?;
-    output_for(alloc, input, room, &invocation.options).ok()
+    let sink = output_for(alloc, input, room, &invocation.options).ok()?;
+    Some((invocation, sink))
 }
 
-/// What a caller gets as a value for these arguments and these bytes, for no terminal: nothing
-/// where the arguments ask for no drawing, or where it can't be drawn so. It tells a terminal
-/// nothing else either.
+/// What a caller gets as a value for these arguments and these bytes, for no terminal. What is
+/// visible of it, without sequences for colours and attributes, has no control character but line
+/// feeds, and no character that turns the direction of text.
+///
+/// It is `None` if the arguments ask for no drawing, if the bytes can't be drawn so, or if memory
+/// runs out.
 pub fn harmless_drawing(alloc: Global, arguments: &[&str], input: &[u8]) -> Option<String>
-    ensures { IfSome result (λ drawing. IsHarmless (string_bytes drawing)) }
+    ensures { IfSome result (λ drawing. ShowsNothingHarmful (string_bytes drawing)) }
 {
     drawings_hold_no_controls();
     render_csv(alloc, arguments, input).ok()

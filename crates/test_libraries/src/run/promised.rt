@@ -6,6 +6,7 @@ use comfy_run::run::MemorySink;
 use csv_command::OutputContext;
 use csv_promises::harmless::{harmless_drawing, harmless_message, harmless_output};
 use csv_promises::kept::output_with_all_fields;
+use csv_promises::markdown::markdown_output;
 use csv_promises::straight::{straight_output, straight_whole_output};
 use csv_promises::width::output_within;
 use csv_records::Records;
@@ -32,6 +33,12 @@ const DRAWN_IN_A_TERMINAL: &str = "\
 +------+------+
 ";
 
+const MARKDOWN: &str = "\
+| name | days |
+|------|-----:|
+| oats |    3 |
+";
+
 // No width is kept to, in a terminal too.
 const WORDS: [&str; 5] = ["csvtable", "-s", "ascii", "-w", "0"];
 
@@ -52,10 +59,13 @@ fn assert_written(rt: &impl Abort, written: Option<(Records, MemorySink)>) {
 fn promised_outputs_are_those_of_the_program(rt: HostRuntime) {
     let input = FILE.as_bytes();
     let narrow = straight_output(rt.alloc(), &WORDS, TERMINAL, input, 200);
-    assert_written(&rt, narrow);
+    let (_invocation, records, sink) = narrow.expect(&rt, "a drawing");
+    assert_written(&rt, Some((records, sink)));
     let whole = straight_whole_output(rt.alloc(), &WORDS, TERMINAL, input, 200);
-    assert_written(&rt, whole);
-    let sink = harmless_output(rt.alloc(), &WORDS, TERMINAL, input, 200).expect(&rt, "a drawing");
+    let (_invocation, records, sink) = whole.expect(&rt, "a drawing");
+    assert_written(&rt, Some((records, sink)));
+    let harmless = harmless_output(rt.alloc(), &WORDS, TERMINAL, input, 200);
+    let (_invocation, sink) = harmless.expect(&rt, "a drawing");
     assert_bytes(&rt, sink.bytes(), DRAWN_IN_A_TERMINAL);
     let drawing = harmless_drawing(rt.alloc(), &WORDS, input).expect(&rt, "a drawing");
     assert!(rt; drawing.as_str() == DRAWN);
@@ -69,6 +79,22 @@ fn promised_fields_are_those_of_the_records(rt: HostRuntime) {
     assert_written(&rt, Some((records, sink)));
     assert!(rt; harmless_message(rt.alloc(), &WORDS, input).is_none());
     assert!(rt; harmless_message(rt.alloc(), &WORDS, b"\xff").is_some());
+}
+
+#[test]
+fn promised_markdown_is_that_of_the_program(rt: HostRuntime) {
+    let input = FILE.as_bytes();
+    let drawn = markdown_output(
+        rt.alloc(),
+        &["csvtable", "--markdown"],
+        TERMINAL,
+        input,
+        200,
+    );
+    let (_invocation, records, sink) = drawn.expect(&rt, "a drawing");
+    assert!(rt; records.rows().len() == 2);
+    assert_bytes(&rt, sink.bytes(), MARKDOWN);
+    assert!(rt; markdown_output(rt.alloc(), &WORDS, TERMINAL, input, 200).is_none());
 }
 
 #[test]
