@@ -4,12 +4,13 @@ use Rattle.std.specs.Fmt.{digits}
 use Rattle.std.specs.List.{All, AllByRecursion, list_any, slice_get, slice_split}
 use Rattle.std.proofs.lemmas.List.Splits.{slice_split_none}
 use Rattle.std.specs.Prelude.{MatchOption, ◌<◌, encode_utf8_all, if◌then◌else◌}
-use Rattle.std.specs.Str.{NonePass, chars}
+use Rattle.std.specs.Str.{NoCharPasses, NonePass, chars}
 use Rattle.std.proofs.lemmas.Bool.{or_parts, true≢false}
 use Rattle.std.proofs.lemmas.List.{append_cancel_right, reverse-append}
 use Rattle.std.proofs.lemmas.Str.{encodes_same}
 use Rattle.std.proofs.lemmas.List.Elements.{All-from_recursion, All-head, All-tail}
 use lib.Utf8.{encode}
+use Rattle.comfy_parts.proofs.CallerLemmas.{none_by_characters}
 use Rattle.comfy_parts.proofs.Computing.{wrapping}
 use Rattle.comfy_parts.specs.CellValue.{CellValue, RowValue}
 use Rattle.comfy_parts.specs.Presets.{utf8_full}
@@ -23,14 +24,16 @@ use Rattle.csv_command.specs.declared.arguments.Options.{Options}
 use Rattle.csv_tables.specs.declared.options.RowSeparators.TheVariants.{Styled}
 use Rattle.promises.specs.Shown.{ShowsColumns}
 use Rattle.promises.specs.Tables.{HasCharactersWithin}
-use Rattle.csv_tables.specs.Drawn.{note_for, note_text, record_line}
+use Rattle.csv_tables.specs.Drawn.{drawn_rows, note_for, record_line}
 use Rattle.comfy_table.specs.Drawing.{terminated_text_of}
 use Rattle.comfy_table.specs.Laws.{AreLinesOf}
-use Rattle.csv_promises.specs.Fields.{HoldsField, HoldsFields, IsDrawingOf, IsInBold, MayExpand, ShowsDrawn, ShowsExpanded, ShowsRecords, ShowsRows, StaysAsItIs, all_rows, positions_in}
+use Rattle.csv_promises.specs.Counted.{AreExpanded, DrawsLines, EachDrawnLine, HasEachLine, MayExpand}
+use Rattle.csv_promises.specs.Fields.{HoldsField, HoldsFields, IsDrawingOf, ShowsDrawn, ShowsPairs, ShowsRecords, ShowsRows, StaysAsItIs, all_rows, positions_in}
+use Rattle.csv_promises.specs.Harmless.{IsHarmlessFor, IsInBold, ShowsNothingHarmful}
 use Rattle.csv_promises.specs.Messages.{IsTameLine}
-use Rattle.csv_records.specs.Cleaning.{cleaned, is_replaced}
-use Rattle.csv_promises.specs.Fields.IsInBold.{nothing, plain, bold as bold_part}
-use Rattle.csv_promises.specs.Straight.{CountsRecords, IsPlainField, IsStraight}
+use Rattle.csv_records.specs.Cleaning.{cleaned, is_harmful, is_replaced}
+use Rattle.csv_promises.specs.Harmless.IsInBold.{nothing, plain, bold as bold_part}
+use Rattle.csv_promises.specs.Straight.{IsPlainField, IsStraight}
 use Rattle.test_definitions.proofs.OutputLineTrials.{found, one_line, two_lines}
 use Rattle.test_definitions.proofs.PromiseTrials.{shows_itself}
 use Rattle.test_definitions.proofs.CsvFieldTrials.{IsOneText, begins, dashed, has_line, one_row}
@@ -38,28 +41,32 @@ use Rattle.test_definitions.proofs.TrialTables.{utf8}
 
 -- ---- straight edges
 
--- a line that counts records begins with `record`, or has more than eleven characters
-long_note : (n : ℕ) (m : Option ℕ) → 12 ≤ length (note_text n m)
-long_note n None = let whole = length-append (((codes "first " ++ decimal n) ++ codes " ") ++ (if n == 1 then codes "record" else codes "records")) (codes "; there are more") in omega (arith, whole)
-long_note n (Some m) =
-    let whole = length-append ((decimal n ++ codes " of ") ++ decimal m) (codes " records") in
-    let third = length-append (decimal n ++ codes " of ") (decimal m) in
-    let second = length-append (decimal n) (codes " of ") in
-    omega (arith, whole, third, second)
+-- the look of a table with a header in bold
+abbrev pub bold : Look
+bold = record { style = utf8_full; separators = Styled; expansion = Auto; width = None; fills_width = false; max_height = None; has_bold_header = true; aligns_decimals = true; has_sequences = false; is_markdown = false }
 
-pub no_count : (line : Text) → length line ≤ 11 → ¬ (slice_index_or line 0 0 ≡ 0x72) → ¬ (CountsRecords line)
-no_count line short other (n, None, inl is) = other (ap (λ (t : Text). slice_index_or t 0 0) is)
-no_count line short other (n, Some m, inl is) = other (ap (λ (t : Text). slice_index_or t 0 0) is)
-no_count line short other (n, m, inr is) = let same = ap length is in let long = long_note n m in absurd (omega (arith, same, long, short))
+-- a look without a bold header, in a style whose hyphen no row draws
+abbrev unbold : Look
+unbold = record bold { has_bold_header = false; style = dashed }
 
--- nor is a line that counts columns
-counted_columns : ¬ (CountsRecords (codes "2 of 7 columns"))
-counted_columns (n, None, inl is) = let letter : ◌≡◌ {A = ℕ} 0x32 0x72 = cc is in absurd (omega (arith, letter))
-counted_columns (n, Some m, inl is) = let letter : ◌≡◌ {A = ℕ} 0x32 0x72 = cc is in absurd (omega (arith, letter))
-counted_columns (n, None, inr is) = let letter : ◌≡◌ {A = ℕ} 0x32 0x66 = cc is in absurd (omega (arith, letter))
-counted_columns (n, Some m, inr is) =
-    let letter : 0x6E ≡ 0x64 = ap (λ (t : Text). slice_index_or t 1 0) (ap reverse is ∙ reverse-append ((decimal n ++ codes " of ") ++ decimal m) (codes " records")) in
-    absurd (omega (arith, letter))
+-- without a header, with records expanded or not, and a limit
+abbrev pub asked : Expansion → Option ℕ → Options → Options
+asked expansion limit options = record options { selection = record options.selection { has_header = false; limit = limit }; look = record unbold { expansion = expansion } }
+
+-- what is written of rows has the drawn lines alone, if no limit is asked for
+pub drawn_lines : (P : Text → Type 0) (options : Options) → options.look.expansion ≡ Never → options.selection.limit ≡ None → (records : List (List Text)) (text : Text) → EachDrawnLine P options records text → HasEachLine P text
+drawn_lines P options never unlimited records text is =
+    subst (HasEachLine P) (sym (is.joined ∙ ap (λ (limit : Option ℕ). is.drawn ++ note_for false limit is.count) unlimited ∙ append-nil is.drawn))
+    (subst (λ (b : Bool). DrawsLines P (drawn_rows options.selection records) b is.count is.drawn) (subst (λ (e : Expansion). MayExpand e is.is_expanded) never is.expansion) is.draws)
+
+-- two lines of rows show the same number of columns
+same_columns : (first second text : Text) → slice_split (λ b. b == 0x0A) text ≡ first ∷ second ∷ [] ∷ [] → list_any (λ b. b == 0x1B) first ≡ false → list_any (λ b. b == 0x1B) second ≡ false → (options : Options) (records : List (List Text)) → IsStraight (asked Never None options) records text → measure first ≡ measure second
+same_columns first second text cut plain_first plain_second options records is =
+    let own = drawn_lines (ShowsColumns is.0) (asked Never None options) refl refl records text is.1 in
+    let all : All (ShowsColumns is.0) (first ∷ second ∷ []) = subst (All (ShowsColumns is.0)) (two_lines first second own.lines (sym cut ∙ found text own.lines own.are)) own.each in
+    let one = All-head (ShowsColumns is.0) first (second ∷ []) all in
+    let other = All-head (ShowsColumns is.0) second [] (All-tail (ShowsColumns is.0) first (second ∷ []) all) in
+    sym (ap measure (shows_itself one.1 plain_first)) ∙ one.2 ∙ sym other.2 ∙ ap measure (shows_itself other.1 plain_second)
 
 pub one_column : measure (codes "a") ≡ 1
 unfolding wrapping encode
@@ -70,28 +77,9 @@ unfolding wrapping encode
 two_columns = refl
 
 -- false: csv_promises::straight_output, csv_promises::straight_whole_output
-two_widths_are_not_straight : ¬ (IsStraight (codes "ba\na\n"))
-two_widths_are_not_straight is =
-    by_lines
-    (two_lines (codes "ba") (codes "a") is.lines (found (codes "ba\na\n") is.lines is.are))
-  where
-    Good : Text → Type 0
-    Good line = CountsRecords line ⊎ ShowsColumns is.columns line
-
-    columns_of : (line : Text) → length line ≤ 11 → ¬ (slice_index_or line 0 0 ≡ 0x72) → Good line → ShowsColumns is.columns line
-    columns_of line short other (inl counts) = absurd (no_count line short other counts)
-    columns_of line short other (inr shows) = shows
-
-    by_lines : ¬ (is.lines ≡ codes "ba" ∷ codes "a" ∷ [])
-    by_lines are =
-        let all : All Good (codes "ba" ∷ codes "a" ∷ []) = subst (All Good) are is.show in
-        let first = columns_of (codes "ba") (omega arith) (λ same. let letter : ◌≡◌ {A = ℕ} 0x62 0x72 = same in absurd (omega (arith, letter))) (All-head Good (codes "ba") (codes "a" ∷ []) all) in
-        let second = columns_of (codes "a") (omega arith) (λ same. let letter : ◌≡◌ {A = ℕ} 0x61 0x72 = same in absurd (omega (arith, letter))) (All-head Good (codes "a") [] (All-tail Good (codes "ba") (codes "a" ∷ []) all)) in
-        let wide : is.columns ≡ 2 =
-        sym first.2 ∙ ap measure (shows_itself first.1 refl) ∙ two_columns in
-        let narrow : is.columns ≡ 1 =
-        sym second.2 ∙ ap measure (shows_itself second.1 refl) ∙ one_column in
-        absurd (omega (arith, wide, narrow))
+two_widths_are_not_straight : (options : Options) (records : List (List Text)) → ¬ (IsStraight (asked Never None options) records (codes "ba\na\n"))
+two_widths_are_not_straight options records is =
+    let same = same_columns (codes "ba") (codes "a") (codes "ba\na\n") refl refl refl options records is in absurd (omega (arith, same, one_column, two_columns))
 
 wide_columns : measure (utf8 "| 京 |") ≡ 6
 unfolding wrapping encode
@@ -103,27 +91,27 @@ narrow_columns = refl
 
 -- nor is a drawing in which a wide character counts for one column
 -- false: csv_promises::straight_fitting_output
-wide_in_a_narrow_column : ¬ (IsStraight (utf8 "| 京 |\n| a |\n"))
+wide_in_a_narrow_column : (options : Options) (records : List (List Text)) → ¬ (IsStraight (asked Never None options) records (utf8 "| 京 |\n| a |\n"))
 unfolding encode
-wide_in_a_narrow_column is =
-    by_lines
-    (two_lines (utf8 "| 京 |") (codes "| a |") is.lines (found (utf8 "| 京 |\n| a |\n") is.lines is.are))
-  where
-    Good : Text → Type 0
-    Good line = CountsRecords line ⊎ ShowsColumns is.columns line
+wide_in_a_narrow_column options records is =
+    let same = same_columns (utf8 "| 京 |") (codes "| a |") (utf8 "| 京 |\n| a |\n") refl refl refl options records is in absurd (omega (arith, same, wide_columns, narrow_columns))
 
-    columns_of : (line : Text) → length line ≤ 11 → ¬ (slice_index_or line 0 0 ≡ 0x72) → Good line → ShowsColumns is.columns line
-    columns_of line short other (inl counts) = absurd (no_count line short other counts)
-    columns_of line short other (inr shows) = shows
+counted_columns : measure (codes "record 7") ≡ 8
+unfolding wrapping encode
+counted_columns = refl
 
-    by_lines : ¬ (is.lines ≡ utf8 "| 京 |" ∷ codes "| a |" ∷ [])
-    by_lines are =
-        let all : All Good (utf8 "| 京 |" ∷ codes "| a |" ∷ []) = subst (All Good) are is.show in
-        let first = columns_of (utf8 "| 京 |") (omega arith) (λ same. let letter : ◌≡◌ {A = ℕ} 0x7C 0x72 = same in absurd (omega (arith, letter))) (All-head Good (utf8 "| 京 |") (codes "| a |" ∷ []) all) in
-        let second = columns_of (codes "| a |") (omega arith) (λ same. let letter : ◌≡◌ {A = ℕ} 0x7C 0x72 = same in absurd (omega (arith, letter))) (All-head Good (codes "| a |") [] (All-tail Good (utf8 "| 京 |") (codes "| a |" ∷ []) all)) in
-        let wide : is.columns ≡ 6 = sym first.2 ∙ ap measure (shows_itself first.1 refl) ∙ wide_columns in
-        let narrow : is.columns ≡ 5 = sym second.2 ∙ ap measure (shows_itself second.1 refl) ∙ narrow_columns in
-        absurd (omega (arith, wide, narrow))
+noted_columns : measure (codes "3 of 9 records") ≡ 14
+unfolding wrapping encode
+noted_columns = refl
+
+-- nor is one with a line that counts, if records aren't expanded, and none is left out
+counted_row : (options : Options) (records : List (List Text)) → ¬ (IsStraight (asked Never None options) records (codes "| a |\nrecord 7\n"))
+counted_row options records is =
+    let same = same_columns (codes "| a |") (codes "record 7") (codes "| a |\nrecord 7\n") refl refl refl options records is in absurd (omega (arith, same, narrow_columns, counted_columns))
+
+counted_rows : (options : Options) (records : List (List Text)) → ¬ (IsStraight (asked Never None options) records (codes "| a |\n3 of 9 records\n"))
+counted_rows options records is =
+    let same = same_columns (codes "| a |") (codes "3 of 9 records") (codes "| a |\n3 of 9 records\n") refl refl refl options records is in absurd (omega (arith, same, narrow_columns, noted_columns))
 
 -- fields that meet the conditions: an accent takes one column, Chinese is drawn as it is
 accent_is_narrow : HasCharactersWithin 1 (utf8 "é")
@@ -135,14 +123,6 @@ unfolding wrapping encode
 chinese_is_plain = record { plain = refl; short = omega arith }
 
 -- ---- fields
-
--- the look of a table with a header in bold
-abbrev pub bold : Look
-bold = record { style = utf8_full; separators = Styled; expansion = Auto; width = None; fills_width = false; max_height = None; has_bold_header = true; aligns_decimals = true; has_sequences = false; is_markdown = false }
-
--- a look without a bold header, in a style whose hyphen no row draws
-abbrev unbold : Look
-unbold = record bold { has_bold_header = false; style = dashed }
 
 -- a text without lines
 no_text_lines : (lines : List Text) → AreLinesOf [] lines → lines ≡ []
@@ -282,7 +262,7 @@ left_open is = by_parts is refl refl
 
 -- one record of a field `a` below a name `a`
 abbrev OneExpanded : Text → Type 0
-OneExpanded = ShowsExpanded unbold (codes "a" ∷ []) (0 ∷ []) (Some 1) 1 ((codes "a" ∷ []) ∷ [])
+OneExpanded = AreExpanded (ShowsPairs unbold (codes "a" ∷ []) (0 ∷ [])) (Some 1) 1 ((codes "a" ∷ []) ∷ [])
 
 -- it isn't the second one, and not without its line
 another_number : ¬ (OneExpanded (codes "record 2 of 1\n a  a \n"))
@@ -306,7 +286,7 @@ no_name (own, rest, is, shows, more) = by_own own (ap (drop 14) is) shows
     by_own [] same shows = nothing_shows_no_field unbold refl refl (cleaned false (codes "a") ∷ []) (subst (λ (name : Text). ShowsRows unbold false ((name ∷ cleaned false (codes "a") ∷ []) ∷ []) []) a_stays shows)
 
 -- nothing stands behind the last record
-text_behind : ¬ (ShowsExpanded unbold [] [] (Some 1) 2 [] (codes " a \n"))
+text_behind : ¬ (AreExpanded (ShowsPairs unbold [] []) (Some 1) 2 [] (codes " a \n"))
 text_behind is = cc is
 
 -- records are expanded where that is asked for, and not where it is forbidden
@@ -317,10 +297,6 @@ rows_always : ¬ (MayExpand Always false)
 rows_always is = cc is
 
 -- ---- records
-
--- without a header, with records expanded or not, and a limit
-abbrev asked : Expansion → Option ℕ → Options → Options
-asked expansion limit options = record options { selection = record options.selection { has_header = false; limit = limit }; look = record unbold { expansion = expansion } }
 
 abbrev expanded : Options → Options
 expanded options = asked Always None options
@@ -336,7 +312,7 @@ lost_record options chosen dropped unnumbered is =
     (subst (ShowsRows in_rows false ((cleaned false (codes "a") ∷ []) ∷ [])) (sym (is.joined ∙ append-nil is.drawn))
     (subst (λ (positions : List ℕ). ShowsRows in_rows false (all_rows false positions None ((codes "a" ∷ []) ∷ [])) is.drawn) first
     (subst (λ (b : Bool). ShowsRows in_rows false (all_rows b (positions_in (asked Never None options) [] ((codes "a" ∷ []) ∷ [])) None ((codes "a" ∷ []) ∷ [])) is.drawn) unnumbered
-    (subst (λ (b : Bool). ShowsDrawn b (asked Never None options) None ((codes "a" ∷ []) ∷ []) is.count is.drawn) is.expansion is.shows)))))
+    (subst (λ (b : Bool). ShowsDrawn b (asked Never None options) None ((codes "a" ∷ []) ∷ []) is.count is.drawn) is.expansion is.draws)))))
   where
     first : positions_in (asked Never None options) [] ((codes "a" ∷ []) ∷ []) ≡ 0 ∷ []
     first = rw chosen (rw dropped refl)
@@ -359,7 +335,7 @@ counts_two : (options : Options) (text : Text) → first_of_two options text →
 unfolding digits
 counts_two options text is = by_count is.count is.is_count is.joined
   where
-    by_count : (count : Option ℕ) → MatchOption count (1 < 2) (λ n. n ≡ 2) → text ≡ is.drawn ++ note_for false (Some 1) count → (the_count text ≡ 0x32) ⊎ (the_count text ≡ 0x20)
+    by_count : (count : Option ℕ) → MatchOption count ((options.counts_all ≡ false) × (1 < 2)) (λ n. n ≡ 2) → text ≡ is.drawn ++ note_for false (Some 1) count → (the_count text ≡ 0x32) ⊎ (the_count text ≡ 0x20)
     by_count None more made = inr (ap (λ (t : Text). slice_index_or t 9 0) (ap reverse made ∙ reverse-append is.drawn (note_for false (Some 1) None)))
     by_count (Some n) two made = inl (ap (λ (t : Text). slice_index_or t 9 0) (ap reverse (made ∙ ap (λ (m : ℕ). is.drawn ++ note_for false (Some 1) (Some m)) two) ∙ reverse-append is.drawn (note_for false (Some 1) (Some 2))))
 
@@ -379,13 +355,66 @@ no_line_below options is = neither 0 (λ same. absurd (omega (arith, same))) (λ
 another_count : (options : Options) → ¬ (ShowsRecords (expanded options) ((codes "a" ∷ []) ∷ []) (codes "record 1 of 2\n 1  a \n"))
 unfolding digits
 another_count options is =
-    by_count is.count is.is_count (subst (λ (b : Bool). ShowsDrawn b (expanded options) None ((codes "a" ∷ []) ∷ []) is.count is.drawn) is.expansion is.shows) (is.joined ∙ append-nil is.drawn)
+    by_count is.count is.is_count (subst (λ (b : Bool). ShowsDrawn b (expanded options) None ((codes "a" ∷ []) ∷ []) is.count is.drawn) is.expansion is.draws) (is.joined ∙ append-nil is.drawn)
   where
-    by_count : (count : Option ℕ) → MatchOption count (1 < 1) (λ n. n ≡ 1) → ShowsDrawn true (expanded options) None ((codes "a" ∷ []) ∷ []) count is.drawn → ¬ (codes "record 1 of 2\n 1  a \n" ≡ is.drawn)
-    by_count None more shows made = absurd (omega (arith, more))
+    by_count : (count : Option ℕ) → MatchOption count ((options.counts_all ≡ false) × (1 < 1)) (λ n. n ≡ 1) → ShowsDrawn true (expanded options) None ((codes "a" ∷ []) ∷ []) count is.drawn → ¬ (codes "record 1 of 2\n 1  a \n" ≡ is.drawn)
+    by_count None more shows made = absurd (omega (arith, more.1))
     by_count (Some n) one (own, rest, is, shows, more) made =
         let same : codes "record 1 of 2\n 1  a \n" ≡ record_line 1 (Some 1) ++ (own ++ rest) = made ∙ is ∙ ap (λ (m : ℕ). record_line 1 (Some m) ++ (own ++ rest)) one in
         let letter : ◌≡◌ {A = ℕ} 0x32 0x31 = ap (λ (t : Text). slice_index_or t 12 0) same in absurd (omega (arith, letter))
+
+-- and if a count is asked for, it isn't left out
+count_is_missing : (options : Options) → options.counts_all ≡ true → ¬ (first_of_two options (codes " a \nfirst 1 record; there are more\n"))
+unfolding digits
+count_is_missing options counts is = by_count is.count is.is_count is.joined
+  where
+    by_count : (count : Option ℕ) → MatchOption count ((options.counts_all ≡ false) × (1 < 2)) (λ n. n ≡ 2) → ¬ (codes " a \nfirst 1 record; there are more\n" ≡ is.drawn ++ note_for false (Some 1) count)
+    by_count None uncounted made = absurd (cc (counts, uncounted.0))
+    by_count (Some n) two made =
+        let letter : ◌≡◌ {A = ℕ} 0x65 0x73 = ap (λ (t : Text). slice_index_or t 1 0) (ap reverse (made ∙ ap (λ (m : ℕ). is.drawn ++ note_for false (Some 1) (Some m)) two) ∙ reverse-append is.drawn (note_for false (Some 1) (Some 2))) in absurd (omega (arith, letter))
+
+-- ---- what a terminal is told
+
+-- text of which a character is harmful isn't shown
+harmful_is_not_shown : (visible : Text) (cs : List ℕ) → visible ≡ encode_utf8_all cs → list_any is_harmful cs ≡ true → ¬ (NoCharPasses is_harmful visible)
+harmful_is_not_shown visible cs is some none = true≢false (sym some ∙ by_characters cs (subst (NonePass is_harmful) (encodes_same none.0 cs (none.1 ∙ is)) none.2))
+  where
+    by_characters : (cs : List ℕ) → NonePass is_harmful cs → list_any is_harmful cs ≡ false
+    by_characters [] none = refl
+    by_characters (c ∷ cs) none = rw none.0 (by_characters cs none.1)
+
+-- false: csv_promises::harmless_output
+direction_is_turned : (look : Look) → ¬ (IsHarmlessFor look (utf8 "\u{202e}"))
+unfolding encode
+direction_is_turned look is = harmful_is_not_shown is.visible (0x202E ∷ []) (shows_itself is.shows refl) refl is.harmless
+
+bell_is_rung : (look : Look) → ¬ (IsHarmlessFor look (0x07 ∷ []))
+unfolding encode
+bell_is_rung look is = harmful_is_not_shown is.visible (0x07 ∷ []) (shows_itself is.shows refl) refl is.harmless
+
+-- nothing is hidden, under a bold header either: what is visible holds no ESC
+hidden_output : ¬ (IsHarmlessFor bold (codes "\u{1b}[8ma"))
+hidden_output is = by_parts (is.in_bold (inl refl)) refl is.harmless
+  where
+    by_parts : {line styled : Text} → IsInBold line styled → styled ≡ codes "\u{1b}[8ma" → ¬ (NoCharPasses is_harmful line)
+    by_parts nothing same none = cc same
+    by_parts (plain [] line styled own) same none = by_parts own same none
+    by_parts (plain (x ∷ part) line styled own) same none =
+        let escape : x ≡ 0x1B = cc same in
+        let clear = (or_parts (x == 0x1B) _ (none_by_characters is_harmful 0x1B (omega arith) refl (x ∷ (part ++ line)) none)).0 in true≢false (sym (ap (λ (n : ℕ). n == 0x1B) escape) ∙ clear)
+    by_parts (bold_part part line styled own) same none = let letter : ◌≡◌ {A = ℕ} 0x31 0x38 = ap (λ (t : Text). slice_index_or t 2 0) same in absurd (omega (arith, letter))
+
+-- and without one nothing is in bold
+bold_without_a_header : ¬ (IsHarmlessFor unbold (codes "\u{1b}[1ma\u{1b}[0m"))
+bold_without_a_header is =
+    let same = is.plain (inl (refl, refl)) in
+    let clear = none_by_characters is_harmful 0x1B (omega arith) refl is.visible is.harmless in
+    true≢false (ap (list_any (λ b. b == 0x1B)) same ∙ clear)
+
+-- false: csv_promises::harmless_drawing
+c1_is_harmful : ¬ (ShowsNothingHarmful (utf8 "\u{9b}2J"))
+unfolding encode
+c1_is_harmful (visible, shows, none) = harmful_is_not_shown visible (codes "\u{9b}2J") (shows_itself shows refl) refl none
 
 -- ---- messages
 

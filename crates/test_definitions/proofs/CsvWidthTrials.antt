@@ -11,53 +11,63 @@ use Rattle.csv_tables.specs.Columns.{count_of}
 use Rattle.promises.specs.Shown.Shows.{byte, nothing}
 use Rattle.promises.specs.Tables.{HasCharactersWithin}
 use Rattle.csv_promises.specs.Fields.{positions_by, positions_in}
-use Rattle.csv_promises.specs.Straight.{CountsRecords}
-use Rattle.csv_promises.specs.Width.{KeepToWidth, KeepsItsWidth, KeepsTo, frame_room, framed_columns}
-use Rattle.test_definitions.proofs.CsvPromiseTrials.{bold, no_count, one_column, two_columns}
+use Rattle.csv_promises.specs.Counted.{EachDrawnLine, HasEachLine}
+use Rattle.csv_promises.specs.Width.{KeepsItsWidth, KeepsTo, frame_room, framed_columns}
+use Rattle.test_definitions.proofs.CsvPromiseTrials.{bold, drawn_lines, two_columns}
+use Rattle.comfy_parts.proofs.Computing.{wrapping}
+use lib.Utf8.{encode}
 use Rattle.test_definitions.proofs.OutputLineTrials.{found, one_line, unended}
 use Rattle.test_definitions.proofs.PromiseTrials.{shows_itself, ten}
 
 -- ---- lines
 
--- the only line of a text keeps to the width, where it is too short to count records, and begins with no `r`
-kept : (width frame : ℕ) (is_filled : Bool) (text line : Text) → slice_split (λ b. b == 0x0A) text ≡ line ∷ [] ∷ [] → length line ≤ 11 → ¬ (slice_index_or line 0 0 ≡ 0x72) → KeepToWidth width frame is_filled text → KeepsTo width frame is_filled line
-kept width frame is_filled text line cut short other is =
-    by_cases (All-head Good line [] (subst (All Good) (one_line line is.lines (sym cut ∙ found text is.lines is.are)) is.keep))
-  where
-    Good : Text → Type 0
-    Good l = CountsRecords l ⊎ KeepsTo width frame is_filled l
+-- no word chooses a column, and none is left out
+abbrev IsAll : Options → Type 0
+IsAll options = (options.columns.chosen.items ≡ []) × (options.columns.dropped.items ≡ [])
 
-    by_cases : Good line → KeepsTo width frame is_filled line
-    by_cases (inl counts) = absurd (no_count line short other counts)
-    by_cases (inr keeps) = keeps
+-- the only line of rows keeps to the width
+kept : (P : Text → Type 0) (options : Options) → options.look.expansion ≡ Never → options.selection.limit ≡ None → (records : List (List Text)) (text line : Text) → slice_split (λ b. b == 0x0A) text ≡ line ∷ [] ∷ [] → EachDrawnLine P options records text → P line
+kept P options never unlimited records text line cut is =
+    let own = drawn_lines P options never unlimited records text is in
+    All-head P line [] (subst (All P) (one_line line own.lines (sym cut ∙ found text own.lines own.are)) own.each)
 
--- ten columns are more than a width of eight, and more than nine, which a name and a field take
+-- in a width of eight, a table of one column, which takes five
+abbrev in_eight : Options → Bool → Options
+in_eight options is_filled = record options { selection = record options.selection { has_header = false; limit = None; is_numbered = false }; look = record bold { expansion = Never; width = Some 8; fills_width = is_filled } }
+
+abbrev one_field : List (List Text)
+one_field = (codes "a" ∷ []) ∷ []
+
+one_column_room : (options : Options) (is_filled : Bool) → IsAll options → frame_room (framed_columns (in_eight options is_filled) one_field) ≡ 5
+one_column_room options is_filled (chosen, dropped) = rw chosen (rw dropped refl)
+
+a_is_narrow : All (All (HasCharactersWithin 1)) one_field
+unfolding wrapping encode
+a_is_narrow = All-from_recursion (All (HasCharactersWithin 1)) one_field (All-from_recursion (HasCharactersWithin 1) (codes "a" ∷ []) (refl, tt), tt)
+
+-- ten columns are more than a width of eight, and more than the frame takes
 -- false: csv_promises::output_within
-wide_line : (options : Options) → ¬ (KeepsItsWidth (record options { look = record bold { expansion = Always; width = Some 8 } }) [] (codes "0123456789\n"))
-wide_line options is =
-    let own = kept 8 9 false (codes "0123456789\n") (codes "0123456789") refl (omega arith) (λ same. let letter : ◌≡◌ {A = ℕ} 0x30 0x72 = same in absurd (omega (arith, letter))) (is 8 refl (All-from_recursion (All (HasCharactersWithin 1)) [] tt)) in
+wide_line : (options : Options) → IsAll options → ¬ (KeepsItsWidth (in_eight options false) one_field (codes "0123456789\n"))
+wide_line options all is =
+    let own = kept (KeepsTo 8 (frame_room (framed_columns (in_eight options false) one_field)) false) (in_eight options false) refl refl one_field (codes "0123456789\n") (codes "0123456789") refl (is 8 refl a_is_narrow) in
     let wide : own.columns ≡ 10 = sym own.shows.2 ∙ ap measure (shows_itself own.shows.1 refl) ∙ ten in
-    absurd (omega (arith, own.within, wide))
+    absurd (omega (arith, own.within, wide, one_column_room options false all))
 
--- where the width is filled, one column is less than two
-narrow_line : ¬ (KeepToWidth 2 1 true (codes "a\n"))
-narrow_line is =
-    let own = kept 2 1 true (codes "a\n") (codes "a") refl (omega arith) (λ same. let letter : ◌≡◌ {A = ℕ} 0x61 0x72 = same in absurd (omega (arith, letter))) is in
-    let one : own.columns ≡ 1 = sym own.shows.2 ∙ ap measure (shows_itself own.shows.1 refl) ∙ one_column in
-    let two = own.exact refl (omega arith) in
-    absurd (omega (arith, one, two))
+-- if the width is filled, two columns are less than eight
+narrow_line : (options : Options) → IsAll options → ¬ (KeepsItsWidth (in_eight options true) one_field (codes "ba\n"))
+narrow_line options all is =
+    let own = kept (KeepsTo 8 (frame_room (framed_columns (in_eight options true) one_field)) true) (in_eight options true) refl refl one_field (codes "ba\n") (codes "ba") refl (is 8 refl a_is_narrow) in
+    let two : own.columns ≡ 2 = sym own.shows.2 ∙ ap measure (shows_itself own.shows.1 refl) ∙ two_columns in
+    let eight = own.exact refl (omega (arith, one_column_room options true all)) in
+    absurd (omega (arith, eight, two))
 
 -- a frame that has no room in the width is drawn beyond it
 frame_line : KeepsTo 1 2 true (codes "ba")
 frame_line = record { columns = 2; shows = (codes "ba", byte 0x62 (codes "a") (codes "a") refl (byte 0x61 [] [] refl nothing), two_columns); within = omega arith; exact = λ filled room. absurd (omega (arith, room)) }
 
 -- a line that ends with no line feed is none
-open_line : ¬ (KeepToWidth 9 9 false (codes "a"))
-open_line is = unended is.lines is.are
-
--- a line that only looks as one that counts
-uncounted : ¬ (CountsRecords (codes "2 records"))
-uncounted = no_count (codes "2 records") (omega arith) (λ same. let letter : ◌≡◌ {A = ℕ} 0x32 0x72 = same in absurd (omega (arith, letter)))
+open_line : (P : Text → Type 0) → ¬ (HasEachLine P (codes "a"))
+open_line P is = unended is.lines is.are
 
 -- ---- frames
 
@@ -79,10 +89,6 @@ range word is = rw is refl
 abbrev room_by : Options → Expansion → Bool → List (List Text) → ℕ
 room_by options expansion is_numbered records =
     frame_room (framed_columns (record options { selection = record options.selection { has_header = true; limit = None; is_numbered = is_numbered }; look = record bold { expansion = expansion } }) records)
-
--- no word chooses a column, and none is left out
-abbrev IsAll : Options → Type 0
-IsAll options = (options.columns.chosen.items ≡ []) × (options.columns.dropped.items ≡ [])
 
 -- so all three are drawn
 all_are_drawn : (options : Options) → IsAll options → (rows : List (List Text)) → count_of (codes "a" ∷ codes "b" ∷ codes "c" ∷ []) rows ≡ 3 → (more : ℕ) → frame_room (length (positions_in options (codes "a" ∷ codes "b" ∷ codes "c" ∷ []) rows) + more) ≡ frame_room (3 + more)

@@ -5,6 +5,7 @@ mod ColumnTrials
 mod ConditionTrials
 mod ControlTrials
 mod CsvFieldTrials
+mod CsvMarkdownTrials
 mod CsvPromiseTrials
 mod CsvWidthTrials
 mod DecimalTrials
