@@ -1,13 +1,19 @@
+mod AtLeastLemmas
 mod ColumnLemmas
 mod FrameLemmas
+mod MarkdownLemmas
 mod MessageLemmas
+mod TwoColumnCharacterLemmas
+mod TwoColumnLemmas
+mod TwoColumnTableLemmas
+mod WideTextLemmas
 mod WidthLemmas
+mod WrappedCharacterLemmas
 pub mod BoldLemmas
 pub mod ExpandedLemmas
 pub mod FieldLemmas
 pub mod HarmlessLemmas
 pub mod LineLemmas
-mod MarkdownLemmas
 pub mod OutputFieldLemmas
 pub mod OutputLemmas
 pub mod PositionLemmas

@@ -4,5 +4,6 @@ pub mod Harmless
 pub mod MarkdownTable
 pub mod Messages
 pub mod Straight
+pub mod WideTexts
 pub mod Width
 pub mod Written

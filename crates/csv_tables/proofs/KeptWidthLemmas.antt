@@ -1,5 +1,5 @@
 -- Columns that are as wide as their contents are drawn no narrower.
-use Rattle.std.proofs.Common.{◌≡◌, ◌==◌, ◌≤◌, ◌<◌, ◌&&◌, ◌||◌, ℕ, zero, suc, ◌+◌, Bool, true, false, not, cond, List, [], ◌∷◌, ◌++◌, Option, Some, None, find, length, map, max, min, nat_le, nat_lt, option_map, slice_index, unwrap_or, refl, sym, ap, ◌∙◌, subst, arith}
+use Rattle.std.proofs.Common.{◌≡◌, ◌==◌, ◌≤◌, ◌<◌, ◌&&◌, ◌||◌, ℕ, zero, suc, ◌+◌, Bool, true, false, not, cond, List, [], ◌∷◌, ◌++◌, Option, Some, None, find, length, map, max, min, nat_le, nat_lt, option_map, slice_index, unwrap_or, refl, sym, ap, ◌∙◌, subst, arith, eq-zero-or-pos, ⊎_elim}
 use Rattle.std.specs.List.{All, AllByRecursion, cons_option, enumerate_from, range_with_len, slice_get}
 use Rattle.std.specs.Prelude.{if◌then◌else◌}
 use Rattle.std.proofs.lemmas.Bool.{eq-eqb, le-leb, ne_eqb}
@@ -19,12 +19,12 @@ use Rattle.comfy_table.specs.TableValue.{TableValue, cell_content_width, column_
 use Rattle.comfy_table.specs.Widths.{ColumnNeeds, even_spread, fixed_by_boundary, needs_of, part_of, shown_needs, without_padding}
 use Rattle.csv_tables.proofs.LineLemmas.{Any, any_built, any_drawn, kept_setting}
 use Rattle.csv_tables.proofs.SeparatorLemmas.{restyled, separated}
-use Rattle.csv_tables.proofs.UnbrokenLemmas.{kept-test}
+use Rattle.csv_tables.proofs.UnbrokenLemmas.{boundary-some, kept-test}
 use Rattle.csv_tables.proofs.WholeColumnLemmas.{all_shown, leasts-length, leasts_on}
 use Rattle.csv_tables.proofs.WholeTableLemmas.{drawn-is}
 use Rattle.csv_tables.specs.Drawn.{SelectedValue, arrangement_for, empty_table, is_expanded_for, is_expanded_in, is_table_expanded, output_table, rows_table, separated_table, unbroken_in, is_aligned_in}
 use Rattle.csv_tables.specs.Laws.{AutoKeepsWhole, IsWholeColumn, NeverKeepsWhole, UnbrokenColumnsAreWhole}
-use Rattle.csv_tables.specs.Unbroken.{by_columns, given_at, has_room, kept_unbroken, level_in, name_in, wide_word, with_kept}
+use Rattle.csv_tables.specs.Unbroken.{boundary_for, by_columns, given_at, has_room, kept_unbroken, level_in, name_in, wide_word, with_kept}
 use Rattle.csv_tables.specs.declared.options.DrawnColumn.{DrawnColumn}
 use Rattle.csv_tables.specs.declared.options.Expansion.TheVariants.{Auto}
 use Rattle.csv_tables.specs.declared.options.Look.{Look}
@@ -93,25 +93,26 @@ fixed_is_kept room columns full steps k x at = by_test (full && (length (even_co
 -- ---- columns of a table
 
 -- a boundary at the content is fixed at once
-fixed_whole : (content padding kept : ℕ) → padding ≡ 2 → kept ≡ content → fixed_by_boundary content padding (Some (kept + 2)) ≡ Some (max 1 content)
-fixed_whole content padding kept two is =
-    ap (λ (b : Bool). if b then Some (without_padding padding (kept + 2)) else None) (le-leb (content + padding) (kept + 2) (omega (arith, two, is)))
+fixed_whole : (content padding kept : ℕ) → padding ≡ 2 → 0 < content → kept ≡ content → fixed_by_boundary content padding (Some (boundary_for kept)) ≡ Some (max 1 content)
+fixed_whole content padding kept two some is =
+    ap (λ (l : ℕ). fixed_by_boundary content padding (Some l)) (boundary-some kept (omega (arith, some, is)))
+    ∙ ap (λ (b : Bool). if b then Some (without_padding padding (kept + 2)) else None) (le-leb (content + padding) (kept + 2) (omega (arith, two, is)))
     ∙ ap (λ (n : ℕ). Some n) (omega (arith, two, is))
 
 -- the column at a place is as wide as its content, where it keeps all of it
-whole_need : (table : TableValue) (kept : ℕ → ℕ) (columns : List ColumnValue) (n i : ℕ) → AllByRecursion IsNewColumn columns → kept (n + i) ≡ column_content_width table (n + i) → i < length columns
+whole_need : (table : TableValue) (kept : ℕ → ℕ) (columns : List ColumnValue) (n i : ℕ) → AllByRecursion IsNewColumn columns → 0 < column_content_width table (n + i) → kept (n + i) ≡ column_content_width table (n + i) → i < length columns
     → IsFixedAt (map (needs_of table) (enumerate_from n (leasts_on (map kept (range_with_len n (length columns))) columns))) i (max 1 (column_content_width table (n + i)))
-whole_need table kept [] n i new is below = absurd (omega (arith, below))
-whole_need table kept (c ∷ cs) n zero new is below =
+whole_need table kept [] n i new some is below = absurd (omega (arith, below))
+whole_need table kept (c ∷ cs) n zero new some is below =
     let place : n ≡ n + 0 = omega arith in
     let own : kept n ≡ column_content_width table n = ap kept place ∙ is ∙ ap (column_content_width table) (sym place) in
     let one : c.padding.0 ≡ 1 = ap (λ (x : ℕ × ℕ). x.0) new.0.padding in
     let other : c.padding.1 ≡ 1 = ap (λ (x : ℕ × ℕ). x.1) new.0.padding in
-    (_, refl, fixed_whole (column_content_width table n) (column_padding c) (kept n) (omega (arith, one, other)) own ∙ ap (λ (j : ℕ). Some (max 1 (column_content_width table j))) place)
-whole_need table kept (c ∷ cs) n (suc i) new is below =
+    (_, refl, fixed_whole (column_content_width table n) (column_padding c) (kept n) (omega (arith, one, other)) (omega (arith, some, ap (column_content_width table) place)) own ∙ ap (λ (j : ℕ). Some (max 1 (column_content_width table j))) place)
+whole_need table kept (c ∷ cs) n (suc i) new some is below =
     let place : (n + 1) + i ≡ n + suc i = omega arith in
     subst (λ (j : ℕ). IsFixedAt (map (needs_of table) (enumerate_from (n + 1) (leasts_on (map kept (range_with_len (n + 1) (length cs))) cs))) i (max 1 (column_content_width table j))) place
-    (whole_need table kept cs (n + 1) i new.1 (ap kept place ∙ is ∙ ap (column_content_width table) (sym place)) (omega (arith, below)))
+    (whole_need table kept cs (n + 1) i new.1 (omega (arith, some, ap (column_content_width table) place)) (ap kept place ∙ is ∙ ap (column_content_width table) (sym place)) (omega (arith, below)))
 
 module _ (table : TableValue) (new : AllByRecursion IsNewColumn table.columns) (whole : List Bool) (level w : ℕ) (widths : List ℕ) (i : ℕ) where
   abbrev kept_on : List ℕ
@@ -126,14 +127,14 @@ module _ (table : TableValue) (new : AllByRecursion IsNewColumn table.columns) (
       keeps : Option Bool → ℕ
       keeps o = if unwrap_or o false || nat_le (column_content_width table i) 8 then column_content_width table i else min (column_content_width table i) (wide_word table (name_in table i))
 
-  pub whole_is_kept : width_kept with.arrangement (Some w) ≡ Some w → table_width with ≡ Some w → slice_get whole i ≡ Some true → i < length table.columns → IsArranged with widths → column_content_width table i ≤ slice_index widths i
-  whole_is_kept kept known is below arranged =
+  some_is_kept : width_kept with.arrangement (Some w) ≡ Some w → table_width with ≡ Some w → slice_get whole i ≡ Some true → i < length table.columns → IsArranged with widths → 0 < column_content_width table i → column_content_width table i ≤ slice_index widths i
+  some_is_kept kept known is below arranged some =
       let columns = leasts_on kept_on table.columns in
       let all = all_shown kept_on table.columns new in
       let found = dynamic_widths with with.arrangement w widths kept refl known arranged in
       let place : 0 + i ≡ i = omega arith in
       let own : given_at level whole table (0 + i) ≡ column_content_width table (0 + i) = subst (λ (j : ℕ). given_at level whole table j ≡ column_content_width table j) (sym place) (keeps_all is) in
-      let fixed = subst (λ (ps : List (ℕ × ColumnValue)). IsFixedAt (map (needs_of with) ps) i (max 1 (column_content_width with (0 + i)))) (sym all) (whole_need with (given_at level whole table) table.columns 0 i new own below) in
+      let fixed = subst (λ (ps : List (ℕ × ColumnValue)). IsFixedAt (map (needs_of with) ps) i (max 1 (column_content_width with (0 + i)))) (sym all) (whole_need with (given_at level whole table) table.columns 0 i new (omega (arith, some, ap (column_content_width table) place)) own below) in
       let room = room_beside_borders with w in
       let full = is_full_width with.arrangement in
       let wide : max 1 (column_content_width with (0 + i)) ≤ slice_index (widened room (shown_needs with) full found.0) i = fixed_is_kept room (shown_needs with) full found.0 i (max 1 (column_content_width with (0 + i))) fixed in
@@ -142,6 +143,10 @@ module _ (table : TableValue) (new : AllByRecursion IsNewColumn table.columns) (
       let same : slice_index (widened room (shown_needs with) full found.0) i ≡ slice_index widths i = ap (λ (xs : List ℕ). slice_index xs i) (sym found.1.widths_are) ∙ drawn in
       let content : column_content_width with (0 + i) ≡ column_content_width table i = ap (column_content_width table) place in
       omega (arith, wide, same, content)
+
+  -- also where there is none
+  pub whole_is_kept : width_kept with.arrangement (Some w) ≡ Some w → table_width with ≡ Some w → slice_get whole i ≡ Some true → i < length table.columns → IsArranged with widths → column_content_width table i ≤ slice_index widths i
+  whole_is_kept kept known is below arranged = ⊎_elim (λ none. omega (arith, none)) (λ some. some_is_kept kept known is below arranged some) (eq-zero-or-pos (column_content_width table i))
 
 pub kept_arrangement : (w : ℕ) (fills : Bool) → width_kept (arrangement_for (Some w) fills) (Some w) ≡ Some w
 kept_arrangement w true = refl

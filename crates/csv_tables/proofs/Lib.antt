@@ -39,5 +39,5 @@ pub mod TextTableLemmas
 pub mod UnbrokenFieldLemmas
 pub mod UnbrokenLemmas
 pub mod WholeColumnLemmas
-mod WholeRowLemmas
+pub mod WholeRowLemmas
 pub mod WholeTableLemmas

@@ -1,6 +1,7 @@
 -- What tables that keep numbers and dates whole are made of.
 use Rattle.std.proofs.Common.{◌≡◌, ◌<◌, ◌≤◌, ◌+◌, ℕ, zero, suc, Bool, List, [], ◌∷◌, Some, ◌-◌, ◌^◌, cond, filter, get_or, length, map, min, nat_le, set, max, nat_lt, slice_get, sum_by, unwrap_or, true, false, ◌||◌, refl, sym, ap, ◌∙◌, arith}
 use Rattle.std.specs.List.{All, range_with_len}
+use Rattle.std.proofs.lemmas.Bool.{lt-ltb}
 use Rattle.std.proofs.lemmas.Bool.Decides.{nat_tests}
 use Rattle.std.proofs.lemmas.List.{map-id}
 use Rattle.std.proofs.lemmas.List.Elements.{All-cons, All-nil}
@@ -13,7 +14,7 @@ use Rattle.comfy_parts.specs.declared.style.table_style.TableStyle.{TableStyle}
 use Rattle.comfy_table.proofs.ColumnCellLemmas.{greatest-append}
 use Rattle.comfy_table.specs.Frame.{border_count}
 use Rattle.comfy_table.specs.TableValue.{TableValue}
-use Rattle.csv_tables.specs.Unbroken.{framed_width, given_at, given_in, greatest_level, has_room, kept_at, kept_unbroken, shared_at, with_content, with_kept, with_second}
+use Rattle.csv_tables.specs.Unbroken.{boundary_for, framed_width, given_at, given_in, greatest_level, has_room, kept_at, kept_unbroken, shared_at, with_content, with_kept, with_second}
 
 -- what columns keep leaves room for paddings, where what they need does
 pub kept_within : (kept needed : ℕ → ℕ) → ((i : ℕ) → kept i ≤ needed i) → (n count : ℕ) → sum_by (λ content. 2 + content) (map needed (range_with_len n count)) ≤ 65535 → All (λ content. content ≤ 65533) (map kept (range_with_len n count))
@@ -32,6 +33,15 @@ given_is_shared level level2 unbroken table i = by_test (unwrap_or (slice_get un
     by_test : (b : Bool) → max 1 (if b then kept_at unbroken table i else 0) ≤ shared_at level2 unbroken table i
     by_test true = omega arith
     by_test false = omega arith
+
+-- a boundary is the content with its paddings, where there is content
+pub boundary-some : (content : ℕ) → 0 < content → boundary_for content ≡ content + 2
+boundary-some content some = ap (λ (b : Bool). if b then content + 2 else 0) (lt-ltb 0 content some)
+
+-- and never more than that
+pub boundary-within : (content : ℕ) → boundary_for content ≤ content + 2
+boundary-within zero = omega arith
+boundary-within (suc n) = omega (arith, boundary-some (suc n) (omega arith))
 
 -- a sum that stopped at the greatest number is above each width
 pub stopped : (n w : ℕ) → w ≤ 65535 → nat_le (min (2 ^ 64 - 1) n) w ≡ nat_le n w

@@ -13,11 +13,12 @@ use Rattle.comfy_table.proofs.BuiltTableLemmas.{IsNewColumn}
 use Rattle.comfy_table.specs.TableValue.{TableValue, column_cells, column_content_width, constrained, with_row, with_rows}
 use Rattle.comfy_table.specs.Widths.{ColumnNeeds, fixed_by_boundary, fixed_by_constraint, lower_boundary, needs_of, shown_count, without_padding}
 use Rattle.csv_tables.proofs.LeastLemmas.{least_of, lower_or_one}
+use Rattle.csv_tables.proofs.UnbrokenLemmas.{boundary-within}
 use Rattle.csv_tables.specs.Cells.{held, pair_for}
 use Rattle.csv_tables.specs.Fields.{field_or_blank}
 use Rattle.csv_tables.specs.Columns.{name_at}
 use Rattle.csv_tables.specs.Drawn.{SelectedValue, empty_table, pairs_in, pairs_table}
-use Rattle.csv_tables.specs.Unbroken.{at_least, cell_unbroken_width, field_width, is_unbroken, unbroken_width, with_content, with_second}
+use Rattle.csv_tables.specs.Unbroken.{at_least, boundary_for, cell_unbroken_width, field_width, is_unbroken, unbroken_width, with_content, with_second}
 use Rattle.csv_tables.specs.declared.options.DrawnColumn.{DrawnColumn}
 use Rattle.csv_tables.specs.declared.options.Look.{Look}
 
@@ -64,8 +65,8 @@ module _ (table : TableValue) where
   need kept needed i column within new =
       let one : column.padding.0 ≡ 1 = ap (λ (x : ℕ × ℕ). x.0) new.padding in
       let other : column.padding.1 ≡ 1 = ap (λ (x : ℕ × ℕ). x.1) new.padding in
-      let takes : least_of (needs_of table (i, record column { constraint = Some (at_least kept) })) ≡ without_padding (column_padding column) (kept + 2) = as_much (column_content_width table i) (column_padding column) (kept + 2) in
-      record { padding = omega (arith, one, other); least = omega (arith, takes, one, other); most = omega (arith, takes, one, other, within) }
+      let takes : least_of (needs_of table (i, record column { constraint = Some (at_least kept) })) ≡ without_padding (column_padding column) (boundary_for kept) = as_much (column_content_width table i) (column_padding column) (boundary_for kept) in
+      record { padding = omega (arith, one, other); least = omega (arith, takes, one, other); most = omega (arith, takes, one, other, within, boundary-within kept) }
 
   pub needs : (kept needed : ℕ → ℕ) → ((i : ℕ) → max 1 (kept i) ≤ needed i) → (columns : List ColumnValue) (n : ℕ) → AllByRecursion IsNewColumn columns
       → AreNeeds (map (needs_of table) (enumerate_from n (leasts_on (map kept (range_with_len n (length columns))) columns))) (map needed (range_with_len n (length columns)))

@@ -97,9 +97,13 @@ abbrev pub has_room : Option ℕ → List Bool → TableValue → Bool
 has_room None unbroken table = true
 has_room (Some width) unbroken table = nat_le (least_width unbroken table) width
 
+-- the width of this content with its paddings; of none 0, which no column is narrower than
+abbrev pub boundary_for : ℕ → ℕ
+boundary_for content = if nat_lt 0 content then content + 2 else 0
+
 -- a column has at least this content, with its paddings
 abbrev pub at_least : ℕ → ColumnConstraint
-at_least content = LowerBoundary (Fixed (content + 2))
+at_least content = LowerBoundary (Fixed (boundary_for content))
 
 -- so the columns of a table
 abbrev pub with_kept : List ℕ → TableValue → TableValue

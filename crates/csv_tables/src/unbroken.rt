@@ -236,7 +236,8 @@ fn constraints_of(
     let mut constraints = Vec::with_capacity(alloc, kept.len())?;
     for (at, keeps) in kept.iter().enumerate() {
         let content = given_content(may_not_break(unbroken, at), level, *keeps);
-        constraints.push(ColumnConstraint::LowerBoundary(Width::Fixed(content + 2)))?;
+        let boundary = if content > 0 { content + 2 } else { 0 };
+        constraints.push(ColumnConstraint::LowerBoundary(Width::Fixed(boundary)))?;
     }
     Ok(constraints)
 }

@@ -4,8 +4,12 @@ use Rattle.std.specs.Prelude.{if◌then◌else◌}
 use Rattle.std.proofs.lemmas.List.{map-append}
 use Rattle.std.proofs.lemmas.List.FromFn.{get_or-map-range_with_len, length-map-range_with_len, map-range_with_len_more}
 use Rattle.comfy_parts.specs.declared.style.column.ColumnConstraint.{ColumnConstraint}
-use Rattle.csv_tables.specs.Unbroken.{at_least, given_at, kept_at}
+use Rattle.csv_tables.specs.Unbroken.{at_least, boundary_for, given_at, kept_at}
+use Rattle.comfy_parts.specs.declared.style.column.ColumnConstraint.TheVariants.{LowerBoundary}
+use Rattle.comfy_parts.specs.declared.style.column.Width.TheVariants.{Fixed}
+use Rattle.csv_tables.proofs.UnbrokenLemmas.{boundary-some}
 use Rattle.csv_tables.proofs.unbroken.constraints_of.Goals as goal
+use Rattle.csv_tables.proofs.unbroken.constraints_of.Goals.{then-content-gt0, else-content-gt0}
 
 pub loop-at-preserved : goal.loop-at-preserved
 loop-at-preserved c table is =
@@ -16,7 +20,13 @@ loop-at-preserved c table is =
     let below : at < length table.columns = omega (arith, c.loop-at-test.true, long) in
     let keeps : get_or c.args.kept.now at 0 ≡ kept_at unbroken table at = ap (λ (ks : List ℕ). get_or ks at 0) is ∙ get_or-map-range_with_len (kept_at unbroken table) 0 (length table.columns) at at 0 below (omega arith) in
     let given : c.given_content-content.result ≡ gives at = c.given_content-content.ensures.value ∙ ap₂ (λ (b : Bool) (k : ℕ). if b || nat_lt c.args.level k then k else 0) c.may_not_break.ensures keeps in
-    c.in_ok-push.ensures.items ∙ ap₂ (λ (xs : List ColumnConstraint) (n : ℕ). xs ++ at_least n ∷ []) (c.loop-at.invariant table is) given
+    let bounded : c.if-content-gt0.boundary ≡ boundary_for c.given_content-content.result =
+    elim c.if-content-gt0.branch [
+      | then-content-gt0 w ↦ w.boundary-is ∙ sym (boundary-some c.given_content-content.result w.if-content-gt0.true)
+      | else-content-gt0 w ↦ let none : c.given_content-content.result ≡ 0 = omega (arith, w.if-content-gt0.false) in w.boundary-is ∙ ap boundary_for (sym none)
+    ] in
+    c.in_ok-push.ensures.items ∙ ap (λ (l : ℕ). c.loop-at.constraints.items ++ LowerBoundary (Fixed l) ∷ []) bounded
+    ∙ ap₂ (λ (xs : List ColumnConstraint) (n : ℕ). xs ++ at_least n ∷ []) (c.loop-at.invariant table is) given
     ∙ sym (ap (map at_least) (map-range_with_len_more gives 0 at at (omega arith)) ∙ map-append at_least (map gives (range_with_len 0 at)) (gives at ∷ []))
 
 pub returns : goal.returns
