@@ -35,7 +35,7 @@ use Rattle.csv_tables.proofs.WholeTableLemmas.{IsDrawn, columns-drawn, drawn-is,
 use Rattle.csv_tables.specs.Cells.{cell_for, field_text, with_weight, Shown, shown_cells, text_in}
 use Rattle.csv_records.specs.Cleaning.{visible_of}
 use Rattle.csv_tables.specs.Drawn.{SelectedValue, RendersRecords, RendersAsTable, selected_of, output_table, separated_table, is_aligned_in}
-use Rattle.csv_tables.specs.Laws.{ArePlainLines, AreSeen, CanBeCut, EachText, FittingOutputIsStraight, IsStraightOutput, NarrowOutputIsStraight, WholeOutputIsStraight, seen_lines}
+use Rattle.csv_tables.specs.Laws.{ArePlainLines, AreSeen, CanBeCut, CharactersFitEachWidth, EachText, FittingOutputIsStraight, IsStraightOutput, NarrowOutputIsStraight, WholeOutputIsStraight, seen_lines}
 use Rattle.csv_tables.specs.declared.options.Look.{Look}
 use Rattle.csv_tables.specs.declared.options.Layout.{Layout}
 use Rattle.csv.specs.Records.{AllText}
@@ -335,6 +335,22 @@ module _ (visible : Bool) (counted : Option ℕ) (layout : Layout) (records : Li
     pub narrow_lines : (P : ℕ → Type 0) → LineWidthsSatisfy P table headline.widths → All (λ line. P (measure line)) (seen_lines visible lines)
     narrow_lines P counts = seen_all own unkept made.content table lines headline (IsDefaultRowOf (CharactersFit 1)) narrow_known visible seen (λ line. P (measure line)) (counts.straight_lines narrow_table)
 
+  -- where each character has room in its column
+  module _ (fits : CharactersFitEachWidth counted layout records) where
+    fitting_known : IsDrawn own IsDefaultRow made.content table
+    fitting_known =
+        drawn_table-is look IsDefaultRow made.content text.is_expanded has
+        (table_of_texts IsAny tt own (λ field short. any_line own field) IsDefaultRow (default_rows own) made.content (is_aligned_in look made.content) (any_content own (is_aligned_in look made.content) made.content) text.is_expanded)
+
+    fitting_table : IsStraightTable table headline.widths
+    fitting_table =
+        fitting own unkept (separated_is_one_column has look characters) made.content table lines headline IsDefaultRow fitting_known (λ row is. is)
+        (fits made.content table headline.widths made.is_content (has, ap (λ e. separated_table has (output_table e look made.content)) (expansion counted layout records output made text none)) headline.arranged)
+
+    -- its lines are counted so too
+    pub fitting_lines : (P : ℕ → Type 0) → LineWidthsSatisfy P table headline.widths → All (λ line. P (measure line)) (seen_lines visible lines)
+    fitting_lines P counts = seen_all own unkept made.content table lines headline IsDefaultRow fitting_known visible seen (λ line. P (measure line)) (counts.straight_lines fitting_table)
+
 pub rows_are_straight : (visible : Bool) (counted : Option ℕ) (layout : Layout) (records : List (List Text)) (output : Text) → layout.look.is_markdown ≡ false → WholeOutputIsStraight visible counted layout records output
 rows_are_straight visible counted layout records output none characters plain no_width cut short made =
     let separators = has visible counted layout records output none characters plain made in
@@ -353,13 +369,4 @@ narrow_is_straight visible counted layout records output none characters plain e
 
 pub fitting_is_straight : (visible : Bool) (counted : Option ℕ) (layout : Layout) (records : List (List Text)) (output : Text) → FittingOutputIsStraight visible counted layout records output
 fitting_is_straight visible counted layout records output none characters plain fits made =
-    let separators = has visible counted layout records output none characters plain made in
-    let own = separated separators layout.look in
-    let drawing = headline visible counted layout records output none characters plain made in
-    let text = is_table_text counted layout records output made none in
-    let known =
-    drawn_table-is layout.look IsDefaultRow made.content text.is_expanded separators
-    (table_of_texts IsAny tt own (λ field short. any_line own field) IsDefaultRow (default_rows own) made.content (is_aligned_in layout.look made.content) (any_content own (is_aligned_in layout.look made.content) made.content) text.is_expanded) in
-    straight visible counted layout records output none characters plain made IsDefaultRow known
-    (fitting own (unkept visible counted layout records output none characters plain made) (separated_is_one_column separators layout.look characters) made.content _ _ drawing IsDefaultRow known (λ row is. is)
-    (fits made.content (drawn_table counted layout records output made text none) drawing.widths made.is_content (separators, ap (λ e. separated_table separators (output_table e layout.look made.content)) (expansion counted layout records output made text none)) drawing.arranged))
+    straight visible counted layout records output none characters plain made IsDefaultRow (fitting_known visible counted layout records output none characters plain made fits) (fitting_table visible counted layout records output none characters plain made fits)
