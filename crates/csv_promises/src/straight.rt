@@ -3,6 +3,7 @@
 ghost use Rattle.std.specs.Prelude.{IfOk, IfSome, map};
 ghost use Rattle.csv_records.specs.Reading.{AreRecordsFor};
 ghost use Rattle.csv_promises.specs.Straight.{EachField, IsPlainField, IsStraight, IsStraightWhereFieldsFit};
+ghost use Rattle.csv_promises.specs.WideTexts.{IsStraightWhereTwoFit};
 ghost use Rattle.csv_promises.specs.Written.{IsWritten};
 ghost use Rattle.promises.specs.Tables.{HasCharactersWithin};
 
@@ -30,8 +31,8 @@ pub fn straight_output(
         EachField (HasCharactersWithin 1) drawn.1
         → IsStraight drawn.0.options drawn.1 drawn.2.bytes) }
 {
-    let (invocation, records, sink) = written(alloc, arguments, context, input, room, false)?;
-    Some((invocation, records, sink))
+    let (parsed, records, sink) = written(alloc, arguments, context, input, room, false)?;
+    Some((parsed, records, sink))
 }
 
 /// As `straight_output`, for texts of every script, with the arguments as they were understood.
@@ -51,6 +52,26 @@ pub fn straight_fitting_output(
 {
     let (asked, records, sink) = written(alloc, arguments, context, input, room, false)?;
     Some((asked, records, sink))
+}
+
+/// As `straight_output`, for texts of every script, under a width that has room.
+///
+/// This holds if each character of each field takes at most two terminal columns, as all do but
+/// U+17D8, and none is U+FE01 or U+FE0E. The width has to be at least 1 + 5 n. Here n is the number
+/// of columns that a frame is drawn for: two, if records are or may be expanded and one is drawn,
+/// and otherwise all drawn columns.
+pub fn straight_wide_output(
+    alloc: Global,
+    arguments: &[&str],
+    context: OutputContext<'_>,
+    input: &[u8],
+    room: usize,
+) -> Option<(Invocation, Records, MemorySink)>
+    ensures { IfSome result (λ drawn.
+        IsStraightWhereTwoFit drawn.0.options drawn.1 drawn.2.bytes) }
+{
+    let (wanted, records, sink) = written(alloc, arguments, context, input, room, false)?;
+    Some((wanted, records, sink))
 }
 
 /// As `straight_output`, for texts of every script. It is `None` also under a width and under `-m`.

@@ -7,7 +7,9 @@ use csv_command::OutputContext;
 use csv_promises::harmless::{harmless_drawing, harmless_message, harmless_output};
 use csv_promises::kept::output_with_all_fields;
 use csv_promises::markdown::markdown_output;
-use csv_promises::straight::{straight_output, straight_whole_output};
+use csv_promises::straight::{
+    straight_fitting_output, straight_output, straight_whole_output, straight_wide_output,
+};
 use csv_promises::width::output_within;
 use csv_records::Records;
 use std::alloc::{Alloc, Global};
@@ -63,6 +65,12 @@ fn promised_outputs_are_those_of_the_program(rt: HostRuntime) {
     assert_written(&rt, Some((records, sink)));
     let whole = straight_whole_output(rt.alloc(), &WORDS, TERMINAL, input, 200);
     let (_invocation, records, sink) = whole.expect(&rt, "a drawing");
+    assert_written(&rt, Some((records, sink)));
+    let fitting = straight_fitting_output(rt.alloc(), &WORDS, TERMINAL, input, 200);
+    let (_invocation, records, sink) = fitting.expect(&rt, "a drawing");
+    assert_written(&rt, Some((records, sink)));
+    let wide = straight_wide_output(rt.alloc(), &WORDS, TERMINAL, input, 200);
+    let (_invocation, records, sink) = wide.expect(&rt, "a drawing");
     assert_written(&rt, Some((records, sink)));
     let harmless = harmless_output(rt.alloc(), &WORDS, TERMINAL, input, 200);
     let (_invocation, sink) = harmless.expect(&rt, "a drawing");
