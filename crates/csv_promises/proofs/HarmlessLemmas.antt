@@ -1,19 +1,22 @@
 -- What a terminal is told by an output: what it shows, and without colours of fields nothing but bold.
-use Rattle.std.proofs.Common.{◌≡◌, ◌⊎◌, ◌||◌, ◌==◌, ◌&&◌, not, inl, inr, ℕ, Bool, true, false, List, [], ◌∷◌, ◌++◌, Option, Some, None, append-nil, arith, codes, length, map, refl, suc, sym, unwrap_or, ap, ap₂, ◌∙◌, subst}
+use Rattle.std.proofs.Common.{◌≡◌, ◌⊎◌, ◌≤◌, ◌||◌, ◌==◌, ◌&&◌, not, inl, inr, append_assoc, ℕ, Bool, true, false, List, [], ◌∷◌, ◌++◌, Option, Some, None, append-nil, arith, codes, length, map, refl, suc, sym, unwrap_or, ap, ap₂, ◌∙◌, subst}
 use Rattle.std.specs.List.{All, AllZip}
-use Rattle.std.specs.Prelude.{if◌then◌else◌}
+use Rattle.std.specs.Prelude.{if◌then◌else◌, option_to_list}
 use Rattle.std.specs.Str.{NoCharPasses}
-use Rattle.std.proofs.lemmas.List.Elements.{All-cons, All-head, All-map, All-nil, All-tail}
+use Rattle.std.proofs.lemmas.List.Elements.{All-append, All-cons, All-head, All-map, All-nil, All-tail, All-weaker}
+use Rattle.std.proofs.lemmas.List.Folds.{list_any_none}
 use Rattle.std.proofs.lemmas.Str.{NoCharPasses-nil}
-use Rattle.comfy_parts.proofs.CallerLemmas.{All-every, HasNo-parts, Shows, Shows-append, Shows-clear, Shows-nil, Shows-sequence, none_by_characters, visible_text-is}
-use Rattle.comfy_parts.specs.CellValue.{CellValue, RowValue}
+use Rattle.comfy_parts.proofs.CallerLemmas.{All-every, All-none, HasNo-parts, none-after, opens-clear, unlike, Shows, Shows-append, Shows-clear, Shows-nil, Shows-sequence, none_by_characters, visible_text-is}
+use Rattle.comfy_parts.specs.CellValue.{CellValue, ColumnValue, RowValue}
+use Rattle.comfy_parts.specs.Columns.{style_characters}
+use Rattle.comfy_parts.specs.declared.style.table_style.TableStyle.{TableStyle}
 use Rattle.comfy_parts.specs.Text.{HasNo, Text, is_printable_ascii}
 use Rattle.comfy_parts.specs.VisibleText.{visible_text}
 use Rattle.comfy_table.proofs.MeasuredLemmas.{measured_rows-is}
 use Rattle.comfy_table.specs.Drawing.{drawing, drawing_of_infos, infos_of}
 use Rattle.comfy_table.specs.Headline.{IsTableDrawing}
-use Rattle.comfy_table.specs.Laws.{IsStyleWithout, unstyled}
-use Rattle.comfy_table.specs.TableValue.{TableValue, header_and_rows, is_tty, max_content_widths, measured_table, should_style}
+use Rattle.comfy_table.specs.Laws.{EndsItsStyling, HasNoBreak, HasNoEscape, HasSequencesInTextsAlone, IsStyleWithout, LeavesNoneOpen, unstyled}
+use Rattle.comfy_table.specs.TableValue.{TableValue, header_and_rows, column_cells, is_tty, max_content_widths, measured_table, should_style, shown_columns}
 use Rattle.csv.specs.Records.{AllText}
 use Rattle.csv_command.specs.Arguments.{IsParsed}
 use Rattle.csv_command.specs.Drawn.{IsDrawnOf, RendersChosen, RendersCounted, layout_with}
@@ -23,11 +26,13 @@ use Rattle.csv_command.specs.declared.arguments.OutputContext.{OutputContext}
 use Rattle.csv_command.proofs.StyleLemmas.{parsed_style_without_controls}
 use Rattle.csv_records.specs.Cleaning.{is_harmful, is_replaced}
 use Rattle.csv_tables.proofs.BuiltLemmas.{Built, EachOf, built, each_content, plain_table}
-use Rattle.csv_tables.proofs.LineLemmas.{any_built, drawn, drawn_table, is_table_text, kept_setting, never_expanded, with_lines}
+use Rattle.csv_tables.proofs.FieldLemmas.{printable_unbroken}
+use Rattle.csv_tables.proofs.LineLemmas.{any_built, drawn, drawn_table, is_table_text, kept_setting, never_expanded, unbroken, with_lines}
 use Rattle.csv_tables.proofs.OutputControlLemmas.{HasNoneReplaced, IsOfLines, harmless_before, harmless_markdown, harmless_table, markdown_lines_of, output_of_lines, output_without_controls, printable_is_clear, rule_is_printable, unbroken_without, unstyled_lines}
 use Rattle.csv_tables.proofs.OutputLemmas.{each_markdown_line}
 use Rattle.csv_tables.proofs.SeparatorLemmas.{separated}
-use Rattle.csv_tables.proofs.WholeTableLemmas.{IsDrawn, drawn-is, drawn_table-is, rows-drawn}
+use Rattle.csv_tables.proofs.WholeColumnLemmas.{IsPaddedColumn}
+use Rattle.csv_tables.proofs.WholeTableLemmas.{IsDrawn, columns-drawn, drawn-is, drawn_table-is}
 use Rattle.csv_tables.specs.Cells.{Shown, cell_for, cells_for, counted_from, held, pair_for, row_for, with_weight}
 use Rattle.csv_tables.specs.Columns.{name_at}
 use Rattle.csv_tables.specs.Fields.{field_or_blank}
@@ -39,6 +44,7 @@ use Rattle.csv_tables.specs.declared.options.Look.{Look}
 use Rattle.promises.proofs.PieceLemmas.{measured-plain, plainly}
 use Rattle.promises.proofs.ShownLemmas.{shows_visible}
 use Rattle.csv_promises.proofs.BoldLemmas.{IsWeighted, bold_both, bold_same, weighted_lines}
+use Rattle.csv_promises.specs.Counted.{HasEachLine}
 use Rattle.csv_promises.specs.Harmless.{IsHarmlessFor, IsInBold}
 use Rattle.csv_promises.specs.Harmless.IsInBold.{nothing, plain, bold}
 
@@ -80,6 +86,26 @@ bold_of_lines =
       printable = λ line all. (line, bold_same line, printable_is_clear line all);
     }
 
+-- a line without ESC leaves no sequence open
+leaves_none : (line : Text) → HasNoneReplaced line → LeavesNoneOpen line
+leaves_none line none = none-after line (opens-clear line (none_by_characters is_replaced 0x1B (omega arith) refl line none))
+
+-- a line that leaves no sequence open
+abbrev IsClosedLine : Text → Type 0
+IsClosedLine line = HasNoBreak line × LeavesNoneOpen line
+
+closed_of_lines : IsOfLines IsClosedLine (HasEachLine LeavesNoneOpen)
+closed_of_lines =
+    record {
+      nothing = record { lines = []; are = record { joined = refl; unbroken = All-nil HasNoBreak }; each = All-nil LeavesNoneOpen };
+      before = λ line rest own more. record {
+        lines = line ∷ more.lines;
+        are = record { joined = sym (append_assoc line (0x0A ∷ []) rest) ∙ ap (λ (t : Text). (line ++ 0x0A ∷ []) ++ t) more.are.joined; unbroken = All-cons HasNoBreak line more.lines own.0 more.are.unbroken };
+        each = All-cons LeavesNoneOpen line more.lines own.1 more.each;
+      };
+      printable = λ line all. (printable_unbroken line all, leaves_none line (printable_is_clear line all));
+    }
+
 zipped : (lines written : List Text) → AllZip IsInBold lines written → All HasNoneReplaced lines → All IsBoldLine written
 zipped [] [] zip none = All-nil IsBoldLine
 zipped [] (line ∷ written) zip none = absurd zip
@@ -91,15 +117,25 @@ zipped (own ∷ lines) (line ∷ written) zip none = All-cons IsBoldLine line wr
 no_escape : (text : Text) → HasNothingHarmful text → HasNo 0x1B text
 no_escape = none_by_characters is_harmful 0x1B (omega arith) refl
 
+-- a style without replaced characters has no ESC
+no_escape_in : (style : TableStyle) → IsHarmlessStyle style → IsStyleWithout 0x1B style
+no_escape_in style none =
+    list_any_none (λ (c : Option ℕ). unwrap_or c 0x20 == 0x1B) (style_characters style)
+    (All-weaker (λ (c : Option ℕ). is_replaced (unwrap_or c 0x20) ≡ false) (λ (c : Option ℕ). (unwrap_or c 0x20 == 0x1B) ≡ false)
+    (λ c fails. unlike is_replaced (unwrap_or c 0x20) 0x1B refl (λ _. fails)) (style_characters style)
+    (All-none (λ (c : Option ℕ). is_replaced (unwrap_or c 0x20)) (style_characters style) none))
+
 -- a text of which nothing harmful is visible, with parts in bold alone, and without any
-harmless_for : (look : Look) (output : Text) → HasNothingHarmful (visible_text output) → ((look.has_sequences ≡ false) ⊎ (look.is_markdown ≡ true) → IsBoldText output) → (((look.has_sequences ≡ false) × (look.has_bold_header ≡ false)) ⊎ (look.is_markdown ≡ true) → HasNothingHarmful output) → IsHarmlessFor look output
-harmless_for look output none in_bold unstyled =
+harmless_for : (look : Look) (output : Text) → HasNothingHarmful (visible_text output) → ((look.has_sequences ≡ false) ⊎ (look.is_markdown ≡ true) → IsBoldText output) → (((look.has_sequences ≡ false) × (look.has_bold_header ≡ false)) ⊎ (look.is_markdown ≡ true) → HasNothingHarmful output)
+    → (look.has_sequences ≡ true → HasEachLine LeavesNoneOpen output) → IsHarmlessFor look output
+harmless_for look output none in_bold unstyled closed =
     record {
       visible = visible_text output;
       shows = shows_visible (suc (length output)) output (omega arith) (no_escape (visible_text output) none);
       harmless = none;
       in_bold = λ asked. let own = in_bold asked in subst (λ (t : Text). IsInBold t output) (sym (visible_text-is own.0 output (shows_bold own.1 (no_escape own.0 own.2)))) own.1;
       plain = λ asked. sym (visible_text-is output output (Shows-clear output (no_escape output (unstyled asked))));
+      closed = closed;
     }
 
 -- ---- tables whose cells are in bold, or aren't
@@ -127,7 +163,7 @@ weighted_built is_expanded is_aligned look content =
     let pair = λ (column : DrawnColumn). pair_for look (name_at (unwrap_or content.names []) column.position) (field_or_blank fields column.position) in
     All-map IsWeightedRow pair (held fields content.columns) (All-every (λ (column : DrawnColumn). IsWeightedRow (pair column)) (held fields content.columns) (λ column. weighted_pair look _ _))))
 
-module _ (look : Look) (content : SelectedValue) (is_expanded has : Bool) (unkept : look.has_sequences ≡ false) (clear : IsHarmlessStyle look.style) (text : EachOf AllText content) where
+module _ (look : Look) (content : SelectedValue) (is_expanded has : Bool) (clear : IsHarmlessStyle look.style) (text : EachOf AllText content) where
   abbrev table : TableValue
   table = separated_table has (output_table is_expanded look content)
 
@@ -137,33 +173,57 @@ module _ (look : Look) (content : SelectedValue) (is_expanded has : Bool) (unkep
   looks : table ≡ record (empty_table (separated has look)) { columns = table.columns; header = table.header; rows = table.rows }
   looks = drawn-is (separated has look) IsWeightedRow content table known
 
-  no_sequences : table.custom_styling ≡ false
-  no_sequences = ap (λ (t : TableValue). t.custom_styling) looks ∙ kept_setting (λ l. l.has_sequences) look refl has false unkept
-
-  measured : measured_table table ≡ table
-  measured = measured-plain table no_sequences
-
   weighted : All IsWeightedRow (header_and_rows table)
-  weighted = subst (λ (t : TableValue). All IsWeightedRow (header_and_rows t)) measured (rows-drawn (separated has look) IsWeightedRow content table known (kept_setting (λ l. l.has_sequences) look refl has false unkept))
+  weighted =
+      subst (λ (t : TableValue). All IsWeightedRow (header_and_rows t)) (sym known.is_plain)
+      (All-append IsWeightedRow (option_to_list known.plain.header) known.plain.rows known.known.header known.known.rows)
 
-  module _ (lines : List Text) (drawn : IsTableDrawing table lines) where
-    none : All HasNoneReplaced (drawing (plainly table) drawn.widths)
-    none =
-        subst (λ (t : TableValue). All HasNoneReplaced (drawing (plainly t) drawn.widths)) measured
-        (unstyled_lines table drawn.widths drawn.arranged.one_for_each (harmless_table look clear content text is_expanded has))
+  -- ---- fields whose colours are kept
 
-    pub bold_lines : All IsBoldLine lines
-    bold_lines =
-        subst (All IsBoldLine) (sym drawn.drawn)
-        (zipped (drawing (plainly table) drawn.widths) (drawing table drawn.widths) (weighted_lines table (ap (λ (t : TableValue). t.style_text_only) looks) drawn.widths weighted) none)
+  pub closed_lines : (lines : List Text) → IsTableDrawing table lines → look.has_sequences ≡ true → All HasNoBreak lines → All IsClosedLine lines
+  closed_lines lines drawn kept unbroken =
+      let none = drawn.sequences.closed_lines (ap (λ (t : TableValue). t.custom_styling) looks ∙ kept_setting (λ l. l.has_sequences) look refl has true kept) alone in
+      λ k default below. (unbroken k default below, none k default below)
+    where
+      alone : HasSequencesInTextsAlone table
+      alone =
+          record {
+            styling = inr (All-weaker IsWeightedRow (λ (row : RowValue). All EndsItsStyling row.cells) (λ row each. All-weaker IsWeighted EndsItsStyling (λ cell own. inl (own.no_background, own.no_foreground)) row.cells each) (header_and_rows table) weighted);
+            style = record {
+              indicator = subst (HasNo 0x1B) (sym (ap (λ (t : TableValue). t.indicator) looks)) refl;
+              characters = no_escape_in table.style (harmless_table look clear content text is_expanded has).style;
+            };
+            ends = All-weaker (λ (p : ℕ × ColumnValue). IsPaddedColumn p.1) (λ (p : ℕ × ColumnValue). (1 ≤ p.1.padding.1) ⊎ All (λ (cell : CellValue). All HasNoEscape cell.text_lines) (column_cells table p.0))
+                (λ p own. inl (omega (arith, ap (λ (x : ℕ × ℕ). x.1) own.padding))) (shown_columns table) (columns-drawn (separated has look) IsWeightedRow content table known);
+          }
 
-    pub plain_lines : look.has_bold_header ≡ false → All HasNoneReplaced lines
-    plain_lines unbold =
-        subst (All HasNoneReplaced) (sym (drawn.edges.unstyled_lines unstyled_table no_sequences))
-        (unstyled_lines table drawn.widths drawn.arranged.one_for_each (harmless_table look clear content text is_expanded has))
-      where
-        unstyled_table : should_style table ≡ false
-        unstyled_table = ap should_style looks ∙ ap (λ (b : Bool). b || is_tty (empty_table (separated has look))) (kept_setting (λ l. l.has_bold_header) look refl has false unbold)
+  -- ---- fields without colours
+
+  module _ (unkept : look.has_sequences ≡ false) where
+    no_sequences : table.custom_styling ≡ false
+    no_sequences = ap (λ (t : TableValue). t.custom_styling) looks ∙ kept_setting (λ l. l.has_sequences) look refl has false unkept
+
+    measured : measured_table table ≡ table
+    measured = measured-plain table no_sequences
+
+    module _ (lines : List Text) (drawn : IsTableDrawing table lines) where
+      none : All HasNoneReplaced (drawing (plainly table) drawn.widths)
+      none =
+          subst (λ (t : TableValue). All HasNoneReplaced (drawing (plainly t) drawn.widths)) measured
+          (unstyled_lines table drawn.widths drawn.arranged.one_for_each (harmless_table look clear content text is_expanded has))
+
+      pub bold_lines : All IsBoldLine lines
+      bold_lines =
+          subst (All IsBoldLine) (sym drawn.drawn)
+          (zipped (drawing (plainly table) drawn.widths) (drawing table drawn.widths) (weighted_lines table (ap (λ (t : TableValue). t.style_text_only) looks) drawn.widths weighted) none)
+
+      pub plain_lines : look.has_bold_header ≡ false → All HasNoneReplaced lines
+      plain_lines unbold =
+          subst (All HasNoneReplaced) (sym (drawn.edges.unstyled_lines unstyled_table no_sequences))
+          (unstyled_lines table drawn.widths drawn.arranged.one_for_each (harmless_table look clear content text is_expanded has))
+        where
+          unstyled_table : should_style table ≡ false
+          unstyled_table = ap should_style looks ∙ ap (λ (b : Bool). b || is_tty (empty_table (separated has look))) (kept_setting (λ l. l.has_bold_header) look refl has false unbold)
 
 -- no line for Markdown has any
 markdown_none : (look : Look) (content : SelectedValue) (text : Text) (drawn : RendersAsMarkdown look content text) → EachOf AllText content → All HasNoneReplaced (markdown_lines (markdown_rule look content) drawn.arranged)
@@ -208,15 +268,34 @@ module _ (counted : Option ℕ) (layout : Layout) (records : List (List Text)) (
     bold_output : IsBoldText output
     bold_output =
         output_of_lines IsBoldLine IsBoldText bold_of_lines counted layout records output lines (with_lines counted layout records output made table_text_is none (unbroken_without look.style clear))
-        (bold_lines look made.content table_text_is.is_expanded table_text_is.drawn.has_separators unkept clear own lines headline)
+        (bold_lines look made.content table_text_is.is_expanded table_text_is.drawn.has_separators clear own unkept lines headline)
 
     plain_output : look.has_bold_header ≡ false → HasNothingHarmful output
     plain_output unbold =
         output_of_lines HasNoneReplaced HasNothingHarmful plain_of_lines counted layout records output lines (with_lines counted layout records output made table_text_is none (unbroken_without look.style clear))
-        (plain_lines look made.content table_text_is.is_expanded table_text_is.drawn.has_separators unkept clear own lines headline unbold)
+        (plain_lines look made.content table_text_is.is_expanded table_text_is.drawn.has_separators clear own unkept lines headline unbold)
+
+  -- if colours of fields are kept, each line is closed
+  closed_output : look.has_sequences ≡ true → HasEachLine LeavesNoneOpen output
+  closed_output kept = by_markdown look.is_markdown refl
+    where
+      by_markdown : (b : Bool) → look.is_markdown ≡ b → HasEachLine LeavesNoneOpen output
+      by_markdown true is =
+          let drawn : RendersAsMarkdown look made.content made.text = subst (λ b. RendersContent b look made.content made.text) is made.is_text in
+          let lines = markdown_lines_of look made.content made.text drawn in
+          let clear_lines = markdown_none look made.content made.text drawn own in
+          output_of_lines IsClosedLine (HasEachLine LeavesNoneOpen) closed_of_lines counted layout records output (markdown_lines (markdown_rule look made.content) drawn.arranged)
+          (record { content = made.content; is_content = made.is_content; is_expanded = false; expansion = never_expanded look made.content is; text = made.text; has_lines = lines; joined = made.joined })
+          (λ k default below. (lines.unbroken k default below, leaves_none _ (clear_lines k default below)))
+      by_markdown false none =
+          let table_is = is_table_text counted layout records output made none in
+          let style = unbroken_without look.style clear in
+          let lines = drawn counted layout records output made table_is none in
+          output_of_lines IsClosedLine (HasEachLine LeavesNoneOpen) closed_of_lines counted layout records output lines (with_lines counted layout records output made table_is none style)
+          (closed_lines look made.content table_is.is_expanded table_is.drawn.has_separators clear own lines table_is.drawn.is_arranged.headline kept (unbroken counted layout records output made table_is none style))
 
   pub harmless_output : IsHarmlessFor look output
-  harmless_output = harmless_for look output (output_without_controls counted layout records output clear text made) (by_kind look.is_markdown refl) (by_look look.is_markdown refl)
+  harmless_output = harmless_for look output (output_without_controls counted layout records output clear text made) (by_kind look.is_markdown refl) (by_look look.is_markdown refl) closed_output
     where
       by_kind : (b : Bool) → look.is_markdown ≡ b → (look.has_sequences ≡ false) ⊎ (look.is_markdown ≡ true) → IsBoldText output
       by_kind true is unkept = (output, bold_same output, markdown_output is)
@@ -235,7 +314,7 @@ module _ (options : Options) (clear : IsHarmlessStyle options.look.style) where
   chosen known records output text made = harmless_output known (layout_with options made.columns) records output clear text made.is_output
 
   nothing_written : IsHarmlessFor options.look []
-  nothing_written = harmless_for options.look [] (NoCharPasses-nil is_harmful) (λ any. ([], bold_same [], NoCharPasses-nil is_harmful)) (λ any. NoCharPasses-nil is_harmful)
+  nothing_written = harmless_for options.look [] (NoCharPasses-nil is_harmful) (λ any. ([], bold_same [], NoCharPasses-nil is_harmful)) (λ any. NoCharPasses-nil is_harmful) (λ kept. closed_of_lines.nothing)
 
   pub drawn_harmless : (input output : Text) → IsDrawnOf options input output → IsHarmlessFor options.look output
   drawn_harmless input output (inl (before, made)) = any made.records made.are_records.are_records.are_records.are_text made.is_output

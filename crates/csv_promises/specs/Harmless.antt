@@ -3,9 +3,11 @@
 use Rattle.std.specs.Prelude.{◌≡◌, ◌⊎◌, [], ◌++◌, true, false, codes}
 use Rattle.std.specs.Str.{NoCharPasses}
 use Rattle.comfy_parts.specs.Text.{Text}
+use Rattle.comfy_table.specs.Laws.{LeavesNoneOpen}
 use Rattle.csv_records.specs.Cleaning.{is_harmful}
 use Rattle.csv_tables.specs.declared.options.Look.{Look}
 use Rattle.promises.specs.Shown.{Shows}
+use Rattle.csv_promises.specs.Counted.{HasEachLine}
 
 -- a text, and the same text with parts of it in bold: each between the sequences that begin bold
 -- and end it
@@ -24,7 +26,8 @@ ShowsNothingHarmful text = (visible : Text) × Shows text visible × NoCharPasse
 
 -- a terminal shows an output, and is told nothing else: of what is visible no character is a
 -- control character but a line feed, and none turns the direction of text. Unless colours of
--- fields are kept, its only sequences begin bold and end it; and without bold it has none
+-- fields are kept, its only sequences begin bold and end it; and without bold it has none. If
+-- they are kept, no sequence is open at the end of a line
 pub record IsHarmlessFor (look : Look) (output : Text) : Type 0 where
   pub visible : Text
   pub shows : Shows output visible
@@ -32,3 +35,4 @@ pub record IsHarmlessFor (look : Look) (output : Text) : Type 0 where
   pub in_bold : (look.has_sequences ≡ false) ⊎ (look.is_markdown ≡ true) → IsInBold visible output
   pub plain : ((look.has_sequences ≡ false) × (look.has_bold_header ≡ false))
       ⊎ (look.is_markdown ≡ true) → output ≡ visible
+  pub closed : look.has_sequences ≡ true → HasEachLine LeavesNoneOpen output

@@ -13,8 +13,9 @@ use std::alloc::Global;
 /// The arguments as they are understood, and what the program writes for them and for these bytes
 /// of a file. Whatever these are, and the terminal, it tells a terminal nothing but characters and
 /// line ends, and the sequences that begin bold and end it. Without a bold header it has no
-/// sequence. With `--ansi` it may have any sequence for colours and attributes. What is visible of
-/// it has no control character but line feeds, and no character that turns the direction of text.
+/// sequence. With `--ansi` it may have any sequence for colours and attributes, but none is open at
+/// the end of a line. What is visible of it has no control character but line feeds, and no
+/// character that turns the direction of text.
 ///
 /// It is `None` if the arguments ask for no drawing, if the bytes can't be drawn so, or if memory
 /// runs out.

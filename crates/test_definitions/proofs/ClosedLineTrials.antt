@@ -22,7 +22,7 @@ bold_is_open = refl
 -- so such a line leaves one open
 -- false: comfy_parts::laws::lines_leave_no_sequence_open
 -- false: comfy_table::laws::new_tables_leave_no_sequence_open
-bold_stays_open : ¬ (LeavesNoneOpen (codes "| \u{1b}[1mab |"))
+pub bold_stays_open : ¬ (LeavesNoneOpen (codes "| \u{1b}[1mab |"))
 bold_stays_open none = true≢false (sym (ap (λ (ss : List Text). length ss == 0) none))
 
 bold_is_closed : LeavesNoneOpen (codes "| \u{1b}[1mab\u{1b}[0m |")

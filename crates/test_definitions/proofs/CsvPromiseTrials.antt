@@ -26,7 +26,7 @@ use Rattle.promises.specs.Shown.{ShowsColumns}
 use Rattle.promises.specs.Tables.{HasCharactersWithin}
 use Rattle.csv_tables.specs.Drawn.{drawn_rows, note_for, record_line}
 use Rattle.comfy_table.specs.Drawing.{terminated_text_of}
-use Rattle.comfy_table.specs.Laws.{AreLinesOf}
+use Rattle.comfy_table.specs.Laws.{AreLinesOf, LeavesNoneOpen}
 use Rattle.csv_promises.specs.Counted.{AreExpanded, DrawsLines, EachDrawnLine, HasEachLine, MayExpand}
 use Rattle.csv_promises.specs.Fields.{HoldsField, HoldsFields, IsDrawingOf, ShowsDrawn, ShowsPairs, ShowsRecords, ShowsRows, StaysAsItIs, all_rows, positions_in}
 use Rattle.csv_promises.specs.Harmless.{IsHarmlessFor, IsInBold, ShowsNothingHarmful}
@@ -34,6 +34,7 @@ use Rattle.csv_promises.specs.Messages.{IsTameLine}
 use Rattle.csv_records.specs.Cleaning.{cleaned, is_harmful, is_replaced}
 use Rattle.csv_promises.specs.Harmless.IsInBold.{nothing, plain, bold as bold_part}
 use Rattle.csv_promises.specs.Straight.{IsPlainField, IsStraight}
+use Rattle.test_definitions.proofs.ClosedLineTrials.{bold_stays_open}
 use Rattle.test_definitions.proofs.OutputLineTrials.{found, one_line, two_lines}
 use Rattle.test_definitions.proofs.PromiseTrials.{shows_itself}
 use Rattle.test_definitions.proofs.CsvFieldTrials.{IsOneText, begins, dashed, has_line, one_row}
@@ -410,6 +411,15 @@ bold_without_a_header is =
     let same = is.plain (inl (refl, refl)) in
     let clear = none_by_characters is_harmful 0x1B (omega arith) refl is.visible is.harmless in
     true≢false (ap (list_any (λ b. b == 0x1B)) same ∙ clear)
+
+-- nor is bold open at the end of a line, if colours of fields are kept
+open_at_the_end : ¬ (IsHarmlessFor (record unbold { has_sequences = true }) (codes "| \u{1b}[1mab |\n"))
+open_at_the_end is =
+    let own = is.closed refl in
+    bold_stays_open (All-head LeavesNoneOpen (codes "| \u{1b}[1mab |") [] (subst (All LeavesNoneOpen) (one_line (codes "| \u{1b}[1mab |") own.lines (sym cut ∙ found (codes "| \u{1b}[1mab |\n") own.lines own.are)) own.each))
+  where
+    cut : slice_split (λ b. b == 0x0A) (codes "| \u{1b}[1mab |\n") ≡ codes "| \u{1b}[1mab |" ∷ [] ∷ []
+    cut = refl
 
 -- false: csv_promises::harmless_drawing
 c1_is_harmful : ¬ (ShowsNothingHarmful (utf8 "\u{9b}2J"))
