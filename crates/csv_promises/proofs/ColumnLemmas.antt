@@ -1,27 +1,23 @@
 -- How many columns are drawn of records.
-use Rattle.std.proofs.Common.{◌≡◌, ◌≤◌, ◌<◌, ◌==◌, ◌&&◌, ◌||◌, ℕ, ◌+◌, ◌-◌, Bool, true, false, List, [], ◌∷◌, Option, Some, None, Ok, drop, fold, get_or, length, map, max, nat_le, nat_lt, option_map, string_bytes, take, unwrap_or, refl, sym, ap, ap₂, ◌∙◌, subst, arith}
+use Rattle.std.proofs.Common.{◌≡◌, ◌≤◌, ◌<◌, ◌==◌, ◌&&◌, ℕ, ◌+◌, ◌-◌, Bool, true, false, List, [], ◌∷◌, Option, Some, None, Ok, drop, get_or, length, map, nat_le, nat_lt, option_map, string_bytes, take, unwrap_or, refl, sym, ap, ◌∙◌, subst, arith}
 use Rattle.std.specs.List.{All, list_any, range_with_len}
 use Rattle.std.specs.Option.{option_or}
 use Rattle.std.specs.Prelude.{String, if◌then◌else◌, not}
-use Rattle.std.proofs.lemmas.List.{length-map}
-use Rattle.std.proofs.lemmas.List.Folds.{Any-from_list_any, list_any-from_Any}
 use Rattle.std.proofs.lemmas.List.FromFn.{get_or-range_with_len, length-range_with_len}
-use Rattle.std.proofs.lemmas.List.Elements.{All-filter, All-head, All-nil}
-use Rattle.comfy_parts.proofs.CallerLemmas.{All-every, All-flat_map, All-of_map}
+use Rattle.std.proofs.lemmas.List.Elements.{All-filter, All-nil}
+use Rattle.comfy_parts.proofs.CallerLemmas.{All-every, All-flat_map}
 use Rattle.comfy_parts.specs.Text.{Text}
 use Rattle.csv_command.specs.Columns.{column_by, column_of, columns_chosen, columns_for, end_of, first_answer, positions_between, range_at, range_of, rising, single_or}
 use Rattle.csv_command.specs.Drawn.{layout_with}
 use Rattle.csv_command.specs.declared.arguments.Options.{Options}
 use Rattle.csv_records.specs.Numerals.{number_for}
-use Rattle.csv_tables.proofs.RowLemmas.{positions-shown}
-use Rattle.csv_tables.specs.Cells.{has_field}
-use Rattle.csv_tables.specs.Columns.{ColumnsValue, count_of, seen}
+use Rattle.csv_tables.specs.Columns.{ColumnsValue, count_of}
 use Rattle.csv_tables.specs.Drawn.{SelectedValue, columns_of, selected_of, drawn_rows, names_or_none}
 use Rattle.csv_tables.specs.declared.options.DrawnColumn.{DrawnColumn}
-use Rattle.csv_promises.proofs.FrameLemmas.{reaches}
+use Rattle.csv_promises.proofs.DrawnColumnLemmas.{AreBelow, placed, some_drawn}
 use Rattle.csv_promises.proofs.PositionLemmas.{chosen, kept_positions, some_kept}
 use Rattle.csv_promises.specs.Fields.{positions_by, positions_in}
-use Rattle.csv_promises.specs.Width.{all_columns}
+use Rattle.csv_promises.specs.Width.{all_columns, columns_in}
 
 -- ---- positions
 
@@ -119,84 +115,32 @@ positions-below options rows =
     by_words true = range_below count 0 count (omega arith)
     by_words false = words-below count options.columns.chosen.items
 
--- ---- fields at positions
-
--- a position that only a row explains is in one
-in_row : (p : ℕ) (rows : List (List Text)) (n : ℕ) → n ≤ p → p < fold (λ (m : ℕ) (fields : List Text). max m (length fields)) n rows → list_any (λ (fields : List Text). nat_lt p (length fields)) rows ≡ true
-in_row p [] n past below = absurd (omega (arith, past, below))
-in_row p (fields ∷ rows) n past below = by_test (nat_lt p (length fields)) refl (λ short. in_row p rows (max n (length fields)) (omega (arith, past, short)) below)
-  where
-    by_test : (b : Bool) → nat_lt p (length fields) ≡ b → (length fields ≤ p → list_any (λ (f : List Text). nat_lt p (length f)) rows ≡ true) → (b || list_any (λ (f : List Text). nat_lt p (length f)) rows) ≡ true
-    by_test true own later = refl
-    by_test false own later = later (grind (arith, own))
-
 -- ---- contents
 
-module _ (options : Options) (records : List (List Text)) (known : Option ℕ) (own : ColumnsValue) (found : columns_for options records ≡ Ok own) (content : SelectedValue) (is : selected_of known (layout_with options own) records ≡ content) where
-  abbrev is_numbered : Bool
-  is_numbered = options.selection.is_numbered
-
+module _ (options : Options) (records : List (List Text)) (own : ColumnsValue) (found : columns_for options records ≡ Ok own) where
   abbrev names : List Text
   names = names_or_none options.selection records
 
   abbrev rows : List (List Text)
   rows = drawn_rows options.selection records
 
-  abbrev columns : List DrawnColumn
-  columns = columns_of (layout_with options own) records
-
   positions : own.drawn ≡ positions_in options names rows
   positions = kept_positions names (count_of names rows) options.columns.chosen.items options.columns.dropped.items own.drawn (chosen names _ _ _ own found)
 
-  placed : map (λ (column : DrawnColumn). column.position) columns ≡ own.drawn
-  placed = positions-shown own (map (seen options.look.has_sequences) rows)
+  pub some_position : 1 ≤ length own.drawn
+  some_position = some_kept names (count_of names rows) options.columns.chosen.items options.columns.dropped.items own.drawn (chosen names _ _ _ own found)
 
-  -- the drawn columns are those that options choose
-  pub chosen_positions : map (λ (column : DrawnColumn). column.position) columns ≡ positions_in options names rows
-  chosen_positions = placed ∙ positions
+  pub are_below : AreBelow names rows own.drawn
+  are_below unnamed = subst (All (Below (count_of [] rows))) (sym (positions ∙ ap (λ (ns : List Text). positions_in options ns rows) unnamed)) (positions-below options rows)
 
-  long : length columns ≡ length own.drawn
-  long = omega (arith, length-map columns (λ (column : DrawnColumn). column.position), ap length placed)
+  -- as many columns are drawn as options choose
+  pub counted : columns_in (layout_with options own) ≡ all_columns options records
+  counted = ap (λ (ps : List ℕ). length ps + (if options.selection.is_numbered then 1 else 0)) positions
 
-  some : 1 ≤ length columns
-  some = omega (arith, long, some_kept names (count_of names rows) options.columns.chosen.items options.columns.dropped.items own.drawn (chosen names _ _ _ own found))
+  module _ (known : Option ℕ) (content : SelectedValue) (is : selected_of known (layout_with options own) records ≡ content) where
+    -- the drawn columns are those that options choose
+    pub chosen_positions : map (λ (column : DrawnColumn). column.position) (columns_of (layout_with options own) records) ≡ positions_in options names rows
+    chosen_positions = placed (layout_with options own) records known content is ∙ positions
 
-  own_columns : content.columns ≡ columns
-  own_columns = sym (ap (λ (c : SelectedValue). c.columns) is)
-
-  pub some_column : 1 ≤ length content.columns
-  some_column = omega (arith, some, ap (λ (cs : List DrawnColumn). length cs) own_columns)
-
-  -- the columns are those of the positions, and that of numbers
-  pub drawn_count : length content.columns + (if content.is_numbered then 1 else 0) ≡ all_columns options records
-  drawn_count =
-      ap₂ (λ (n : ℕ) (b : Bool). n + (if b then 1 else 0)) (ap (λ (cs : List DrawnColumn). length cs) own_columns ∙ long ∙ ap length positions) (sym (ap (λ (c : SelectedValue). c.is_numbered) is))
-
-  same_rows : content.rows ≡ rows
-  same_rows = sym (ap (λ (c : SelectedValue). c.rows) is)
-
-  -- there are rows where records are drawn below the header
-  pub no_rows-is : (length content.rows == 0) ≡ (length rows == 0)
-  no_rows-is = ap (λ (rs : List (List Text)). length rs == 0) same_rows
-
-  -- without names a row has the field of a column
-  pub reaches_one : content.names ≡ None → reaches content.columns content.rows ≡ true
-  reaches_one none =
-      ap₂ (λ (cs : List DrawnColumn) (rs : List (List Text)). reaches cs rs) own_columns same_rows ∙ by_columns columns some below
-    where
-      unnamed : names ≡ []
-      unnamed = ap (λ (o : Option (List Text)). unwrap_or o []) (ap (λ (c : SelectedValue). c.names) is ∙ none)
-
-      IsIn : DrawnColumn → Type 0
-      IsIn column = column.position < count_of [] rows
-
-      below : All IsIn columns
-      below =
-          All-of_map (Below (count_of [] rows)) (λ (column : DrawnColumn). column.position) columns
-          (subst (All (Below (count_of [] rows))) (sym (placed ∙ positions ∙ ap (λ (ns : List Text). positions_in options ns rows) unnamed)) (positions-below options rows))
-
-      by_columns : (cs : List DrawnColumn) → 1 ≤ length cs → All IsIn cs → reaches cs rows ≡ true
-      by_columns [] one inside = absurd (omega (arith, one))
-      by_columns (column ∷ cs) one inside =
-          let own = Any-from_list_any (λ (fields : List Text). nat_lt column.position (length fields)) rows (in_row column.position rows 0 (omega arith) (All-head IsIn column cs inside)) in
-          list_any-from_Any (λ (fields : List Text). list_any (has_field fields) (column ∷ cs)) rows (own.0, own.1, own.2, own.3, ap (λ (b : Bool). b || list_any (has_field own.1) cs) own.4)
+    pub some_column : 1 ≤ length content.columns
+    some_column = some_drawn (layout_with options own) records known content is some_position

@@ -1,13 +1,13 @@
 mod AtLeastLemmas
-mod ColumnLemmas
-mod FrameLemmas
+pub mod ColumnLemmas
+pub mod FrameLemmas
 mod MarkdownLemmas
 mod MessageLemmas
 mod TwoColumnCharacterLemmas
 mod TwoColumnLemmas
 mod TwoColumnTableLemmas
 mod WideTextLemmas
-mod WidthLemmas
+pub mod WidthLemmas
 mod WrappedCharacterLemmas
 pub mod BoldLemmas
 pub mod ExpandedLemmas
@@ -23,3 +23,6 @@ pub mod ShownTableLemmas
 pub mod SpacedLemmas
 pub mod StraightLemmas
 pub mod WrittenLemmas
+pub mod DrawnLemmas
+pub mod DrawnColumnLemmas
+pub mod DrawnWidthLemmas

@@ -1,5 +1,5 @@
 -- What is written of records is what is drawn of them, line by line, and a note.
-use Rattle.std.proofs.Common.{◌≡◌, ◌<◌, ℕ, zero, suc, ◌+◌, Bool, true, false, List, [], ◌∷◌, ◌++◌, Option, Some, None, append_assoc, arith, codes, flat_map, length, nat_lt, refl, sym, ap, ap₂, ◌∙◌, subst, ◌||◌, ◌&&◌, ◌==◌, not}
+use Rattle.std.proofs.Common.{◌≡◌, ℕ, zero, suc, ◌+◌, Bool, true, false, List, [], ◌∷◌, ◌++◌, Option, Some, None, append_assoc, arith, codes, flat_map, length, nat_lt, refl, sym, ap, ap₂, ◌∙◌, subst, ◌||◌, ◌&&◌, ◌==◌, not}
 use Rattle.std.specs.Char.{is_control}
 use Rattle.std.specs.List.{All, range_with_len}
 use Rattle.std.specs.Prelude.{Contains, if◌then◌else◌}
@@ -16,10 +16,11 @@ use Rattle.csv_tables.specs.Drawn.{SelectedValue, drawn_rows, has_room_for, is_a
 use Rattle.csv_tables.specs.Laws.{HasLines, IsOutputWith, IsStraightOutput, numbered_lines}
 use Rattle.csv_tables.specs.declared.options.Expansion.{Expansion}
 use Rattle.csv_tables.specs.declared.options.Expansion.TheVariants.{Always, Auto, Never}
+use Rattle.csv_tables.specs.declared.options.Layout.{Layout}
+use Rattle.csv_tables.specs.declared.selection.Selection.{Selection}
 use Rattle.promises.proofs.ShownLemmas.{shows_visible}
 use Rattle.promises.specs.Shown.{ShowsColumns}
-use Rattle.csv_promises.specs.Counted.{AreExpanded, DrawsLines, EachDrawnLine, HasEachLine, IsCount, IsWrittenFor, MayExpand}
-use Rattle.csv_promises.specs.Straight.{IsStraight}
+use Rattle.csv_promises.specs.Counted.{AreExpanded, DrawsLines, EachDrawnLine, EachLineFor, HasEachLine, IsCount, IsDrawnWithNote, IsWrittenFor, MayExpand}
 
 -- ---- no records
 
@@ -32,21 +33,21 @@ no_limited None = refl
 no_limited (Some zero) = refl
 no_limited (Some (suc n)) = refl
 
-pub no_rows : (options : Options) → drawn_rows options.selection [] ≡ []
-no_rows options = ap (limited options.selection.limit) (no_records options.selection.has_header).1 ∙ no_limited options.selection.limit
+pub no_rows : (selection : Selection) → drawn_rows selection [] ≡ []
+no_rows selection = ap (limited selection.limit) (no_records selection.has_header).1 ∙ no_limited selection.limit
 
 -- of no records nothing is drawn, and there is no note
-pub none_drawn : (Draws : Bool → Option ℕ → Text → Type 0) (options : Options) → ((is_expanded : Bool) (count : Option ℕ) → Draws is_expanded count []) → IsWrittenFor Draws options [] []
-none_drawn Draws options empty =
-    let kind = either options.look.expansion in
+pub nothing_noted : (Draws : Bool → Option ℕ → Text → Type 0) (MayCount : Option ℕ → Type 0) (expansion : Expansion) (limit : Option ℕ) → MayCount (Some 0) → ((is_expanded : Bool) (count : Option ℕ) → Draws is_expanded count []) → IsDrawnWithNote Draws MayCount expansion limit []
+nothing_noted Draws MayCount expansion limit is_count empty =
+    let kind = either expansion in
     record {
-      count = Some (length (records_below options.selection.has_header []));
-      is_count = refl;
+      count = Some 0;
+      is_count = is_count;
       is_expanded = kind.0;
       expansion = kind.1;
       drawn = [];
-      draws = empty kind.0 (Some (length (records_below options.selection.has_header [])));
-      joined = nothing options.selection.limit ∙ ap (λ (below : List (List Text)). note_for false options.selection.limit (Some (length below))) (sym (no_records options.selection.has_header).1);
+      draws = empty kind.0 (Some 0);
+      joined = nothing limit;
     }
   where
     nothing : (limit : Option ℕ) → [] ≡ note_for false limit (Some 0)
@@ -62,6 +63,12 @@ none_drawn Draws options empty =
     either Never = (false, refl)
     either Auto = (false, tt)
 
+none_below : (has_header : Bool) → 0 ≡ length (records_below has_header [])
+none_below has_header = ap length (sym (no_records has_header).1)
+
+pub none_drawn : (Draws : Bool → Option ℕ → Text → Type 0) (options : Options) → ((is_expanded : Bool) (count : Option ℕ) → Draws is_expanded count []) → IsWrittenFor Draws options [] []
+none_drawn Draws options empty = nothing_noted Draws (IsCount options []) options.look.expansion options.selection.limit (none_below options.selection.has_header) empty
+
 -- ---- lines of outputs
 
 pub may_expand : (expansion : Expansion) (room is_expanded : Bool) → is_expanded ≡ is_expanded_in expansion room → MayExpand expansion is_expanded
@@ -76,13 +83,21 @@ module _ (IsGood : Text → Type 0) where
   no_lines = record { lines = []; are = record { joined = refl; unbroken = All-nil HasNoBreak }; each = All-nil IsGood }
 
   -- of no records there are none
-  pub nothing_drawn : (options : Options) → EachDrawnLine IsGood options [] []
-  nothing_drawn options =
-      none_drawn (DrawsLines IsGood (drawn_rows options.selection [])) options (λ is_expanded count. subst (λ (rows : List (List Text)). DrawsLines IsGood rows is_expanded count []) (sym (no_rows options)) (by_kind is_expanded count))
+  pub nothing_drawn : (layout : Layout) (MayCount : Option ℕ → Type 0) → MayCount (Some 0) → EachLineFor IsGood MayCount layout [] []
+  nothing_drawn layout MayCount is_count =
+      nothing_noted (DrawsLines IsGood (drawn_rows layout.selection [])) MayCount layout.look.expansion layout.selection.limit is_count
+      (λ is_expanded count. subst (λ (rows : List (List Text)). DrawsLines IsGood rows is_expanded count []) (sym (no_rows layout.selection)) (by_kind is_expanded count))
     where
       by_kind : (is_expanded : Bool) (count : Option ℕ) → DrawsLines IsGood [] is_expanded count []
       by_kind true count = refl
       by_kind false count = no_lines
+
+  -- of options
+  pub nothing_written : (options : Options) → EachDrawnLine IsGood options [] []
+  nothing_written options = nothing_drawn (layout_with options no_columns) (IsCount options []) (none_below options.selection.has_header)
+    where
+      no_columns : ColumnsValue
+      no_columns = record { drawn = []; right = []; left = [] }
 
   -- those of what is drawn
   table_lines : (is_expanded : Bool) (content : SelectedValue) (lines : List Text) (text : Text) → HasLines is_expanded content lines text → All IsGood lines → DrawsLines IsGood content.rows is_expanded content.count text
@@ -109,18 +124,18 @@ module _ (IsGood : Text → Type 0) where
       )
 
   -- an output of records, or of the first of these, and the note
-  pub output_lines : (options : Options) (records rs : List (List Text)) (known : Option ℕ) (columns : ColumnsValue) (output : Text) (lines : List Text) → options.look.is_markdown ≡ false → IsCount options records known
-      → drawn_rows options.selection rs ≡ drawn_rows options.selection records → IsOutputWith known (layout_with options columns) rs output lines → All IsGood lines → EachDrawnLine IsGood options records output
-  output_lines options records rs known columns output lines none is_count same made good =
+  pub output_lines : (layout : Layout) (MayCount : Option ℕ → Type 0) (records rs : List (List Text)) (known : Option ℕ) (output : Text) (lines : List Text) → layout.look.is_markdown ≡ false → MayCount known
+      → drawn_rows layout.selection rs ≡ drawn_rows layout.selection records → IsOutputWith known layout rs output lines → All IsGood lines → EachLineFor IsGood MayCount layout records output
+  output_lines layout MayCount records rs known output lines none is_count same made good =
       record {
         count = known;
         is_count = is_count;
         is_expanded = made.is_expanded;
-        expansion = may_expand options.look.expansion ((length made.content.rows == 0) || has_room_for options.look made.content (is_aligned_in options.look made.content)) made.is_expanded (made.expansion ∙ shown options.look.is_markdown none _);
+        expansion = may_expand layout.look.expansion ((length made.content.rows == 0) || has_room_for layout.look made.content (is_aligned_in layout.look made.content)) made.is_expanded (made.expansion ∙ shown layout.look.is_markdown none _);
         drawn = made.text;
         draws = subst (λ (rows : List (List Text)). DrawsLines IsGood rows made.is_expanded known made.text) same
             (subst (λ (c : SelectedValue). DrawsLines IsGood c.rows made.is_expanded c.count made.text) (sym made.is_content) (table_lines made.is_expanded made.content lines made.text made.has_lines good));
-        joined = made.joined ∙ ap₂ (λ (b : Bool) (n : Option ℕ). made.text ++ note_for b options.selection.limit n) none (ap (λ (c : SelectedValue). c.count) (sym made.is_content));
+        joined = made.joined ∙ ap₂ (λ (b : Bool) (n : Option ℕ). made.text ++ note_for b layout.selection.limit n) none (ap (λ (c : SelectedValue). c.count) (sym made.is_content));
       }
     where
       shown : (b : Bool) → b ≡ false → (e : Bool) → (not b && e) ≡ e
@@ -133,10 +148,10 @@ shown_line columns line none is =
     (visible_text line, shows_visible (suc (length line)) line (omega arith) (none_by_characters is_control 0x1B (omega arith) refl (visible_text line) none), is)
 
 -- an output that isn't for Markdown is straight where its lines without their sequences are
-pub straight_text : (options : Options) (records rs : List (List Text)) (known : Option ℕ) (columns : ColumnsValue) (output : Text) → options.look.is_markdown ≡ false → IsCount options records known → drawn_rows options.selection rs ≡ drawn_rows options.selection records
-    → IsStraightOutput true known (layout_with options columns) rs output → IsStraight options records output
-straight_text options records rs known columns output none is_count same is =
+pub straight_text : (layout : Layout) (MayCount : Option ℕ → Type 0) (records rs : List (List Text)) (known : Option ℕ) (output : Text) → layout.look.is_markdown ≡ false → MayCount known → drawn_rows layout.selection rs ≡ drawn_rows layout.selection records
+    → IsStraightOutput true known layout rs output → (columns : ℕ) × EachLineFor (ShowsColumns columns) MayCount layout records output
+straight_text layout MayCount records rs known output none is_count same is =
     let wide = is.equally_wide.0 in
     let seen = All-of_map (λ (line : Text). measure line ≡ wide) visible_text is.lines is.equally_wide.1 in
     let clear = All-of_map HasNoControl visible_text is.lines (is.clear refl) in
-    (wide, output_lines (ShowsColumns wide) options records rs known columns output is.lines none is_count same is.is_output (λ k default below. shown_line wide _ (clear k default below) (seen k default below)))
+    (wide, output_lines (ShowsColumns wide) layout MayCount records rs known output is.lines none is_count same is.is_output (λ k default below. shown_line wide _ (clear k default below) (seen k default below)))

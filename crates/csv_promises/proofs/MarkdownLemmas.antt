@@ -126,7 +126,7 @@ module _ (arguments : List Text) (context : OutputContext) (invocation : Invocat
     columns = columns_of layout rs
 
     positions : positions_of columns ≡ positions_in options (unwrap_or (names_of options.selection.has_header rs) []) (drawn_rows options.selection rs)
-    positions = chosen_positions options rs known by.made.columns by.made.are_chosen own refl
+    positions = chosen_positions options rs by.made.columns by.made.are_chosen known own refl
 
     module _ (back : GivesRecordsBack known layout rs output) where
       same : back.content ≡ own
@@ -197,7 +197,7 @@ module _ (arguments : List Text) (context : OutputContext) (invocation : Invocat
       where
         some : 0 < length (sides by.made.is_output.content)
         some =
-            let one = some_column options rs known by.made.columns by.made.are_chosen by.made.is_output.content by.made.is_output.is_content in
+            let one = some_column options rs by.made.columns by.made.are_chosen known by.made.is_output.content by.made.is_output.is_content in
             omega (arith, one, sides-length by.made.is_output.content)
 
   pub markdown_for : IsWrittenAsMarkdown options records output

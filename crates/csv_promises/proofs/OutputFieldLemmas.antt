@@ -313,7 +313,7 @@ module _ (arguments : List Text) (context : OutputContext) (invocation : Invocat
           none_drawn (λ is_expanded. ShowsDrawn is_expanded options (names_of options.selection.has_header []) (drawn_rows options.selection [])) options
           (λ is_expanded count.
           subst (λ (own : Option (List Text)). ShowsDrawn is_expanded options own (drawn_rows options.selection []) count []) (sym (no_records options.selection.has_header).0)
-          (subst (λ (own : List (List Text)). ShowsDrawn is_expanded options None own count []) (sym (no_rows options)) (by_kind is_expanded count)))
+          (subst (λ (own : List (List Text)). ShowsDrawn is_expanded options None own count []) (sym (no_rows options.selection)) (by_kind is_expanded count)))
 
       nothing : records ≡ [] → output ≡ [] → ShowsRecords options records output
       nothing empty no_output = subst (λ (rs : List (List Text)). ShowsRecords options rs output) (sym empty) (subst (ShowsRecords options []) (sym no_output) none)

@@ -17,7 +17,7 @@ use Rattle.csv_records.specs.Reading.{AreRecordsFor}
 use Rattle.csv_tables.specs.Columns.{count_of, drawn_columns, seen}
 use Rattle.csv_tables.specs.Drawn.{SelectedValue, count_below, drawn_rows, limited, names_of, records_below, selected_of}
 use Rattle.devices.specs.Outcome.{asked_front}
-use Rattle.csv_promises.proofs.LineLemmas.{nothing_drawn}
+use Rattle.csv_promises.proofs.LineLemmas.{nothing_written}
 use Rattle.csv_promises.proofs.RecordLemmas.{AreDrawnFirst, first_are_drawn}
 use Rattle.csv_promises.specs.Counted.{EachDrawnLine, IsCount}
 use Rattle.csv_promises.specs.Straight.{EachField}
@@ -81,7 +81,7 @@ module _ (is_markdown : Bool) (arguments : List Text) (context : OutputContext) 
   -- of no records no line is drawn
   pub nothing : (P : Text → Type 0) → records ≡ [] → output ≡ [] → EachDrawnLine P options records output
   nothing P none empty =
-      subst (λ (rs : List (List Text)). EachDrawnLine P options rs output) (sym none) (subst (EachDrawnLine P options []) (sym empty) (nothing_drawn P options))
+      subst (λ (rs : List (List Text)). EachDrawnLine P options rs output) (sym none) (subst (EachDrawnLine P options []) (sym empty) (nothing_written P options))
 
   module _ (known : Option ℕ) (rs : List (List Text)) (by : IsDrawnBy known rs) where
     -- what holds of all fields holds of those that are drawn

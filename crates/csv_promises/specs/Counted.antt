@@ -7,6 +7,7 @@ use Rattle.csv_command.specs.declared.arguments.Options.{Options}
 use Rattle.csv_tables.specs.Drawn.{drawn_rows, note_for, record_line, records_below}
 use Rattle.csv_tables.specs.declared.options.Expansion.{Expansion}
 use Rattle.csv_tables.specs.declared.options.Expansion.TheVariants.{Always, Auto, Never}
+use Rattle.csv_tables.specs.declared.options.Layout.{Layout}
 
 -- records are expanded always, never, or perhaps
 abbrev pub MayExpand : Expansion → Bool → Type 0
@@ -65,6 +66,13 @@ abbrev pub DrawsLines :
 DrawsLines P rows false count text = HasEachLine P text
 DrawsLines P rows true count text =
     AreExpanded (λ fields own. HasEachLine P own) count 1 rows text
+
+-- P holds of each line that a layout draws of records, and a note may count them so
+abbrev pub EachLineFor : (Text → Type 0) → (Option ℕ → Type 0) → Layout → List (List Text) → Text
+    → Type 0
+EachLineFor P MayCount layout records text =
+    IsDrawnWithNote (DrawsLines P (drawn_rows layout.selection records)) MayCount
+    layout.look.expansion layout.selection.limit text
 
 -- P holds of each line that is written of records, but for those that count records
 abbrev pub EachDrawnLine : (Text → Type 0) → Options → List (List Text) → Text → Type 0

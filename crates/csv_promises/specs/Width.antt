@@ -1,11 +1,12 @@
 -- Lines that keep to a width.
 -- Source: this library's own.
-use Rattle.std.specs.Prelude.{◌≡◌, ◌==◌, ◌+◌, ◌*◌, ◌≤◌, ℕ, Bool, true, not, List, Some, All, length, max, if◌then◌else◌}
+use Rattle.std.specs.Prelude.{◌≡◌, ◌==◌, ◌+◌, ◌*◌, ◌≤◌, ℕ, Bool, true, not, List, Some, length, max, if◌then◌else◌}
 use Rattle.comfy_parts.specs.Text.{Text}
 use Rattle.csv_command.specs.declared.arguments.Options.{Options}
 use Rattle.csv_tables.specs.Drawn.{drawn_rows, names_or_none}
 use Rattle.csv_tables.specs.declared.options.Expansion.{Expansion}
 use Rattle.csv_tables.specs.declared.options.Expansion.TheVariants.{Always, Auto, Never}
+use Rattle.csv_tables.specs.declared.options.Layout.{Layout}
 use Rattle.promises.specs.Shown.{ShowsColumns}
 use Rattle.promises.specs.Tables.{HasCharactersWithin}
 use Rattle.csv_promises.specs.Fields.{positions_in}
@@ -35,6 +36,17 @@ abbrev pub framed_columns : Options → List (List Text) → ℕ
 framed_columns options records =
     columns_by options.look.expansion
     (not (length (drawn_rows options.selection records) == 0)) (all_columns options records)
+
+-- so many a layout draws: those of its own columns, and that of numbers
+abbrev pub columns_in : Layout → ℕ
+columns_in layout =
+    length layout.columns.drawn + (if layout.selection.is_numbered then 1 else 0)
+
+-- and so many its frame is drawn for
+abbrev pub framed_columns_in : Layout → List (List Text) → ℕ
+framed_columns_in layout records =
+    columns_by layout.look.expansion
+    (not (length (drawn_rows layout.selection records) == 0)) (columns_in layout)
 
 -- a line shows no more terminal columns than a width or a frame has; and exactly those of the
 -- width, where that is filled and has room for the frame
