@@ -160,6 +160,7 @@ layout_for settings bytes rows =
 pub record IsRowsDrawing (texts : Text) (lengths counts columns : List ℕ)
     (settings : RowsSettings) (drawing : Text) : Type 0 where
   pub add_up : AddUp texts lengths counts
+  pub are_texts : All IsUtf8 (cut_by lengths texts)
   pub is_text : IsUtf8 drawing
   pub layout : Layout
   pub is_layout : layout_for settings columns (rows_of texts lengths counts) ≡ Some layout

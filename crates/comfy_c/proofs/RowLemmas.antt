@@ -1,0 +1,196 @@
+-- What is drawn of rows is straight, and keeps to a width.
+use Rattle.std.proofs.Common.{◌≡◌, ◌≤◌, ◌<◌, ◌==◌, ◌&&◌, ◌||◌, ◌⊎◌, ℕ, zero, suc, Bool, true, false, not, List, [], ◌∷◌, Option, Some, None, inl, inr, length, option_map, unwrap_or, refl, sym, ap, ◌∙◌, subst, arith, drop, take, slice_get}
+use Rattle.std.specs.List.{All, filter, list_all, list_any, range_with_len}
+use Rattle.std.specs.Prelude.{if◌then◌else◌}
+use Rattle.std.specs.Str.{IsUtf8}
+use Rattle.std.proofs.lemmas.Bool.{and_parts, not-true}
+use Rattle.std.proofs.lemmas.List.Elements.{All-cons, All-drop, All-filter, All-head, All-nil, All-tail, All-take}
+use Rattle.std.proofs.lemmas.List.FromFn.{get_or-range_with_len, length-range_with_len}
+use Rattle.std.proofs.lemmas.Option.{same_Some}
+use Rattle.comfy_parts.proofs.CallerLemmas.{one_column_characters}
+use Rattle.comfy_parts.specs.Columns.{IsOneColumnStyle, has_frame_characters, style_characters}
+use Rattle.comfy_parts.specs.Presets.{named_presets, preset_at}
+use Rattle.comfy_parts.specs.Text.{Text}
+use Rattle.comfy_parts.specs.declared.style.table_style.TableStyle.{TableStyle}
+use Rattle.csv.specs.Records.{AllText}
+use Rattle.csv_command.specs.Styles.{compact_style}
+use Rattle.csv_promises.proofs.DrawnColumnLemmas.{AreBelow}
+use Rattle.csv_promises.proofs.DrawnLemmas.{IsPlainOutput, fitting_law, narrow_law, whole_law}
+use Rattle.csv_promises.proofs.DrawnWidthLemmas.{keep}
+use Rattle.csv_promises.proofs.LineLemmas.{no_records, nothing_drawn}
+use Rattle.csv_promises.specs.Counted.{EachLineFor}
+use Rattle.csv_promises.specs.Straight.{EachField}
+use Rattle.csv_promises.specs.Width.{KeepsTo, frame_room, framed_columns_in}
+use Rattle.csv_records.specs.Cleaning.{is_replaced}
+use Rattle.csv_records.specs.CutLists.{cut_by}
+use Rattle.csv_tables.specs.Columns.{ColumnsValue, count_of}
+use Rattle.csv_tables.specs.Controls.{IsHarmlessStyle}
+use Rattle.csv_tables.specs.Drawn.{RendersAnyRecords, RendersRecords, column_count, count_below, drawn_rows, names_or_none}
+use Rattle.csv_tables.specs.declared.options.Expansion.{Expansion}
+use Rattle.csv_tables.specs.declared.options.Layout.{Layout}
+use Rattle.csv_tables.specs.declared.options.Look.{Look}
+use Rattle.csv_tables.specs.declared.options.RowSeparators.{RowSeparators}
+use Rattle.csv_tables.specs.declared.selection.Selection.{Selection}
+use Rattle.promises.specs.Shown.{ShowsColumns}
+use Rattle.promises.specs.Tables.{HasCharactersWithin}
+use Rattle.comfy_c.specs.PromisedRows.{AreStraightLines, EachRowsLine, HaveRoom, IsPlainLook, KeepToWidth, ShowRows}
+use Rattle.comfy_c.specs.RowCalls.{IsRowsDrawing, are_bytes, are_there, byte_at, can_be_drawn, columns_by, columns_for, count_in_all, expansions, layout_by, layout_for, look_by, look_for, positions_where, rows_of, selection_for, separators, style_at}
+use Rattle.comfy_c.specs.declared.rows_settings.RowsSettings.{RowsSettings}
+
+-- ---- styles
+
+module _ (p : TableStyle → Bool) where
+  -- each style of a table passes, so that at a position does
+  style_passes : (table : List (Text × TableStyle)) → list_all (λ (entry : Text × TableStyle). p entry.1) table ≡ true → (i : ℕ) (style : TableStyle) → option_map (λ (entry : Text × TableStyle). entry.1) (slice_get table i) ≡ Some style → p style ≡ true
+  style_passes [] all i style is = absurd (cc is)
+  style_passes (entry ∷ table) all zero style is =
+      let each = and_parts (p entry.1) (list_all (λ (e : Text × TableStyle). p e.1) table) all in
+      subst (λ (s : TableStyle). p s ≡ true) (same_Some entry.1 style is) each.0
+  style_passes (entry ∷ table) all (suc i) style is =
+      let each = and_parts (p entry.1) (list_all (λ (e : Text × TableStyle). p e.1) table) all in
+      style_passes table each.1 i style is
+
+  asked_passes : p compact_style ≡ true → list_all (λ (entry : Text × TableStyle). p entry.1) named_presets ≡ true → (position : ℕ) (style : TableStyle) → style_at position ≡ Some style → p style ≡ true
+  asked_passes own all position style is = by_position (position == 13) is
+    where
+      by_position : (b : Bool) → (if b then Some compact_style else preset_at position) ≡ Some style → p style ≡ true
+      by_position true found = subst (λ (s : TableStyle). p s ≡ true) (same_Some compact_style style found) own
+      by_position false found = style_passes named_presets all position style found
+
+style_is_one_column : (position : ℕ) (style : TableStyle) → style_at position ≡ Some style → IsOneColumnStyle style
+style_is_one_column position style is = one_column_characters style (asked_passes has_frame_characters refl refl position style is)
+
+style_is_harmless : (position : ℕ) (style : TableStyle) → style_at position ≡ Some style → IsHarmlessStyle style
+style_is_harmless position style is = not-true _ (asked_passes (λ s. not (list_any (λ (c : Option ℕ). is_replaced (unwrap_or c 0x20)) (style_characters s))) refl refl position style is)
+
+-- ---- layouts
+
+own_style : (settings : RowsSettings) (style : Option TableStyle) (lines : Option RowSeparators) (expansion : Option Expansion) (look : Look) → look_by settings style lines expansion ≡ Some look → style ≡ Some look.style
+own_style settings (Some style) (Some lines) (Some expansion) look is = ap (λ (l : Look). Some l.style) (same_Some _ look is)
+own_style settings (Some style) (Some lines) None look is = absurd (cc is)
+own_style settings (Some style) None expansion look is = absurd (cc is)
+own_style settings None lines expansion look is = absurd (cc is)
+
+-- what a layout has of settings and bytes
+record IsAsked (settings : RowsSettings) (bytes : List ℕ) (rows : List (List Text)) (layout : Layout) : Type 0 where
+  pub look : look_for settings ≡ Some layout.look
+  pub columns : columns_for layout.selection bytes rows ≡ Some layout.columns
+
+asked : (settings : RowsSettings) (bytes : List ℕ) (rows : List (List Text)) (layout : Layout) → layout_for settings bytes rows ≡ Some layout → IsAsked settings bytes rows layout
+asked settings bytes rows layout is = by_bytes (are_bytes bytes) is
+  where
+    selection : Selection
+    selection = selection_for settings
+
+    by_parts : (look : Option Look) (columns : Option ColumnsValue) → look_for settings ≡ look → columns_for selection bytes rows ≡ columns → layout_by selection look columns ≡ Some layout → IsAsked settings bytes rows layout
+    by_parts (Some look) (Some columns) look_is columns_is found =
+        let same = same_Some _ layout found in
+        subst (IsAsked settings bytes rows) same (record { look = look_is; columns = columns_is })
+    by_parts (Some look) None look_is columns_is found = absurd (cc found)
+    by_parts None columns look_is columns_is found = absurd (cc found)
+
+    by_bytes : (b : Bool) → (if b then layout_by selection (look_for settings) (columns_for selection bytes rows) else None) ≡ Some layout → IsAsked settings bytes rows layout
+    by_bytes true found = by_parts (look_for settings) (columns_for selection bytes rows) refl refl found
+    by_bytes false found = absurd (cc found)
+
+-- ---- columns
+
+module _ (selection : Selection) (bytes : List ℕ) (rows : List (List Text)) (columns : ColumnsValue) (is : columns_for selection bytes rows ≡ Some columns) where
+  count : ℕ
+  count = column_count selection rows
+
+  found : (can_be_drawn selection bytes rows ≡ true) × (columns_by bytes (column_count selection rows) ≡ columns)
+  found = by_test (can_be_drawn selection bytes rows) refl is
+    where
+      by_test : (b : Bool) → can_be_drawn selection bytes rows ≡ b → (if b then Some (columns_by bytes (column_count selection rows)) else None) ≡ Some columns → (can_be_drawn selection bytes rows ≡ true) × (columns_by bytes (column_count selection rows) ≡ columns)
+      by_test true test own = (test, same_Some _ columns own)
+      by_test false test own = absurd (cc own)
+
+  -- if there are rows, a column is left
+  some_left : (length rows == 0) ≡ false → 1 ≤ length columns.drawn
+  some_left some =
+      let test = ap (λ (b : Bool). b || (are_there bytes (count_in_all selection rows) && not (length (columns_by bytes (column_count selection rows)).drawn == 0))) (sym some) ∙ found.0 in
+      let left = not-true _ (and_parts (are_there bytes (count_in_all selection rows)) (not (length (columns_by bytes (column_count selection rows)).drawn == 0)) test).1 in
+      let own = ap (λ (c : ColumnsValue). length c.drawn) found.1 in
+      grind (arith, left, own)
+
+  in_range : All (λ (k : ℕ). k < column_count selection rows) (range_with_len 0 (column_count selection rows))
+  in_range k default below = omega (arith, below, length-range_with_len 0 (column_count selection rows), get_or-range_with_len 0 (column_count selection rows) k default)
+
+  are_below : AreBelow (names_or_none selection rows) (drawn_rows selection rows) columns.drawn
+  are_below unnamed =
+      subst (λ (names : List Text). All (λ (k : ℕ). k < count_of names (drawn_rows selection rows)) columns.drawn) unnamed
+      (subst (λ (c : ColumnsValue). All (λ (k : ℕ). k < column_count selection rows) c.drawn) found.1
+      (All-filter (λ (position : ℕ). not (byte_at bytes position == 3)) (λ (k : ℕ). k < column_count selection rows) (range_with_len 0 (column_count selection rows)) in_range))
+
+-- ---- texts
+
+all_text : (fields : List Text) → All IsUtf8 fields → AllText fields
+unfolding AllText
+all_text [] all = tt
+all_text (field ∷ fields) all = (All-head IsUtf8 field fields all, all_text fields (All-tail IsUtf8 field fields all))
+
+rows_are_text : (counts : List ℕ) (fields : List Text) → All IsUtf8 fields → All AllText (cut_by counts fields)
+rows_are_text [] fields all = All-nil AllText
+rows_are_text (n ∷ counts) fields all =
+    All-cons AllText (take n fields) (cut_by counts (drop n fields)) (all_text (take n fields) (All-take IsUtf8 n fields all)) (rows_are_text counts (drop n fields) (All-drop IsUtf8 n fields all))
+
+-- ---- rows
+
+module _ (settings : RowsSettings) (bytes : List ℕ) (layout : Layout) (output : Text) where
+  Straight : List (List Text) → Type 0
+  Straight rows = AreStraightLines layout rows output
+
+  -- what is drawn of some rows
+  module _ (rows : List (List Text)) (own : IsAsked settings bytes rows layout) (texts : All AllText rows) (some : (length rows == 0) ≡ false) (made : RendersRecords (Some (count_below layout.selection rows)) layout rows output) where
+    abbrev known : Option ℕ
+    known = Some (count_below layout.selection rows)
+
+    abbrev MayCount : Option ℕ → Type 0
+    MayCount count = count ≡ Some (count_below layout.selection rows)
+
+    plain : IsPlainLook layout.look → IsPlainOutput known layout rows output
+    plain is =
+        let style = own_style settings (style_at settings.style) (slice_get separators settings.row_lines) (slice_get expansions settings.expansion) layout.look own.look in
+        record {
+          kind = is.unmarked;
+          unkept = is.unkept;
+          one_column = style_is_one_column settings.style layout.look.style style;
+          clear = style_is_harmless settings.style layout.look.style style;
+          text = texts;
+          made = made;
+        }
+
+    some_straight : AreStraightLines layout rows output
+    some_straight is (inl (inl narrow)) = narrow_law known layout rows output (plain is) MayCount rows refl refl narrow
+    some_straight is (inl (inr whole)) = whole_law known layout rows output (plain is) MayCount rows refl refl whole.no_width whole.uncut whole.plain
+    some_straight is (inr fit) = fitting_law known layout rows output (plain is) MayCount rows refl refl fit
+
+    some_kept : KeepToWidth layout rows output
+    some_kept w wide is within =
+        keep w known layout rows output wide (plain is) within (some_left layout.selection bytes rows layout.columns own.columns some) (are_below layout.selection bytes rows layout.columns own.columns) MayCount rows refl refl
+
+  -- of no rows nothing is drawn
+  none : (P : Text → Type 0) → output ≡ [] → EachRowsLine P layout [] output
+  none P empty =
+      subst (EachRowsLine P layout []) (sym empty)
+      (nothing_drawn P layout (λ count. count ≡ Some (count_below layout.selection [])) (ap (λ (below : List (List Text)). Some (length below)) (sym (no_records layout.selection.has_header).1)))
+
+  pub rows_keep : (rows : List (List Text)) → layout_for settings bytes rows ≡ Some layout → All AllText rows → RendersAnyRecords layout rows output → AreStraightLines layout rows output × KeepToWidth layout rows output
+  rows_keep [] is texts made = (λ look room. (0, none (ShowsColumns 0) made), λ w wide look within. none _ made)
+  rows_keep (row ∷ rows) is texts made =
+      let own = asked settings bytes (row ∷ rows) layout is in
+      let some : (length (row ∷ rows) == 0) ≡ false = grind arith in
+      (some_straight (row ∷ rows) own texts some made, some_kept (row ∷ rows) own texts some made)
+
+-- so a drawing of rows shows them
+pub shows_rows : (texts : Text) (lengths counts columns : List ℕ) (settings : RowsSettings) (bytes : Text) → IsRowsDrawing texts lengths counts columns settings bytes → ShowRows texts lengths counts columns settings bytes
+shows_rows texts lengths counts columns settings bytes is =
+    let kept = rows_keep settings columns is.layout bytes (rows_of texts lengths counts) is.is_layout (rows_are_text counts (cut_by lengths texts) is.are_texts) is.is_output in
+    record {
+      are_text = is.is_text;
+      layout = is.layout;
+      is_layout = is.is_layout;
+      straight = kept.0;
+      width = kept.1;
+    }

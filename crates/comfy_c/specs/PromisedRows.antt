@@ -1,0 +1,64 @@
+-- What a caller in C is promised of a table of rows.
+-- Source: this library's own.
+use Rattle.std.specs.Prelude.{◌≡◌, ◌⊎◌, ℕ, false, List, Option, Some, None, IsUtf8}
+use Rattle.comfy_parts.specs.Text.{Text}
+use Rattle.csv_promises.specs.Counted.{EachLineFor}
+use Rattle.csv_promises.specs.Straight.{EachField, IsPlainField}
+use Rattle.csv_promises.specs.Width.{KeepsTo, frame_room, framed_columns_in}
+use Rattle.csv_tables.specs.Drawn.{count_below}
+use Rattle.csv_tables.specs.Laws.{CharactersFitEachWidth}
+use Rattle.csv_tables.specs.declared.options.Layout.{Layout}
+use Rattle.csv_tables.specs.declared.options.Look.{Look}
+use Rattle.promises.specs.Shown.{ShowsColumns}
+use Rattle.promises.specs.Tables.{HasCharactersWithin}
+use Rattle.comfy_c.specs.RowCalls.{layout_for, rows_of}
+use Rattle.comfy_c.specs.declared.rows_settings.RowsSettings.{RowsSettings}
+
+-- a table isn't for Markdown, and no sequences of texts are kept
+pub record IsPlainLook (look : Look) : Type 0 where
+  pub unmarked : look.is_markdown ≡ false
+  pub unkept : look.has_sequences ≡ false
+
+-- P holds of each line that is drawn of rows, but of those that count them; all rows below the
+-- header are counted
+abbrev pub EachRowsLine : (Text → Type 0) → Layout → List (List Text) → Text → Type 0
+EachRowsLine P layout rows bytes =
+    EachLineFor P (λ count. count ≡ Some (count_below layout.selection rows)) layout rows bytes
+
+-- no width and no height is kept to, and each text is drawn as it is
+pub record AreDrawnWhole (layout : Layout) (rows : List (List Text)) : Type 0 where
+  pub no_width : layout.look.width ≡ None
+  pub uncut : layout.look.max_height ≡ None
+  pub plain : EachField IsPlainField rows
+
+-- each character of each text has room in its column: it takes one terminal column at most, or no
+-- width is kept to, or the widths that are arranged for the table have room
+abbrev pub HaveRoom : Layout → List (List Text) → Type 0
+HaveRoom layout rows =
+    (EachField (HasCharactersWithin 1) rows ⊎ AreDrawnWhole layout rows)
+    ⊎ CharactersFitEachWidth (Some (count_below layout.selection rows)) layout rows
+
+-- then all drawn lines show the same number of terminal columns
+abbrev pub AreStraightLines : Layout → List (List Text) → Text → Type 0
+AreStraightLines layout rows bytes =
+    IsPlainLook layout.look → HaveRoom layout rows
+    → (columns : ℕ) × EachRowsLine (ShowsColumns columns) layout rows bytes
+
+-- and under a width no drawn line shows more terminal columns than the width or a frame has; or
+-- exactly those of the width, if that is filled and has room for the frame
+abbrev pub KeepToWidth : Layout → List (List Text) → Text → Type 0
+KeepToWidth layout rows bytes =
+    (width : ℕ) → layout.look.width ≡ Some width → IsPlainLook layout.look
+    → EachField (HasCharactersWithin 1) rows
+    → EachRowsLine
+    (KeepsTo width (frame_room (framed_columns_in layout rows)) layout.look.fills_width) layout
+    rows bytes
+
+-- bytes are UTF-8, of lines of the table of rows that settings and bytes of columns ask for
+pub record ShowRows (texts : Text) (lengths counts columns : List ℕ) (settings : RowsSettings)
+    (bytes : Text) : Type 0 where
+  pub are_text : IsUtf8 bytes
+  pub layout : Layout
+  pub is_layout : layout_for settings columns (rows_of texts lengths counts) ≡ Some layout
+  pub straight : AreStraightLines layout (rows_of texts lengths counts) bytes
+  pub width : KeepToWidth layout (rows_of texts lengths counts) bytes
