@@ -17,8 +17,10 @@ use Rattle.csv_command.specs.Styles.{compact_style}
 use Rattle.csv_promises.proofs.DrawnColumnLemmas.{AreBelow}
 use Rattle.csv_promises.proofs.DrawnLemmas.{IsPlainOutput, fitting_law, narrow_law, whole_law}
 use Rattle.csv_promises.proofs.DrawnWidthLemmas.{keep}
+use Rattle.csv_promises.proofs.HarmlessLemmas.{harmless_output, nothing_is_harmless}
 use Rattle.csv_promises.proofs.LineLemmas.{no_records, nothing_drawn}
 use Rattle.csv_promises.specs.Counted.{EachLineFor}
+use Rattle.csv_promises.specs.Harmless.{IsHarmlessFor}
 use Rattle.csv_promises.specs.Straight.{EachField}
 use Rattle.csv_promises.specs.Width.{KeepsTo, frame_room, framed_columns_in}
 use Rattle.csv_records.specs.Cleaning.{is_replaced}
@@ -137,10 +139,10 @@ rows_are_text (n ∷ counts) fields all =
 
 -- ---- rows
 
-module _ (settings : RowsSettings) (bytes : List ℕ) (layout : Layout) (output : Text) where
-  Straight : List (List Text) → Type 0
-  Straight rows = AreStraightLines layout rows output
+not_empty : (n : ℕ) → (suc n == 0) ≡ false
+not_empty n = grind arith
 
+module _ (settings : RowsSettings) (bytes : List ℕ) (layout : Layout) (output : Text) where
   -- what is drawn of some rows
   module _ (rows : List (List Text)) (own : IsAsked settings bytes rows layout) (texts : All AllText rows) (some : (length rows == 0) ≡ false) (made : RendersRecords (Some (count_below layout.selection rows)) layout rows output) where
     abbrev known : Option ℕ
@@ -149,9 +151,11 @@ module _ (settings : RowsSettings) (bytes : List ℕ) (layout : Layout) (output 
     abbrev MayCount : Option ℕ → Type 0
     MayCount count = count ≡ Some (count_below layout.selection rows)
 
+    style : style_at settings.style ≡ Some layout.look.style
+    style = own_style settings (style_at settings.style) (slice_get separators settings.row_lines) (slice_get expansions settings.expansion) layout.look own.look
+
     plain : IsPlainLook layout.look → IsPlainOutput known layout rows output
     plain is =
-        let style = own_style settings (style_at settings.style) (slice_get separators settings.row_lines) (slice_get expansions settings.expansion) layout.look own.look in
         record {
           kind = is.unmarked;
           unkept = is.unkept;
@@ -160,6 +164,9 @@ module _ (settings : RowsSettings) (bytes : List ℕ) (layout : Layout) (output 
           text = texts;
           made = made;
         }
+
+    some_harmless : IsHarmlessFor layout.look output
+    some_harmless = harmless_output known layout rows output (style_is_harmless settings.style layout.look.style style) texts made
 
     some_straight : AreStraightLines layout rows output
     some_straight is (inl (inl narrow)) = narrow_law known layout rows output (plain is) MayCount rows refl refl narrow
@@ -176,12 +183,12 @@ module _ (settings : RowsSettings) (bytes : List ℕ) (layout : Layout) (output 
       subst (EachRowsLine P layout []) (sym empty)
       (nothing_drawn P layout (λ count. count ≡ Some (count_below layout.selection [])) (ap (λ (below : List (List Text)). Some (length below)) (sym (no_records layout.selection.has_header).1)))
 
-  pub rows_keep : (rows : List (List Text)) → layout_for settings bytes rows ≡ Some layout → All AllText rows → RendersAnyRecords layout rows output → AreStraightLines layout rows output × KeepToWidth layout rows output
-  rows_keep [] is texts made = (λ look room. (0, none (ShowsColumns 0) made), λ w wide look within. none _ made)
+  rows_keep : (rows : List (List Text)) → layout_for settings bytes rows ≡ Some layout → All AllText rows → RendersAnyRecords layout rows output → IsHarmlessFor layout.look output × AreStraightLines layout rows output × KeepToWidth layout rows output
+  rows_keep [] is texts made = (subst (IsHarmlessFor layout.look) (sym made) (nothing_is_harmless layout.look), λ look room. (0, none (ShowsColumns 0) made), λ w wide look within. none _ made)
   rows_keep (row ∷ rows) is texts made =
       let own = asked settings bytes (row ∷ rows) layout is in
-      let some : (length (row ∷ rows) == 0) ≡ false = grind arith in
-      (some_straight (row ∷ rows) own texts some made, some_kept (row ∷ rows) own texts some made)
+      let some = not_empty (length rows) in
+      (some_harmless (row ∷ rows) own texts some made, some_straight (row ∷ rows) own texts some made, some_kept (row ∷ rows) own texts some made)
 
 -- so a drawing of rows shows them
 pub shows_rows : (texts : Text) (lengths counts columns : List ℕ) (settings : RowsSettings) (bytes : Text) → IsRowsDrawing texts lengths counts columns settings bytes → ShowRows texts lengths counts columns settings bytes
@@ -191,6 +198,7 @@ shows_rows texts lengths counts columns settings bytes is =
       are_text = is.is_text;
       layout = is.layout;
       is_layout = is.is_layout;
-      straight = kept.0;
-      width = kept.1;
+      harmless = kept.0;
+      straight = kept.1;
+      width = kept.2;
     }

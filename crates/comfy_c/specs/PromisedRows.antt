@@ -3,6 +3,7 @@
 use Rattle.std.specs.Prelude.{◌≡◌, ◌⊎◌, ℕ, false, List, Option, Some, None, IsUtf8}
 use Rattle.comfy_parts.specs.Text.{Text}
 use Rattle.csv_promises.specs.Counted.{EachLineFor}
+use Rattle.csv_promises.specs.Harmless.{IsHarmlessFor}
 use Rattle.csv_promises.specs.Straight.{EachField, IsPlainField}
 use Rattle.csv_promises.specs.Width.{KeepsTo, frame_room, framed_columns_in}
 use Rattle.csv_tables.specs.Drawn.{count_below}
@@ -60,5 +61,6 @@ pub record ShowRows (texts : Text) (lengths counts columns : List ℕ) (settings
   pub are_text : IsUtf8 bytes
   pub layout : Layout
   pub is_layout : layout_for settings columns (rows_of texts lengths counts) ≡ Some layout
+  pub harmless : IsHarmlessFor layout.look bytes
   pub straight : AreStraightLines layout (rows_of texts lengths counts) bytes
   pub width : KeepToWidth layout (rows_of texts lengths counts) bytes

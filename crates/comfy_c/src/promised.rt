@@ -2,11 +2,14 @@
 
 ghost use Rattle.std.specs.Prelude.{◌≡◌, ◌≢◌, take};
 ghost use Rattle.comfy_c.specs.Promised.{ShowTable};
+ghost use Rattle.comfy_c.specs.PromisedRows.{ShowRows};
 
 use crate::cells_columns::ColumnNumbers;
 use crate::cells_draw::comfy_cells_draw;
 use crate::cells_rows::{CellNumbers, RowNumbers};
 use crate::cells_settings::CellsSettings;
+use crate::rows_draw::comfy_rows_draw;
+use crate::rows_settings::RowsSettings;
 use promises::laws::drawings_keep_the_promises;
 use std::alloc::Global;
 
@@ -35,5 +38,39 @@ pub fn drawn_cells(
     drawings_keep_the_promises();
     comfy_cells_draw(
         alloc, texts, cells, rows, columns, indicator, settings, output, needed,
+    )
+}
+
+/// What a caller gets with 0 is UTF-8: the table of rows that its settings and bytes of columns ask
+/// for, as `csvtable` draws records of these texts. A terminal shows it, and is told nothing else:
+/// no character of what it shows is a control character but a line feed, and none turns the
+/// direction of text.
+///
+/// Unless the table is one for Markdown or keeps sequences, all its lines show the same number of
+/// terminal columns, except those that count rows. This holds if each character takes at most one
+/// terminal column, and none is U+FE01. It also holds under no width and no height if each text
+/// takes at most 65535 terminal columns, and has no control character and none that turns the
+/// direction of text; and if each character has room in its column.
+///
+/// Under a width no such line shows more terminal columns than the width, or than the frame takes,
+/// if each character takes at most one. If the width is filled and has room for the frame, each
+/// line shows exactly as many. The frame is that of two columns if rows are or may be drawn as
+/// tables of their own, and otherwise that of all drawn columns.
+pub fn drawn_rows(
+    alloc: Global,
+    texts: &[u8],
+    lengths: &[usize],
+    counts: &[usize],
+    columns: &[u8],
+    settings: &RowsSettings,
+    output: &mut [u8],
+    needed: &mut usize,
+) -> u32
+    ensures { result ≡ 0
+        → ShowRows texts.now lengths.now counts.now columns.now settings.now
+        (take needed.new output.new) }
+{
+    comfy_rows_draw(
+        alloc, texts, lengths, counts, columns, settings, output, needed,
     )
 }

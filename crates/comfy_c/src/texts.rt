@@ -1,6 +1,6 @@
 //! The texts that a caller passes as one block of bytes.
 
-ghost use Rattle.std.specs.Prelude.{◌≡◌, ◌↔◌, IfErr, IfOk, IsTrue, List, ℕ, length, map};
+ghost use Rattle.std.specs.Prelude.{◌≡◌, ◌↔◌, All, IfErr, IfOk, IsTrue, IsUtf8, List, ℕ, length, map};
 ghost use Rattle.csv_records.specs.CutLists.{cut_by, total};
 ghost use Rattle.comfy_c.specs.declared.texts.TextsRefusal.TheVariants as texts;
 ghost use Rattle.comfy_c.specs.RowCalls.{AddUp, IsTextsRefusal, rows_of};
@@ -54,6 +54,7 @@ pub(crate) fn records_of(
     ensures records { IfOk result (λ records. records
         ≡ rows_of texts.now lengths.now counts.now) }
     ensures all { IfOk result (λ _. AddUp texts.now lengths.now counts.now) }
+    ensures texts { IfOk result (λ _. All IsUtf8 (cut_by lengths.now texts.now)) }
     ensures refused { IfErr result (IsTextsRefusal texts.now lengths.now counts.now) }
 {
     let cells = cells_of(alloc, texts, lengths)?;
@@ -72,6 +73,7 @@ fn cells_of<'a>(
     ensures cells { IfOk result (λ cells. map (λ cell. cell.now) cells.items
         ≡ cut_by lengths.now texts.now) }
     ensures all { IfOk result (λ _. total lengths.now ≡ length texts.now) }
+    ensures texts { IfOk result (λ _. All IsUtf8 (cut_by lengths.now texts.now)) }
     ensures refused { (counts : List ℕ)
         → IfErr result (IsTextsRefusal texts.now lengths.now counts) }
 {

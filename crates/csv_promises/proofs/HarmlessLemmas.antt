@@ -307,20 +307,21 @@ module _ (counted : Option ℕ) (layout : Layout) (records : List (List Text)) (
       by_look false none (inl (unkept, unbold)) = plain_output none unkept unbold
       by_look false none (inr is) = absurd (cc (none, is))
 
+-- so is an output of nothing
+pub nothing_is_harmless : (look : Look) → IsHarmlessFor look []
+nothing_is_harmless look = harmless_for look [] (NoCharPasses-nil is_harmful) (λ any. ([], bold_same [], NoCharPasses-nil is_harmful)) (λ any. NoCharPasses-nil is_harmful) (λ kept. closed_of_lines.nothing)
+
 -- ---- what is written for options
 
 module _ (options : Options) (clear : IsHarmlessStyle options.look.style) where
   chosen : (known : Option ℕ) (records : List (List Text)) (output : Text) → All AllText records → RendersChosen known options records output → IsHarmlessFor options.look output
   chosen known records output text made = harmless_output known (layout_with options made.columns) records output clear text made.is_output
 
-  nothing_written : IsHarmlessFor options.look []
-  nothing_written = harmless_for options.look [] (NoCharPasses-nil is_harmful) (λ any. ([], bold_same [], NoCharPasses-nil is_harmful)) (λ any. NoCharPasses-nil is_harmful) (λ kept. closed_of_lines.nothing)
-
   pub drawn_harmless : (input output : Text) → IsDrawnOf options input output → IsHarmlessFor options.look output
   drawn_harmless input output (inl (before, made)) = any made.records made.are_records.are_records.are_records.are_text made.is_output
     where
       any : (records : List (List Text)) → All AllText records → RendersCounted options records output → IsHarmlessFor options.look output
-      any [] text is = subst (IsHarmlessFor options.look) (sym is) nothing_written
+      any [] text is = subst (IsHarmlessFor options.look) (sym is) (nothing_is_harmless options.look)
       any (first ∷ rest) text is = chosen (Some (count_below options.selection (first ∷ rest))) (first ∷ rest) output text is
   drawn_harmless input output (inr (n, asked, made)) = chosen None made.records output made.are_enough.are.are_records.are_records.are_text made.is_output
 

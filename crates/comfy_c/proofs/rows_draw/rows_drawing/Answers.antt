@@ -21,6 +21,7 @@ returns-clause-drawn c =
     let columns : columns_for selection bytes rows ≡ Some c.in-Some-2.columns = search rules in
     record {
       add_up = c.in_ok-records.ensures.all;
+      are_texts = c.in_ok-records.ensures.texts;
       is_text = IsUtf8-string_bytes c.in_ok-output_of_records.field-0;
       layout = layout selection;
       is_layout = ap (λ (b : Bool). if b then layout_by selection (look_for settings) (columns_for selection bytes rows) else None) are ∙ ap₂ (layout_by selection) look columns;

@@ -1,10 +1,12 @@
 use Rattle.std.proofs.Common.{◌≡◌, ◌<◌, ◌≤◌, ◌-◌, ◌+◌, ◌++◌, ◌∷◌, ◌∙◌, [], ℕ, List, ap, ap₂, arith, drop, length, map, rules, slice_index_or, subst, sym, take}
+use Rattle.std.specs.List.{All}
 use Rattle.std.specs.Str.{IsCharBoundary, IsUtf8}
-use Rattle.std.proofs.lemmas.List.{drop-drop, length-drop, map-append}
+use Rattle.std.proofs.lemmas.List.{drop-drop, length-drop, map-append, take_all}
 use Rattle.std.proofs.lemmas.List.Sums.{sum_by-take-le}
-use Rattle.std.proofs.lemmas.Str.{IsCharBoundary-from_take, IsUtf8-drop}
+use Rattle.std.proofs.lemmas.List.Elements.{All-append, All-cons, All-nil}
+use Rattle.std.proofs.lemmas.Str.{IsCharBoundary-from_take, IsUtf8-drop, IsUtf8-take}
 use Rattle.comfy_parts.specs.Text.{Text}
-use Rattle.csv_records.specs.CutLists.{total}
+use Rattle.csv_records.specs.CutLists.{cut_by, total}
 use Rattle.comfy_c.proofs.TextLemmas.{in_cut, one_cut, whole_text}
 use Rattle.comfy_c.proofs.texts.cells_of.Goals as goal
 
@@ -50,4 +52,11 @@ loop-length-preserved c =
       rest ∙ ap (drop n) inv.1 ∙ drop-drop n (total (take i lengths)) texts ∙ ap (λ (k : ℕ). drop k texts) (sym step.1),
       omega (arith, step.1, back, long, inv.2),
       subst IsUtf8 (sym rest) (IsUtf8-drop c.loop-length.behind.now n inv.3 boundary),
+      subst (All IsUtf8) (sym step.0)
+      (All-append IsUtf8 (cut_by (take i lengths) texts) (take n (drop (total (take i lengths)) texts) ∷ []) inv.4
+      (All-cons IsUtf8 (take n (drop (total (take i lengths)) texts)) [] (subst (λ (t : Text). IsUtf8 (take n t)) inv.1 (IsUtf8-take c.loop-length.behind.now n inv.3 boundary)) (All-nil IsUtf8))),
     )
+
+pub returns-clause-texts : goal.returns-clause-texts
+returns-clause-texts c =
+    subst (λ (lengths : List ℕ). All IsUtf8 (cut_by lengths c.args.texts.now)) (take_all c.loop-length.length-index c.args.lengths.now c.loop-length-test.false) c.loop-length.invariant.4
