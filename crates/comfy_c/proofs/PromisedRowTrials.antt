@@ -1,0 +1,178 @@
+-- Bytes of a table of rows that no caller in C is promised.
+use Rattle.std.proofs.Common.{◌≡◌, ◌==◌, ◌∙◌, ◌^◌, ◌-◌, ◌<◌, ◌≤◌, ℕ, Bool, false, true, List, [], ◌∷◌, ◌++◌, None, Option, Some, append-nil, ap, arith, codes, inl, refl, reverse, slice_index_or, subst, sym}
+use Rattle.std.specs.Fmt.{digits}
+use Rattle.std.specs.List.{All, slice_split}
+use Rattle.std.specs.Str.{NoCharPasses, chars, is_utf8}
+use lib.Utf8.{encode}
+use Rattle.std.proofs.lemmas.Bool.{or_parts}
+use Rattle.std.proofs.lemmas.List.{reverse-append}
+use Rattle.std.proofs.lemmas.List.Elements.{All-from_recursion, All-head, All-tail}
+use Rattle.std.proofs.lemmas.Option.{same_Some}
+use Rattle.std.proofs.lemmas.Str.{NoCharPasses-byte, is_utf8-from_IsUtf8}
+use Rattle.comfy_parts.proofs.Computing.{wrapping}
+use Rattle.comfy_parts.specs.Presets.{nothing as no_frame}
+use Rattle.comfy_parts.specs.Text.{HasNo, Text, measure}
+use Rattle.comfy_table.proofs.BreakLemmas.{terminated_lines}
+use Rattle.comfy_table.specs.Laws.{AreLinesOf}
+use Rattle.csv_promises.specs.Counted.{DrawsLines, HasEachLine}
+use Rattle.csv_promises.specs.Width.{KeepsTo, frame_room, framed_columns_in}
+use Rattle.csv_records.specs.Cleaning.{is_harmful}
+use Rattle.csv_tables.specs.Drawn.{drawn_rows, note_for}
+use Rattle.csv_tables.specs.declared.options.Expansion.TheVariants.{Never}
+use Rattle.csv_tables.specs.declared.options.Layout.{Layout}
+use Rattle.csv_tables.specs.declared.options.RowSeparators.TheVariants.{Styled}
+use Rattle.promises.specs.Shown.{Shows, ShowsColumns}
+use Rattle.promises.specs.Shown.Shows.{byte, nothing, sequence}
+use Rattle.promises.specs.Tables.{HasCharactersWithin}
+use Rattle.comfy_c.specs.Calls.{width_of}
+use Rattle.comfy_c.specs.PromisedRows.{AreStraightLines, EachRowsLine, IsPlainLook, KeepToWidth, ShowRows}
+use Rattle.comfy_c.specs.RowCalls.{layout_for, limit_of}
+use Rattle.comfy_c.specs.declared.rows_settings.RowsSettings.{RowsSettings}
+
+-- ---- two rows of a text each without a frame, which takes five terminal columns at most
+
+abbrev the_rows : List (List Text)
+the_rows = (codes "a" ∷ []) ∷ (codes "b" ∷ []) ∷ []
+
+-- under this width, and with as many rows
+abbrev settings : ℕ → ℕ → RowsSettings
+settings width limit =
+    record {
+      max_height = 2 ^ 64 - 1;
+      limit = limit;
+      style = 12;
+      width = width;
+      fills_width = 0;
+      row_lines = 0;
+      expansion = 0;
+      has_header = 0;
+      has_bold_header = 0;
+      is_numbered = 0;
+      aligns_decimals = 0;
+      has_sequences = 0;
+      is_markdown = 0;
+    }
+
+abbrev Drawn : ℕ → ℕ → Text → Type 0
+Drawn width limit bytes = ShowRows (codes "ab") (1 ∷ 1 ∷ []) (1 ∷ 1 ∷ []) [] (settings width limit) bytes
+
+abbrev the_layout : ℕ → ℕ → Layout
+the_layout width limit =
+    record {
+      selection = record { has_header = false; limit = limit_of limit; is_numbered = false };
+      columns = record { drawn = 0 ∷ []; right = []; left = [] };
+      look =
+          record {
+            style = no_frame;
+            separators = Styled;
+            expansion = Never;
+            width = width_of width;
+            fills_width = false;
+            max_height = None;
+            has_bold_header = false;
+            aligns_decimals = false;
+            has_sequences = false;
+            is_markdown = false;
+          };
+    }
+
+abbrev all : ℕ
+all = 2 ^ 64 - 1
+
+abbrev no_width : ℕ
+no_width = 65536
+
+is_asked : (width limit : ℕ) → layout_for (settings width limit) [] the_rows ≡ Some (the_layout width limit) → (bytes : Text) (is : Drawn width limit bytes) → is.layout ≡ the_layout width limit
+is_asked width limit asked bytes is = same_Some _ _ (sym is.is_layout ∙ asked)
+
+are_narrow : All (All (HasCharactersWithin 1)) the_rows
+unfolding wrapping encode
+are_narrow =
+    All-from_recursion (All (HasCharactersWithin 1)) the_rows
+    (All-from_recursion (HasCharactersWithin 1) (codes "a" ∷ []) (refl, tt), (All-from_recursion (HasCharactersWithin 1) (codes "b" ∷ []) (refl, tt), tt))
+
+-- all lines are drawn ones where no row is left out
+drawn_lines : (P : Text → Type 0) (width : ℕ) (bytes : Text) → EachRowsLine P (the_layout width all) the_rows bytes → HasEachLine P bytes
+drawn_lines P width bytes is =
+    subst (HasEachLine P) (sym (is.joined ∙ append-nil is.drawn)) (subst (λ (b : Bool). DrawsLines P (drawn_rows (the_layout width all).selection the_rows) b is.count is.drawn) is.expansion is.draws)
+
+-- the lines of a text stand between its line feeds
+found : (text : Text) (lines : List Text) → AreLinesOf text lines → slice_split (λ b. b == 0x0A) text ≡ lines ++ [] ∷ []
+found text lines are = ap (slice_split (λ b. b == 0x0A)) are.joined ∙ terminated_lines lines are.unbroken
+
+one_line : (line : Text) (lines : List Text) → line ∷ [] ∷ [] ≡ lines ++ [] ∷ [] → lines ≡ line ∷ []
+one_line line [] is = absurd (cc is)
+one_line line (x ∷ []) is = cc is
+one_line line (x ∷ y ∷ []) is = absurd (cc is)
+one_line line (x ∷ y ∷ z ∷ more) is = absurd (cc is)
+
+two_lines : (first second : Text) (lines : List Text) → first ∷ second ∷ [] ∷ [] ≡ lines ++ [] ∷ [] → lines ≡ first ∷ second ∷ []
+two_lines first second [] is = absurd (cc is)
+two_lines first second (x ∷ []) is = absurd (cc is)
+two_lines first second (x ∷ y ∷ []) is = cc is
+two_lines first second (x ∷ y ∷ z ∷ []) is = absurd (cc is)
+two_lines first second (x ∷ y ∷ z ∷ t ∷ more) is = absurd (cc is)
+
+-- a text without ESC shows itself
+shows_itself : {text shown : Text} → Shows text shown → HasNo 0x1B text → shown ≡ text
+shows_itself nothing none = refl
+shows_itself (byte b text shown clear rest) none = ap (λ (t : Text). b ∷ t) (shows_itself rest (or_parts (b == 0x1B) _ none).1)
+shows_itself (sequence code text shown passes rest) none = absurd (cc none)
+
+-- ---- bytes that don't show them
+
+-- no text
+-- false: comfy_c::drawn_rows
+no_text : ¬ (Drawn no_width all (0xFF ∷ []))
+unfolding chars is_utf8
+no_text is = let wrong : false ≡ true = is_utf8-from_IsUtf8 (0xFF ∷ []) is.are_text in cc wrong
+
+-- a control character
+bell : ¬ (Drawn no_width all (0x07 ∷ []))
+bell is =
+    let none : NoCharPasses is_harmful (0x07 ∷ []) = subst (NoCharPasses is_harmful) (shows_itself is.harmless.shows refl) is.harmless.harmless in
+    let isnt : is_harmful 0x07 ≡ false = NoCharPasses-byte is_harmful (0x07 ∷ []) 0 none (omega arith) (omega arith) in
+    cc isnt
+
+one_column : measure (codes " a") ≡ 2
+unfolding wrapping encode
+one_column = refl
+
+two_columns : measure (codes " b ") ≡ 3
+unfolding wrapping encode
+two_columns = refl
+
+-- a line that is a terminal column short
+uneven : ¬ (Drawn no_width all (codes " a\n b \n"))
+uneven is =
+    let kept = subst (λ (layout : Layout). AreStraightLines layout the_rows (codes " a\n b \n")) (is_asked no_width all refl (codes " a\n b \n") is) is.straight (record { unmarked = refl; unkept = refl }) (inl (inl are_narrow)) in
+    let own = drawn_lines (ShowsColumns kept.0) no_width (codes " a\n b \n") kept.1 in
+    let each : All (ShowsColumns kept.0) (codes " a" ∷ codes " b " ∷ []) = subst (All (ShowsColumns kept.0)) (two_lines (codes " a") (codes " b ") own.lines (found (codes " a\n b \n") own.lines own.are)) own.each in
+    let first = All-head (ShowsColumns kept.0) (codes " a") (codes " b " ∷ []) each in
+    let second = All-head (ShowsColumns kept.0) (codes " b ") [] (All-tail (ShowsColumns kept.0) (codes " a") (codes " b " ∷ []) each) in
+    let same : measure (codes " a") ≡ measure (codes " b ") = sym (ap measure (shows_itself first.1 refl)) ∙ first.2 ∙ sym second.2 ∙ ap measure (shows_itself second.1 refl) in
+    absurd (omega (arith, same, one_column, two_columns))
+
+ten : measure (codes "0123456789") ≡ 10
+unfolding wrapping encode
+ten = refl
+
+-- a line of ten terminal columns, where the width is eight
+too_wide : ¬ (Drawn 8 all (codes "0123456789\n"))
+too_wide is =
+    let P = KeepsTo 8 (frame_room (framed_columns_in (the_layout 8 all) the_rows)) false in
+    let kept : EachRowsLine P (the_layout 8 all) the_rows (codes "0123456789\n") = subst (λ (layout : Layout). KeepToWidth layout the_rows (codes "0123456789\n")) (is_asked 8 all refl (codes "0123456789\n") is) is.width 8 refl (record { unmarked = refl; unkept = refl }) are_narrow in
+    let own = drawn_lines P 8 (codes "0123456789\n") kept in
+    let line = All-head P (codes "0123456789") [] (subst (All P) (one_line (codes "0123456789") own.lines (found (codes "0123456789\n") own.lines own.are)) own.each) in
+    let wide : line.columns ≡ 10 = sym line.shows.2 ∙ ap measure (shows_itself line.shows.1 refl) ∙ ten in
+    absurd (omega (arith, line.within, wide))
+
+-- a line that counts three rows, where one of two is drawn
+three_rows : ¬ (Drawn no_width 1 (codes " a \n1 of 3 records\n"))
+unfolding digits
+three_rows is =
+    let kept = subst (λ (layout : Layout). AreStraightLines layout the_rows (codes " a \n1 of 3 records\n")) (is_asked no_width 1 refl (codes " a \n1 of 3 records\n") is) is.straight (record { unmarked = refl; unkept = refl }) (inl (inl are_narrow)) in
+    let noted = kept.1 in
+    let made : codes " a \n1 of 3 records\n" ≡ noted.drawn ++ note_for false (Some 1) (Some 2) = noted.joined ∙ ap (λ (count : Option ℕ). noted.drawn ++ note_for false (Some 1) count) noted.is_count in
+    let letter : ◌≡◌ {A = ℕ} 0x33 0x32 = ap (λ (t : Text). slice_index_or t 9 0) (ap reverse made ∙ reverse-append noted.drawn (note_for false (Some 1) (Some 2))) in
+    absurd (omega (arith, letter))
