@@ -124,7 +124,7 @@ module _ (options : Options) (records : List (List Text)) (own : ColumnsValue) (
   abbrev rows : List (List Text)
   rows = drawn_rows options.selection records
 
-  positions : own.drawn ≡ positions_in options names rows
+  pub positions : own.drawn ≡ positions_in options names rows
   positions = kept_positions names (count_of names rows) options.columns.chosen.items options.columns.dropped.items own.drawn (chosen names _ _ _ own found)
 
   pub some_position : 1 ≤ length own.drawn

@@ -24,9 +24,10 @@ use Rattle.csv_tables.proofs.RowLemmas.{positions-shown, with_rows-rows}
 use Rattle.csv_tables.specs.Cells.{Shown, cell_for, columns_within, shown_cells, shown_in, with_weight, number_name, row_for, counted_from}
 use Rattle.csv_tables.specs.Columns.{ColumnsValue, count_of, name_at, seen}
 use Rattle.csv_command.specs.Columns.{columns_for}
-use Rattle.csv_tables.specs.Drawn.{SelectedValue, RendersAsTable, RendersTable, columns_of, count_below, drawn_fields, drawn_rows, empty_table, has_room_for, headed_table, is_expanded_in, limited, names_of, note_for, note_text, output_table, pairs_in, record_line, record_text, records_below, rows_table, separated_table, some_lines, table_text, is_aligned_in}
+use Rattle.csv_tables.specs.Drawn.{SelectedValue, RendersAsTable, RendersRecords, RendersTable, columns_of, count_below, drawn_fields, drawn_rows, empty_table, has_room_for, headed_table, is_expanded_in, limited, names_of, note_for, note_text, output_table, pairs_in, record_line, record_text, records_below, rows_table, separated_table, some_lines, table_text, is_aligned_in}
 use Rattle.csv_command.specs.Drawn.{RendersChosen, layout_with}
 use Rattle.csv_tables.specs.declared.options.DrawnColumn.{DrawnColumn}
+use Rattle.csv_tables.specs.declared.options.Layout.{Layout}
 use Rattle.csv_tables.specs.declared.options.Look.{Look}
 use Rattle.csv_command.specs.declared.arguments.Options.{Options}
 use Rattle.comfy_parts.proofs.CallerLemmas.{All-every}
@@ -37,13 +38,14 @@ use Rattle.csv_promises.proofs.FrameLemmas.{most_columns, places_of}
 use Rattle.promises.specs.Headline.{IsUncoloured}
 use Rattle.csv_promises.proofs.ExpandedLemmas.{rows_at}
 use Rattle.csv_promises.proofs.FieldLemmas.{IsRowFor, are_pairs, are_rows, is_header, positions_of}
-use Rattle.csv_promises.proofs.PositionLemmas.{chosen, kept_positions}
+use Rattle.csv_promises.proofs.ColumnLemmas as columns_lemmas
+use Rattle.csv_promises.proofs.DrawnColumnLemmas.{placed}
 use Rattle.csv_promises.proofs.RecordLemmas.{all_drawn, with_rows-header}
 use Rattle.csv_promises.proofs.ShownTableLemmas.{HasRowsOf, has_rows_of, part_shows}
-use Rattle.csv_promises.proofs.LineLemmas.{may_expand, no_records, no_rows, none_drawn}
+use Rattle.csv_promises.proofs.LineLemmas.{may_expand, no_records, no_rows, none_drawn, nothing_noted}
 use Rattle.csv_promises.proofs.WrittenLemmas.{IsDrawnBy, by_extent}
-use Rattle.csv_promises.specs.Counted.{AreExpanded, MayExpand}
-use Rattle.csv_promises.specs.Fields.{IsDrawingOf, fields_at, row_behind, rows_from, ShowsDrawn, ShowsPairs, ShowsRecords, ShowsRows, pairs_at, positions_in, all_rows}
+use Rattle.csv_promises.specs.Counted.{AreExpanded, IsCount, IsWrittenFor}
+use Rattle.csv_promises.specs.Fields.{IsDrawingOf, ShowsAllFields, ShowsFields, fields_at, row_behind, rows_from, ShowsDrawn, ShowsPairs, ShowsRecords, ShowsRows, pairs_at, positions_in, all_rows}
 use Rattle.csv_promises.specs.Written.{IsWritten}
 
 -- of no rows nothing
@@ -238,60 +240,73 @@ module _ (look : Look) (all : DrawsAll look) (is_numbered : Bool) (names : Optio
 
 -- ---- outputs
 
--- an output shows these names, where there are any, and these rows, with the line on further records
-record IsShown (o : Options) (names : Option (List Text)) (rows : List (List Text)) (count : Option ℕ) (output : Text) : Type 0 where
-  is_expanded : Bool
-  expansion : MayExpand o.look.expansion is_expanded
-  drawn : Text
-  shows : ShowsDrawn is_expanded o names rows count drawn
-  joined : output ≡ drawn ++ note_for false o.selection.limit count
-
-module _ (o : Options) (all : DrawsAll o.look) (count : Option ℕ) (records : List (List Text)) (texts : All AllText records) where
+module _ (layout : Layout) (all : DrawsAll layout.look) (known : Option ℕ) (records : List (List Text)) (texts : All AllText records) (output : Text) (made : RendersRecords known layout records output) where
   abbrev look : Look
-  look = o.look
+  look = layout.look
+
+  abbrev is_numbered : Bool
+  is_numbered = layout.selection.is_numbered
 
   abbrev names : Option (List Text)
-  names = names_of o.selection.has_header records
+  names = names_of layout.selection.has_header records
 
   abbrev rows : List (List Text)
-  rows = drawn_rows o.selection records
+  rows = drawn_rows layout.selection records
+
+  abbrev columns : List DrawnColumn
+  columns = columns_of layout records
+
+  abbrev own : SelectedValue
+  own = content look all is_numbered names rows columns known
+
+  same : made.content ≡ own
+  same = sym made.is_content
+
+  positions : positions_of columns ≡ layout.columns.drawn
+  positions = placed layout records known own refl
 
   utf8 : All (All IsUtf8) (option_to_list names ++ rows)
-  utf8 = all_drawn (All IsUtf8) o.selection.has_header o.selection.limit records (All-weaker AllText (All IsUtf8) text_fields records texts)
+  utf8 = all_drawn (All IsUtf8) layout.selection.has_header layout.selection.limit records (All-weaker AllText (All IsUtf8) text_fields records texts)
 
-  module _ (own : ColumnsValue) (found : columns_for o records ≡ Ok own) where
-    abbrev columns : List DrawnColumn
-    columns = columns_of (layout_with o own) records
+  abbrev Shows : Bool → Option ℕ → Text → Type 0
+  Shows is_expanded = ShowsFields is_expanded look is_numbered layout.columns.drawn names rows
 
-    positions : positions_in o (unwrap_or names []) rows ≡ positions_of columns
-    positions =
-        sym (kept_positions (unwrap_or names []) (count_of (unwrap_or names []) rows) o.columns.chosen.items o.columns.dropped.items (positions_of columns)
-        (chosen (unwrap_or names []) _ _ _ own found ∙ ap Ok (sym (positions-shown own (map (seen look.has_sequences) rows)))))
+  by_kind : (is_expanded : Bool) (text : Text) → RendersTable is_expanded look own text → Shows is_expanded known text
+  by_kind false text renders =
+      subst (λ (ps : List ℕ). ShowsFields false look is_numbered ps names rows known text) positions (rows_shown look all is_numbered names rows columns known text renders utf8)
+  by_kind true text renders =
+      subst (λ (ps : List ℕ). ShowsFields true look is_numbered ps names rows known text) positions (records_shown look all is_numbered names rows columns known text renders)
 
-    by_kind : (is_expanded : Bool) (text : Text) → RendersTable is_expanded look (content look all o.selection.is_numbered names rows columns count) text → ShowsDrawn is_expanded o names rows count text
-    by_kind false text renders =
-        subst (λ (ps : List ℕ). ShowsRows look (is_some names) (all_rows o.selection.is_numbered ps names rows) text) (sym positions) (rows_shown look all o.selection.is_numbered names rows columns count text renders utf8)
-    by_kind true text renders =
-        subst (λ (ps : List ℕ). AreExpanded (ShowsPairs look (unwrap_or names []) ps) count 1 rows text) (sym positions) (records_shown look all o.selection.is_numbered names rows columns count text renders)
+  text : RendersAsTable look own made.text
+  text = subst (λ (c : SelectedValue). RendersAsTable look c made.text) same (is_table_text known layout records output made all.table)
 
-  output_shown : (output : Text) → RendersChosen count o records output → IsShown o names rows count output
-  output_shown output made =
+  -- an output shows the names, if there are any, and the rows, and the note on further records
+  pub all_shown : (MayCount : Option ℕ → Type 0) → MayCount known → ShowsAllFields MayCount layout records output
+  all_shown MayCount is_count =
       record {
+        count = known;
+        is_count = is_count;
         is_expanded = text.is_expanded;
         expansion = may_expand look.expansion ((length rows == 0) || has_room_for look own (is_aligned_in look own)) text.is_expanded text.expansion;
-        drawn = made.is_output.text;
-        shows = by_kind made.columns made.are_chosen text.is_expanded made.is_output.text text.drawn;
-        joined = made.is_output.joined ∙ ap₂ (λ (b : Bool) (n : Option ℕ). made.is_output.text ++ note_for b o.selection.limit n) all.table (ap (λ (c : SelectedValue). c.count) same);
+        drawn = made.text;
+        draws = by_kind text.is_expanded made.text text.drawn;
+        joined = made.joined ∙ ap₂ (λ (b : Bool) (n : Option ℕ). made.text ++ note_for b layout.selection.limit n) all.table (ap (λ (c : SelectedValue). c.count) same);
       }
-    where
-      own : SelectedValue
-      own = content look all o.selection.is_numbered names rows (columns made.columns made.are_chosen) count
 
-      same : made.is_output.content ≡ own
-      same = sym made.is_output.is_content
+-- of no records nothing is shown
+pub none_of_all : (MayCount : Option ℕ → Type 0) → MayCount (Some 0) → (layout : Layout) → ShowsAllFields MayCount layout [] []
+none_of_all MayCount is_count layout =
+    nothing_noted (Shows (names_of layout.selection.has_header []) (drawn_rows layout.selection [])) MayCount layout.look.expansion layout.selection.limit is_count
+    (λ is_expanded count.
+    subst (λ (own : Option (List Text)). Shows own (drawn_rows layout.selection []) is_expanded count []) (sym (no_records layout.selection.has_header).0)
+    (subst (λ (own : List (List Text)). Shows None own is_expanded count []) (sym (no_rows layout.selection)) (by_kind is_expanded count)))
+  where
+    Shows : Option (List Text) → List (List Text) → Bool → Option ℕ → Text → Type 0
+    Shows names rows is_expanded = ShowsFields is_expanded layout.look layout.selection.is_numbered layout.columns.drawn names rows
 
-      text : RendersAsTable look own made.is_output.text
-      text = subst (λ (c : SelectedValue). RendersAsTable look c made.is_output.text) same (is_table_text count (layout_with o made.columns) records output made.is_output all.table)
+    by_kind : (is_expanded : Bool) (count : Option ℕ) → Shows None [] is_expanded count []
+    by_kind true count = refl
+    by_kind false count = none_shown layout.look false
 
 -- so of what is written for arguments
 module _ (arguments : List Text) (context : OutputContext) (invocation : Invocation) (input : Text) (records : List (List Text)) (output : Text) (is : IsWritten false arguments context invocation input records output) where
@@ -318,10 +333,13 @@ module _ (arguments : List Text) (context : OutputContext) (invocation : Invocat
       nothing : records ≡ [] → output ≡ [] → ShowsRecords options records output
       nothing empty no_output = subst (λ (rs : List (List Text)). ShowsRecords options rs output) (sym empty) (subst (ShowsRecords options []) (sym no_output) none)
 
+      IsGood : Option (List Text) → List (List Text) → List ℕ → Type 0
+      IsGood names rows positions = IsWrittenFor (λ is_expanded. ShowsFields is_expanded options.look options.selection.is_numbered positions names rows) options records output
+
       drawn_by : (known : Option ℕ) (rs : List (List Text)) → IsDrawnBy false arguments context invocation input records output is known rs → ShowsRecords options records output
       drawn_by known rs by =
-          let shown : IsShown options (names_of options.selection.has_header records) (drawn_rows options.selection records) known output =
-          subst (λ (own : Option (List Text)). IsShown options own (drawn_rows options.selection records) known output) by.names
-          (subst (λ (own : List (List Text)). IsShown options (names_of options.selection.has_header rs) own known output) by.rows
-          (output_shown options all known rs by.text output by.made)) in
-          record { count = known; is_count = by.counted; is_expanded = shown.is_expanded; expansion = shown.expansion; drawn = shown.drawn; draws = shown.shows; joined = shown.joined }
+          let h = options.selection.has_header in
+          let own : IsGood (names_of h rs) (drawn_rows options.selection rs) by.made.columns.drawn = all_shown (layout_with options by.made.columns) all known rs by.text output by.made.is_output (IsCount options records) by.counted in
+          let chosen = subst (IsGood (names_of h rs) (drawn_rows options.selection rs)) (columns_lemmas.positions options rs by.made.columns by.made.are_chosen) own in
+          subst (λ (names : Option (List Text)). IsGood names (drawn_rows options.selection records) (positions_in options (unwrap_or names []) (drawn_rows options.selection records))) by.names
+          (subst (λ (rows : List (List Text)). IsGood (names_of h rs) rows (positions_in options (unwrap_or (names_of h rs) []) rows)) by.rows chosen)

@@ -12,9 +12,10 @@ use Rattle.csv_tables.specs.Fields.{field_or_blank}
 use Rattle.csv_tables.specs.Columns.{count_of, name_at}
 use Rattle.csv_command.specs.Columns.{columns_chosen, positions_between, without}
 use Rattle.csv_tables.specs.Drawn.{condensed_style, drawn_rows, names_of}
+use Rattle.csv_tables.specs.declared.options.Layout.{Layout}
 use Rattle.csv_tables.specs.declared.options.Look.{Look}
 use Rattle.csv_command.specs.declared.arguments.Options.{Options}
-use Rattle.csv_promises.specs.Counted.{AreExpanded, IsWrittenFor}
+use Rattle.csv_promises.specs.Counted.{AreExpanded, IsDrawnWithNote, IsWrittenFor}
 use Rattle.csv_promises.specs.Harmless.{IsInBold}
 use Rattle.promises.specs.Headline.{IsFramedTable}
 
@@ -129,16 +130,30 @@ positions_in options names rows =
     else positions_by names (count_of names rows) options.columns.chosen.items)
     (positions_by names (count_of names rows) options.columns.dropped.items)
 
--- a text shows these columns of a header, where there is one, and rows; or expands the rows
+-- a text shows the columns at these positions of a header, if there is one, and rows; or expands the
+-- rows
+abbrev pub ShowsFields :
+    Bool → Look → Bool → List ℕ → Option (List Text) → List (List Text) → Option ℕ → Text → Type 0
+ShowsFields false look is_numbered positions names rows count text =
+    ShowsRows look (is_some names) (all_rows is_numbered positions names rows) text
+ShowsFields true look is_numbered positions names rows count text =
+    AreExpanded (ShowsPairs look (unwrap_or names []) positions) count 1 rows text
+
+-- a text shows what a layout draws of records: the header, if there is one, and below it as many as
+-- the layout asks for, in its columns; and the note on others, which may count them so
+abbrev pub ShowsAllFields : (Option ℕ → Type 0) → Layout → List (List Text) → Text → Type 0
+ShowsAllFields MayCount layout records text =
+    IsDrawnWithNote (λ is_expanded.
+    ShowsFields is_expanded layout.look layout.selection.is_numbered layout.columns.drawn
+    (names_of layout.selection.has_header records) (drawn_rows layout.selection records)) MayCount
+    layout.look.expansion layout.selection.limit text
+
+-- it shows the columns that options choose
 abbrev pub ShowsDrawn :
     Bool → Options → Option (List Text) → List (List Text) → Option ℕ → Text → Type 0
-ShowsDrawn false options names rows count text =
-    ShowsRows options.look (is_some names)
-    (all_rows options.selection.is_numbered
-    (positions_in options (unwrap_or names []) rows) names rows) text
-ShowsDrawn true options names rows count text =
-    AreExpanded (ShowsPairs options.look (unwrap_or names [])
-    (positions_in options (unwrap_or names []) rows)) count 1 rows text
+ShowsDrawn is_expanded options names rows count text =
+    ShowsFields is_expanded options.look options.selection.is_numbered
+    (positions_in options (unwrap_or names []) rows) names rows count text
 
 -- a text shows records: the header, if there is one, and below it as many as options ask for, and
 -- the note on others
