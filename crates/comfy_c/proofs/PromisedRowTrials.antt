@@ -119,6 +119,10 @@ shows_itself nothing none = refl
 shows_itself (byte b text shown clear rest) none = ap (λ (t : Text). b ∷ t) (shows_itself rest (or_parts (b == 0x1B) _ none).1)
 shows_itself (sequence code text shown passes rest) none = absurd (cc none)
 
+-- so it shows the terminal columns that it takes
+shown_columns : (n : ℕ) (line : Text) → HasNo 0x1B line → ShowsColumns n line → n ≡ measure line
+shown_columns n line clear shows = sym shows.2 ∙ ap measure (shows_itself shows.1 clear)
+
 -- ---- bytes that don't show them
 
 -- no text
@@ -134,13 +138,13 @@ bell is =
     let isnt : is_harmful 0x07 ≡ false = NoCharPasses-byte is_harmful (0x07 ∷ []) 0 none (omega arith) (omega arith) in
     cc isnt
 
-one_column : measure (codes " a") ≡ 2
-unfolding wrapping encode
-one_column = refl
-
-two_columns : measure (codes " b ") ≡ 3
+two_columns : measure (codes " a") ≡ 2
 unfolding wrapping encode
 two_columns = refl
+
+three_columns : measure (codes " b ") ≡ 3
+unfolding wrapping encode
+three_columns = refl
 
 -- a line that is a terminal column short
 uneven : ¬ (Drawn no_width all (codes " a\n b \n"))
@@ -148,10 +152,9 @@ uneven is =
     let kept = subst (λ (layout : Layout). AreStraightLines layout the_rows (codes " a\n b \n")) (is_asked no_width all refl (codes " a\n b \n") is) is.straight (record { unmarked = refl; unkept = refl }) (inl (inl are_narrow)) in
     let own = drawn_lines (ShowsColumns kept.0) no_width (codes " a\n b \n") kept.1 in
     let each : All (ShowsColumns kept.0) (codes " a" ∷ codes " b " ∷ []) = subst (All (ShowsColumns kept.0)) (two_lines (codes " a") (codes " b ") own.lines (found (codes " a\n b \n") own.lines own.are)) own.each in
-    let first = All-head (ShowsColumns kept.0) (codes " a") (codes " b " ∷ []) each in
-    let second = All-head (ShowsColumns kept.0) (codes " b ") [] (All-tail (ShowsColumns kept.0) (codes " a") (codes " b " ∷ []) each) in
-    let same : measure (codes " a") ≡ measure (codes " b ") = sym (ap measure (shows_itself first.1 refl)) ∙ first.2 ∙ sym second.2 ∙ ap measure (shows_itself second.1 refl) in
-    absurd (omega (arith, same, one_column, two_columns))
+    let first = shown_columns kept.0 (codes " a") refl (All-head (ShowsColumns kept.0) (codes " a") (codes " b " ∷ []) each) in
+    let second = shown_columns kept.0 (codes " b ") refl (All-head (ShowsColumns kept.0) (codes " b ") [] (All-tail (ShowsColumns kept.0) (codes " a") (codes " b " ∷ []) each)) in
+    absurd (omega (arith, first, second, two_columns, three_columns))
 
 ten : measure (codes "0123456789") ≡ 10
 unfolding wrapping encode
@@ -164,8 +167,8 @@ too_wide is =
     let kept : EachRowsLine P (the_layout 8 all) the_rows (codes "0123456789\n") = subst (λ (layout : Layout). KeepToWidth layout the_rows (codes "0123456789\n")) (is_asked 8 all refl (codes "0123456789\n") is) is.width 8 refl (record { unmarked = refl; unkept = refl }) are_narrow in
     let own = drawn_lines P 8 (codes "0123456789\n") kept in
     let line = All-head P (codes "0123456789") [] (subst (All P) (one_line (codes "0123456789") own.lines (found (codes "0123456789\n") own.lines own.are)) own.each) in
-    let wide : line.columns ≡ 10 = sym line.shows.2 ∙ ap measure (shows_itself line.shows.1 refl) ∙ ten in
-    absurd (omega (arith, line.within, wide))
+    let wide = shown_columns line.columns (codes "0123456789") refl line.shows in
+    absurd (omega (arith, line.within, wide, ten))
 
 -- a line that counts three rows, where one of two is drawn
 three_rows : ¬ (Drawn no_width 1 (codes " a \n1 of 3 records\n"))

@@ -19,12 +19,15 @@ use Rattle.csv_promises.proofs.DrawnLemmas.{IsPlainOutput, fitting_law, narrow_l
 use Rattle.csv_promises.proofs.DrawnWidthLemmas.{keep}
 use Rattle.csv_promises.proofs.HarmlessLemmas.{harmless_output, nothing_is_harmless}
 use Rattle.csv_promises.proofs.LineLemmas.{no_records, nothing_drawn}
+use Rattle.csv_promises.proofs.OutputFieldLemmas.{all_shown, none_of_all}
 use Rattle.csv_promises.specs.Counted.{EachLineFor}
+use Rattle.csv_promises.specs.Fields.{ShowsAllFields}
 use Rattle.csv_promises.specs.Harmless.{IsHarmlessFor}
 use Rattle.csv_promises.specs.Straight.{EachField}
 use Rattle.csv_promises.specs.Width.{KeepsTo, frame_room, framed_columns_in}
 use Rattle.csv_records.specs.Cleaning.{is_replaced}
 use Rattle.csv_records.specs.CutLists.{cut_by}
+use Rattle.csv_tables.proofs.OutputControlLemmas.{unbroken_without}
 use Rattle.csv_tables.specs.Columns.{ColumnsValue, count_of}
 use Rattle.csv_tables.specs.Controls.{IsHarmlessStyle}
 use Rattle.csv_tables.specs.Drawn.{RendersAnyRecords, RendersRecords, column_count, count_below, drawn_rows, names_or_none}
@@ -35,7 +38,7 @@ use Rattle.csv_tables.specs.declared.options.RowSeparators.{RowSeparators}
 use Rattle.csv_tables.specs.declared.selection.Selection.{Selection}
 use Rattle.promises.specs.Shown.{ShowsColumns}
 use Rattle.promises.specs.Tables.{HasCharactersWithin}
-use Rattle.comfy_c.specs.PromisedRows.{AreStraightLines, EachRowsLine, HaveRoom, IsPlainLook, KeepToWidth, ShowRows}
+use Rattle.comfy_c.specs.PromisedRows.{AreStraightLines, EachRowsLine, HaveRoom, IsCountOf, IsPlainLook, KeepToWidth, ShowAllTexts, ShowRows}
 use Rattle.comfy_c.specs.RowCalls.{IsRowsDrawing, are_bytes, are_there, byte_at, can_be_drawn, columns_by, columns_for, count_in_all, expansions, layout_by, layout_for, look_by, look_for, positions_where, rows_of, selection_for, separators, style_at}
 use Rattle.comfy_c.specs.declared.rows_settings.RowsSettings.{RowsSettings}
 
@@ -149,7 +152,7 @@ module _ (settings : RowsSettings) (bytes : List ℕ) (layout : Layout) (output 
     known = Some (count_below layout.selection rows)
 
     abbrev MayCount : Option ℕ → Type 0
-    MayCount count = count ≡ Some (count_below layout.selection rows)
+    MayCount = IsCountOf layout rows
 
     style : style_at settings.style ≡ Some layout.look.style
     style = own_style settings (style_at settings.style) (slice_get separators settings.row_lines) (slice_get expansions settings.expansion) layout.look own.look
@@ -165,6 +168,12 @@ module _ (settings : RowsSettings) (bytes : List ℕ) (layout : Layout) (output 
           made = made;
         }
 
+    some_shown : ShowAllTexts layout rows output
+    some_shown is uncut =
+        all_shown layout
+        (record { unkept = is.unkept; table = is.unmarked; uncut = uncut; style = unbroken_without layout.look.style (style_is_harmless settings.style layout.look.style style) })
+        known rows texts output made MayCount refl
+
     some_harmless : IsHarmlessFor layout.look output
     some_harmless = harmless_output known layout rows output (style_is_harmless settings.style layout.look.style style) texts made
 
@@ -177,18 +186,32 @@ module _ (settings : RowsSettings) (bytes : List ℕ) (layout : Layout) (output 
     some_kept w wide is within =
         keep w known layout rows output wide (plain is) within (some_left layout.selection bytes rows layout.columns own.columns some) (are_below layout.selection bytes rows layout.columns own.columns) MayCount rows refl refl
 
+  -- no rows are counted
+  no_count : IsCountOf layout [] (Some 0)
+  no_count = ap (λ (below : List (List Text)). Some (length below)) (sym (no_records layout.selection.has_header).1)
+
   -- of no rows nothing is drawn
   none : (P : Text → Type 0) → output ≡ [] → EachRowsLine P layout [] output
   none P empty =
       subst (EachRowsLine P layout []) (sym empty)
-      (nothing_drawn P layout (λ count. count ≡ Some (count_below layout.selection [])) (ap (λ (below : List (List Text)). Some (length below)) (sym (no_records layout.selection.has_header).1)))
+      (nothing_drawn P layout (IsCountOf layout []) no_count)
 
-  rows_keep : (rows : List (List Text)) → layout_for settings bytes rows ≡ Some layout → All AllText rows → RendersAnyRecords layout rows output → IsHarmlessFor layout.look output × AreStraightLines layout rows output × KeepToWidth layout rows output
-  rows_keep [] is texts made = (subst (IsHarmlessFor layout.look) (sym made) (nothing_is_harmless layout.look), λ look room. (0, none (ShowsColumns 0) made), λ w wide look within. none _ made)
+  rows_keep : (rows : List (List Text)) → layout_for settings bytes rows ≡ Some layout → All AllText rows → RendersAnyRecords layout rows output
+      → ShowAllTexts layout rows output × IsHarmlessFor layout.look output × AreStraightLines layout rows output × KeepToWidth layout rows output
+  rows_keep [] is texts made = (
+    λ look uncut. subst (ShowsAllFields (IsCountOf layout []) layout []) (sym made) (none_of_all (IsCountOf layout []) no_count layout),
+    subst (IsHarmlessFor layout.look) (sym made) (nothing_is_harmless layout.look),
+    λ look room. (0, none (ShowsColumns 0) made),
+    λ w wide look within. none _ made,
+  )
   rows_keep (row ∷ rows) is texts made =
       let own = asked settings bytes (row ∷ rows) layout is in
-      let some = not_empty (length rows) in
-      (some_harmless (row ∷ rows) own texts some made, some_straight (row ∷ rows) own texts some made, some_kept (row ∷ rows) own texts some made)
+      let some = not_empty (length rows) in (
+        some_shown (row ∷ rows) own texts some made,
+        some_harmless (row ∷ rows) own texts some made,
+        some_straight (row ∷ rows) own texts some made,
+        some_kept (row ∷ rows) own texts some made,
+      )
 
 -- so a drawing of rows shows them
 pub shows_rows : (texts : Text) (lengths counts columns : List ℕ) (settings : RowsSettings) (bytes : Text) → IsRowsDrawing texts lengths counts columns settings bytes → ShowRows texts lengths counts columns settings bytes
@@ -198,7 +221,8 @@ shows_rows texts lengths counts columns settings bytes is =
       are_text = is.is_text;
       layout = is.layout;
       is_layout = is.is_layout;
-      harmless = kept.0;
-      straight = kept.1;
-      width = kept.2;
+      all = kept.0;
+      harmless = kept.1;
+      straight = kept.2;
+      width = kept.3;
     }

@@ -3,6 +3,7 @@
 use Rattle.std.specs.Prelude.{◌≡◌, ◌⊎◌, ℕ, false, List, Option, Some, None, IsUtf8}
 use Rattle.comfy_parts.specs.Text.{Text}
 use Rattle.csv_promises.specs.Counted.{EachLineFor}
+use Rattle.csv_promises.specs.Fields.{ShowsAllFields}
 use Rattle.csv_promises.specs.Harmless.{IsHarmlessFor}
 use Rattle.csv_promises.specs.Straight.{EachField, IsPlainField}
 use Rattle.csv_promises.specs.Width.{KeepsTo, frame_room, framed_columns_in}
@@ -20,11 +21,13 @@ pub record IsPlainLook (look : Look) : Type 0 where
   pub unmarked : look.is_markdown ≡ false
   pub unkept : look.has_sequences ≡ false
 
--- P holds of each line that is drawn of rows, but of those that count them; all rows below the
--- header are counted
+-- all rows below the header are counted
+abbrev pub IsCountOf : Layout → List (List Text) → Option ℕ → Type 0
+IsCountOf layout rows count = count ≡ Some (count_below layout.selection rows)
+
+-- P holds of each line that is drawn of rows, but of those that count them
 abbrev pub EachRowsLine : (Text → Type 0) → Layout → List (List Text) → Text → Type 0
-EachRowsLine P layout rows bytes =
-    EachLineFor P (λ count. count ≡ Some (count_below layout.selection rows)) layout rows bytes
+EachRowsLine P layout rows bytes = EachLineFor P (IsCountOf layout rows) layout rows bytes
 
 -- no width and no height is kept to, and each text is drawn as it is
 pub record AreDrawnWhole (layout : Layout) (rows : List (List Text)) : Type 0 where
@@ -55,12 +58,19 @@ KeepToWidth layout rows bytes =
     (KeepsTo width (frame_room (framed_columns_in layout rows)) layout.look.fills_width) layout
     rows bytes
 
+-- each text is shown in the row and column of its own, if no height cuts rows
+abbrev pub ShowAllTexts : Layout → List (List Text) → Text → Type 0
+ShowAllTexts layout rows bytes =
+    IsPlainLook layout.look → layout.look.max_height ≡ None
+    → ShowsAllFields (IsCountOf layout rows) layout rows bytes
+
 -- bytes are UTF-8, of lines of the table of rows that settings and bytes of columns ask for
 pub record ShowRows (texts : Text) (lengths counts columns : List ℕ) (settings : RowsSettings)
     (bytes : Text) : Type 0 where
   pub are_text : IsUtf8 bytes
   pub layout : Layout
   pub is_layout : layout_for settings columns (rows_of texts lengths counts) ≡ Some layout
+  pub all : ShowAllTexts layout (rows_of texts lengths counts) bytes
   pub harmless : IsHarmlessFor layout.look bytes
   pub straight : AreStraightLines layout (rows_of texts lengths counts) bytes
   pub width : KeepToWidth layout (rows_of texts lengths counts) bytes

@@ -44,18 +44,21 @@ pub fn drawn_cells(
 /// What a caller gets with 0 is UTF-8: the table of rows that its settings and bytes of columns ask
 /// for, as `csvtable` draws records of these texts. A terminal shows it, and is told nothing else:
 /// no character of what it shows is a control character but a line feed, and none turns the
-/// direction of text.
+/// direction of text. Its only sequences begin bold and end it, unless sequences of texts are kept.
 ///
-/// Unless the table is one for Markdown or keeps sequences, all its lines show the same number of
-/// terminal columns, except those that count rows. This holds if each character takes at most one
-/// terminal column, and none is U+FE01. It also holds under no width and no height if each text
-/// takes at most 65535 terminal columns, and has no control character and none that turns the
-/// direction of text; and if each character has room in its column.
+/// For a table that isn't for Markdown, and in which no sequences are kept:
 ///
-/// Under a width no such line shows more terminal columns than the width, or than the frame takes,
-/// if each character takes at most one. If the width is filled and has room for the frame, each
-/// line shows exactly as many. The frame is that of two columns if rows are or may be drawn as
-/// tables of their own, and otherwise that of all drawn columns.
+/// - All drawn texts are shown, as they are cleaned, each in its row and column, unless a height
+///   cuts rows. If not all rows are drawn, a line counts them.
+/// - All lines show the same number of terminal columns, except those that count rows. This holds
+///   if each character takes at most one terminal column, and none is U+FE01. It also holds without
+///   a width and a height, if each text takes at most 65535 terminal columns and has no control
+///   character and none that turns the direction of text; and if each character has room in its
+///   column.
+/// - Under a width no such line shows more terminal columns than the width, or than the frame
+///   takes, if each character takes at most one. If the width is filled and has room for the frame,
+///   each line shows exactly as many. The frame is that of two columns if rows are or may be drawn
+///   as tables of their own, and otherwise that of all drawn columns.
 pub fn drawn_rows(
     alloc: Global,
     texts: &[u8],

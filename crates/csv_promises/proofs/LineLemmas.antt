@@ -63,11 +63,8 @@ nothing_noted Draws MayCount expansion limit is_count empty =
     either Never = (false, refl)
     either Auto = (false, tt)
 
-none_below : (has_header : Bool) → 0 ≡ length (records_below has_header [])
+pub none_below : (has_header : Bool) → 0 ≡ length (records_below has_header [])
 none_below has_header = ap length (sym (no_records has_header).1)
-
-pub none_drawn : (Draws : Bool → Option ℕ → Text → Type 0) (options : Options) → ((is_expanded : Bool) (count : Option ℕ) → Draws is_expanded count []) → IsWrittenFor Draws options [] []
-none_drawn Draws options empty = nothing_noted Draws (IsCount options []) options.look.expansion options.selection.limit (none_below options.selection.has_header) empty
 
 -- ---- lines of outputs
 

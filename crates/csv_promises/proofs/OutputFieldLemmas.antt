@@ -42,7 +42,7 @@ use Rattle.csv_promises.proofs.ColumnLemmas as columns_lemmas
 use Rattle.csv_promises.proofs.DrawnColumnLemmas.{placed}
 use Rattle.csv_promises.proofs.RecordLemmas.{all_drawn, with_rows-header}
 use Rattle.csv_promises.proofs.ShownTableLemmas.{HasRowsOf, has_rows_of, part_shows}
-use Rattle.csv_promises.proofs.LineLemmas.{may_expand, no_records, no_rows, none_drawn, nothing_noted}
+use Rattle.csv_promises.proofs.LineLemmas.{may_expand, no_records, no_rows, none_below, nothing_noted}
 use Rattle.csv_promises.proofs.WrittenLemmas.{IsDrawnBy, by_extent}
 use Rattle.csv_promises.specs.Counted.{AreExpanded, IsCount, IsWrittenFor}
 use Rattle.csv_promises.specs.Fields.{IsDrawingOf, ShowsAllFields, ShowsFields, fields_at, row_behind, rows_from, ShowsDrawn, ShowsPairs, ShowsRecords, ShowsRows, pairs_at, positions_in, all_rows}
@@ -319,19 +319,13 @@ module _ (arguments : List Text) (context : OutputContext) (invocation : Invocat
       all : DrawsAll options.look
       all = record { unkept = is.unkept; table = is.kind; uncut = uncut; style = unbroken_without options.look.style (parsed_style_without_controls arguments context invocation is.is_asked) }
 
-      by_kind : (is_expanded : Bool) (count : Option ℕ) → ShowsDrawn is_expanded options None [] count []
-      by_kind true count = refl
-      by_kind false count = none_shown options.look false
-
-      none : ShowsRecords options [] []
-      none =
-          none_drawn (λ is_expanded. ShowsDrawn is_expanded options (names_of options.selection.has_header []) (drawn_rows options.selection [])) options
-          (λ is_expanded count.
-          subst (λ (own : Option (List Text)). ShowsDrawn is_expanded options own (drawn_rows options.selection []) count []) (sym (no_records options.selection.has_header).0)
-          (subst (λ (own : List (List Text)). ShowsDrawn is_expanded options None own count []) (sym (no_rows options.selection)) (by_kind is_expanded count)))
+      no_fields : ShowsRecords options [] []
+      no_fields =
+          none_of_all (IsCount options []) (none_below options.selection.has_header)
+          (layout_with options (record { drawn = positions_in options (unwrap_or (names_of options.selection.has_header []) []) (drawn_rows options.selection []); right = []; left = [] }))
 
       nothing : records ≡ [] → output ≡ [] → ShowsRecords options records output
-      nothing empty no_output = subst (λ (rs : List (List Text)). ShowsRecords options rs output) (sym empty) (subst (ShowsRecords options []) (sym no_output) none)
+      nothing empty no_output = subst (λ (rs : List (List Text)). ShowsRecords options rs output) (sym empty) (subst (ShowsRecords options []) (sym no_output) no_fields)
 
       IsGood : Option (List Text) → List (List Text) → List ℕ → Type 0
       IsGood names rows positions = IsWrittenFor (λ is_expanded. ShowsFields is_expanded options.look options.selection.is_numbered positions names rows) options records output
