@@ -1,5 +1,5 @@
 -- Bytes of a table of rows that no caller in C is promised.
-use Rattle.std.proofs.Common.{◌≡◌, ◌==◌, ◌∙◌, ◌^◌, ◌-◌, ◌<◌, ◌≤◌, ℕ, Bool, false, true, List, [], ◌∷◌, ◌++◌, None, Option, Some, append-nil, ap, arith, codes, inl, refl, reverse, slice_index_or, subst, sym}
+use Rattle.std.proofs.Common.{◌≡◌, ◌==◌, ◌∙◌, ◌^◌, ◌-◌, ℕ, Bool, false, true, List, [], ◌∷◌, ◌++◌, None, Option, Some, append-nil, ap, arith, codes, inl, refl, reverse, slice_index_or, subst, sym}
 use Rattle.std.specs.Fmt.{digits}
 use Rattle.std.specs.List.{All, slice_split}
 use Rattle.std.specs.Str.{NoCharPasses, chars, is_utf8}
@@ -25,7 +25,7 @@ use Rattle.promises.specs.Shown.{Shows, ShowsColumns}
 use Rattle.promises.specs.Shown.Shows.{byte, nothing, sequence}
 use Rattle.promises.specs.Tables.{HasCharactersWithin}
 use Rattle.comfy_c.specs.Calls.{width_of}
-use Rattle.comfy_c.specs.PromisedRows.{AreStraightLines, EachRowsLine, IsPlainLook, KeepToWidth, ShowRows}
+use Rattle.comfy_c.specs.PromisedRows.{AreStraightLines, EachRowsLine, KeepToWidth, ShowRows}
 use Rattle.comfy_c.specs.RowCalls.{layout_for, limit_of}
 use Rattle.comfy_c.specs.declared.rows_settings.RowsSettings.{RowsSettings}
 

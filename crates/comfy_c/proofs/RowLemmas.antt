@@ -1,6 +1,6 @@
 -- What is drawn of rows is straight, and keeps to a width.
-use Rattle.std.proofs.Common.{◌≡◌, ◌≤◌, ◌<◌, ◌==◌, ◌&&◌, ◌||◌, ◌⊎◌, ℕ, zero, suc, Bool, true, false, not, List, [], ◌∷◌, Option, Some, None, inl, inr, length, option_map, unwrap_or, refl, sym, ap, ◌∙◌, subst, arith, drop, take, slice_get}
-use Rattle.std.specs.List.{All, filter, list_all, list_any, range_with_len}
+use Rattle.std.proofs.Common.{◌≡◌, ◌≤◌, ◌<◌, ◌==◌, ◌&&◌, ◌||◌, ℕ, zero, suc, Bool, true, false, not, List, [], ◌∷◌, Option, Some, None, inl, inr, length, option_map, unwrap_or, refl, sym, ap, ◌∙◌, subst, arith, drop, take, slice_get}
+use Rattle.std.specs.List.{All, list_all, list_any, range_with_len}
 use Rattle.std.specs.Prelude.{if◌then◌else◌}
 use Rattle.std.specs.Str.{IsUtf8}
 use Rattle.std.proofs.lemmas.Bool.{and_parts, not-true}
@@ -20,11 +20,8 @@ use Rattle.csv_promises.proofs.DrawnWidthLemmas.{keep}
 use Rattle.csv_promises.proofs.HarmlessLemmas.{harmless_output, nothing_is_harmless}
 use Rattle.csv_promises.proofs.LineLemmas.{no_records, nothing_drawn}
 use Rattle.csv_promises.proofs.OutputFieldLemmas.{all_shown, none_of_all}
-use Rattle.csv_promises.specs.Counted.{EachLineFor}
 use Rattle.csv_promises.specs.Fields.{ShowsAllFields}
 use Rattle.csv_promises.specs.Harmless.{IsHarmlessFor}
-use Rattle.csv_promises.specs.Straight.{EachField}
-use Rattle.csv_promises.specs.Width.{KeepsTo, frame_room, framed_columns_in}
 use Rattle.csv_records.specs.Cleaning.{is_replaced}
 use Rattle.csv_records.specs.CutLists.{cut_by}
 use Rattle.csv_tables.proofs.OutputControlLemmas.{unbroken_without}
@@ -37,9 +34,8 @@ use Rattle.csv_tables.specs.declared.options.Look.{Look}
 use Rattle.csv_tables.specs.declared.options.RowSeparators.{RowSeparators}
 use Rattle.csv_tables.specs.declared.selection.Selection.{Selection}
 use Rattle.promises.specs.Shown.{ShowsColumns}
-use Rattle.promises.specs.Tables.{HasCharactersWithin}
-use Rattle.comfy_c.specs.PromisedRows.{AreStraightLines, EachRowsLine, HaveRoom, IsCountOf, IsPlainLook, KeepToWidth, ShowAllTexts, ShowRows}
-use Rattle.comfy_c.specs.RowCalls.{IsRowsDrawing, are_bytes, are_there, byte_at, can_be_drawn, columns_by, columns_for, count_in_all, expansions, layout_by, layout_for, look_by, look_for, positions_where, rows_of, selection_for, separators, style_at}
+use Rattle.comfy_c.specs.PromisedRows.{AreStraightLines, EachRowsLine, IsCountOf, IsPlainLook, KeepToWidth, ShowAllTexts, ShowRows}
+use Rattle.comfy_c.specs.RowCalls.{IsRowsDrawing, are_bytes, are_there, byte_at, can_be_drawn, columns_by, columns_for, count_in_all, expansions, layout_by, layout_for, look_by, look_for, rows_of, selection_for, separators, style_at}
 use Rattle.comfy_c.specs.declared.rows_settings.RowsSettings.{RowsSettings}
 
 -- ---- styles
