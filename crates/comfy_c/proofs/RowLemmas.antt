@@ -1,5 +1,5 @@
 -- What is drawn of rows is straight, and keeps to a width.
-use Rattle.std.proofs.Common.{◌≡◌, ◌≤◌, ◌<◌, ◌==◌, ◌&&◌, ◌||◌, ℕ, zero, suc, Bool, true, false, not, List, [], ◌∷◌, Option, Some, None, inl, inr, length, option_map, unwrap_or, refl, sym, ap, ◌∙◌, subst, arith, drop, take, slice_get}
+use Rattle.std.proofs.Common.{◌⊎◌, ◌≡◌, ◌≤◌, ◌<◌, ◌==◌, ◌&&◌, ◌||◌, ℕ, zero, suc, Bool, true, false, not, List, [], ◌∷◌, Option, Some, None, inl, inr, length, option_map, unwrap_or, refl, sym, ap, ◌∙◌, subst, arith, drop, take, slice_get}
 use Rattle.std.specs.List.{All, list_all, list_any, range_with_len}
 use Rattle.std.specs.Prelude.{if◌then◌else◌}
 use Rattle.std.specs.Str.{IsUtf8}
@@ -20,21 +20,25 @@ use Rattle.csv_promises.proofs.DrawnWidthLemmas.{keep}
 use Rattle.csv_promises.proofs.HarmlessLemmas.{harmless_output, nothing_is_harmless}
 use Rattle.csv_promises.proofs.LineLemmas.{no_records, nothing_drawn}
 use Rattle.csv_promises.proofs.OutputFieldLemmas.{all_shown, none_of_all}
+use Rattle.csv_promises.proofs.WideTextLemmas.{two_fit}
 use Rattle.csv_promises.specs.Fields.{ShowsAllFields}
 use Rattle.csv_promises.specs.Harmless.{IsHarmlessFor}
+use Rattle.csv_promises.specs.Straight.{EachField}
 use Rattle.csv_records.specs.Cleaning.{is_replaced}
 use Rattle.csv_records.specs.CutLists.{cut_by}
 use Rattle.csv_tables.proofs.OutputControlLemmas.{unbroken_without}
 use Rattle.csv_tables.specs.Columns.{ColumnsValue, count_of}
 use Rattle.csv_tables.specs.Controls.{IsHarmlessStyle}
 use Rattle.csv_tables.specs.Drawn.{RendersAnyRecords, RendersRecords, column_count, count_below, drawn_rows, names_or_none}
+use Rattle.csv_tables.specs.Laws.{CharactersFitEachWidth}
 use Rattle.csv_tables.specs.declared.options.Expansion.{Expansion}
 use Rattle.csv_tables.specs.declared.options.Layout.{Layout}
 use Rattle.csv_tables.specs.declared.options.Look.{Look}
 use Rattle.csv_tables.specs.declared.options.RowSeparators.{RowSeparators}
 use Rattle.csv_tables.specs.declared.selection.Selection.{Selection}
 use Rattle.promises.specs.Shown.{ShowsColumns}
-use Rattle.comfy_c.specs.PromisedRows.{AreStraightLines, EachRowsLine, IsCountOf, IsPlainLook, KeepToWidth, ShowAllTexts, ShowRows}
+use Rattle.promises.specs.Tables.{HasCharactersWithin}
+use Rattle.comfy_c.specs.PromisedRows.{AreStraightLines, EachRowsLine, FitTheWidth, IsCountOf, IsPlainLook, KeepToWidth, ShowAllTexts, ShowRows}
 use Rattle.comfy_c.specs.RowCalls.{IsRowsDrawing, are_bytes, are_there, byte_at, can_be_drawn, columns_by, columns_for, count_in_all, expansions, layout_by, layout_for, look_by, look_for, rows_of, selection_for, separators, style_at}
 use Rattle.comfy_c.specs.declared.rows_settings.RowsSettings.{RowsSettings}
 
@@ -174,13 +178,18 @@ module _ (settings : RowsSettings) (bytes : List ℕ) (layout : Layout) (output 
     some_harmless = harmless_output known layout rows output (style_is_harmless settings.style layout.look.style style) texts made
 
     some_straight : AreStraightLines layout rows output
-    some_straight is (inl (inl narrow)) = narrow_law known layout rows output (plain is) MayCount rows refl refl narrow
+    some_straight is (inl (inl (inl narrow))) = narrow_law known layout rows output (plain is) MayCount rows refl refl narrow
+    some_straight is (inl (inl (inr (two, room)))) = fitting_law known layout rows output (plain is) MayCount rows refl refl (two_fit known layout rows is.unkept is.unmarked texts two room)
     some_straight is (inl (inr whole)) = whole_law known layout rows output (plain is) MayCount rows refl refl whole.no_width whole.uncut whole.plain
     some_straight is (inr fit) = fitting_law known layout rows output (plain is) MayCount rows refl refl fit
 
     some_kept : KeepToWidth layout rows output
-    some_kept w wide is within =
-        keep w known layout rows output wide (plain is) within (some_left layout.selection bytes rows layout.columns own.columns some) (are_below layout.selection bytes rows layout.columns own.columns) MayCount rows refl refl
+    some_kept w wide is room =
+        keep w known layout rows output wide (plain is) (fits room) (some_left layout.selection bytes rows layout.columns own.columns some) (are_below layout.selection bytes rows layout.columns own.columns) MayCount rows refl refl
+      where
+        fits : FitTheWidth layout rows → EachField (HasCharactersWithin 1) rows ⊎ CharactersFitEachWidth known layout rows
+        fits (inl narrow) = inl narrow
+        fits (inr (two, has_room)) = inr (two_fit known layout rows is.unkept is.unmarked texts two has_room)
 
   -- no rows are counted
   no_count : IsCountOf layout [] (Some 0)

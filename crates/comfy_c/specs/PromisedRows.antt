@@ -6,13 +6,13 @@ use Rattle.csv_promises.specs.Counted.{EachLineFor}
 use Rattle.csv_promises.specs.Fields.{ShowsAllFields}
 use Rattle.csv_promises.specs.Harmless.{IsHarmlessFor}
 use Rattle.csv_promises.specs.Straight.{EachField, IsPlainField}
+use Rattle.csv_promises.specs.WideTexts.{HaveRoomEach}
 use Rattle.csv_promises.specs.Width.{KeepsTo, frame_room, framed_columns_in}
 use Rattle.csv_tables.specs.Drawn.{count_below}
 use Rattle.csv_tables.specs.Laws.{CharactersFitEachWidth}
 use Rattle.csv_tables.specs.declared.options.Layout.{Layout}
 use Rattle.csv_tables.specs.declared.options.Look.{Look}
 use Rattle.promises.specs.Shown.{ShowsColumns}
-use Rattle.promises.specs.Tables.{HasCharactersWithin}
 use Rattle.comfy_c.specs.RowCalls.{layout_for, rows_of}
 use Rattle.comfy_c.specs.declared.rows_settings.RowsSettings.{RowsSettings}
 
@@ -35,11 +35,16 @@ pub record AreDrawnWhole (layout : Layout) (rows : List (List Text)) : Type 0 wh
   pub uncut : layout.look.max_height ≡ None
   pub plain : EachField IsPlainField rows
 
--- each character of each text has room in its column: it takes one terminal column at most, or no
--- width is kept to, or the widths that are arranged for the table have room
+-- each character of each text takes one terminal column at most, or two, and a width has room for
+-- two in each column that a frame is drawn for
+abbrev pub FitTheWidth : Layout → List (List Text) → Type 0
+FitTheWidth layout rows = HaveRoomEach layout.look.width (framed_columns_in layout rows) rows
+
+-- each character of each text has room in its column: it fits the width so, or no width is kept to,
+-- or the widths that are arranged for the table have room
 abbrev pub HaveRoom : Layout → List (List Text) → Type 0
 HaveRoom layout rows =
-    (EachField (HasCharactersWithin 1) rows ⊎ AreDrawnWhole layout rows)
+    (FitTheWidth layout rows ⊎ AreDrawnWhole layout rows)
     ⊎ CharactersFitEachWidth (Some (count_below layout.selection rows)) layout rows
 
 -- then all drawn lines show the same number of terminal columns
@@ -53,7 +58,7 @@ AreStraightLines layout rows bytes =
 abbrev pub KeepToWidth : Layout → List (List Text) → Text → Type 0
 KeepToWidth layout rows bytes =
     (width : ℕ) → layout.look.width ≡ Some width → IsPlainLook layout.look
-    → EachField (HasCharactersWithin 1) rows
+    → FitTheWidth layout rows
     → EachRowsLine
     (KeepsTo width (frame_room (framed_columns_in layout rows)) layout.look.fills_width) layout
     rows bytes

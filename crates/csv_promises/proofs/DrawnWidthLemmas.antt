@@ -1,5 +1,5 @@
 -- What a layout draws keeps to its width.
-use Rattle.std.proofs.Common.{◌≡◌, ◌≤◌, ◌<◌, ◌==◌, ◌||◌, ℕ, zero, suc, Bool, true, false, not, List, [], ◌∷◌, ◌++◌, Option, Some, flat_map, length, max, nat_lt, unwrap_or, refl, sym, ap, ◌∙◌, subst, arith}
+use Rattle.std.proofs.Common.{◌⊎◌, inl, inr, ◌≡◌, ◌≤◌, ◌<◌, ◌==◌, ◌||◌, ℕ, zero, suc, Bool, true, false, not, List, [], ◌∷◌, ◌++◌, Option, Some, flat_map, length, max, nat_lt, unwrap_or, refl, sym, ap, ◌∙◌, subst, arith}
 use Rattle.comfy_parts.proofs.CallerLemmas.{All-of_map}
 use Rattle.comfy_parts.specs.CellValue.{RowValue}
 use Rattle.comfy_parts.specs.Columns.{CharactersFit}
@@ -17,12 +17,12 @@ use Rattle.csv_promises.specs.Counted.{EachLineFor}
 use Rattle.csv_promises.specs.Straight.{EachField}
 use Rattle.csv_promises.specs.Width.{KeepsTo, columns_by, columns_in, frame_room, framed_columns_in}
 use Rattle.csv_tables.proofs.LineLemmas.{IsKept, drawn, drawn_table, expansion, is_table_text, output_keeps_to, with_lines}
-use Rattle.csv_tables.proofs.StraightLemmas.{clear, narrow_lines}
+use Rattle.csv_tables.proofs.StraightLemmas.{clear, fitting_lines, narrow_lines}
 use Rattle.csv_tables.specs.Cells.{held, pair_for}
 use Rattle.csv_tables.specs.Columns.{name_at}
 use Rattle.csv_tables.specs.Drawn.{SelectedValue, RendersAsTable, RendersRecords, drawn_fields, drawn_rows, names_or_none, has_room_for, is_expanded_in, output_table, pairs_in, separated_table, some_lines, table_text, is_aligned_in}
 use Rattle.csv_tables.specs.Fields.{field_or_blank}
-use Rattle.csv_tables.specs.Laws.{ArePlainLines, EachText, HasLines}
+use Rattle.csv_tables.specs.Laws.{ArePlainLines, CharactersFitEachWidth, HasLines, seen_lines}
 use Rattle.csv_tables.specs.declared.options.DrawnColumn.{DrawnColumn}
 use Rattle.csv_tables.specs.declared.options.Expansion.TheVariants.{Always, Auto, Never}
 use Rattle.csv_tables.specs.declared.options.Expansion.{Expansion}
@@ -67,7 +67,7 @@ module _ (look : Look) (content : SelectedValue) (arranged : ArrangedValue) (non
 
 -- ---- what a layout draws
 
-module _ (w : ℕ) (known : Option ℕ) (layout : Layout) (records : List (List Text)) (output : Text) (wide : layout.look.width ≡ Some w) (is : IsPlainOutput known layout records output) (within : EachField (HasCharactersWithin 1) records)
+module _ (w : ℕ) (known : Option ℕ) (layout : Layout) (records : List (List Text)) (output : Text) (wide : layout.look.width ≡ Some w) (is : IsPlainOutput known layout records output) (fits : EachField (HasCharactersWithin 1) records ⊎ CharactersFitEachWidth known layout records)
     (some : 1 ≤ length layout.columns.drawn) (below : AreBelow (names_or_none layout.selection records) (drawn_rows layout.selection records) layout.columns.drawn)
     (MayCount : Option ℕ → Type 0) (whole : List (List Text)) (is_count : MayCount known) (same : drawn_rows layout.selection records ≡ drawn_rows layout.selection whole) where
   abbrev look : Look
@@ -81,9 +81,6 @@ module _ (w : ℕ) (known : Option ℕ) (layout : Layout) (records : List (List 
 
   abbrev plain_lines : ArePlainLines true look records
   plain_lines = plain known layout records output is
-
-  abbrev fit : EachText (CharactersFit 1) look records
-  fit = own_fit known layout records output is within
 
   abbrev content : SelectedValue
   content = own.content
@@ -145,10 +142,14 @@ module _ (w : ℕ) (known : Option ℕ) (layout : Layout) (records : List (List 
   kept : 0 < shown_count t → Good
   kept some = output_lines IsGood layout MayCount whole records known output lines table is_count same (with_lines known layout records output own text table plain_lines.unbroken) each
     where
+      by_room : EachField (HasCharactersWithin 1) records ⊎ CharactersFitEachWidth known layout records → All (λ (line : Text). IsKept w look.fills_width t (measure line)) (seen_lines true lines)
+      by_room (inl narrow) = narrow_lines true known layout records output table is.one_column plain_lines own (own_fit known layout records output is narrow) (IsKept w look.fills_width t) (output_keeps_to w known layout records output own text table wide)
+      by_room (inr fit) = fitting_lines true known layout records output table is.one_column plain_lines own fit (IsKept w look.fills_width t) (output_keeps_to w known layout records output own text table wide)
+
       counted : All (λ (line : Text). IsKept w look.fills_width t (measure (visible_text line))) lines
       counted =
           All-of_map (λ (line : Text). IsKept w look.fills_width t (measure line)) visible_text lines
-          (narrow_lines true known layout records output table is.one_column plain_lines own fit (IsKept w look.fills_width t) (output_keeps_to w known layout records output own text table wide))
+          (by_room fits)
 
       clear_lines : All (λ (line : Text). HasNoControl (visible_text line)) lines
       clear_lines = All-of_map HasNoControl visible_text lines (clear true known layout records output table is.one_column plain_lines own refl)

@@ -6,7 +6,7 @@ mod MessageLemmas
 mod TwoColumnCharacterLemmas
 mod TwoColumnLemmas
 mod TwoColumnTableLemmas
-mod WideTextLemmas
+pub mod WideTextLemmas
 pub mod WidthLemmas
 mod WrappedCharacterLemmas
 pub mod BoldLemmas

@@ -49,11 +49,12 @@ module _ (arguments : List Text) (context : OutputContext) (invocation : Invocat
     whole_law : options.look.width ≡ None → options.look.max_height ≡ None → EachField IsPlainField records → IsStraight options records output
     whole_law no_width uncut each = drawn.whole_law known layout rs output plain_output (IsCount options records) records by.counted by.rows no_width uncut (own IsPlainField each)
 
+    -- characters that have room for all records have it for these
+    pub each_fits : FieldsFitTheirColumns options records → CharactersFitEachWidth known layout rs
+    each_fits fit content table widths same drawn_so arranged = fit known by.made.columns (same_columns false arguments context invocation input records output is known rs by ∙ by.made.are_chosen) content table widths (same_content false arguments context invocation input records output is known rs by ∙ same) drawn_so arranged
+
     fitting_law : FieldsFitTheirColumns options records → IsStraight options records output
-    fitting_law fit = drawn.fitting_law known layout rs output plain_output (IsCount options records) records by.counted by.rows each
-      where
-        each : CharactersFitEachWidth known layout rs
-        each content table widths same drawn_so arranged = fit known by.made.columns (same_columns false arguments context invocation input records output is known rs by ∙ by.made.are_chosen) content table widths (same_content false arguments context invocation input records output is known rs by ∙ same) drawn_so arranged
+    fitting_law fit = drawn.fitting_law known layout rs output plain_output (IsCount options records) records by.counted by.rows (each_fits fit)
 
   no_line : records ≡ [] → output ≡ [] → IsStraight options records output
   no_line none empty = (0, nothing false arguments context invocation input records output is (ShowsColumns 0) none empty)

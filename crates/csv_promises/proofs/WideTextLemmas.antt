@@ -23,20 +23,22 @@ use Rattle.csv_tables.proofs.FieldControlLemmas.{text_fields}
 use Rattle.csv_tables.proofs.TextTableLemmas.{EachLine}
 use Rattle.csv_tables.proofs.WholeRowLemmas.{has_lines, text_whole}
 use Rattle.csv_tables.specs.Cells.{field_text}
-use Rattle.csv_tables.specs.Drawn.{SelectedValue, is_expanded_for, output_table, selected_of, separated_table}
+use Rattle.csv_tables.specs.Drawn.{SelectedValue, drawn_rows, is_expanded_for, output_table, selected_of, separated_table}
 use Rattle.csv_tables.specs.Laws.{CharactersFitEachWidth, EachText, IsDrawnTable}
+use Rattle.csv_tables.specs.declared.options.Layout.{Layout}
 use Rattle.csv_tables.specs.declared.options.Look.{Look}
 use Rattle.promises.proofs.FittingLemmas.{text_fits}
 use Rattle.promises.specs.Tables.{HasCharactersWithin}
-use Rattle.csv_promises.proofs.ColumnLemmas.{drawn_count, no_rows-is}
+use Rattle.csv_promises.proofs.ColumnLemmas.{counted}
+use Rattle.csv_promises.proofs.DrawnColumnLemmas.{drawn_count, no_rows-is}
 use Rattle.csv_promises.proofs.FrameLemmas.{most_columns, places_of}
 use Rattle.csv_promises.proofs.StraightLemmas.{fitting_for}
 use Rattle.csv_promises.proofs.TwoColumnCharacterLemmas.{FitsTwo, two_fit_each_width}
 use Rattle.csv_promises.proofs.TwoColumnTableLemmas.{HasRoomFor, room_by_expansion}
 use Rattle.csv_promises.proofs.WrappedCharacterLemmas.{lines_as_wide_as_each, space_measures_one}
 use Rattle.csv_promises.specs.Straight.{EachField, FieldsFitTheirColumns}
-use Rattle.csv_promises.specs.WideTexts.{HasRoomForTwo, IsOfTwoColumns, IsStraightWhereTwoFit}
-use Rattle.csv_promises.specs.Width.{all_columns, columns_by}
+use Rattle.csv_promises.specs.WideTexts.{HasRoomForTwo, IsOfTwoColumns}
+use Rattle.csv_promises.specs.Width.{IsStraightWhereTwoFit, columns_by, columns_in, framed_columns, framed_columns_in}
 use Rattle.csv_promises.specs.Written.{IsWritten}
 
 -- ---- characters
@@ -98,28 +100,35 @@ module _ (look : Look) (unkept : look.has_sequences ≡ false) (none : look.is_m
   fields_fit : (records : List (List Text)) → All AllText records → EachField IsOfTwoColumns records → EachText FitsTwo look records
   fields_fit records text each k default under i other below = field_fits _ (text_fields _ (text k default under) i other below) (each k default under i other below)
 
+-- ---- what a layout draws
+
+-- if a width has room for two terminal columns in each column, each character of such fields has room in its column
+module _ (known : Option ℕ) (layout : Layout) (records : List (List Text)) (unkept : layout.look.has_sequences ≡ false) (none : layout.look.is_markdown ≡ false) (texts : All AllText records) where
+  pub two_fit : EachField IsOfTwoColumns records → HasRoomForTwo layout.look.width (framed_columns_in layout records) → CharactersFitEachWidth known layout records
+  two_fit each (w, wide, room) = two_fit_each_width w known layout records wide unkept (fields_fit layout.look unkept none records texts each) has_room
+    where
+      all : ℕ
+      all = columns_in layout
+
+      has_room : (content : SelectedValue) (table : TableValue) → selected_of known layout records ≡ content → IsDrawnTable layout.look content table → HasRoomFor w layout.look content table
+      has_room content table made (has, is_table) =
+          let counted = drawn_count layout records known content made in
+          let as_many : (e : Bool) → is_expanded_for layout.look content ≡ e → length table.columns ≤ (if e then 2 else places_of content) =
+          λ e expanded. subst (λ (t : TableValue). length t.columns ≤ (if e then 2 else places_of content)) (sym (is_table ∙ ap (λ (b : Bool). separated_table has (output_table b layout.look content)) expanded)) (most_columns e has layout.look content) in
+          room_by_expansion w all layout.look content table none wide
+          (λ expanded. omega (arith, as_many false expanded, counted)) (as_many true) (has, is_table)
+          (subst (λ (b : Bool). 1 + 5 * columns_by layout.look.expansion (not b) all ≤ w) (sym (no_rows-is layout records known content made)) room)
+
 -- ---- what is written for arguments
 
 module _ (arguments : List Text) (context : OutputContext) (invocation : Invocation) (input : Text) (records : List (List Text)) (output : Text) (is : IsWritten false arguments context invocation input records output) where
   abbrev options : Options
   options = invocation.options
 
-  fit : EachField IsOfTwoColumns records → HasRoomForTwo options records → FieldsFitTheirColumns options records
-  fit each room known columns found =
-      two_fit_each_width room.width known (layout_with options columns) records room.is is.unkept
-      (fields_fit options.look is.unkept is.kind records is.are.are_records.are_records.are_text each) has_room
-    where
-      all : ℕ
-      all = all_columns options records
-
-      has_room : (content : SelectedValue) (table : TableValue) → selected_of known (layout_with options columns) records ≡ content → IsDrawnTable options.look content table → HasRoomFor room.width options.look content table
-      has_room content table made (has, is_table) =
-          let counted = drawn_count options records known columns found content made in
-          let as_many : (e : Bool) → is_expanded_for options.look content ≡ e → length table.columns ≤ (if e then 2 else places_of content) =
-          λ e expanded. subst (λ (t : TableValue). length t.columns ≤ (if e then 2 else places_of content)) (sym (is_table ∙ ap (λ (b : Bool). separated_table has (output_table b options.look content)) expanded)) (most_columns e has options.look content) in
-          room_by_expansion room.width all options.look content table is.kind room.is
-          (λ expanded. omega (arith, as_many false expanded, counted)) (as_many true) (has, is_table)
-          (subst (λ (b : Bool). 1 + 5 * columns_by options.look.expansion (not b) all ≤ room.width) (sym (no_rows-is options records known columns found content made)) room.room)
+  pub two_fit_columns : EachField IsOfTwoColumns records → HasRoomForTwo options.look.width (framed_columns options records) → FieldsFitTheirColumns options records
+  two_fit_columns each (w, wide, room) known columns found =
+      two_fit known (layout_with options columns) records is.unkept is.kind is.are.are_records.are_records.are_text each
+      (w, wide, subst (λ (n : ℕ). 1 + 5 * columns_by options.look.expansion (not (length (drawn_rows options.selection records) == 0)) n ≤ w) (sym (counted options records columns found)) room)
 
   pub wide_for : IsStraightWhereTwoFit options records output
-  wide_for each room = fitting_for arguments context invocation input records output is (fit each room)
+  wide_for each room = fitting_for arguments context invocation input records output is (two_fit_columns each room)

@@ -1,12 +1,10 @@
--- Lines that show the same number of terminal columns in every writing system, under a width.
+-- Texts whose characters take at most two terminal columns, and widths that have room for them.
 -- Source: this library's own.
-use Rattle.std.specs.Prelude.{◌≡◌, ◌==◌, ◌+◌, ◌*◌, ◌≤◌, ℕ, false, List, Some, chars}
+use Rattle.std.specs.Prelude.{◌≡◌, ◌==◌, ◌⊎◌, ◌+◌, ◌*◌, ◌≤◌, ℕ, false, List, Option, Some, chars}
 use Rattle.std.specs.List.{list_any}
 use Rattle.comfy_parts.specs.Text.{Text}
-use Rattle.csv_command.specs.declared.arguments.Options.{Options}
 use Rattle.promises.specs.Tables.{HasCharactersWithin}
-use Rattle.csv_promises.specs.Straight.{EachField, IsStraight}
-use Rattle.csv_promises.specs.Width.{framed_columns}
+use Rattle.csv_promises.specs.Straight.{EachField}
 
 -- each character of a field takes at most two terminal columns, as all do but U+17D8, and none is
 -- U+FE01 or U+FE0E, which change the width of the character before them
@@ -14,15 +12,13 @@ pub record IsOfTwoColumns (field : Text) : Type 0 where
   pub characters : HasCharactersWithin 2 field
   pub no_selector : list_any (λ c. c == 0xFE0E) (chars field) ≡ false
 
--- a width is set that has room for two terminal columns in each column that a frame is drawn for:
--- beside the border at the left, each has a border and two paddings besides
-pub record HasRoomForTwo (options : Options) (records : List (List Text)) : Type 0 where
-  pub width : ℕ
-  pub is : options.look.width ≡ Some width
-  pub room : 1 + 5 * framed_columns options records ≤ width
+-- a width is set that has room for two terminal columns in each of n columns: beside the border at
+-- the left, each column has a border and two paddings
+abbrev pub HasRoomForTwo : Option ℕ → ℕ → Type 0
+HasRoomForTwo width n = (w : ℕ) × (width ≡ Some w) × (1 + 5 * n ≤ w)
 
--- then what is written of such records is straight
-abbrev pub IsStraightWhereTwoFit : Options → List (List Text) → Text → Type 0
-IsStraightWhereTwoFit options records text =
-    EachField IsOfTwoColumns records → HasRoomForTwo options records
-    → IsStraight options records text
+-- each character takes at most one terminal column; or at most two, and a width has room for them
+abbrev pub HaveRoomEach : Option ℕ → ℕ → List (List Text) → Type 0
+HaveRoomEach width n records =
+    EachField (HasCharactersWithin 1) records
+    ⊎ (EachField IsOfTwoColumns records × HasRoomForTwo width n)

@@ -8,10 +8,10 @@ use Rattle.csv_tables.specs.declared.options.Expansion.{Expansion}
 use Rattle.csv_tables.specs.declared.options.Expansion.TheVariants.{Always, Auto, Never}
 use Rattle.csv_tables.specs.declared.options.Layout.{Layout}
 use Rattle.promises.specs.Shown.{ShowsColumns}
-use Rattle.promises.specs.Tables.{HasCharactersWithin}
 use Rattle.csv_promises.specs.Fields.{positions_in}
 use Rattle.csv_promises.specs.Counted.{EachDrawnLine}
-use Rattle.csv_promises.specs.Straight.{EachField}
+use Rattle.csv_promises.specs.Straight.{EachField, IsStraight}
+use Rattle.csv_promises.specs.WideTexts.{HasRoomForTwo, HaveRoomEach, IsOfTwoColumns}
 
 -- the borders around so many columns, their paddings, and one terminal column for each
 abbrev pub frame_room : ℕ → ℕ
@@ -56,10 +56,17 @@ pub record KeepsTo (width frame : ℕ) (is_filled : Bool) (line : Text) : Type 0
   pub within : columns ≤ max width frame
   pub exact : is_filled ≡ true → frame ≤ width → columns ≡ width
 
--- what is written of records keeps to the width that options have, where no character of a field
--- takes more than one terminal column
+-- what is written of records keeps to the width that options have, if each character has room
 abbrev pub KeepsItsWidth : Options → List (List Text) → Text → Type 0
 KeepsItsWidth options records text =
-    (width : ℕ) → options.look.width ≡ Some width → EachField (HasCharactersWithin 1) records
+    (width : ℕ) → options.look.width ≡ Some width
+    → HaveRoomEach options.look.width (framed_columns options records) records
     → EachDrawnLine (KeepsTo width (frame_room (framed_columns options records))
     options.look.fills_width) options records text
+
+-- and it is straight, for characters of two terminal columns
+abbrev pub IsStraightWhereTwoFit : Options → List (List Text) → Text → Type 0
+IsStraightWhereTwoFit options records text =
+    EachField IsOfTwoColumns records
+    → HasRoomForTwo options.look.width (framed_columns options records)
+    → IsStraight options records text

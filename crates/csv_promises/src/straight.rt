@@ -3,7 +3,7 @@
 ghost use Rattle.std.specs.Prelude.{IfOk, IfSome, map};
 ghost use Rattle.csv_records.specs.Reading.{AreRecordsFor};
 ghost use Rattle.csv_promises.specs.Straight.{EachField, IsPlainField, IsStraight, IsStraightWhereFieldsFit};
-ghost use Rattle.csv_promises.specs.WideTexts.{IsStraightWhereTwoFit};
+ghost use Rattle.csv_promises.specs.Width.{IsStraightWhereTwoFit};
 ghost use Rattle.csv_promises.specs.Written.{IsWritten};
 ghost use Rattle.promises.specs.Tables.{HasCharactersWithin};
 

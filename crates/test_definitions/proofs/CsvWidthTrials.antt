@@ -49,14 +49,14 @@ a_is_narrow = All-from_recursion (All (HasCharactersWithin 1)) one_field (All-fr
 -- false: csv_promises::output_within
 wide_line : (options : Options) → IsAll options → ¬ (KeepsItsWidth (in_eight options false) one_field (codes "0123456789\n"))
 wide_line options all is =
-    let own = kept (KeepsTo 8 (frame_room (framed_columns (in_eight options false) one_field)) false) (in_eight options false) refl refl one_field (codes "0123456789\n") (codes "0123456789") refl (is 8 refl a_is_narrow) in
+    let own = kept (KeepsTo 8 (frame_room (framed_columns (in_eight options false) one_field)) false) (in_eight options false) refl refl one_field (codes "0123456789\n") (codes "0123456789") refl (is 8 refl (inl a_is_narrow)) in
     let wide : own.columns ≡ 10 = sym own.shows.2 ∙ ap measure (shows_itself own.shows.1 refl) ∙ ten in
     absurd (omega (arith, own.within, wide, one_column_room options false all))
 
 -- if the width is filled, two columns are less than eight
 narrow_line : (options : Options) → IsAll options → ¬ (KeepsItsWidth (in_eight options true) one_field (codes "ba\n"))
 narrow_line options all is =
-    let own = kept (KeepsTo 8 (frame_room (framed_columns (in_eight options true) one_field)) true) (in_eight options true) refl refl one_field (codes "ba\n") (codes "ba") refl (is 8 refl a_is_narrow) in
+    let own = kept (KeepsTo 8 (frame_room (framed_columns (in_eight options true) one_field)) true) (in_eight options true) refl refl one_field (codes "ba\n") (codes "ba") refl (is 8 refl (inl a_is_narrow)) in
     let two : own.columns ≡ 2 = sym own.shows.2 ∙ ap measure (shows_itself own.shows.1 refl) ∙ two_columns in
     let eight = own.exact refl (omega (arith, one_column_room options true all)) in
     absurd (omega (arith, eight, two))
