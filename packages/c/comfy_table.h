@@ -7,6 +7,8 @@
  *  - Texts are cut by their lengths, and arguments at zero bytes, as said, and ask for what is said.
  *  - The lines that comfy_cells_draw writes keep all that is promised of a table's lines: docs/PROVED.md of the sources. With
  *    COMFY_FORM_TRIMMED this is so of the lines before the white space at their ends is left out: then they aren't equally wide.
+ *  - The table that comfy_rows_draw writes keeps all that is promised of rows there: no text is lost, edges are straight, and a
+ *    width holds, with the conditions that it names.
  *  - A call returns, and reads and writes only memory of its own, and that which its arguments give it.
  *
  * Not proved, but tested:

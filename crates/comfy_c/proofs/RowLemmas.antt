@@ -101,9 +101,6 @@ asked settings bytes rows layout is = by_bytes (are_bytes bytes) is
 -- ---- columns
 
 module _ (selection : Selection) (bytes : List ℕ) (rows : List (List Text)) (columns : ColumnsValue) (is : columns_for selection bytes rows ≡ Some columns) where
-  count : ℕ
-  count = column_count selection rows
-
   found : (can_be_drawn selection bytes rows ≡ true) × (columns_by bytes (column_count selection rows) ≡ columns)
   found = by_test (can_be_drawn selection bytes rows) refl is
     where

@@ -1,4 +1,4 @@
--- A text without U+FE0E that measures anything measures at least what each of its characters measures by itself, and any text without U+17D2 too.
+-- A text without U+FE0E measures at least what each of its characters measures by itself, if that is more than one column.
 use Rattle.std.proofs.Common.{◌≡◌, ◌≤◌, ℕ, ◌+◌, Bool, true, false, not, ◌&&◌, ◌||◌, ◌==◌, nat_le, List, [], ◌∷◌, length, max, slice_index_or, zero, suc, ◌<◌, inl, inr, refl, sym, ap, ◌∙◌, subst, arith}
 use Rattle.std.specs.Prelude.{if◌then◌else◌, chars, encode_utf8, encode_utf8_all, IsUtf8}
 use Rattle.std.specs.Str.{all_scalars}
@@ -21,59 +21,59 @@ use Rattle.cluster_width.proofs.Sums.{implied, one_more, read, read-step}
 
 -- ---- what one step back keeps
 
--- the columns that the next step may take away, in a text that may have U+17D2 if coeng
-abbrev credit : Bool → After → ℕ
-credit coeng KhmerLetter = if coeng then 1 else 0
-credit coeng JoinerTifinagh = 1
-credit coeng IndicatorZwj = 1
-credit coeng OddIndicatorsZwj = 1
-credit coeng _ = 0
+-- the columns that the next step may take away
+abbrev credit : After → ℕ
+credit KhmerLetter = 1
+credit JoinerTifinagh = 1
+credit IndicatorZwj = 1
+credit OddIndicatorsZwj = 1
+credit _ = 0
 
 -- the columns at least that a text has that leads to this
-abbrev least : Bool → After → ℕ
-least coeng EmojiModifier = 2
-least coeng RegionalIndicators = 2
-least coeng Emoji = 2
-least coeng ZwjEmoji = 2
-least coeng KeycapZwjEmoji = 2
-least coeng IndicatorZwj = 3
-least coeng EvenIndicatorsZwj = 2
-least coeng OddIndicatorsZwj = 3
-least coeng TagEnd = 2
-least coeng TagDigit1 = 2
-least coeng TagDigit2 = 2
-least coeng TagDigit3 = 2
-least coeng TagLetter1 = 2
-least coeng TagLetter2 = 2
-least coeng TagLetter3 = 2
-least coeng TagLetter4 = 2
-least coeng TagLetter5 = 2
-least coeng TagLetter6 = 2
-least coeng JoinerTifinagh = 2
-least coeng Nothing = 0
-least coeng Solidus = 0
-least coeng SolidusAlef = 0
-least coeng _ = 1
+abbrev least : After → ℕ
+least EmojiModifier = 2
+least RegionalIndicators = 2
+least Emoji = 2
+least ZwjEmoji = 2
+least KeycapZwjEmoji = 2
+least IndicatorZwj = 3
+least EvenIndicatorsZwj = 2
+least OddIndicatorsZwj = 3
+least TagEnd = 2
+least TagDigit1 = 2
+least TagDigit2 = 2
+least TagDigit3 = 2
+least TagLetter1 = 2
+least TagLetter2 = 2
+least TagLetter3 = 2
+least TagLetter4 = 2
+least TagLetter5 = 2
+least TagLetter6 = 2
+least JoinerTifinagh = 2
+least Nothing = 0
+least Solidus = 0
+least SolidusAlef = 0
+least _ = 1
 
--- what a total that counts from 1 has at least after a character of n - 1 columns: if U+17D2 may come, one column may be gone again
-abbrev asked : Bool → ℕ → ℕ
-asked coeng n = if coeng && (n == 2) then 1 else n
+-- what a total that counts from 1 has at least after a character of n - 1 columns: one column may be gone again, by U+17D2
+abbrev asked : ℕ → ℕ
+asked n = if n == 2 then 1 else n
 
 -- the characters that may come
-abbrev may_come : Bool → ℕ → Bool
-may_come coeng c = not (c == 0xFE0E) && (coeng || not (c == 0x17D2))
+abbrev may_come : ℕ → Bool
+may_come c = not (c == 0xFE0E)
 
 -- r, the reading of one step from a total of 1, where a follows, keeps all that; n is the total of the character by itself
-abbrev is_well_read : Bool → After → ℕ → Reading → Bool
-is_well_read coeng a n r =
+abbrev is_well_read : After → ℕ → Reading → Bool
+is_well_read a n r =
     not r.1.text
-    && (nat_le (1 + credit coeng r.1.after) (r.0 + credit coeng a)
-    && (nat_le (1 + least coeng r.1.after) (r.0 + least coeng a)
-    && nat_le (asked coeng n + credit coeng r.1.after) (r.0 + least coeng a)))
+    && (nat_le (1 + credit r.1.after) (r.0 + credit a)
+    && (nat_le (1 + least r.1.after) (r.0 + least a)
+    && nat_le (asked n + credit r.1.after) (r.0 + least a)))
 
 -- it does if d, whose step it is, may come
 abbrev is_well_read_by : ℕ → After → ℕ → Reading → Bool
-is_well_read_by d a n r = (not (may_come true d) || is_well_read true a n r) && (not (may_come false d) || is_well_read false a n r)
+is_well_read_by d a n r = not (may_come d) || is_well_read a n r
 
 -- a state that no U+FE0E leads to
 abbrev after_flags : After → Bool → Bool → State
@@ -131,48 +131,43 @@ by_flags f h true false = (and_parts (f true true) (f true false) (and_parts (f 
 by_flags f h false true = (and_parts (f false true) (f false false) (and_parts (f true true && f true false) (f false true && f false false) h).1).0
 by_flags f h false false = (and_parts (f false true) (f false false) (and_parts (f true true && f true false) (f false true && f false false) h).1).1
 
-by_mode : (f g : Bool → Bool) → ((not (f true) || g true) && (not (f false) || g false)) ≡ true → (b : Bool) → f b ≡ true → g b ≡ true
-by_mode f g h true is = implied (f true) (g true) (and_parts (not (f true) || g true) (not (f false) || g false) h).0 is
-by_mode f g h false is = implied (f false) (g false) (and_parts (not (f true) || g true) (not (f false) || g false) h).1 is
-
-well_read : (coeng : Bool) (d : ℕ) (a : After) (e q : Bool) → IsIn examples d → may_come coeng d ≡ true → is_well_read coeng a (own d) (step false d (1, after_flags a e q)) ≡ true
-well_read coeng d a e q d_in may =
+well_read : (d : ℕ) (a : After) (e q : Bool) → IsIn examples d → may_come d ≡ true → is_well_read a (own d) (step false d (1, after_flags a e q)) ≡ true
+well_read d a e q d_in may =
     let here : in_all_states a d ≡ true = each (λ x. in_all_states x d) afters (each (λ y. list_all (λ x. in_all_states x y) afters) examples all-well d d_in) a (in_afters a) in
-    by_mode (λ b. may_come b d) (λ b. is_well_read b a (own d) (step false d (1, after_flags a e q)))
-    (by_flags (λ x y. is_well_read_by d a (own d) (step false d (1, after_flags a x y))) here e q) coeng may
+    implied (may_come d) (is_well_read a (own d) (step false d (1, after_flags a e q))) (by_flags (λ x y. is_well_read_by d a (own d) (step false d (1, after_flags a x y))) here e q) may
 
 -- ---- the reading of a text
 
 -- what holds of each end of a text
-record IsRead (coeng : Bool) (cs : List ℕ) : Type 0 where
+record IsRead (cs : List ℕ) : Type 0 where
   shown : (read cs).1.text ≡ false
-  enough : least coeng (read cs).1.after + 1 ≤ (read cs).0
-  each_fits : (x : ℕ) → IsIn cs x → asked coeng (own x) + credit coeng (read cs).1.after ≤ (read cs).0
+  enough : least (read cs).1.after + 1 ≤ (read cs).0
+  each_fits : (x : ℕ) → IsIn cs x → asked (own x) + credit (read cs).1.after ≤ (read cs).0
 
-read-nothing : (coeng : Bool) → IsRead coeng []
-read-nothing coeng = record { shown = refl; enough = omega arith; each_fits = λ x none. absurd none }
+read-nothing : IsRead []
+read-nothing = record { shown = refl; enough = omega arith; each_fits = λ x none. absurd none }
 
-may_come-like : (coeng : Bool) (c d : ℕ) → IsLike c d → may_come coeng c ≡ may_come coeng d
-may_come-like coeng c d like = cc
+may_come-like : (c d : ℕ) → IsLike c d → may_come c ≡ may_come d
+may_come-like c d like = cc
 
-read-more : (coeng : Bool) (c : ℕ) (cs : List ℕ) → may_come coeng c ≡ true → IsRead coeng cs → IsRead coeng (c ∷ cs)
-read-more coeng c cs may r =
+read-more : (c : ℕ) (cs : List ℕ) → may_come c ≡ true → IsRead cs → IsRead (c ∷ cs)
+read-more c cs may r =
     let d = example_of c in
     let a = (read cs).1.after in
     let s = after_flags a (read cs).1.emoji (read cs).1.quote in
     let same : (read cs).1 ≡ s = ap (λ (t : Bool). record { after = (read cs).1.after; emoji = (read cs).1.emoji; text = t; quote = (read cs).1.quote }) r.shown in
     let it = read-step c d.0 d.2 cs s same in
     let next : Reading = step false d.0 (1, s) in
-    let well = well_read coeng d.0 a (read cs).1.emoji (read cs).1.quote d.1 (sym (may_come-like coeng c d.0 d.2) ∙ may) in
+    let well = well_read d.0 a (read cs).1.emoji (read cs).1.quote d.1 (sym (may_come-like c d.0 d.2) ∙ may) in
     let one = and_parts (not next.1.text) _ well in
-    let two = and_parts (nat_le (1 + credit coeng next.1.after) (next.0 + credit coeng a)) _ one.1 in
-    let three = and_parts (nat_le (1 + least coeng next.1.after) (next.0 + least coeng a)) _ two.1 in
+    let two = and_parts (nat_le (1 + credit next.1.after) (next.0 + credit a)) _ one.1 in
+    let three = and_parts (nat_le (1 + least next.1.after) (next.0 + least a)) _ two.1 in
     let kept = leb-true _ _ two.0 in
     let enough = leb-true _ _ three.0 in
     let fits = leb-true _ _ three.1 in
-    let credits = ap (λ (x : State). credit coeng x.after) it.0 in
-    let leasts = ap (λ (x : State). least coeng x.after) it.0 in
-    let mine = ap (λ (x : Reading). asked coeng x.0) (step-like c d.0 1 plain d.2) in
+    let credits = ap (λ (x : State). credit x.after) it.0 in
+    let leasts = ap (λ (x : State). least x.after) it.0 in
+    let mine = ap (λ (x : Reading). asked x.0) (step-like c d.0 1 plain d.2) in
     let before = r.enough in
     record {
       shown = ap (λ (x : State). x.text) it.0 ∙ not-true _ one.0;
@@ -180,47 +175,35 @@ read-more coeng c cs may r =
       each_fits = more d.0 next it.1 credits kept (omega (arith, fits, before, credits, mine, it.1));
     }
   where
-    more : (d : ℕ) (next : Reading) → (read (c ∷ cs)).0 + 1 ≡ (read cs).0 + next.0 → credit coeng (read (c ∷ cs)).1.after ≡ credit coeng next.1.after
-        → 1 + credit coeng next.1.after ≤ next.0 + credit coeng (read cs).1.after
-        → asked coeng (own c) + credit coeng (read (c ∷ cs)).1.after ≤ (read (c ∷ cs)).0
-        → (x : ℕ) → IsIn (c ∷ cs) x → asked coeng (own x) + credit coeng (read (c ∷ cs)).1.after ≤ (read (c ∷ cs)).0
-    more d next total credits kept mine x (inl is) = subst (λ y. asked coeng (own y) + credit coeng (read (c ∷ cs)).1.after ≤ (read (c ∷ cs)).0) (sym is) mine
+    more : (d : ℕ) (next : Reading) → (read (c ∷ cs)).0 + 1 ≡ (read cs).0 + next.0 → credit (read (c ∷ cs)).1.after ≡ credit next.1.after
+        → 1 + credit next.1.after ≤ next.0 + credit (read cs).1.after
+        → asked (own c) + credit (read (c ∷ cs)).1.after ≤ (read (c ∷ cs)).0
+        → (x : ℕ) → IsIn (c ∷ cs) x → asked (own x) + credit (read (c ∷ cs)).1.after ≤ (read (c ∷ cs)).0
+    more d next total credits kept mine x (inl is) = subst (λ y. asked (own y) + credit (read (c ∷ cs)).1.after ≤ (read (c ∷ cs)).0) (sym is) mine
     more d next total credits kept mine x (inr later) = let old = r.each_fits x later in omega (arith, old, kept, credits, total)
 
-read-all : (coeng : Bool) (cs : List ℕ) → list_all (may_come coeng) cs ≡ true → IsRead coeng cs
-read-all coeng [] all = read-nothing coeng
-read-all coeng (c ∷ cs) all =
-    let parts = and_parts (may_come coeng c) (list_all (may_come coeng) cs) all in
-    read-more coeng c cs parts.0 (read-all coeng cs parts.1)
+read-all : (cs : List ℕ) → list_all (may_come) cs ≡ true → IsRead cs
+read-all [] all = read-nothing
+read-all (c ∷ cs) all =
+    let parts = and_parts (may_come c) (list_all (may_come) cs) all in
+    read-more c cs parts.0 (read-all cs parts.1)
 
 -- ---- a text and its characters
 
-asked-one : (n w : ℕ) → asked true (n + 1) ≤ w + 1 → n ≤ max 1 w
+asked-one : (n w : ℕ) → asked (n + 1) ≤ w + 1 → n ≤ max 1 w
 asked-one n w h = by_test (n + 1 == 2) refl h
   where
     by_test : (b : Bool) → (n + 1 == 2) ≡ b → (if b then 1 else n + 1) ≤ w + 1 → n ≤ max 1 w
     by_test true is h = let two = eqb-true (n + 1) 2 is in omega (arith, two)
     by_test false is h = omega arith
 
--- without U+FE0E and U+17D2 it measures at least what each of its characters measures
-pub wide_as_each : (cs : List ℕ) → list_all (λ c. not (c == 0xFE0E) && not (c == 0x17D2)) cs ≡ true → (c : ℕ) → IsIn cs c → str_width false (c ∷ []) ≤ str_width false cs
-wide_as_each cs all c known =
-    let fits = (read-all false cs all).each_fits c known in
-    let total = one_more cs in
-    let mine = one_more (c ∷ []) in
-    omega (arith, fits, total, mine)
-
-without-text : (cs : List ℕ) → list_all (λ c. not (c == 0xFE0E)) cs ≡ true → list_all (may_come true) cs ≡ true
-without-text [] all = refl
-without-text (c ∷ cs) all = let parts = and_parts (not (c == 0xFE0E)) _ all in and_from _ _ (and_from _ _ parts.0 refl) (without-text cs parts.1)
-
--- without U+FE0E alone, at least what each measures that is wider than one column
-pub wide_as_each_or_one : (cs : List ℕ) → list_all (λ c. not (c == 0xFE0E)) cs ≡ true → (c : ℕ) → IsIn cs c → str_width false (c ∷ []) ≤ max 1 (str_width false cs)
+-- without U+FE0E it measures at least what each of its characters measures that is wider than one column
+wide_as_each_or_one : (cs : List ℕ) → list_all (λ c. not (c == 0xFE0E)) cs ≡ true → (c : ℕ) → IsIn cs c → str_width false (c ∷ []) ≤ max 1 (str_width false cs)
 wide_as_each_or_one cs all c known =
-    let fits = (read-all true cs (without-text cs all)).each_fits c known in
+    let fits = (read-all cs all).each_fits c known in
     let total = one_more cs in
     let mine = one_more (c ∷ []) in
-    asked-one (str_width false (c ∷ [])) (str_width false cs) (omega (arith, fits, total, ap (asked true) mine))
+    asked-one (str_width false (c ∷ [])) (str_width false cs) (omega (arith, fits, total, ap asked mine))
 
 -- ---- the same of a text in UTF-8
 
@@ -235,25 +218,8 @@ each-text n (c ∷ cs) scalars each =
     let own_fits = each c (inl refl) in
     and_from _ _ (leb-from (measure (encode_utf8 c)) n (omega (arith, spells, own_fits))) (each-text n cs parts.1 (λ x later. each x (inr later)))
 
--- a text without U+FE0E and U+17D2 measures at least what each of its characters measures
-pub text_wide_as_each : (text : Text) → IsUtf8 text → list_all (λ c. not (c == 0xFE0E) && not (c == 0x17D2)) (chars text) ≡ true
-    → list_all (λ c. nat_le (measure (encode_utf8 c)) (measure text)) (chars text) ≡ true
-text_wide_as_each text utf8 all = each-text (measure text) (chars text) (scalars-chars text utf8) (wide_as_each (chars text) all)
-
 -- a text without U+FE0E measures at least what each of its characters measures that is wider than one column
 pub text_wide_as_each_or_one : (text : Text) → IsUtf8 text → list_all (λ c. not (c == 0xFE0E)) (chars text) ≡ true
     → list_all (λ c. nat_le (measure (encode_utf8 c)) (max 1 (measure text))) (chars text) ≡ true
 text_wide_as_each_or_one text utf8 all =
     each-text (max 1 (measure text)) (chars text) (scalars-chars text utf8) (wide_as_each_or_one (chars text) all)
-
--- so if it measures anything, it measures at least what each of its characters measures
-pub shown_text_wide_as_each : (text : Text) → IsUtf8 text → list_all (λ c. not (c == 0xFE0E)) (chars text) ≡ true → 1 ≤ measure text
-    → list_all (λ c. nat_le (measure (encode_utf8 c)) (measure text)) (chars text) ≡ true
-shown_text_wide_as_each text utf8 all some =
-    let greater : max 1 (measure text) ≡ measure text = omega arith in
-    subst (λ n. list_all (λ c. nat_le (measure (encode_utf8 c)) n) (chars text) ≡ true) greater (text_wide_as_each_or_one text utf8 all)
-
--- U+17D2 and a letter by themselves measure nothing, though the letter measures one column
-pub coeng_takes_a_column : (measure (encode_utf8_all (0x17D2 ∷ 0x1780 ∷ [])) ≡ 0) × (measure (encode_utf8 0x1780) ≡ 1)
-unfolding unicode_width
-coeng_takes_a_column = (refl, refl)

@@ -185,4 +185,3 @@ module _ (w : ℕ) (known : Option ℕ) (layout : Layout) (records : List (List 
       by_pairs true is [] none = empty is none
       by_pairs true is (row ∷ pairs) some = shown (λ same none. absurd (cc (some, none)))
       by_pairs false is pairs any = shown (λ same. absurd (cc (is, same)))
-

@@ -130,8 +130,8 @@ positions_in options names rows =
     else positions_by names (count_of names rows) options.columns.chosen.items)
     (positions_by names (count_of names rows) options.columns.dropped.items)
 
--- a text shows the columns at these positions of a header, if there is one, and rows; or expands the
--- rows
+-- a text shows the columns at these positions of a header, if there is one, and rows; or expands
+-- the rows
 abbrev pub ShowsFields :
     Bool → Look → Bool → List ℕ → Option (List Text) → List (List Text) → Option ℕ → Text → Type 0
 ShowsFields false look is_numbered positions names rows count text =

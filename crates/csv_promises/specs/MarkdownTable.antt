@@ -54,7 +54,8 @@ pub record IsMarkdownTable (options : Options) (records : List (List Text)) (tex
       ++ note_for true options.selection.limit count
   pub unbroken : All HasNoBreak (header ∷ rule ∷ lines)
   pub is_rule : IsRule columns rule
-  pub as_many : All (λ (fields : List Text). length fields ≡ columns) (names_and_rows options records)
+  pub as_many :
+      All (λ (fields : List Text). length fields ≡ columns) (names_and_rows options records)
   pub have_fields : AllZip HasFields (names_and_rows options records) (header ∷ lines)
 
 -- what is written of records is such a table, or nothing if there are none. No line of a field, as

@@ -91,7 +91,7 @@ unfolding wrapping encode
 narrow_columns = refl
 
 -- nor is a drawing in which a wide character counts for one column
--- false: csv_promises::straight_fitting_output
+-- false: csv_promises::straight_fitting_output, csv_promises::straight_wide_output
 wide_in_a_narrow_column : (options : Options) (records : List (List Text)) → ¬ (IsStraight (asked Never None options) records (utf8 "| 京 |\n| a |\n"))
 unfolding encode
 wide_in_a_narrow_column options records is =

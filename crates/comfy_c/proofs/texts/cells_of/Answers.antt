@@ -53,8 +53,8 @@ loop-length-preserved c =
       omega (arith, step.1, back, long, inv.2),
       subst IsUtf8 (sym rest) (IsUtf8-drop c.loop-length.behind.now n inv.3 boundary),
       subst (All IsUtf8) (sym step.0)
-      (All-append IsUtf8 (cut_by (take i lengths) texts) (take n (drop (total (take i lengths)) texts) ∷ []) inv.4
-      (All-cons IsUtf8 (take n (drop (total (take i lengths)) texts)) [] (subst (λ (t : Text). IsUtf8 (take n t)) inv.1 (IsUtf8-take c.loop-length.behind.now n inv.3 boundary)) (All-nil IsUtf8))),
+          (All-append IsUtf8 (cut_by (take i lengths) texts) (take n (drop (total (take i lengths)) texts) ∷ []) inv.4
+          (All-cons IsUtf8 (take n (drop (total (take i lengths)) texts)) [] (subst (λ (t : Text). IsUtf8 (take n t)) inv.1 (IsUtf8-take c.loop-length.behind.now n inv.3 boundary)) (All-nil IsUtf8))),
     )
 
 pub returns-clause-texts : goal.returns-clause-texts
