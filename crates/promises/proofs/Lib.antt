@@ -1,5 +1,4 @@
 pub mod AddedLemmas
-pub mod AmongLemmas
 pub mod ConditionLemmas
 pub mod DrawnColumnLemmas
 pub mod FittingLemmas
