@@ -1,5 +1,5 @@
 -- Every drawing is one of frame lines and of rows of padded lines.
-use Rattle.std.proofs.Common.{◌&&◌, ◌||◌, is_some, ◌≡◌, ◌⊎◌, inl, inr, ◌<◌, ◌≤◌, ℕ, zero, suc, ◌+◌, ◌-◌, Bool, true, false, List, [], ◌∷◌, ◌++◌, Option, Some, None, length, map, flat_map, refl, sym, ap, ◌∙◌, subst, arith, append_assoc, append-nil, length-append, slice_index_or, unwrap_or, max, nat_le, codes, sum, sum_by}
+use Rattle.std.proofs.Common.{◌≢◌, ◌/◌, ap₂, ◌&&◌, ◌||◌, is_some, ◌≡◌, ◌⊎◌, inl, inr, ◌<◌, ◌≤◌, ℕ, zero, suc, ◌+◌, ◌-◌, Bool, true, false, List, [], ◌∷◌, ◌++◌, Option, Some, None, length, map, flat_map, refl, sym, ap, ◌∙◌, subst, arith, append_assoc, append-nil, length-append, slice_index_or, unwrap_or, max, nat_le, codes, sum, sum_by}
 use Rattle.std.specs.Char.{IsScalar}
 use Rattle.std.specs.List.{All, AllZip, filter_map, join_by, slice_get}
 use Rattle.std.specs.Prelude.{nat_lt, if◌then◌else◌, option_map, slice_index, MatchOption}
@@ -8,7 +8,7 @@ use Rattle.std.proofs.lemmas.Bool.{cond_both, or_parts}
 use Rattle.std.proofs.lemmas.Bool.Decides.{nat_tests}
 use Rattle.std.proofs.lemmas.List.{length-map}
 use Rattle.std.proofs.lemmas.List.Sums.{sum_by-cons}
-use Rattle.std.proofs.lemmas.List.Elements.{All-head, All-map, All-tail, All-weaker}
+use Rattle.std.proofs.lemmas.List.Elements.{All-from_recursion, All-head, All-map, All-tail, All-weaker}
 use Rattle.std.proofs.lemmas.Simd.{map-map}
 use Rattle.comfy_parts.proofs.CallerLemmas.{All-found, All-same_map, BeginsWithSequence, begins_with_sequence, fitting_characters_fit, front_of, join_by-map, measure-nil, parts-visible, text_lines_fit, wrapped_is_wrapped}
 use Rattle.comfy_parts.proofs.LinesFitLemmas.{IsFittingLine}
@@ -23,18 +23,21 @@ use Rattle.comfy_parts.specs.declared.style.table.ContentArrangement.TheVariants
 use Rattle.comfy_parts.specs.declared.style.table.ContentArrangement.TheVariants.{Disabled}
 use Rattle.comfy_parts.specs.declared.style.table_style.ContentLineStyle.{ContentLineStyle}
 use Rattle.comfy_table.proofs.CutLemmas.{map-cut}
-use Rattle.comfy_table.proofs.DrawnWidthLemmas.{fills_width, keeps_to_width}
+use Rattle.comfy_table.proofs.DrawnWidthLemmas.{dynamic_widths, fills_width, keeps_to_width, unconstrained_shown}
 use Rattle.comfy_table.proofs.KeptDrawingLemmas.{keeps_drawing}
 use Rattle.comfy_table.proofs.OneDrawingLemmas.{arranged_is_one}
 use Rattle.comfy_table.proofs.SpaceLemmas.{free_before-le, padded-is, spaces-append}
 use Rattle.comfy_table.proofs.StyledLemmas.{KeptByDrawing, keeps_style_begin, keeps_style_end}
-use Rattle.comfy_table.proofs.TableLemmas.{frame_counts, table_keeps_contents}
+use Rattle.comfy_table.proofs.TableLemmas.{frame_counts}
+use Rattle.comfy_table.proofs.UnconstrainedLemmas.{content_room-unconstrained}
 use Rattle.comfy_table.specs.Arrangement.{is_full_width, room_beside_borders, width_kept, widths_at}
 use Rattle.comfy_table.specs.Drawing.{drawing, drawn_header, drawn_row, infos_of, outer_widths}
-use Rattle.comfy_table.specs.Dynamic.{IsDynamicLayout}
+use Rattle.comfy_table.specs.Dynamic.{IsDynamicLayout, content_room}
+use Rattle.comfy_table.specs.Levels.{IsUnconstrained}
+use Rattle.comfy_table.specs.TableLaws.{shown_contents}
 use Rattle.comfy_table.specs.Frame.{frame_line, optional_frame_line}
 use Rattle.comfy_table.specs.Headline.{IsTableDrawing}
-use Rattle.comfy_table.specs.Laws.{AddsOneColumnEachWhereWritten, HasPrintableCells, IsPrintableCell, IsPrintableTable, count, line_total, unstyled}
+use Rattle.comfy_table.specs.Laws.{NoConstraints, AddsOneColumnEachWhereWritten, HasPrintableCells, IsPrintableCell, IsPrintableTable, count, line_total, unstyled}
 use Rattle.comfy_table.specs.Lines.{as_measured, cell_delimiter, cell_lines, cut_line, cut_text, cut_to_limit, fitting_indicator, uncut_lines}
 use Rattle.comfy_table.specs.Parts.{ArrangedValue, IsArrangedTable}
 use Rattle.comfy_table.specs.Pieces.{blank_piece, cell_alignment, free_before, free_places, padded, piece, pieces_of_optional, row_cell_lines, shown_infos}
@@ -42,9 +45,10 @@ use Rattle.comfy_table.specs.Styling.{style_begin, style_end, styled}
 use Rattle.comfy_table.specs.TableValue.{TableValue, column_content_width, column_cells, header_and_rows, measured_rows, measured_table, should_style, shown_columns, table_width}
 use Rattle.comfy_table.specs.Widths.{ColumnNeeds, disabled_width, needs_of, shown_needs}
 use Rattle.promises.proofs.DrawnColumnLemmas.{IsWholeAt, columns-drawn, drawn_column, infos-are, whole_at}
+use Rattle.promises.proofs.LevelLemmas.{contents_keep, level_keeps, zip_maps}
 use Rattle.promises.proofs.RowLemmas.{height, line_is, piece_in, width_by_content}
 use Rattle.promises.proofs.PieceLemmas.{uncoloured_lines, uncoloured_rows, uncoloured_text}
-use Rattle.promises.specs.Headline.{AreColumnsOf, AreContentLines, AreLinesOfCell, AreLinesOfParts, AreLinesOfRow, AreLinesOfText, AreSpaces, EachShownCell, IsFramedBy, IsFramedDrawing, IsFramedTable, IsHeadline, IsPiece, IsPrintable, framed, lines_in, whole_width, widths_shown, IsUncoloured, is_coloured, is_styled}
+use Rattle.promises.specs.Headline.{AreColumnsOf, AreContentLines, AreLinesOfCell, AreLinesOfParts, AreLinesOfRow, AreLinesOfText, AreSpaces, EachShownCell, IsFramedBy, IsFramedDrawing, IsFramedTable, IsHeadline, IsPiece, IsPrintable, framed, lines_in, whole_width, widths_shown, IsUncoloured, is_coloured, is_styled, IsAsWide, room_for_texts}
 use Rattle.promises.specs.Shown.{IsStyled}
 use Rattle.promises.specs.Shown.IsStyled.{nothing, byte, sequence}
 
@@ -369,6 +373,12 @@ needed table [] = refl
 needed table (p ∷ ps) =
     omega (arith, needed table ps, sum_by-cons (λ (column : ColumnNeeds). max 1 column.content + column.padding) (needs_of table p) (map (needs_of table) ps), sum_by-cons (λ (n : ℕ). n) (whole_width p.1 (max 1 (column_content_width table p.0))) (map (λ (p : ℕ × ColumnValue). whole_width p.1 (max 1 (column_content_width table p.0))) ps))
 
+-- what they need without contents are their paddings
+sum-paddings : (table : TableValue) (ps : List (ℕ × ColumnValue)) → sum_by (λ (column : ColumnNeeds). column.padding) (map (needs_of table) ps) ≡ sum (map (λ (p : ℕ × ColumnValue). whole_width p.1 0) ps)
+sum-paddings table [] = refl
+sum-paddings table (p ∷ ps) =
+    omega (arith, sum-paddings table ps, sum_by-cons (λ (column : ColumnNeeds). column.padding) (needs_of table p) (map (needs_of table) ps), sum_by-cons (λ (n : ℕ). n) (whole_width p.1 0) (map (λ (q : ℕ × ColumnValue). whole_width q.1 0) ps))
+
 -- ---- what every drawing promises
 
 module _ (table : TableValue) (widths : List ℕ) where
@@ -439,12 +449,21 @@ headline table lines drawn =
             kept drawn.arranged.shown_widths in
             let own : slice_index drawn.widths p.0 ≡ disabled_width table p = All-same_map (λ (q : ℕ × ColumnValue). slice_index drawn.widths q.0) (disabled_width table) (shown_columns table) all j other below in
             let content = own ∙ width_by_content table p.0 p.1 free in omega (arith, content);
-        keeps_contents = λ w known free dynamic room j other below.
+        keeps_contents = λ w known free kept room j other below.
             let p = slice_index_or (shown_columns table) j other in
             let needs = needed table (shown_columns table) in
-            let all = table_keeps_contents table w drawn.widths free dynamic known drawn.arranged (omega (arith, needs, room)) ∙ map-map (λ (column : ColumnNeeds). max 1 column.content) (needs_of table) (shown_columns table) in
-            let own : slice_index drawn.widths p.0 ≡ max 1 (column_content_width table p.0) = All-same_map (λ (q : ℕ × ColumnValue). slice_index drawn.widths q.0) (λ (q : ℕ × ColumnValue). max 1 (column_content_width table q.0)) (shown_columns table) all j other below in
-            omega (arith, own);
+            let all = contents_keep (room_beside_borders table w) (shown_needs table) (is_full_width table.arrangement) (unconstrained_needs free) (shown_contents table drawn.widths) (layout w known kept) (omega (arith, needs, room)) in
+            as_drawn (is_full_width table.arrangement) (column_content_width table p.0) (slice_index drawn.widths p.0)
+            (zip_maps (λ (column : ColumnNeeds) n. Unit {0} → IsAsWide (is_full_width table.arrangement) (max 1 column.content) n) (needs_of table) (λ (q : ℕ × ColumnValue). slice_index drawn.widths q.0) (shown_columns table) all j other below tt);
+        keeps_narrow = λ w known free kept.
+            let own = level_keeps (room_beside_borders table w) (shown_needs table) (is_full_width table.arrangement) (unconstrained_needs free) (shown_contents table drawn.widths) (layout w known kept) in (
+              own.level,
+              subst (λ (n : ℕ). n ≤ own.level) (share w free) own.share,
+              λ j other below few.
+              let p = slice_index_or (shown_columns table) j other in
+              as_drawn (is_full_width table.arrangement) (column_content_width table p.0) (slice_index drawn.widths p.0)
+              (zip_maps (λ (column : ColumnNeeds) n. column.content ≤ own.level → IsAsWide (is_full_width table.arrangement) (max 1 column.content) n) (needs_of table) (λ (q : ℕ × ColumnValue). slice_index drawn.widths q.0) (shown_columns table) own.keeps j other below (omega (arith, few))),
+            );
         total = line_total table drawn.widths;
         frame_total = λ line. ap (λ ws. count (frame_line table.style line ws)) (sym (widths_are measured drawn.widths long)) ∙ frame_counts table drawn.widths line long;
         plain_total = λ printable even.
@@ -469,6 +488,30 @@ headline table lines drawn =
 
     own : IsFramedDrawing measured (drawing (unstyled table) drawn.widths)
     own = plain_lines table drawn.widths long (whole_at table lines drawn)
+
+    unconstrained_needs : NoConstraints table → All IsUnconstrained (shown_needs table)
+    unconstrained_needs free = All-from_recursion IsUnconstrained (shown_needs table) (unconstrained_shown table free)
+
+    -- where a width is kept, the widths are dynamic
+    layout : (w : ℕ) → table_width table ≡ Some w → table.arrangement ≢ Disabled → IsDynamicLayout (room_beside_borders table w) (shown_needs table) (is_full_width table.arrangement) (shown_contents table drawn.widths)
+    layout w known kept = dynamic_widths table table.arrangement w drawn.widths (keeps table.arrangement kept) refl known drawn.arranged
+      where
+        keeps : (arrangement : ContentArrangement) → arrangement ≢ Disabled → width_kept arrangement (Some w) ≡ Some w
+        keeps arrangements.Disabled kept = absurd (kept refl)
+        keeps arrangements.Dynamic kept = refl
+        keeps arrangements.DynamicFullWidth kept = refl
+
+    -- as it is drawn
+    as_drawn : (full : Bool) (content n : ℕ) → IsAsWide full (max 1 content) n → IsAsWide full (max 1 content) (max 1 n)
+    as_drawn true content n own = omega (arith, own)
+    as_drawn false content n own = omega (arith, own)
+
+    -- an even share of the room
+    share : (w : ℕ) → NoConstraints table → content_room (room_beside_borders table w) (shown_needs table) / length (shown_needs table) ≡ room_for_texts table w / length (shown_columns table)
+    share w free =
+        let paddings = sum-paddings table (shown_columns table) in
+        let room : content_room (room_beside_borders table w) (shown_needs table) ≡ room_for_texts table w = omega (arith, paddings, content_room-unconstrained (room_beside_borders table w) (shown_needs table) (unconstrained_shown table free)) in
+        ap₂ (λ (a b : ℕ). a / b) room (length-map (shown_columns table) (needs_of table))
 
     no_width : (arrangement : ContentArrangement) (width : Option ℕ) → (arrangement ≡ Disabled) ⊎ (width ≡ None) → width_kept arrangement width ≡ None
     no_width arrangement width (inl disabled) = ap (λ (a : ContentArrangement). width_kept a width) disabled

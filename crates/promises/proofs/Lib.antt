@@ -6,6 +6,7 @@ mod FittingTextLemmas
 pub mod FrameLemmas
 pub mod HeadlineLemmas
 pub mod KeptLemmas
+pub mod LevelLemmas
 pub mod PieceLemmas
 pub mod PlacedLemmas
 pub mod PromiseLemmas

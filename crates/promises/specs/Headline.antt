@@ -1,6 +1,6 @@
 -- What a table draws: frame lines, and rows of padded lines of its cells' texts.
 -- Source: this library's own.
-use Rattle.std.specs.Prelude.{◌&&◌, ◌||◌, is_some, nat_lt, ◌≡◌, ◌⊎◌, ℕ, ◌+◌, ◌<◌, ◌≤◌, Bool, true, false, List, Option, [], ◌∷◌, ◌++◌, Some, None, All, EachIndex, MatchOption, filter_map, flat_map, length, map, max, option_map, slice_get, slice_index_or, sum, unwrap_or}
+use Rattle.std.specs.Prelude.{◌≢◌, ◌-◌, ◌/◌, ◌&&◌, ◌||◌, is_some, nat_lt, ◌≡◌, ◌⊎◌, ℕ, ◌+◌, ◌<◌, ◌≤◌, Bool, true, false, List, Option, [], ◌∷◌, ◌++◌, Some, None, All, EachIndex, MatchOption, filter_map, flat_map, length, map, max, option_map, slice_get, slice_index_or, sum, unwrap_or}
 use Rattle.std.specs.Int.{is_in_range}
 use Rattle.std.specs.List.{AllZip, enumerate_from, join_by}
 use Rattle.comfy_parts.specs.CellValue.{CellValue, ColumnInfo, ColumnValue, RowValue, info_of}
@@ -8,6 +8,7 @@ use Rattle.comfy_parts.specs.Columns.{AddsOneColumn, CharactersFit}
 use Rattle.comfy_parts.specs.Text.{AddsOneColumnEach, Text, greatest, is_printable_ascii, measure, spaces}
 use Rattle.comfy_parts.specs.Wrapping.{IsWrapped}
 use Rattle.comfy_parts.specs.declared.style.table.ContentArrangement.TheVariants.{Disabled, Dynamic, DynamicFullWidth}
+use Rattle.comfy_table.specs.Arrangement.{is_full_width}
 use Rattle.comfy_parts.specs.declared.style.table_style.ContentLineStyle.{ContentLineStyle}
 use Rattle.comfy_parts.specs.declared.style.table_style.LineStyle.{LineStyle}
 use Rattle.comfy_table.specs.Frame.{border_count, content_line, frame_line, optional_frame_line}
@@ -145,6 +146,17 @@ widest table i =
     max 1 (greatest (map cell_content_width (filter_map (λ (row : RowValue). slice_get row.cells i)
     (header_and_rows table))))
 
+-- the terminal columns that a width leaves beside borders and paddings
+abbrev pub room_for_texts : TableValue → ℕ → ℕ
+room_for_texts table w =
+    w - (border_count table.style (length (shown_columns table))
+    + sum (widths_shown table (λ i. 0)))
+
+-- a column is as wide as a text, or at least as wide, if it is widened
+abbrev pub IsAsWide : Bool → ℕ → ℕ → Type 0
+IsAsWide false text width = width ≡ text
+IsAsWide true text width = text ≤ width
+
 -- the lines of a table without styles
 pub record IsFramedDrawing (table : TableValue) (lines : List Text) : Type 0 where
   pub width : ℕ → ℕ
@@ -160,12 +172,21 @@ pub record IsPlainDrawing (table : TableValue) (lines : List Text) : Type 0 wher
   pub by_content : (table.arrangement ≡ Disabled) ⊎ (table_width table ≡ None)
       → All (λ (p : ℕ × ColumnValue). p.1.constraint ≡ None → framed.width p.0 ≡ widest table p.0)
       (shown_columns table)
-  -- so are all under `Dynamic`, where they have room
+  -- so is each where a width is kept that has room for all texts; with full width it may be wider
   pub keeps_contents : (w : ℕ) → table_width table ≡ Some w → NoConstraints table
-      → table.arrangement ≡ Dynamic
+      → table.arrangement ≢ Disabled
       → border_count table.style (length (shown_columns table))
       + sum (widths_shown table (widest table)) ≤ w
-      → All (λ (p : ℕ × ColumnValue). framed.width p.0 ≡ widest table p.0) (shown_columns table)
+      → All (λ (p : ℕ × ColumnValue). IsAsWide (is_full_width table.arrangement)
+      (widest table p.0) (framed.width p.0)) (shown_columns table)
+  -- if it has no such room, so is each column whose widest text is at most a level, which is at
+  -- least an even share of the room
+  pub keeps_narrow : (w : ℕ) → table_width table ≡ Some w → NoConstraints table
+      → table.arrangement ≢ Disabled
+      → (level : ℕ) × (room_for_texts table w / length (shown_columns table) ≤ level)
+      × All (λ (p : ℕ × ColumnValue). widest table p.0 ≤ level
+      → IsAsWide (is_full_width table.arrangement) (widest table p.0) (framed.width p.0))
+      (shown_columns table)
   -- each frame line counts as many characters, whatever the texts
   pub total : ℕ
   pub frame_total : (line : LineStyle)
