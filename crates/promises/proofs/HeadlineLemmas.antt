@@ -1,5 +1,5 @@
 -- Every drawing is one of frame lines and of rows of padded lines.
-use Rattle.std.proofs.Common.{◌≢◌, ◌/◌, ap₂, ◌&&◌, ◌||◌, is_some, ◌≡◌, ◌⊎◌, inl, inr, ◌<◌, ◌≤◌, ℕ, zero, suc, ◌+◌, ◌-◌, Bool, true, false, List, [], ◌∷◌, ◌++◌, Option, Some, None, length, map, flat_map, refl, sym, ap, ◌∙◌, subst, arith, append_assoc, append-nil, length-append, slice_index_or, unwrap_or, max, nat_le, codes, sum, sum_by}
+use Rattle.std.proofs.Common.{eq-zero-or-pos, ◌≢◌, ◌/◌, ap₂, ◌&&◌, ◌||◌, is_some, ◌≡◌, ◌⊎◌, inl, inr, ◌<◌, ◌≤◌, ℕ, zero, suc, ◌+◌, ◌-◌, Bool, true, false, List, [], ◌∷◌, ◌++◌, Option, Some, None, length, map, flat_map, refl, sym, ap, ◌∙◌, subst, arith, append_assoc, append-nil, length-append, slice_index_or, unwrap_or, max, nat_le, codes, sum, sum_by}
 use Rattle.std.specs.Char.{IsScalar}
 use Rattle.std.specs.List.{All, AllZip, filter_map, join_by, slice_get}
 use Rattle.std.specs.Prelude.{nat_lt, if◌then◌else◌, option_map, slice_index, MatchOption}
@@ -8,10 +8,11 @@ use Rattle.std.proofs.lemmas.Bool.{cond_both, or_parts}
 use Rattle.std.proofs.lemmas.Bool.Decides.{nat_tests}
 use Rattle.std.proofs.lemmas.List.{length-map}
 use Rattle.std.proofs.lemmas.List.Sums.{sum_by-cons}
-use Rattle.std.proofs.lemmas.List.Elements.{All-from_recursion, All-head, All-map, All-tail, All-weaker}
+use Rattle.std.proofs.lemmas.List.Elements.{All-cons, All-from_recursion, All-head, All-nil, recursion_from_All, All-map, All-tail, All-weaker}
 use Rattle.std.proofs.lemmas.Simd.{map-map}
-use Rattle.comfy_parts.proofs.CallerLemmas.{All-found, All-same_map, BeginsWithSequence, begins_with_sequence, fitting_characters_fit, front_of, join_by-map, measure-nil, parts-visible, text_lines_fit, wrapped_is_wrapped}
+use Rattle.comfy_parts.proofs.CallerLemmas.{All-given, every-parts, All-found, All-same_map, BeginsWithSequence, begins_with_sequence, fitting_characters_fit, front_of, join_by-map, measure-nil, parts-visible, text_lines_fit, wrapped_is_wrapped}
 use Rattle.comfy_parts.proofs.LinesFitLemmas.{IsFittingLine}
+use Rattle.comfy_parts.proofs.WrappingLemmas.{wrapped_is_one}
 use Rattle.comfy_parts.proofs.SequenceLemmas.{sequences_are_taken_out}
 use Rattle.comfy_parts.specs.CellValue.{CellValue, ColumnInfo, ColumnValue, RowValue, info_of, info_width}
 use Rattle.comfy_parts.specs.Text.{AddsOneColumnEach, Text, greatest, measure, spaces}
@@ -29,6 +30,7 @@ use Rattle.comfy_table.proofs.OneDrawingLemmas.{arranged_is_one}
 use Rattle.comfy_table.proofs.SpaceLemmas.{free_before-le, padded-is, spaces-append}
 use Rattle.comfy_table.proofs.StyledLemmas.{KeptByDrawing, keeps_style_begin, keeps_style_end}
 use Rattle.comfy_table.proofs.TableLemmas.{frame_counts}
+use Rattle.comfy_table.proofs.ThreePlacesLemmas.{every-le-greatest}
 use Rattle.comfy_table.proofs.UnconstrainedLemmas.{content_room-unconstrained}
 use Rattle.comfy_table.specs.Arrangement.{is_full_width, room_beside_borders, width_kept, widths_at}
 use Rattle.comfy_table.specs.Drawing.{drawing, drawn_header, drawn_row, infos_of, outer_widths}
@@ -38,17 +40,17 @@ use Rattle.comfy_table.specs.TableLaws.{shown_contents}
 use Rattle.comfy_table.specs.Frame.{frame_line, optional_frame_line}
 use Rattle.comfy_table.specs.Headline.{IsTableDrawing}
 use Rattle.comfy_table.specs.Laws.{NoConstraints, AddsOneColumnEachWhereWritten, HasPrintableCells, IsPrintableCell, IsPrintableTable, count, line_total, unstyled}
-use Rattle.comfy_table.specs.Lines.{as_measured, cell_delimiter, cell_lines, cut_line, cut_text, cut_to_limit, fitting_indicator, uncut_lines}
+use Rattle.comfy_table.specs.Lines.{longest_line, as_measured, cell_delimiter, cell_lines, cut_line, cut_text, cut_to_limit, fitting_indicator, uncut_lines}
 use Rattle.comfy_table.specs.Parts.{ArrangedValue, IsArrangedTable}
 use Rattle.comfy_table.specs.Pieces.{blank_piece, cell_alignment, free_before, free_places, padded, piece, pieces_of_optional, row_cell_lines, shown_infos}
 use Rattle.comfy_table.specs.Styling.{style_begin, style_end, styled}
 use Rattle.comfy_table.specs.TableValue.{TableValue, column_content_width, column_cells, header_and_rows, measured_rows, measured_table, should_style, shown_columns, table_width}
 use Rattle.comfy_table.specs.Widths.{ColumnNeeds, disabled_width, needs_of, shown_needs}
 use Rattle.promises.proofs.DrawnColumnLemmas.{IsWholeAt, columns-drawn, drawn_column, infos-are, whole_at}
-use Rattle.promises.proofs.LevelLemmas.{contents_keep, level_keeps, zip_maps}
+use Rattle.promises.proofs.LevelLemmas.{KeepsLevel, contents_keep, level_keeps, zip_maps}
 use Rattle.promises.proofs.RowLemmas.{height, line_is, piece_in, width_by_content}
 use Rattle.promises.proofs.PieceLemmas.{uncoloured_lines, uncoloured_rows, uncoloured_text}
-use Rattle.promises.specs.Headline.{AreColumnsOf, AreContentLines, AreLinesOfCell, AreLinesOfParts, AreLinesOfRow, AreLinesOfText, AreSpaces, EachShownCell, IsFramedBy, IsFramedDrawing, IsFramedTable, IsHeadline, IsPiece, IsPrintable, framed, lines_in, whole_width, widths_shown, IsUncoloured, is_coloured, is_styled, IsAsWide, room_for_texts}
+use Rattle.promises.specs.Headline.{AreColumnsOf, AreContentLines, AreLinesOfCell, AreLinesOfParts, AreLinesOfRow, AreLinesOfText, AreSpaces, EachShownCell, IsFramedBy, IsFramedDrawing, IsFramedTable, IsHeadline, IsPiece, IsPrintable, framed, lines_in, whole_width, widths_shown, IsUncoloured, is_coloured, is_styled, IsAsWide, HasLinesWithin, room_for_texts}
 use Rattle.promises.specs.Shown.{IsStyled}
 use Rattle.promises.specs.Shown.IsStyled.{nothing, byte, sequence}
 
@@ -80,6 +82,38 @@ flat f (text ∷ texts) = ap (λ (lines : List Text). f text ++ lines) (flat f t
 
 lines_of_cell : (w d : ℕ) (cell : CellValue) → IsScalar d → All IsUtf8 cell.text_lines → AreLinesOfCell w d cell (cell_lines w d cell)
 lines_of_cell w d cell scalar utf8 = (map (lines_of_text w d) cell.text_lines, all_lines w d scalar cell.text_lines utf8, flat (lines_of_text w d) cell.text_lines)
+
+-- and no other lines are
+lines_are_one : (w d : ℕ) → IsScalar d → (texts : List Text) (of_texts : List (List Text)) → AllZip (AreLinesOfText w d) texts of_texts → of_texts ≡ map (lines_of_text w d) texts
+lines_are_one w d scalar [] [] zip = refl
+lines_are_one w d scalar [] (own ∷ of_texts) zip = absurd zip
+lines_are_one w d scalar (text ∷ texts) [] zip = absurd zip
+lines_are_one w d scalar (text ∷ texts) (own ∷ of_texts) zip = ap₂ (λ (a : List Text) (b : List (List Text)). a ∷ b) (by_test (nat_le (measure text) w) refl) (lines_are_one w d scalar texts of_texts zip.1)
+  where
+    by_test : (b : Bool) → nat_le (measure text) w ≡ b → own ≡ (if b then text ∷ [] else wrapped w d text)
+    by_test true room = let fits : measure text ≤ w = grind (arith, nat_tests, room) in zip.0.whole fits
+    by_test false wide = let tall : w < measure text = grind (arith, nat_tests, wide) in wrapped_is_one w d text own scalar (zip.0.slices tall)
+
+-- what holds of all elements of lists holds of those of each
+flat_parts : {X Y : Type 0} (P : Y → Type 0) (f : X → List Y) (xs : List X) → All P (flat_map f xs) → All (λ x. All P (f x)) xs
+flat_parts P f [] each = All-nil (λ x. All P (f x))
+flat_parts P f (x ∷ xs) each =
+    let both = every-parts P (f x) (flat_map f xs) (recursion_from_All P (flat_map f (x ∷ xs)) each) in
+    All-cons (λ y. All P (f y)) x xs (All-from_recursion P (f x) both.0) (flat_parts P f xs (All-from_recursion P (flat_map f xs) both.1))
+
+-- the longest line of a column at a width says how wide its lines are
+lines_within : (table : TableValue) (p : ℕ × ColumnValue) (b n : ℕ) → longest_line table p.0 p.1.delimiter b ≤ n
+    → All (λ (row : RowValue). (cell : CellValue) → slice_get row.cells p.0 ≡ Some cell → IsScalar (cell_delimiter table p.1.delimiter cell)) (measured_rows table) → HasLinesWithin (measured_table table) p b n
+lines_within table p b n long scalar k default under cell lines found are =
+    let d = cell_delimiter table p.1.delimiter cell in
+    let all = All-weaker (λ line. measure line ≤ longest_line table p.0 p.1.delimiter b) (λ line. measure line ≤ n) (λ line own. omega (arith, own, long)) its_lines (All-from_recursion (λ line. measure line ≤ longest_line table p.0 p.1.delimiter b) its_lines (every-le-greatest measure its_lines)) in
+    let own = All-given (λ (c : CellValue). All (λ line. measure line ≤ n) (cell_lines b (cell_delimiter table p.1.delimiter c) c)) (λ (row : RowValue). slice_get row.cells p.0) (measured_rows table)
+    (flat_parts (λ line. measure line ≤ n) (λ (c : CellValue). cell_lines b (cell_delimiter table p.1.delimiter c) c) (column_cells table p.0) all) k default under cell found in
+    let one = are.2 ∙ ap (flat_map (λ (of_text : List Text). of_text)) (lines_are_one b d (scalar k default under cell found) cell.text_lines are.0 are.1) ∙ sym (flat (lines_of_text b d) cell.text_lines) in
+    subst (All (λ line. measure line ≤ n)) (sym one) own
+  where
+    its_lines : List Text
+    its_lines = flat_map (λ (c : CellValue). cell_lines b (cell_delimiter table p.1.delimiter c) c) (column_cells table p.0)
 
 -- ---- styles
 
@@ -454,15 +488,18 @@ headline table lines drawn =
             let needs = needed table (shown_columns table) in
             let all = contents_keep (room_beside_borders table w) (shown_needs table) (is_full_width table.arrangement) (unconstrained_needs free) (shown_contents table drawn.widths) (layout w known kept) (omega (arith, needs, room)) in
             as_drawn (is_full_width table.arrangement) (column_content_width table p.0) (slice_index drawn.widths p.0)
-            (zip_maps (λ (column : ColumnNeeds) n. Unit {0} → IsAsWide (is_full_width table.arrangement) (max 1 column.content) n) (needs_of table) (λ (q : ℕ × ColumnValue). slice_index drawn.widths q.0) (shown_columns table) all j other below tt);
-        keeps_narrow = λ w known free kept.
+            (zip_maps (λ (column : ColumnNeeds) n. IsAsWide (is_full_width table.arrangement) (max 1 column.content) n) (needs_of table) (λ (q : ℕ × ColumnValue). slice_index drawn.widths q.0) (shown_columns table) all j other below);
+        keeps_to_level = λ w known free kept.
             let own = level_keeps (room_beside_borders table w) (shown_needs table) (is_full_width table.arrangement) (unconstrained_needs free) (shown_contents table drawn.widths) (layout w known kept) in (
               own.level,
               subst (λ (n : ℕ). n ≤ own.level) (share w free) own.share,
-              λ j other below few.
-              let p = slice_index_or (shown_columns table) j other in
-              as_drawn (is_full_width table.arrangement) (column_content_width table p.0) (slice_index drawn.widths p.0)
-              (zip_maps (λ (column : ColumnNeeds) n. column.content ≤ own.level → IsAsWide (is_full_width table.arrangement) (max 1 column.content) n) (needs_of table) (λ (q : ℕ × ColumnValue). slice_index drawn.widths q.0) (shown_columns table) own.keeps j other below (omega (arith, few))),
+              λ j other below.
+                  let p = slice_index_or (shown_columns table) j other in
+                  let column = zip_maps (KeepsLevel (room_beside_borders table w) (shown_needs table) (is_full_width table.arrangement) (unconstrained_needs free) (shown_contents table drawn.widths) (layout w known kept) own.level) (needs_of table) (λ (q : ℕ × ColumnValue). slice_index drawn.widths q.0) (shown_columns table) own.keeps j other below in
+                  record {
+                    narrow = λ few. as_drawn (is_full_width table.arrangement) (column_content_width table p.0) (slice_index drawn.widths p.0) (column.narrow (omega (arith, few)));
+                    wide = λ more. elim (eq-zero-or-pos own.level) [ inl lowest ↦ inl (omega (arith, lowest)) | inr some ↦ by_level own.level j other below (column.wide (omega (arith, more, some))) ];
+                  },
             );
         total = line_total table drawn.widths;
         frame_total = λ line. ap (λ ws. count (frame_line table.style line ws)) (sym (widths_are measured drawn.widths long)) ∙ frame_counts table drawn.widths line long;
@@ -503,8 +540,18 @@ headline table lines drawn =
 
     -- as it is drawn
     as_drawn : (full : Bool) (content n : ℕ) → IsAsWide full (max 1 content) n → IsAsWide full (max 1 content) (max 1 n)
-    as_drawn true content n own = omega (arith, own)
-    as_drawn false content n own = omega (arith, own)
+    as_drawn true content n wide = omega (arith, wide)
+    as_drawn false content n same = omega (arith, same)
+
+    -- a level, or room for all lines at such a width
+    by_level : (level j : ℕ) (other : ℕ × ColumnValue) → j < length (shown_columns table)
+        → (level ≤ slice_index drawn.widths (slice_index_or (shown_columns table) j other).0)
+        ⊎ ((b : ℕ) × (level ≤ b) × (longest_line table (slice_index_or (shown_columns table) j other).0 (slice_index_or (shown_columns table) j other).1.delimiter b ≤ slice_index drawn.widths (slice_index_or (shown_columns table) j other).0))
+        → (level ≤ own.width (slice_index_or (shown_columns table) j other).0)
+        ⊎ ((w : ℕ) × (level ≤ w) × HasLinesWithin measured (slice_index_or (shown_columns table) j other) w (own.width (slice_index_or (shown_columns table) j other).0))
+    by_level level j other below (inl high) = inl (omega (arith, high))
+    by_level level j other below (inr (b, at_least, room)) =
+        inr (b, at_least, lines_within table (slice_index_or (shown_columns table) j other) b (max 1 (slice_index drawn.widths (slice_index_or (shown_columns table) j other).0)) (omega (arith, room)) (λ k default under cell found. (whole_at table lines drawn k default under j other below cell found).0))
 
     -- an even share of the room
     share : (w : ℕ) → NoConstraints table → content_room (room_beside_borders table w) (shown_needs table) / length (shown_needs table) ≡ room_for_texts table w / length (shown_columns table)

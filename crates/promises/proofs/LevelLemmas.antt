@@ -24,14 +24,26 @@ same_at_least : (xs : List ℕ) → AllZip (λ (x w : ℕ). x ≤ w) xs xs
 same_at_least [] = tt
 same_at_least (x ∷ xs) = (omega arith, same_at_least xs)
 
--- what holds of contents holds of greater widths
-grow : (R S : ColumnNeeds → ℕ → Type 0) → ((column : ColumnNeeds) (x w : ℕ) → x ≤ w → R column x → S column w) → (columns : List ColumnNeeds) (xs ws : List ℕ) → AllZip R columns xs → AllZip (λ (x w : ℕ). x ≤ w) xs ws → AllZip S columns ws
-grow R S more [] [] [] zip least = tt
-grow R S more [] [] (w ∷ ws) zip least = absurd least
-grow R S more [] (x ∷ xs) ws zip least = absurd zip
-grow R S more (column ∷ columns) [] ws zip least = absurd zip
-grow R S more (column ∷ columns) (x ∷ xs) [] zip least = absurd least
-grow R S more (column ∷ columns) (x ∷ xs) (w ∷ ws) zip least = (more column x w least.0 zip.0, grow R S more columns xs ws zip.1 least.1)
+-- a content keeps to a level, or is 1, as the level is
+abbrev IsKept : ℕ → ColumnNeeds → ℕ → Type 0
+IsKept level column x = IsLevelledColumn level column x ⊎ ((level ≡ 1) × (x ≡ 1))
+
+-- what holds of contents holds of widths, which are as wide
+grow : (full : Bool) (R S : ColumnNeeds → ℕ → Type 0) → ((column : ColumnNeeds) (x w : ℕ) → IsAsWide full x w → R column x → S column w) → (columns : List ColumnNeeds) (xs ws : List ℕ) → AllZip R columns xs → AllZip (IsAsWide full) xs ws → AllZip S columns ws
+grow full R S more [] [] [] zip least = tt
+grow full R S more [] [] (w ∷ ws) zip least = absurd least
+grow full R S more [] (x ∷ xs) ws zip least = absurd zip
+grow full R S more (column ∷ columns) [] ws zip least = absurd zip
+grow full R S more (column ∷ columns) (x ∷ xs) [] zip least = absurd least
+grow full R S more (column ∷ columns) (x ∷ xs) (w ∷ ws) zip least = (more column x w least.0 zip.0, grow full R S more columns xs ws zip.1 least.1)
+
+no_less : (full : Bool) (x w : ℕ) → IsAsWide full x w → x ≤ w
+no_less false x w same = omega (arith, same)
+no_less true x w least = least
+
+-- a content, or what is as wide
+as_wide : (full : Bool) (content x w : ℕ) → IsAsWide full x w → x ≡ content → IsAsWide full content w
+as_wide full content x w own same = subst (λ (n : ℕ). IsAsWide full n w) same own
 
 -- a relation between what is made of each
 pub zip_maps : {X A B : Type 0} (R : A → B → Type 0) (f : X → A) (g : X → B) (xs : List X) → AllZip R (map f xs) (map g xs) → All (λ x. R (f x) (g x)) xs
@@ -46,9 +58,9 @@ module _ (room : ℕ) (columns : List ColumnNeeds) (full : Bool) (free : All IsU
   dynamic : IsDynamicLayout room columns false before
   dynamic = (layout.0, record { lower_taken = layout.1.lower_taken; level_found = layout.1.level_found; shrunk_taken = layout.1.shrunk_taken; widths_are = refl })
 
-  -- if the contents before are these, so are the widths, or they are greater
-  widths_keep : (R : ColumnNeeds → Type 0) → AllZip (λ (column : ColumnNeeds) x. R column → x ≡ max 1 column.content) columns before → AllZip (λ (column : ColumnNeeds) w. R column → IsAsWide full (max 1 column.content) w) columns widths
-  widths_keep R own = by_full full layout.1.widths_are
+  -- so the widths are as wide
+  grown : AllZip (IsAsWide full) before widths
+  grown = by_full full layout.1.widths_are
     where
       spread : List ℕ
       spread = even_spread (room_left room columns layout.0) (length columns)
@@ -56,67 +68,95 @@ module _ (room : ℕ) (columns : List ColumnNeeds) (full : Bool) (free : All IsU
       none : Bool
       none = length (even_columns room columns layout.0) == 0
 
-      by_full : (b : Bool) → widths ≡ (if b && none then added before spread else before) → AllZip (λ (column : ColumnNeeds) w. R column → IsAsWide b (max 1 column.content) w) columns widths
-      by_full false are = subst (AllZip (λ (column : ColumnNeeds) w. R column → w ≡ max 1 column.content) columns) (sym are) own
+      all_same : (xs : List ℕ) → AllZip (λ (x w : ℕ). w ≡ x) xs xs
+      all_same [] = tt
+      all_same (x ∷ xs) = (refl, all_same xs)
+
+      by_full : (b : Bool) → widths ≡ (if b && none then added before spread else before) → AllZip (IsAsWide b) before widths
+      by_full false are = subst (AllZip (λ (x w : ℕ). w ≡ x) before) (sym are) (all_same before)
       by_full true are =
-          grow (λ column x. R column → x ≡ max 1 column.content) (λ column w. R column → max 1 column.content ≤ w) (λ column x w least has r. let same = has r in omega (arith, least, same)) columns before widths own
-          (subst (AllZip (λ (x w : ℕ). x ≤ w) before) (sym are)
-          (cond_both none (added before spread) before (AllZip (λ (x w : ℕ). x ≤ w) before) (λ _. added_at_least before spread (length-contents_after room columns layout.0 ∙ sym (length-even_spread (room_left room columns layout.0) (length columns)))) (λ _. same_at_least before)))
+          subst (AllZip (λ (x w : ℕ). x ≤ w) before) (sym are)
+          (cond_both none (added before spread) before (AllZip (λ (x w : ℕ). x ≤ w) before) (λ _. added_at_least before spread (length-contents_after room columns layout.0 ∙ sym (length-even_spread (room_left room columns layout.0) (length columns)))) (λ _. same_at_least before))
 
   -- contents that have room are kept
-  pub contents_keep : sum_by (λ (column : ColumnNeeds). max 1 column.content + column.padding) columns ≤ room → AllZip (λ (column : ColumnNeeds) w. Unit {0} → IsAsWide full (max 1 column.content) w) columns widths
-  contents_keep enough = widths_keep (λ column. Unit {0}) (each columns before (contents_that_fit_are_kept room columns before free enough dynamic))
+  pub contents_keep : sum_by (λ (column : ColumnNeeds). max 1 column.content + column.padding) columns ≤ room → AllZip (λ (column : ColumnNeeds) w. IsAsWide full (max 1 column.content) w) columns widths
+  contents_keep enough =
+      grow full (λ column x. x ≡ max 1 column.content) (λ column w. IsAsWide full (max 1 column.content) w) (λ column x w own same. as_wide full (max 1 column.content) x w own same) columns before widths
+      (each columns before (contents_that_fit_are_kept room columns before free enough dynamic)) grown
     where
-      each : (cs : List ColumnNeeds) (xs : List ℕ) → xs ≡ map (λ (column : ColumnNeeds). max 1 column.content) cs → AllZip (λ (column : ColumnNeeds) x. Unit {0} → x ≡ max 1 column.content) cs xs
+      each : (cs : List ColumnNeeds) (xs : List ℕ) → xs ≡ map (λ (column : ColumnNeeds). max 1 column.content) cs → AllZip (λ (column : ColumnNeeds) x. x ≡ max 1 column.content) cs xs
       each [] [] same = tt
       each [] (x ∷ xs) same = absurd (cc same)
       each (column ∷ cs) [] same = absurd (cc same)
-      each (column ∷ cs) (x ∷ xs) same = (λ any. cc same, each cs xs (cc same))
+      each (column ∷ cs) (x ∷ xs) same = (cc same, each cs xs (cc same))
 
-  -- and contents up to a level
-  pub record KeepsLevel : Type 0 where
+  -- a content up to a level is kept, and any other column has the level, or room for its longest line at such a width
+  pub record KeepsLevel (level : ℕ) (column : ColumnNeeds) (w : ℕ) : Type 0 where
+    pub narrow : column.content ≤ level → IsAsWide full (max 1 column.content) w
+    pub wide : level < column.content → (level ≤ w) ⊎ ((b : ℕ) × (level ≤ b) × (column.longest b ≤ w))
+
+  pub record HasKeptLevel : Type 0 where
     pub level : ℕ
     pub share : content_room room columns / length columns ≤ level
-    pub keeps : AllZip (λ (column : ColumnNeeds) w. column.content ≤ level → IsAsWide full (max 1 column.content) w) columns widths
+    pub keeps : AllZip (KeepsLevel level) columns widths
 
-  pub level_keeps : KeepsLevel
+  pub level_keeps : HasKeptLevel
   level_keeps = by_count (eq-zero-or-pos (length columns))
     where
-      of_none : (cs : List ColumnNeeds) (level : ℕ) (xs : List ℕ) → length cs ≡ 0 → length xs ≡ length cs → AllZip (λ (column : ColumnNeeds) x. column.content ≤ level → x ≡ max 1 column.content) cs xs
-      of_none [] level [] none same = tt
-      of_none [] level (x ∷ xs) none same = absurd (omega (arith, same))
-      of_none (column ∷ cs) level xs none same = absurd (omega (arith, none))
+      -- what a level of the contents, or 1 for all, gives
+      kept : (level : ℕ) (column : ColumnNeeds) (x w : ℕ) → IsAsWide full x w → IsKept level column x → KeepsLevel level column w
+      kept level column x w own (inr (one, small)) = record { narrow = λ few. as_wide full (max 1 column.content) x w own (omega (arith, few, one, small)); wide = λ more. inl (let least = no_less full x w own in omega (arith, one, small, least)) }
+      kept level column x w own (inl is) =
+          record {
+            narrow = λ few.
+                let fits : nat_le column.content level ≡ true = grind (arith, nat_tests, few) in
+                as_wide full (max 1 column.content) x w own (subst (λ (b : Bool). MatchBool b (x ≡ max 1 column.content) (IsShrunkOrLevel level column x)) fits is);
+            wide = λ more.
+                let fails : nat_le column.content level ≡ false = grind (arith, nat_tests, more) in
+                by_level (subst (λ (b : Bool). MatchBool b (x ≡ max 1 column.content) (IsShrunkOrLevel level column x)) fails is);
+          }
+        where
+          least : x ≤ w
+          least = no_less full x w own
 
-      ones : (cs : List ColumnNeeds) (xs : List ℕ) → xs ≡ replicate (length cs) 1 → AllZip (λ (column : ColumnNeeds) x. column.content ≤ 1 → x ≡ max 1 column.content) cs xs
+          by_level : IsShrunkOrLevel level column x → (level ≤ w) ⊎ ((b : ℕ) × (level ≤ b) × (column.longest b ≤ w))
+          by_level (inl (b, at_least, three, small)) = inr (b, at_least, omega (arith, small, least))
+          by_level (inr high) = inl (omega (arith, high, least))
+
+      ones : (cs : List ColumnNeeds) (xs : List ℕ) → xs ≡ replicate (length cs) 1 → AllZip (IsKept 1) cs xs
       ones [] [] same = tt
       ones [] (x ∷ xs) same = absurd (cc same)
       ones (column ∷ cs) [] same = absurd (cc same)
-      ones (column ∷ cs) (x ∷ xs) same = (λ few. let one : x ≡ 1 = cc same in omega (arith, one, few), ones cs xs (cc same))
+      ones (column ∷ cs) (x ∷ xs) same = (inr (refl, cc same), ones cs xs (cc same))
 
-      levelled : (level : ℕ) (cs : List ColumnNeeds) (xs : List ℕ) → AllZip (IsLevelledColumn level) cs xs → AllZip (λ (column : ColumnNeeds) x. column.content ≤ level → x ≡ max 1 column.content) cs xs
+      levelled : (level : ℕ) (cs : List ColumnNeeds) (xs : List ℕ) → AllZip (IsLevelledColumn level) cs xs → AllZip (IsKept level) cs xs
       levelled level [] [] zip = tt
       levelled level [] (x ∷ xs) zip = absurd zip
       levelled level (column ∷ cs) [] zip = absurd zip
-      levelled level (column ∷ cs) (x ∷ xs) zip = (
-        λ few.
-        let fits : nat_le column.content level ≡ true = grind (arith, nat_tests, few) in
-        subst (λ (b : Bool). MatchBool b (x ≡ max 1 column.content) (IsShrunkOrLevel level column x)) fits zip.0,
-        levelled level cs xs zip.1,
-      )
+      levelled level (column ∷ cs) (x ∷ xs) zip = (inl zip.0, levelled level cs xs zip.1)
 
-      by_test : (b : Bool) → nat_lt (content_room room columns) (length columns) ≡ b → MatchBool b (before ≡ replicate (length columns) 1) (HasLevel room columns before) → KeepsLevel
+      of_none : (level : ℕ) (cs : List ColumnNeeds) (ws : List ℕ) → length cs ≡ 0 → AllZip (IsAsWide full) before ws → length before ≡ length cs → AllZip (KeepsLevel level) cs ws
+      of_none level [] [] none own same = tt
+      of_none level [] (w ∷ ws) none own same = absurd (too_many before own same)
+        where
+          too_many : (xs : List ℕ) → AllZip (IsAsWide full) xs (w ∷ ws) → ¬ (length xs ≡ 0)
+          too_many [] zip short = zip
+          too_many (x ∷ xs) zip short = absurd (omega (arith, short))
+      of_none level (column ∷ cs) ws none own same = absurd (omega (arith, none))
+
+      by_test : (b : Bool) → nat_lt (content_room room columns) (length columns) ≡ b → MatchBool b (before ≡ replicate (length columns) 1) (HasLevel room columns before) → HasKeptLevel
       by_test true short own =
           let few : content_room room columns < length columns = grind (arith, nat_tests, short) in
           let none = div-eq_of_lt few in
-          record { level = 1; share = omega (arith, none); keeps = widths_keep (λ column. column.content ≤ 1) (ones columns before own) }
+          record { level = 1; share = omega (arith, none); keeps = grow full (IsKept 1) (KeepsLevel 1) (kept 1) columns before widths (ones columns before own) grown }
       by_test false enough own =
-          record { level = own.level; share = own.levelled.at_least_share; keeps = widths_keep (λ column. column.content ≤ own.level) (levelled own.level columns before own.levelled.each_column) }
-
-      by_count : (length columns ≡ 0) ⊎ (0 < length columns) → KeepsLevel
-      by_count (inl none) =
           record {
-            level = content_room room columns / length columns;
-            share = omega arith;
-            keeps = widths_keep (λ column. column.content ≤ content_room room columns / length columns) (of_none columns (content_room room columns / length columns) before none (length-contents_after room columns layout.0));
+            level = own.level;
+            share = own.levelled.at_least_share;
+            keeps = grow full (IsKept own.level) (KeepsLevel own.level) (kept own.level) columns before widths (levelled own.level columns before own.levelled.each_column) grown;
           }
+
+      by_count : (length columns ≡ 0) ⊎ (0 < length columns) → HasKeptLevel
+      by_count (inl none) =
+          record { level = content_room room columns / length columns; share = omega arith; keeps = of_none (content_room room columns / length columns) columns widths none grown (length-contents_after room columns layout.0) }
       by_count (inr some) = by_test (nat_lt (content_room room columns) (length columns)) refl (dynamic_is_levelled room columns before free some dynamic)

@@ -157,6 +157,23 @@ abbrev pub IsAsWide : Bool → ℕ → ℕ → Type 0
 IsAsWide false text width = width ≡ text
 IsAsWide true text width = text ≤ width
 
+-- at a width w no line of a column's cells is wider than n
+abbrev pub HasLinesWithin : TableValue → ℕ × ColumnValue → ℕ → ℕ → Type 0
+HasLinesWithin table p w n =
+    All (λ (row : RowValue). (cell : CellValue) (lines : List Text)
+    → slice_get row.cells p.0 ≡ Some cell
+    → AreLinesOfCell w (cell_delimiter table p.1.delimiter cell) cell lines
+    → All (λ line. measure line ≤ n) lines) (header_and_rows table)
+
+-- a column whose widest text is at most a level is as wide as this text; any other is at least as
+-- wide as the level, or has room for its lines at such a width
+pub record KeepsToLevel (table : TableValue) (width : ℕ → ℕ) (level : ℕ) (p : ℕ × ColumnValue)
+    : Type 0 where
+  pub narrow : widest table p.0 ≤ level
+      → IsAsWide (is_full_width table.arrangement) (widest table p.0) (width p.0)
+  pub wide : level < widest table p.0 → (level ≤ width p.0)
+      ⊎ ((w : ℕ) × (level ≤ w) × HasLinesWithin table p w (width p.0))
+
 -- the lines of a table without styles
 pub record IsFramedDrawing (table : TableValue) (lines : List Text) : Type 0 where
   pub width : ℕ → ℕ
@@ -179,14 +196,11 @@ pub record IsPlainDrawing (table : TableValue) (lines : List Text) : Type 0 wher
       + sum (widths_shown table (widest table)) ≤ w
       → All (λ (p : ℕ × ColumnValue). IsAsWide (is_full_width table.arrangement)
       (widest table p.0) (framed.width p.0)) (shown_columns table)
-  -- if it has no such room, so is each column whose widest text is at most a level, which is at
-  -- least an even share of the room
-  pub keeps_narrow : (w : ℕ) → table_width table ≡ Some w → NoConstraints table
+  -- if it has no such room, columns keep to a level, which is at least an even share of the room
+  pub keeps_to_level : (w : ℕ) → table_width table ≡ Some w → NoConstraints table
       → table.arrangement ≢ Disabled
       → (level : ℕ) × (room_for_texts table w / length (shown_columns table) ≤ level)
-      × All (λ (p : ℕ × ColumnValue). widest table p.0 ≤ level
-      → IsAsWide (is_full_width table.arrangement) (widest table p.0) (framed.width p.0))
-      (shown_columns table)
+      × All (KeepsToLevel table framed.width level) (shown_columns table)
   -- each frame line counts as many characters, whatever the texts
   pub total : ℕ
   pub frame_total : (line : LineStyle)
