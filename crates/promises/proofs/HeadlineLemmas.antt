@@ -80,7 +80,7 @@ flat : (f : Text → List Text) (texts : List Text) → flat_map f texts ≡ fla
 flat f [] = refl
 flat f (text ∷ texts) = ap (λ (lines : List Text). f text ++ lines) (flat f texts)
 
-lines_of_cell : (w d : ℕ) (cell : CellValue) → IsScalar d → All IsUtf8 cell.text_lines → AreLinesOfCell w d cell (cell_lines w d cell)
+pub lines_of_cell : (w d : ℕ) (cell : CellValue) → IsScalar d → All IsUtf8 cell.text_lines → AreLinesOfCell w d cell (cell_lines w d cell)
 lines_of_cell w d cell scalar utf8 = (map (lines_of_text w d) cell.text_lines, all_lines w d scalar cell.text_lines utf8, flat (lines_of_text w d) cell.text_lines)
 
 -- and no other lines are

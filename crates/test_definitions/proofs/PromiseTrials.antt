@@ -638,7 +638,7 @@ changed_line table (above, added, widths, before, after) = by_above above (optio
 
 -- false: promises::headline
 no_lines_are_no_table : ¬ (IsHeadline (table_of "3 mai" "oats") [])
-no_lines_are_no_table is = cc (is.unstyled refl refl ∙ is.is_plain.framed.drawn)
+no_lines_are_no_table is = cc (is.unstyled refl refl ∙ is.is_plain.framed.frame.drawn)
 
 -- ---- tables that don't meet the conditions
 
