@@ -13,6 +13,7 @@ mod EncodingTrials
 mod HeadlineTrials
 mod HiddenColumnTrials
 mod InputTrials
+mod KeptTrials
 mod LawTrials
 mod MarkdownLineTrials
 mod NumberLawTrials
