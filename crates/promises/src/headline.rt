@@ -6,8 +6,8 @@ ghost use Rattle.promises.specs.Headline.{IsHeadline};
 use comfy_table::{Lines, Result, Table};
 
 /// A table draws frame lines, and rows of its shown cells' text lines between spaces and borders. A
-/// row has as many lines as its highest cell. SGR sequences are in these spaces alone, if styles are
-/// written and the cell has a colour or an attribute. With `custom_styling` a text is what is
+/// row has as many lines as its highest cell. SGR sequences are in these spaces alone, if styles
+/// are written and the cell has a colour or an attribute. With `custom_styling` a text is what is
 /// visible of it, and sequences may be in it.
 ///
 /// A text line that fits its column is one line, an empty one too. Any other is cut where texts
@@ -19,8 +19,8 @@ use comfy_table::{Lines, Result, Table};
 /// If the width is set, or is the terminal's, and no column has a constraint but `Hidden`, each
 /// column is as wide as its widest text if all have room, or wider under `DynamicFullWidth`. If not
 /// all have room, there is a level, which is at least an even share of it. A column whose widest
-/// text is at most the level is as wide as this text. Any other is at least as wide as the level, or
-/// has room for its lines at such a width. A frame line counts at most as many characters as the
+/// text is at most the level is as wide as this text. Any other is at least as wide as the level,
+/// or has room for its lines at such a width. A frame line counts at most as many characters as the
 /// width under `Dynamic`, or as borders, paddings and one for each column. Under `DynamicFullWidth`
 /// it counts exactly as many, if a column is shown. Rows of printable ASCII count the same.
 pub fn headline(table: &Table) -> Result<Lines>
