@@ -152,7 +152,7 @@ room_for_texts table w =
     w - (border_count table.style (length (shown_columns table))
     + sum (widths_shown table (λ i. 0)))
 
--- a column is as wide as a text, or at least as wide, if it is widened
+-- a column is as wide as a text, or at least as wide, if all columns may be widened
 abbrev pub IsAsWide : Bool → ℕ → ℕ → Type 0
 IsAsWide false text width = width ≡ text
 IsAsWide true text width = text ≤ width
@@ -189,14 +189,14 @@ pub record IsPlainDrawing (table : TableValue) (lines : List Text) : Type 0 wher
   pub by_content : (table.arrangement ≡ Disabled) ⊎ (table_width table ≡ None)
       → All (λ (p : ℕ × ColumnValue). p.1.constraint ≡ None → framed.width p.0 ≡ widest table p.0)
       (shown_columns table)
-  -- so is each where a width is kept that has room for all texts; with full width it may be wider
+  -- so is each if a width is kept that has room for all texts, or wider under `DynamicFullWidth`
   pub keeps_contents : (w : ℕ) → table_width table ≡ Some w → NoConstraints table
       → table.arrangement ≢ Disabled
       → border_count table.style (length (shown_columns table))
       + sum (widths_shown table (widest table)) ≤ w
       → All (λ (p : ℕ × ColumnValue). IsAsWide (is_full_width table.arrangement)
       (widest table p.0) (framed.width p.0)) (shown_columns table)
-  -- if it has no such room, columns keep to a level, which is at least an even share of the room
+  -- if it has room for some alone, columns keep to a level, at least an even share of the room
   pub keeps_to_level : (w : ℕ) → table_width table ≡ Some w → NoConstraints table
       → table.arrangement ≢ Disabled
       → (level : ℕ) × (room_for_texts table w / length (shown_columns table) ≤ level)

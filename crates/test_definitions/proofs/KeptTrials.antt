@@ -1,7 +1,7 @@
 -- Drawings that are near one of a table, and lose or change a text, or its place.
 use Rattle.std.proofs.Common.{◌≡◌, ◌==◌, ◌<◌, ◌≤◌, ◌+◌, inl, inr, ℕ, zero, suc, false, not, List, [], ◌∷◌, ◌++◌, ◌∙◌, Option, Some, None, length, length-append, max, map, filter, flat_map, append-nil, append_assoc, codes, refl, sym, ap, ap₂, subst, arith, slice_index_or, unwrap_or}
 use Rattle.std.specs.List.{All, AllZip, join_by, slice_get}
-use Rattle.std.specs.Prelude.{MatchOption, encode_utf8_all, option_map, replicate}
+use Rattle.std.specs.Prelude.{slice_index, MatchOption, encode_utf8_all, option_map, replicate}
 use lib.Utf8.{encode}
 use Rattle.std.proofs.lemmas.List.Elements.{All-from_recursion, filter-append}
 use Rattle.std.proofs.lemmas.Str.{encode_ascii}
@@ -80,9 +80,13 @@ pair first second = plain_row (plain_cell first ∷ plain_cell second ∷ [])
 abbrev place : ℕ → ℕ × ColumnValue
 place i = (i, new_column i)
 
+-- a row of two texts
+abbrev row_table : Text → Text → TableValue
+row_table first second = with_rows (pair first second ∷ []) (new_table ascii_full)
+
 -- 12.80 is in the second column, and the first is blank
 abbrev amount : TableValue
-amount = with_rows (pair [] (codes "12.80") ∷ []) (new_table ascii_full)
+amount = row_table [] (codes "12.80")
 
 -- what a line of two pieces is without its spaces
 squeezed-line : (line p q first second : Text) → line ≡ content_line ascii_full ascii_full.content_lines (p ∷ q ∷ []) → squeezed p ≡ squeezed first → squeezed q ≡ squeezed second
@@ -105,43 +109,55 @@ line_of_parts width parts first second line one other (p ∷ q ∷ r ∷ pieces)
 line_of_parts width parts first second line one other (p ∷ q ∷ []) zip is =
     squeezed-line line p q first second is (squeezed-piece (new_column 0) (width 0) (slice_index_or (parts (place 0)) 0 []) p zip.0 ∙ one) (squeezed-piece (new_column 1) (width 1) (slice_index_or (parts (place 1)) 0 []) q zip.1.0 ∙ other)
 
--- a block of one line shows the row's texts, in their columns
-row_line : (width : ℕ → ℕ) (line : Text) → ShowsRow amount width ascii_full.content_lines (pair [] (codes "12.80")) (line ∷ []) → squeezed line ≡ codes "||12.80|"
-row_line width line own = let here = own.shown.drawn 0 (omega arith) in line_of_parts width own.slices [] (codes "12.80") line blank text here.0 here.1 here.2
-  where
-    high : 1 ≡ max (length (own.slices (place 0))) (max (length (own.slices (place 1))) 0)
-    high = own.shown.as_high
+-- two texts of one line
+module _ (first second : Text) (one_text : (plain_cell first).text_lines ≡ first ∷ []) (other_text : (plain_cell second).text_lines ≡ second ∷ []) where
+  -- both without their spaces, in their columns
+  abbrev shown : Text
+  shown = codes "|" ++ (squeezed first ++ (codes "|" ++ (squeezed second ++ codes "|")))
 
-    blank : squeezed (slice_index_or (own.slices (place 0)) 0 []) ≡ []
-    blank = one_slice [] (own.slices (place 0)) (omega (arith, high)) (own.are_slices refl 0 (place 0) (omega arith))
+  -- a block of one line shows the row's texts, in their columns
+  row_line : (width : ℕ → ℕ) (line : Text) → ShowsRow (row_table first second) width ascii_full.content_lines (pair first second) (line ∷ []) → squeezed line ≡ shown
+  row_line width line own = let here = own.shown.drawn 0 (omega arith) in line_of_parts width own.slices first second line left right here.0 here.1 here.2
+    where
+      high : 1 ≡ max (length (own.slices (place 0))) (max (length (own.slices (place 1))) 0)
+      high = own.shown.as_high
 
-    text : squeezed (slice_index_or (own.slices (place 1)) 0 []) ≡ codes "12.80"
-    text = one_slice (codes "12.80") (own.slices (place 1)) (omega (arith, high)) (own.are_slices refl 1 (place 0) (omega arith))
+      of_text : (text : Text) (texts : List Text) → texts ≡ text ∷ [] → (slices : List Text) → (of_texts : List (List Text)) × AllZip (AreSlicesOf 0x20) texts of_texts × (slices ≡ flat_map (λ (of_text : List Text). of_text) of_texts) → AreOfText text slices
+      of_text text texts same slices (of_texts, zip, are) = (of_texts, subst (λ (ts : List Text). AllZip (AreSlicesOf 0x20) ts of_texts) same zip, are)
 
--- so does the line between two others
+      left : squeezed (slice_index_or (own.slices (place 0)) 0 []) ≡ squeezed first
+      left = one_slice first (own.slices (place 0)) (omega (arith, high)) (of_text first (plain_cell first).text_lines one_text (own.slices (place 0)) (own.are_slices refl 0 (place 0) (omega arith)))
+
+      right : squeezed (slice_index_or (own.slices (place 1)) 0 []) ≡ squeezed second
+      right = one_slice second (own.slices (place 1)) (omega (arith, high)) (of_text second (plain_cell second).text_lines other_text (own.slices (place 1)) (own.are_slices refl 1 (place 0) (omega arith)))
+
+  -- so does the line between two others
+  line_between : (top line bottom : Text) → AreShown (ShowsRow (row_table first second)) (row_table first second) (top ∷ line ∷ bottom ∷ []) → squeezed line ≡ shown
+  line_between top line bottom (width, is) = by_rows is.rows is.are_rows (is.drawn ∙ ap (λ (header : List Text). border ∷ (header ++ (join_by (λ (block : List Text). block) (separator ∷ []) is.rows ++ last ∷ []))) is.is_header)
+    where
+      border : Text
+      border = frame_line ascii_full ascii_full.top_border (widths_shown (row_table first second) width)
+
+      separator : Text
+      separator = frame_line ascii_full ascii_full.row_separator (widths_shown (row_table first second) width)
+
+      last : Text
+      last = frame_line ascii_full ascii_full.bottom_border (widths_shown (row_table first second) width)
+
+      alone : (block : List Text) → line ∷ bottom ∷ [] ≡ (block ++ []) ++ last ∷ [] → block ≡ line ∷ []
+      alone [] made = let few : 2 ≡ 1 = ap length made in absurd (omega (arith, few))
+      alone (x ∷ []) made = let same : line ≡ x = cc made in ap (λ (t : Text). t ∷ []) (sym same)
+      alone (x ∷ y ∷ block) made = let many = ap length made in absurd (omega (arith, many, length-append (block ++ []) (last ∷ [])))
+
+      by_rows : (rows : List (List Text)) → AllZip (ShowsRow (row_table first second) width ascii_full.content_lines) (pair first second ∷ []) rows → top ∷ line ∷ bottom ∷ [] ≡ border ∷ (join_by (λ (block : List Text). block) (separator ∷ []) rows ++ last ∷ []) → squeezed line ≡ shown
+      by_rows [] each made = absurd each
+      by_rows (block ∷ other ∷ rows) each made = absurd each.1
+      by_rows (block ∷ []) each made =
+          let own : line ∷ bottom ∷ [] ≡ (block ++ []) ++ last ∷ [] = cc made in
+          row_line width line (subst (ShowsRow (row_table first second) width ascii_full.content_lines (pair first second)) (alone block own) each.0)
+
 amount_line : (top line bottom : Text) → AreShown (ShowsRow amount) amount (top ∷ line ∷ bottom ∷ []) → squeezed line ≡ codes "||12.80|"
-amount_line top line bottom (width, is) = by_rows is.rows is.are_rows (is.drawn ∙ ap (λ (header : List Text). border ∷ (header ++ (join_by (λ (block : List Text). block) (separator ∷ []) is.rows ++ last ∷ []))) is.is_header)
-  where
-    border : Text
-    border = frame_line ascii_full ascii_full.top_border (widths_shown amount width)
-
-    separator : Text
-    separator = frame_line ascii_full ascii_full.row_separator (widths_shown amount width)
-
-    last : Text
-    last = frame_line ascii_full ascii_full.bottom_border (widths_shown amount width)
-
-    alone : (block : List Text) → line ∷ bottom ∷ [] ≡ (block ++ []) ++ last ∷ [] → block ≡ line ∷ []
-    alone [] made = let few : 2 ≡ 1 = ap length made in absurd (omega (arith, few))
-    alone (x ∷ []) made = let same : line ≡ x = cc made in ap (λ (t : Text). t ∷ []) (sym same)
-    alone (x ∷ y ∷ block) made = let many = ap length made in absurd (omega (arith, many, length-append (block ++ []) (last ∷ [])))
-
-    by_rows : (rows : List (List Text)) → AllZip (ShowsRow amount width ascii_full.content_lines) (pair [] (codes "12.80") ∷ []) rows → top ∷ line ∷ bottom ∷ [] ≡ border ∷ (join_by (λ (block : List Text). block) (separator ∷ []) rows ++ last ∷ []) → squeezed line ≡ codes "||12.80|"
-    by_rows [] each made = absurd each
-    by_rows (block ∷ other ∷ rows) each made = absurd each.1
-    by_rows (block ∷ []) each made =
-        let own : line ∷ bottom ∷ [] ≡ (block ++ []) ++ last ∷ [] = cc made in
-        row_line width line (subst (ShowsRow amount width ascii_full.content_lines (pair [] (codes "12.80"))) (alone block own) each.0)
+amount_line top line bottom is = line_between [] (codes "12.80") refl refl top line bottom is
 
 -- texts that are shown unchanged are shown
 whole_row : (table : TableValue) (width : ℕ → ℕ) (borders : ContentLineStyle) (row : RowValue) (block : List Text) → ShowsWholeRow table width borders row block → ShowsRow table width borders row block
@@ -187,7 +203,15 @@ other_whole_column top bottom is = other_column top bottom (whole_is_shown _ is)
 no_border : (top bottom : Text) → ¬ (AreShown (ShowsRow amount) amount (top ∷ codes "|    12.80 |" ∷ bottom ∷ []))
 no_border top bottom is = let letter : ◌≡◌ {A = ℕ} 0x31 0x7C = cc (amount_line top (codes "|    12.80 |") bottom is) in absurd (omega (arith, letter))
 
--- a sequence, where styles aren't written
+no_border_between_texts : (top bottom : Text) → ¬ (AreShown (ShowsRow (row_table (codes "7") (codes "12.80"))) (row_table (codes "7") (codes "12.80")) (top ∷ codes "| 7  12.80 |" ∷ bottom ∷ []))
+no_border_between_texts top bottom is =
+    let same : codes "|712.80|" ≡ codes "|7|12.80|" = line_between (codes "7") (codes "12.80") refl refl top (codes "| 7  12.80 |") bottom is in
+    let letter : 0x31 ≡ 0x7C = ap (λ (t : Text). slice_index t 2) same in absurd (omega (arith, letter))
+
+-- a sequence inside the text, or beside it, where styles aren't written
+coloured_digits : (top bottom : Text) → ¬ (AreShown (ShowsRow amount) amount (top ∷ codes "|  | 12\u{1b}[31m.80 |" ∷ bottom ∷ []))
+coloured_digits top bottom is = let letter : ◌≡◌ {A = ℕ} 0x1B 0x2E = cc (amount_line top (codes "|  | 12\u{1b}[31m.80 |") bottom is) in absurd (omega (arith, letter))
+
 coloured_amount : (top bottom : Text) → ¬ (AreShown (ShowsRow amount) amount (top ∷ codes "|  | \u{1b}[31m12.80 |" ∷ bottom ∷ []))
 coloured_amount top bottom is = let letter : ◌≡◌ {A = ℕ} 0x1B 0x31 = cc (amount_line top (codes "|  | \u{1b}[31m12.80 |") bottom is) in absurd (omega (arith, letter))
 
