@@ -551,16 +551,27 @@ a_character_a_line lines many headline = by_level level.0 level.1 (level.2 0 pla
             by_wide (inl high) = nine_wide (omega (arith, high, least, within))
             by_wide (inr (w, high, each)) = let enough = lines_at w (omega (arith, high, least)) each in nine_wide (omega (arith, enough, within))
 
+five_and_one : (measure (codes "hello") ≡ 5) × (measure (codes "x") ≡ 1)
+unfolding wrapping
+five_and_one = (refl, refl)
+
+-- nor is a narrow column broken beside a long text
+abbrev beside_a_long_text : TableValue
+beside_a_long_text = with_rows (plain_row (plain_cell (codes "hello") ∷ plain_cell (codes "abcdefghijklmnopqrstuvwxyzabcd") ∷ []) ∷ []) (record (new_table nothing) { arrangement = Dynamic; set_width = Some 30 })
+
+broken_column : (lines : List Text) (is : IsPlainDrawing beside_a_long_text lines) → ¬ (is.framed.width 0 ≡ 1)
+broken_column lines is one =
+    let level : (level : ℕ) × (13 ≤ level) × All (KeepsToLevel beside_a_long_text is.framed.width level) (shown_columns beside_a_long_text) =
+    is.keeps_to_level 30 refl (All-from_recursion (λ (p : ℕ × ColumnValue). p.1.constraint ≡ None) (shown_columns beside_a_long_text) (refl, (refl, tt))) (λ same. cc same) in
+    let own = (level.2 0 place (omega arith)).narrow (omega (arith, five_and_one, level.1)) in
+    absurd (omega (arith, own, one, five_and_one))
+
 -- nor is a text torn that has room in a table of full width
 abbrev greeting : RowValue
 greeting = plain_row (plain_cell (codes "hello") ∷ plain_cell (codes "x") ∷ [])
 
 abbrev full_table : TableValue
 full_table = with_rows (greeting ∷ []) (record (new_table nothing) { arrangement = DynamicFullWidth; set_width = Some 80 })
-
-five_and_one : (measure (codes "hello") ≡ 5) × (measure (codes "x") ≡ 1)
-unfolding wrapping
-five_and_one = (refl, refl)
 
 torn_at_full_width : (lines : List Text) → length lines ≡ 5 → ¬ (IsHeadline full_table lines)
 torn_at_full_width lines many headline = by_rows is.framed.frame.rows is.framed.frame.are_rows (is.framed.frame.drawn ∙ ap (λ (header : List Text). header ++ (join_by (λ (block : List Text). block) [] is.framed.frame.rows ++ [])) is.framed.frame.is_header)
