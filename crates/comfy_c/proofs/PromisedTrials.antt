@@ -82,7 +82,7 @@ unfolding encode
 line_of_plain lines is =
     record {
       w = 0 + is.framed.width 0 + 0;
-      are = by_rows is.framed.rows is.framed.are_rows is.framed.drawn ∙ ap (λ (line : Text). line ∷ []) line_is;
+      are = by_rows is.framed.frame.rows is.framed.frame.are_rows is.framed.frame.drawn ∙ ap (λ (line : Text). line ∷ []) line_is;
       keeps =
           let total : count top ≡ is.total = is.frame_total (own_style settings).top_border in
           let kept : is.total ≤ 3 = is.keeps_to_width 3 refl unconstrained refl in
@@ -99,8 +99,8 @@ line_of_plain lines is =
     unconstrained : All (λ (p : ℕ × ColumnValue). p.1.constraint ≡ None) (shown_columns the_table)
     unconstrained = All-from_recursion (λ (p : ℕ × ColumnValue). p.1.constraint ≡ None) (shown_columns the_table) (refl, tt)
 
-    by_rows : (rows : List (List Text)) → AllZip (AreLinesOfRow the_table is.framed.width is.framed.cell_lines (own_style settings).content_lines) [] rows → lines ≡ (top ∷ []) ++ (is.framed.header ++ (join_by (λ block. block) [] rows ++ [])) → lines ≡ top ∷ []
-    by_rows [] each drawn = drawn ∙ ap (λ (header : List Text). (top ∷ []) ++ (header ++ [])) is.framed.is_header
+    by_rows : (rows : List (List Text)) → AllZip (AreLinesOfRow the_table is.framed.width is.framed.cell_lines (own_style settings).content_lines) [] rows → lines ≡ (top ∷ []) ++ (is.framed.frame.header ++ (join_by (λ block. block) [] rows ++ [])) → lines ≡ top ∷ []
+    by_rows [] each drawn = drawn ∙ ap (λ (header : List Text). (top ∷ []) ++ (header ++ [])) is.framed.frame.is_header
     by_rows (block ∷ rows) each drawn = absurd each
 
 line_of : (bytes : Text) (is : Shows bytes) → IsTheLine is.lines

@@ -68,7 +68,7 @@ pub record IsDrawingOf (look : Look) (has_header : Bool) (rows : List (List Text
   pub framed : IsFramedTable table lines
   pub in_bold : AllZip IsInBold framed.plain lines
   -- if there is a header, nothing below it is in bold
-  pub plain_rows : has_header ≡ true → framed.frame.rows ≡ framed.is_plain.rows
+  pub plain_rows : has_header ≡ true → framed.frame.rows ≡ framed.is_plain.frame.rows
   pub unstyled : look.has_bold_header ≡ false → lines ≡ framed.plain
 
 -- a text shows rows of fields in a table; or nothing, where there are none

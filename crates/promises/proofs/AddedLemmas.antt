@@ -1,5 +1,5 @@
 -- What a further row leaves as it was.
-use Rattle.std.proofs.Common.{◌≡◌, ◌<◌, ◌≤◌, ℕ, zero, suc, Bool, true, false, List, [], ◌∷◌, Option, Some, None, length, map, sym, ap, ◌∙◌, subst, arith, slice_index_or}
+use Rattle.std.proofs.Common.{◌≡◌, ◌<◌, ◌≤◌, ℕ, zero, suc, Bool, false, List, [], ◌∷◌, Option, Some, None, length, map, sym, ap, ◌∙◌, subst, arith, slice_index_or}
 use Rattle.std.specs.List.{cons_option, filter_map, slice_get}
 use Rattle.std.specs.Prelude.{if◌then◌else◌}
 use Rattle.comfy_parts.specs.CellValue.{CellValue, RowValue}

@@ -1,17 +1,18 @@
 -- Every drawing is one of frame lines and of rows of padded lines.
-use Rattle.std.proofs.Common.{◌≡◌, ◌⊎◌, inl, inr, ◌<◌, ◌≤◌, ℕ, zero, suc, ◌+◌, ◌-◌, Bool, true, false, List, [], ◌∷◌, ◌++◌, Option, Some, None, length, map, flat_map, refl, sym, ap, ◌∙◌, subst, arith, append_assoc, append-nil, length-append, slice_index_or, unwrap_or, max, nat_le, codes, sum, sum_by}
+use Rattle.std.proofs.Common.{eq-zero-or-pos, ◌≢◌, ◌/◌, ap₂, ◌&&◌, ◌||◌, is_some, ◌≡◌, ◌⊎◌, inl, inr, ◌<◌, ◌≤◌, ℕ, zero, suc, ◌+◌, ◌-◌, Bool, true, false, List, [], ◌∷◌, ◌++◌, Option, Some, None, length, map, flat_map, refl, sym, ap, ◌∙◌, subst, arith, append_assoc, append-nil, length-append, slice_index_or, unwrap_or, max, nat_le, codes, sum, sum_by}
 use Rattle.std.specs.Char.{IsScalar}
 use Rattle.std.specs.List.{All, AllZip, filter_map, join_by, slice_get}
-use Rattle.std.specs.Prelude.{if◌then◌else◌, option_map, slice_index, MatchOption}
+use Rattle.std.specs.Prelude.{nat_lt, if◌then◌else◌, option_map, slice_index, MatchOption}
 use Rattle.std.specs.Str.{IsUtf8}
-use Rattle.std.proofs.lemmas.Bool.{cond_both}
+use Rattle.std.proofs.lemmas.Bool.{cond_both, or_parts}
 use Rattle.std.proofs.lemmas.Bool.Decides.{nat_tests}
 use Rattle.std.proofs.lemmas.List.{length-map}
 use Rattle.std.proofs.lemmas.List.Sums.{sum_by-cons}
-use Rattle.std.proofs.lemmas.List.Elements.{All-head, All-map, All-tail, All-weaker}
+use Rattle.std.proofs.lemmas.List.Elements.{All-cons, All-from_recursion, All-head, All-nil, recursion_from_All, All-map, All-tail, All-weaker}
 use Rattle.std.proofs.lemmas.Simd.{map-map}
-use Rattle.comfy_parts.proofs.CallerLemmas.{All-found, All-same_map, BeginsWithSequence, begins_with_sequence, fitting_characters_fit, front_of, join_by-map, measure-nil, parts-visible, text_lines_fit, wrapped_is_wrapped}
+use Rattle.comfy_parts.proofs.CallerLemmas.{All-given, every-parts, All-found, All-same_map, BeginsWithSequence, begins_with_sequence, fitting_characters_fit, front_of, join_by-map, measure-nil, parts-visible, text_lines_fit, wrapped_is_wrapped}
 use Rattle.comfy_parts.proofs.LinesFitLemmas.{IsFittingLine}
+use Rattle.comfy_parts.proofs.WrappingLemmas.{wrapped_is_one}
 use Rattle.comfy_parts.proofs.SequenceLemmas.{sequences_are_taken_out}
 use Rattle.comfy_parts.specs.CellValue.{CellValue, ColumnInfo, ColumnValue, RowValue, info_of, info_width}
 use Rattle.comfy_parts.specs.Text.{AddsOneColumnEach, Text, greatest, measure, spaces}
@@ -23,28 +24,33 @@ use Rattle.comfy_parts.specs.declared.style.table.ContentArrangement.TheVariants
 use Rattle.comfy_parts.specs.declared.style.table.ContentArrangement.TheVariants.{Disabled}
 use Rattle.comfy_parts.specs.declared.style.table_style.ContentLineStyle.{ContentLineStyle}
 use Rattle.comfy_table.proofs.CutLemmas.{map-cut}
-use Rattle.comfy_table.proofs.DrawnWidthLemmas.{fills_width, keeps_to_width}
+use Rattle.comfy_table.proofs.DrawnWidthLemmas.{dynamic_widths, fills_width, keeps_to_width, unconstrained_shown}
 use Rattle.comfy_table.proofs.KeptDrawingLemmas.{keeps_drawing}
 use Rattle.comfy_table.proofs.OneDrawingLemmas.{arranged_is_one}
 use Rattle.comfy_table.proofs.SpaceLemmas.{free_before-le, padded-is, spaces-append}
 use Rattle.comfy_table.proofs.StyledLemmas.{KeptByDrawing, keeps_style_begin, keeps_style_end}
-use Rattle.comfy_table.proofs.TableLemmas.{frame_counts, table_keeps_contents}
+use Rattle.comfy_table.proofs.TableLemmas.{frame_counts}
+use Rattle.comfy_table.proofs.ThreePlacesLemmas.{every-le-greatest}
+use Rattle.comfy_table.proofs.UnconstrainedLemmas.{content_room-unconstrained}
 use Rattle.comfy_table.specs.Arrangement.{is_full_width, room_beside_borders, width_kept, widths_at}
 use Rattle.comfy_table.specs.Drawing.{drawing, drawn_header, drawn_row, infos_of, outer_widths}
-use Rattle.comfy_table.specs.Dynamic.{IsDynamicLayout}
+use Rattle.comfy_table.specs.Dynamic.{IsDynamicLayout, content_room}
+use Rattle.comfy_table.specs.Levels.{IsUnconstrained}
+use Rattle.comfy_table.specs.TableLaws.{shown_contents}
 use Rattle.comfy_table.specs.Frame.{frame_line, optional_frame_line}
 use Rattle.comfy_table.specs.Headline.{IsTableDrawing}
-use Rattle.comfy_table.specs.Laws.{AddsOneColumnEachWhereWritten, HasPrintableCells, IsPrintableCell, IsPrintableTable, count, line_total, unstyled}
-use Rattle.comfy_table.specs.Lines.{as_measured, cell_delimiter, cell_lines, cut_line, cut_text, cut_to_limit, fitting_indicator, uncut_lines}
+use Rattle.comfy_table.specs.Laws.{NoConstraints, AddsOneColumnEachWhereWritten, HasPrintableCells, IsPrintableCell, IsPrintableTable, count, line_total, unstyled}
+use Rattle.comfy_table.specs.Lines.{longest_line, as_measured, cell_delimiter, cell_lines, cut_line, cut_text, cut_to_limit, fitting_indicator, uncut_lines}
 use Rattle.comfy_table.specs.Parts.{ArrangedValue, IsArrangedTable}
 use Rattle.comfy_table.specs.Pieces.{blank_piece, cell_alignment, free_before, free_places, padded, piece, pieces_of_optional, row_cell_lines, shown_infos}
 use Rattle.comfy_table.specs.Styling.{style_begin, style_end, styled}
 use Rattle.comfy_table.specs.TableValue.{TableValue, column_content_width, column_cells, header_and_rows, measured_rows, measured_table, should_style, shown_columns, table_width}
 use Rattle.comfy_table.specs.Widths.{ColumnNeeds, disabled_width, needs_of, shown_needs}
 use Rattle.promises.proofs.DrawnColumnLemmas.{IsWholeAt, columns-drawn, drawn_column, infos-are, whole_at}
+use Rattle.promises.proofs.LevelLemmas.{KeepsLevel, contents_keep, level_keeps, zip_maps}
 use Rattle.promises.proofs.RowLemmas.{height, line_is, piece_in, width_by_content}
-use Rattle.promises.proofs.PieceLemmas.{uncoloured_lines, uncoloured_rows}
-use Rattle.promises.specs.Headline.{AreColumnsOf, AreContentLines, AreLinesOfCell, AreLinesOfHeader, AreLinesOfRow, AreLinesOfText, EachShownCell, IsAround, IsFramed, IsFramedDrawing, IsFramedTable, IsHeadline, IsPiece, IsPrintable, framed, lines_in, whole_width, widths_shown, IsUncoloured}
+use Rattle.promises.proofs.PieceLemmas.{uncoloured_lines, uncoloured_rows, uncoloured_text}
+use Rattle.promises.specs.Headline.{AreColumnsOf, AreContentLines, AreLinesOfCell, AreLinesOfParts, AreLinesOfRow, AreLinesOfText, AreSpaces, EachShownCell, IsFramedBy, IsFramedDrawing, IsFramedTable, IsHeadline, IsPiece, IsPrintable, framed, lines_in, whole_width, widths_shown, IsUncoloured, is_coloured, is_styled, IsAsWide, HasLinesWithin, room_for_texts}
 use Rattle.promises.specs.Shown.{IsStyled}
 use Rattle.promises.specs.Shown.IsStyled.{nothing, byte, sequence}
 
@@ -74,8 +80,40 @@ flat : (f : Text → List Text) (texts : List Text) → flat_map f texts ≡ fla
 flat f [] = refl
 flat f (text ∷ texts) = ap (λ (lines : List Text). f text ++ lines) (flat f texts)
 
-lines_of_cell : (w d : ℕ) (cell : CellValue) → IsScalar d → All IsUtf8 cell.text_lines → AreLinesOfCell w d cell (cell_lines w d cell)
+pub lines_of_cell : (w d : ℕ) (cell : CellValue) → IsScalar d → All IsUtf8 cell.text_lines → AreLinesOfCell w d cell (cell_lines w d cell)
 lines_of_cell w d cell scalar utf8 = (map (lines_of_text w d) cell.text_lines, all_lines w d scalar cell.text_lines utf8, flat (lines_of_text w d) cell.text_lines)
+
+-- and no other lines are
+lines_are_one : (w d : ℕ) → IsScalar d → (texts : List Text) (of_texts : List (List Text)) → AllZip (AreLinesOfText w d) texts of_texts → of_texts ≡ map (lines_of_text w d) texts
+lines_are_one w d scalar [] [] zip = refl
+lines_are_one w d scalar [] (own ∷ of_texts) zip = absurd zip
+lines_are_one w d scalar (text ∷ texts) [] zip = absurd zip
+lines_are_one w d scalar (text ∷ texts) (own ∷ of_texts) zip = ap₂ (λ (a : List Text) (b : List (List Text)). a ∷ b) (by_test (nat_le (measure text) w) refl) (lines_are_one w d scalar texts of_texts zip.1)
+  where
+    by_test : (b : Bool) → nat_le (measure text) w ≡ b → own ≡ (if b then text ∷ [] else wrapped w d text)
+    by_test true room = let fits : measure text ≤ w = grind (arith, nat_tests, room) in zip.0.whole fits
+    by_test false wide = let tall : w < measure text = grind (arith, nat_tests, wide) in wrapped_is_one w d text own scalar (zip.0.slices tall)
+
+-- what holds of all elements of lists holds of those of each
+flat_parts : {X Y : Type 0} (P : Y → Type 0) (f : X → List Y) (xs : List X) → All P (flat_map f xs) → All (λ x. All P (f x)) xs
+flat_parts P f [] each = All-nil (λ x. All P (f x))
+flat_parts P f (x ∷ xs) each =
+    let both = every-parts P (f x) (flat_map f xs) (recursion_from_All P (flat_map f (x ∷ xs)) each) in
+    All-cons (λ y. All P (f y)) x xs (All-from_recursion P (f x) both.0) (flat_parts P f xs (All-from_recursion P (flat_map f xs) both.1))
+
+-- the longest line of a column at a width says how wide its lines are
+lines_within : (table : TableValue) (p : ℕ × ColumnValue) (b n : ℕ) → longest_line table p.0 p.1.delimiter b ≤ n
+    → All (λ (row : RowValue). (cell : CellValue) → slice_get row.cells p.0 ≡ Some cell → IsScalar (cell_delimiter table p.1.delimiter cell)) (measured_rows table) → HasLinesWithin (measured_table table) p b n
+lines_within table p b n long scalar k default under cell lines found are =
+    let d = cell_delimiter table p.1.delimiter cell in
+    let all = All-weaker (λ line. measure line ≤ longest_line table p.0 p.1.delimiter b) (λ line. measure line ≤ n) (λ line own. omega (arith, own, long)) its_lines (All-from_recursion (λ line. measure line ≤ longest_line table p.0 p.1.delimiter b) its_lines (every-le-greatest measure its_lines)) in
+    let own = All-given (λ (c : CellValue). All (λ line. measure line ≤ n) (cell_lines b (cell_delimiter table p.1.delimiter c) c)) (λ (row : RowValue). slice_get row.cells p.0) (measured_rows table)
+    (flat_parts (λ line. measure line ≤ n) (λ (c : CellValue). cell_lines b (cell_delimiter table p.1.delimiter c) c) (column_cells table p.0) all) k default under cell found in
+    let one = are.2 ∙ ap (flat_map (λ (of_text : List Text). of_text)) (lines_are_one b d (scalar k default under cell found) cell.text_lines are.0 are.1) ∙ sym (flat (lines_of_text b d) cell.text_lines) in
+    subst (All (λ line. measure line ≤ n)) (sym one) own
+  where
+    its_lines : List Text
+    its_lines = flat_map (λ (c : CellValue). cell_lines b (cell_delimiter table p.1.delimiter c) c) (column_cells table p.0)
 
 -- ---- styles
 
@@ -129,6 +167,26 @@ styled_kept =
 abbrev pub bare : TableValue → TableValue
 bare table = record table { custom_styling = false; no_tty = true; enforce_styling = false }
 
+-- a cell that isn't coloured has neither colours nor attributes
+uncoloured : (cell : CellValue) → is_coloured (Some cell) ≡ false → IsUncoloured cell
+uncoloured cell none =
+    let first = or_parts (is_some cell.foreground) (is_some cell.background || nat_lt 0 (length cell.attributes)) none in
+    let others = or_parts (is_some cell.background) (nat_lt 0 (length cell.attributes)) first.1 in
+    record { no_foreground = nothing_there cell.foreground first.0; no_background = nothing_there cell.background others.0; no_attributes = none_there cell.attributes others.1 }
+  where
+    nothing_there : {A : Type 0} (o : Option A) → is_some o ≡ false → o ≡ None
+    nothing_there None none = refl
+    nothing_there (Some x) none = absurd (cc none)
+
+    none_there : {A : Type 0} (xs : List A) → nat_lt 0 (length xs) ≡ false → xs ≡ []
+    none_there [] none = refl
+    none_there (x ∷ xs) none = absurd (grind (arith, nat_tests, none))
+
+-- spaces alone
+spaces_alone : (styles : Bool) (n : ℕ) → AreSpaces styles n (spaces n)
+spaces_alone true n = styled_same (spaces n)
+spaces_alone false n = refl
+
 module _ (table : TableValue) (widths : List ℕ) (long : length widths ≡ length table.columns) where
   -- the content of the column at a position
   abbrev pub content_at : ℕ → ℕ
@@ -142,120 +200,8 @@ module _ (table : TableValue) (widths : List ℕ) (long : length widths ≡ leng
   info_at p = info_of p.1 (slice_index widths p.0)
 
   -- the piece of a line
-  piece_is : (p : ℕ × ColumnValue) (cell : CellValue) (line : Text) → IsPiece p.1 (content_at p.0) line (padded cell (info_at p) (measure line) line)
-  piece_is p cell line =
-      let m = measure line in
-      let front = free_before (cell_alignment cell (info_at p)) (free_places (info_at p) m) in
-      let among = free_before-le (cell_alignment cell (info_at p)) (free_places (info_at p) m) in
-      record {
-        left = p.1.padding.0 + front;
-        right = free_places (info_at p) m - front + p.1.padding.1;
-        drawn = sym (padded-is cell (info_at p) m (p.1.padding.0 + front) (free_places (info_at p) m - front + p.1.padding.1) refl refl line);
-        padded = (omega arith, omega arith);
-        wide = omega (arith, among);
-      }
-
-  -- where there is no line
-  blank_is : (p : ℕ × ColumnValue) → IsPiece p.1 (content_at p.0) [] (blank_piece (info_at p))
-  blank_is p =
-      record {
-        left = p.1.padding.0 + content_at p.0;
-        right = p.1.padding.1;
-        drawn = sym (spaces-append (p.1.padding.0 + content_at p.0) p.1.padding.1);
-        padded = (omega arith, omega arith);
-        wide = omega (arith, measure-nil);
-      }
-
-  -- the lines of a cell, cut at the row's height
-  abbrev cut_at : RowValue → ℕ × ColumnValue → CellValue → List Text
-  cut_at row p cell = cut_to_limit (cut_text (content_at p.0) table.indicator) row.max_height (lines_at p cell)
-
-  row_lines-are : (row : RowValue) (p : ℕ × ColumnValue) (cell : CellValue) → row_cell_lines (bare table) row (info_at p) cell ≡ map as_measured (cut_at row p cell)
-  row_lines-are row p cell = sym (map-cut as_measured (cut_text (content_at p.0) table.indicator) (cut_line false (content_at p.0) table.indicator) row.max_height _ (λ line. refl))
-
-  -- the cut lines of an optional cell
-  abbrev cut_of : RowValue → ℕ × ColumnValue → Option CellValue → List Text
-  cut_of row p cell = unwrap_or (option_map (cut_at row p) cell) ([] ∷ [])
-
-  piece_at : (row : RowValue) (p : ℕ × ColumnValue) (cell : Option CellValue) (k : ℕ)
-      → IsPiece p.1 (content_at p.0) (slice_index_or (cut_of row p cell) k []) (slice_index_or (pieces_of_optional (bare table) row (info_at p) cell) k (blank_piece (info_at p)))
-  piece_at row p None zero = blank_is p
-  piece_at row p None (suc k) = blank_is p
-  piece_at row p (Some cell) k =
-      subst (λ (lines : List CellLine). IsPiece p.1 (content_at p.0) (slice_index_or (cut_at row p cell) k []) (slice_index_or (map (piece (bare table) cell (info_at p)) lines) k (blank_piece (info_at p))))
-      (sym (row_lines-are row p cell)) (by_lines (cut_at row p cell) k)
-    where
-      by_lines : (lines : List Text) (k : ℕ) → IsPiece p.1 (content_at p.0) (slice_index_or lines k []) (slice_index_or (map (piece (bare table) cell (info_at p)) (map as_measured lines)) k (blank_piece (info_at p)))
-      by_lines [] k = blank_is p
-      by_lines (line ∷ lines) zero = piece_is p cell line
-      by_lines (line ∷ lines) (suc k) = by_lines lines k
-
-  -- a cell has as many lines as pieces
-  as_many : (row : RowValue) (p : ℕ × ColumnValue) (cell : Option CellValue) → length (pieces_of_optional (bare table) row (info_at p) cell) ≡ length (cut_of row p cell)
-  as_many row p None = refl
-  as_many row p (Some cell) =
-      length-map (row_cell_lines (bare table) row (info_at p) cell) (piece (bare table) cell (info_at p)) ∙ ap length (row_lines-are row p cell) ∙ length-map (cut_at row p cell) as_measured
-
-  module _ (border : ContentLineStyle) (row : RowValue) where
-    abbrev lines_drawn : List Text
-    lines_drawn = drawn_row (bare table) (infos_of table widths) border row
-
-    as_high : length lines_drawn ≡ greatest (map (λ (p : ℕ × ColumnValue). length (lines_in table content_at lines_at row p)) (shown_columns table))
-    as_high =
-        height (bare table) widths long border row
-        ∙ (λ i. greatest (map (λ (p : ℕ × ColumnValue). as_many row p (slice_get row.cells p.0) i) (shown_columns table)))
-
-    -- the pieces of some columns
-    pieces_are : (k : ℕ) (ps : List (ℕ × ColumnValue))
-        → AllZip (λ (p : ℕ × ColumnValue) piece. IsPiece p.1 (content_at p.0) (slice_index_or (lines_in table content_at lines_at row p) k []) piece) ps (map (piece_in (bare table) widths long border row k) ps)
-    pieces_are k [] = tt
-    pieces_are k (p ∷ ps) = (piece_at row p (slice_get row.cells p.0) k, pieces_are k ps)
-
-    pub row_is : AreLinesOfRow table content_at lines_at border row lines_drawn
-    row_is =
-        record {
-          as_high = as_high;
-          drawn = λ k below. (map (piece_in (bare table) widths long border row k) (shown_columns table), pieces_are k (shown_columns table), line_is (bare table) widths long border row k below);
-        }
-
-  -- ---- the whole drawing
-
-  abbrev infos : List ColumnInfo
-  infos = infos_of table widths
-
-  widths_are : outer_widths infos ≡ widths_shown table content_at
-  widths_are =
-      ap (map (λ (p : ℕ × ColumnInfo). info_width p.1)) (columns-drawn table widths long)
-      ∙ map-map (λ (p : ℕ × ColumnInfo). info_width p.1) (drawn_column widths) (shown_columns table)
-
-  -- rows, each as its lines
-  rows_are : (rows : List RowValue) → AllZip (AreLinesOfRow table content_at lines_at table.style.content_lines) rows (map (drawn_row (bare table) infos table.style.content_lines) rows)
-  rows_are [] = tt
-  rows_are (row ∷ rows) = (row_is table.style.content_lines row, rows_are rows)
-
-  header_is : (header : Option RowValue) → AreLinesOfHeader table content_at lines_at header (drawn_header (bare table) infos header)
-  header_is None = refl
-  header_is (Some header) = (
-    drawn_row (bare table) infos table.style.header_lines header,
-    row_is table.style.header_lines header,
-    ap (λ ws. drawn_row (bare table) infos table.style.header_lines header ++ optional_frame_line table.style table.style.header_separator ws) widths_are,
-  )
-
-  pub drawing_is : drawing (bare table) widths ≡ framed table content_at table.style.top_border
-      ++ (drawn_header (bare table) infos table.header ++ (join_by (λ block. block) (framed table content_at table.style.row_separator) (map (drawn_row (bare table) infos table.style.content_lines) table.rows)
-      ++ framed table content_at table.style.bottom_border))
-  drawing_is =
-      ap (λ (rows : List Text). optional_frame_line table.style table.style.top_border (outer_widths infos) ++ (drawn_header (bare table) infos table.header ++ (rows ++ optional_frame_line table.style table.style.bottom_border (outer_widths infos))))
-      (sym (join_by-map (λ (block : List Text). block) (drawn_row (bare table) infos table.style.content_lines) (optional_frame_line table.style table.style.row_separator (outer_widths infos)) table.rows))
-      ∙ ap (λ ws. optional_frame_line table.style table.style.top_border ws ++ (drawn_header (bare table) infos table.header
-      ++ (join_by (λ (block : List Text). block) (optional_frame_line table.style table.style.row_separator ws) (map (drawn_row (bare table) infos table.style.content_lines) table.rows) ++ optional_frame_line table.style table.style.bottom_border ws)))
-      widths_are
-
-  -- ---- the table itself, with styles
-
-  -- the piece of a line
-  around_is : (p : ℕ × ColumnValue) (cell : CellValue) (line : Text) → IsAround line (piece table cell (info_at p) (as_measured line))
-  around_is p cell line = by_tests (should_style table) table.style_text_only
+  piece_is : (p : ℕ × ColumnValue) (cell : CellValue) (line : Text) → IsPiece (should_style table && is_coloured (Some cell)) p.1 (content_at p.0) line (piece table cell (info_at p) (as_measured line))
+  piece_is p cell line = by_tests (should_style table) table.style_text_only (is_coloured (Some cell)) refl
     where
       m : ℕ
       m = measure line
@@ -278,95 +224,134 @@ module _ (table : TableValue) (widths : List ℕ) (long : length widths ≡ leng
       end : IsStyled [] (style_end cell)
       end = keeps_style_end Any IsStyled styled_kept cell
 
-      by_tests : (styles text_only : Bool) → IsAround line (if styles then (if text_only then padded cell (info_at p) m (styled cell line) else styled cell (padded cell (info_at p) m line)) else padded cell (info_at p) m line)
-      by_tests true true =
-          record {
-            before = spaces left ++ style_begin cell;
-            after = style_end cell ++ spaces right;
-            drawn =
-                sym (padded_is (styled cell line))
-                ∙ ap (λ (t : Text). spaces left ++ t) (append_assoc (style_begin cell) (line ++ style_end cell) (spaces right) ∙ ap (λ (t : Text). style_begin cell ++ t) (append_assoc line (style_end cell) (spaces right)))
-                ∙ sym (append_assoc (spaces left) (style_begin cell) (line ++ (style_end cell ++ spaces right)));
-            left = (left, subst (λ (t : Text). IsStyled t (spaces left ++ style_begin cell)) (append-nil (spaces left)) (styled_both [] (style_begin cell) (styled_same (spaces left)) begin));
-            right = (right, styled_both (spaces right) (spaces right) end (styled_same (spaces right)));
-          }
-      by_tests true false =
-          record {
-            before = style_begin cell ++ spaces left;
-            after = spaces right ++ style_end cell;
-            drawn =
-                ap (styled cell) (sym (padded_is line))
-                ∙ ap (λ (t : Text). style_begin cell ++ t) (append_assoc (spaces left) (line ++ spaces right) (style_end cell) ∙ ap (λ (t : Text). spaces left ++ t) (append_assoc line (spaces right) (style_end cell)))
-                ∙ sym (append_assoc (style_begin cell) (spaces left) (line ++ (spaces right ++ style_end cell)));
-            left = (left, styled_both (spaces left) (spaces left) begin (styled_same (spaces left)));
-            right = (right, subst (λ (t : Text). IsStyled t (spaces right ++ style_end cell)) (append-nil (spaces right)) (styled_both [] (style_end cell) (styled_same (spaces right)) end));
-          }
-      by_tests false text_only = record { before = spaces left; after = spaces right; drawn = sym (padded_is line); left = (left, styled_same (spaces left)); right = (right, styled_same (spaces right)) }
+      made : (styles : Bool) (before after whole : Text) → whole ≡ before ++ (line ++ after) → AreSpaces styles left before → AreSpaces styles right after → IsPiece styles p.1 (content_at p.0) line whole
+      made styles before after whole drawn front_spaces back_spaces =
+          let among = free_before-le (cell_alignment cell (info_at p)) (free_places (info_at p) m) in
+          record { left = left; right = right; before = before; after = after; drawn = drawn; are_spaces = (front_spaces, back_spaces); padded = (omega arith, omega arith); wide = omega (arith, among) }
 
-  blank_around : (p : ℕ × ColumnValue) → IsAround [] (blank_piece (info_at p))
-  blank_around p =
+      by_tests : (styles text_only coloured : Bool) → is_coloured (Some cell) ≡ coloured
+          → IsPiece (styles && coloured) p.1 (content_at p.0) line (if styles then (if text_only then padded cell (info_at p) m (styled cell line) else styled cell (padded cell (info_at p) m line)) else padded cell (info_at p) m line)
+      by_tests true true true some =
+          made true (spaces left ++ style_begin cell) (style_end cell ++ spaces right) (padded cell (info_at p) m (styled cell line))
+          (sym (padded_is (styled cell line))
+          ∙ ap (λ (t : Text). spaces left ++ t) (append_assoc (style_begin cell) (line ++ style_end cell) (spaces right) ∙ ap (λ (t : Text). style_begin cell ++ t) (append_assoc line (style_end cell) (spaces right)))
+          ∙ sym (append_assoc (spaces left) (style_begin cell) (line ++ (style_end cell ++ spaces right))))
+          (subst (λ (t : Text). IsStyled t (spaces left ++ style_begin cell)) (append-nil (spaces left)) (styled_both [] (style_begin cell) (styled_same (spaces left)) begin)) (styled_both (spaces right) (spaces right) end (styled_same (spaces right)))
+      by_tests true false true some =
+          made true (style_begin cell ++ spaces left) (spaces right ++ style_end cell) (styled cell (padded cell (info_at p) m line))
+          (ap (styled cell) (sym (padded_is line))
+          ∙ ap (λ (t : Text). style_begin cell ++ t) (append_assoc (spaces left) (line ++ spaces right) (style_end cell) ∙ ap (λ (t : Text). spaces left ++ t) (append_assoc line (spaces right) (style_end cell)))
+          ∙ sym (append_assoc (style_begin cell) (spaces left) (line ++ (spaces right ++ style_end cell))))
+          (styled_both (spaces left) (spaces left) begin (styled_same (spaces left))) (subst (λ (t : Text). IsStyled t (spaces right ++ style_end cell)) (append-nil (spaces right)) (styled_both [] (style_end cell) (styled_same (spaces right)) end))
+      by_tests true true false none =
+          made false (spaces left) (spaces right) (padded cell (info_at p) m (styled cell line)) (sym (ap (padded cell (info_at p) m) (uncoloured_text cell (uncoloured cell none) line)) ∙ sym (padded_is line)) refl refl
+      by_tests true false false none =
+          made false (spaces left) (spaces right) (styled cell (padded cell (info_at p) m line)) (sym (uncoloured_text cell (uncoloured cell none) (padded cell (info_at p) m line)) ∙ sym (padded_is line)) refl refl
+      by_tests false text_only coloured some = made false (spaces left) (spaces right) (padded cell (info_at p) m line) (sym (padded_is line)) refl refl
+
+  -- where there is no line
+  blank_is : (styles : Bool) (p : ℕ × ColumnValue) → IsPiece styles p.1 (content_at p.0) [] (blank_piece (info_at p))
+  blank_is styles p =
       record {
+        left = p.1.padding.0 + content_at p.0;
+        right = p.1.padding.1;
         before = spaces (p.1.padding.0 + content_at p.0);
         after = spaces p.1.padding.1;
         drawn = sym (spaces-append (p.1.padding.0 + content_at p.0) p.1.padding.1);
-        left = (p.1.padding.0 + content_at p.0, styled_same _);
-        right = (p.1.padding.1, styled_same _);
+        are_spaces = (spaces_alone styles (p.1.padding.0 + content_at p.0), spaces_alone styles p.1.padding.1);
+        padded = (omega arith, omega arith);
+        wide = omega (arith, measure-nil);
       }
+
+  abbrev infos : List ColumnInfo
+  infos = infos_of table widths
 
   -- without custom styling
-  around_at : table.custom_styling ≡ false → (row : RowValue) (p : ℕ × ColumnValue) (cell : Option CellValue) (k : ℕ) → IsAround (slice_index_or (cut_of row p cell) k []) (slice_index_or (pieces_of_optional table row (info_at p) cell) k (blank_piece (info_at p)))
-  around_at plain row p None zero = blank_around p
-  around_at plain row p None (suc k) = blank_around p
-  around_at plain row p (Some cell) k =
-      let d = cell_delimiter table p.1.delimiter cell in
-      let same : row_cell_lines table row (info_at p) cell ≡ map as_measured (cut_at row p cell) =
-      ap (λ (custom : Bool). cut_to_limit (cut_line custom (content_at p.0) table.indicator) row.max_height (uncut_lines custom (content_at p.0) d cell)) plain ∙ row_lines-are row p cell in
-      subst (λ (lines : List CellLine). IsAround (slice_index_or (cut_at row p cell) k []) (slice_index_or (map (piece table cell (info_at p)) lines) k (blank_piece (info_at p)))) (sym same) (by_lines (cut_at row p cell) k)
-    where
-      by_lines : (lines : List Text) (k : ℕ) → IsAround (slice_index_or lines k []) (slice_index_or (map (piece table cell (info_at p)) (map as_measured lines)) k (blank_piece (info_at p)))
-      by_lines [] k = blank_around p
-      by_lines (line ∷ lines) zero = around_is p cell line
-      by_lines (line ∷ lines) (suc k) = by_lines lines k
+  module _ (none : table.custom_styling ≡ false) where
+    -- the lines of a cell, cut at the row's height
+    abbrev cut_at : RowValue → ℕ × ColumnValue → CellValue → List Text
+    cut_at row p cell = cut_to_limit (cut_text (content_at p.0) table.indicator) row.max_height (lines_at p cell)
 
-  around_all : table.custom_styling ≡ false → (row : RowValue) (k : ℕ) (ps : List (ℕ × ColumnValue))
-      → AllZip (λ (p : ℕ × ColumnValue). IsAround (slice_index_or (lines_in table content_at lines_at row p) k [])) ps (map (piece_in table widths long table.style.content_lines row k) ps)
-  around_all plain row k [] = tt
-  around_all plain row k (p ∷ ps) = (around_at plain row p (slice_get row.cells p.0) k, around_all plain row k ps)
+    row_lines-are : (row : RowValue) (p : ℕ × ColumnValue) (cell : CellValue) → row_cell_lines table row (info_at p) cell ≡ map as_measured (cut_at row p cell)
+    row_lines-are row p cell =
+        ap (λ (custom : Bool). cut_to_limit (cut_line custom (content_at p.0) table.indicator) row.max_height (uncut_lines custom (content_at p.0) (cell_delimiter table p.1.delimiter cell) cell)) none
+        ∙ sym (map-cut as_measured (cut_text (content_at p.0) table.indicator) (cut_line false (content_at p.0) table.indicator) row.max_height _ (λ line. refl))
 
+    -- the cut lines of an optional cell
+    abbrev cut_of : RowValue → ℕ × ColumnValue → Option CellValue → List Text
+    cut_of row p cell = unwrap_or (option_map (cut_at row p) cell) ([] ∷ [])
+
+    piece_at : (row : RowValue) (p : ℕ × ColumnValue) (cell : Option CellValue) (k : ℕ)
+        → IsPiece (should_style table && is_coloured cell) p.1 (content_at p.0) (slice_index_or (cut_of row p cell) k []) (slice_index_or (pieces_of_optional table row (info_at p) cell) k (blank_piece (info_at p)))
+    piece_at row p None zero = blank_is (should_style table && false) p
+    piece_at row p None (suc k) = blank_is (should_style table && false) p
+    piece_at row p (Some cell) k =
+        subst (λ (lines : List CellLine). IsPiece (should_style table && is_coloured (Some cell)) p.1 (content_at p.0) (slice_index_or (cut_at row p cell) k []) (slice_index_or (map (piece table cell (info_at p)) lines) k (blank_piece (info_at p)))) (sym (row_lines-are row p cell))
+        (by_lines (cut_at row p cell) k)
+      where
+        by_lines : (lines : List Text) (k : ℕ) → IsPiece (should_style table && is_coloured (Some cell)) p.1 (content_at p.0) (slice_index_or lines k []) (slice_index_or (map (piece table cell (info_at p)) (map as_measured lines)) k (blank_piece (info_at p)))
+        by_lines [] k = blank_is (should_style table && is_coloured (Some cell)) p
+        by_lines (line ∷ lines) zero = piece_is p cell line
+        by_lines (line ∷ lines) (suc k) = by_lines lines k
+
+    -- a cell has as many lines as pieces
+    as_many : (row : RowValue) (p : ℕ × ColumnValue) (cell : Option CellValue) → length (pieces_of_optional table row (info_at p) cell) ≡ length (cut_of row p cell)
+    as_many row p None = refl
+    as_many row p (Some cell) = length-map (row_cell_lines table row (info_at p) cell) (piece table cell (info_at p)) ∙ ap length (row_lines-are row p cell) ∙ length-map (cut_at row p cell) as_measured
+
+    -- the pieces of some columns
+    pieces_are : (border : ContentLineStyle) (row : RowValue) (k : ℕ) (ps : List (ℕ × ColumnValue))
+        → AllZip (λ (p : ℕ × ColumnValue). IsPiece (is_styled table row p) p.1 (content_at p.0) (slice_index_or (lines_in table content_at lines_at row p) k [])) ps (map (piece_in table widths long border row k) ps)
+    pieces_are border row k [] = tt
+    pieces_are border row k (p ∷ ps) = (piece_at row p (slice_get row.cells p.0) k, pieces_are border row k ps)
+
+    parts_are : (border : ContentLineStyle) (row : RowValue) → AreLinesOfParts (is_styled table row) table content_at (lines_in table content_at lines_at row) border (drawn_row table infos border row)
+    parts_are border row =
+        record {
+          as_high = height table widths long border row ∙ (λ i. greatest (map (λ (p : ℕ × ColumnValue). as_many row p (slice_get row.cells p.0) i) (shown_columns table)));
+          drawn = λ k below. (map (piece_in table widths long border row k) (shown_columns table), pieces_are border row k (shown_columns table), line_is table widths long border row k below);
+        }
+
+  -- the lines of a row
   content_is : (borders : ContentLineStyle) (row : RowValue) → AreContentLines table content_at lines_at borders row (drawn_row table infos borders row)
-  content_is borders row k below = (
-    map (piece_in table widths long borders row k) (shown_columns table),
-    length-map (shown_columns table) (piece_in table widths long borders row k),
-    line_is table widths long borders row k below,
-    λ plain. around_all plain row k (shown_columns table),
-  )
-
-  styled_header : (header : Option RowValue) → MatchOption header (drawn_header table infos header ≡ []) (λ row. (block : List Text) × AreContentLines table content_at lines_at table.style.header_lines row block × (drawn_header table infos header ≡ block ++ framed table content_at table.style.header_separator))
-  styled_header None = refl
-  styled_header (Some row) = (
-    drawn_row table infos table.style.header_lines row,
-    content_is table.style.header_lines row,
-    ap (λ ws. drawn_row table infos table.style.header_lines row ++ optional_frame_line table.style table.style.header_separator ws) widths_are,
-  )
-
-  styled_rows : (rows : List RowValue) → AllZip (AreContentLines table content_at lines_at table.style.content_lines) rows (map (drawn_row table infos table.style.content_lines) rows)
-  styled_rows [] = tt
-  styled_rows (row ∷ rows) = (content_is table.style.content_lines row, styled_rows rows)
-
-  pub frame_is : IsFramed table content_at lines_at (drawing table widths)
-  frame_is =
+  content_is borders row =
       record {
-        header = drawn_header table infos table.header;
-        rows = map (drawn_row table infos table.style.content_lines) table.rows;
-        is_header = styled_header table.header;
-        are_rows = styled_rows table.rows;
-        drawn =
-            ap (λ (rows : List Text). optional_frame_line table.style table.style.top_border (outer_widths infos) ++ (drawn_header table infos table.header ++ (rows ++ optional_frame_line table.style table.style.bottom_border (outer_widths infos))))
-            (sym (join_by-map (λ (block : List Text). block) (drawn_row table infos table.style.content_lines) (optional_frame_line table.style table.style.row_separator (outer_widths infos)) table.rows))
-            ∙ ap (λ ws. optional_frame_line table.style table.style.top_border ws ++ (drawn_header table infos table.header
-            ++ (join_by (λ (block : List Text). block) (optional_frame_line table.style table.style.row_separator ws) (map (drawn_row table infos table.style.content_lines) table.rows) ++ optional_frame_line table.style table.style.bottom_border ws)))
-            widths_are;
+        pieces = λ k below. (map (piece_in table widths long borders row k) (shown_columns table), length-map (shown_columns table) (piece_in table widths long borders row k), line_is table widths long borders row k below);
+        are = λ none. parts_are none borders row;
       }
+
+  -- ---- the whole drawing
+
+  widths_are : outer_widths infos ≡ widths_shown table content_at
+  widths_are =
+      ap (map (λ (p : ℕ × ColumnInfo). info_width p.1)) (columns-drawn table widths long)
+      ∙ map-map (λ (p : ℕ × ColumnInfo). info_width p.1) (drawn_column widths) (shown_columns table)
+
+  -- its rows are between frame lines, and each shows what its lines do
+  module _ (Shows : ContentLineStyle → RowValue → List Text → Type 0) (shows : (borders : ContentLineStyle) (row : RowValue) → Shows borders row (drawn_row table infos borders row)) where
+    header_is : (header : Option RowValue) → MatchOption header (drawn_header table infos header ≡ []) (λ row. (block : List Text) × Shows table.style.header_lines row block × (drawn_header table infos header ≡ block ++ framed table content_at table.style.header_separator))
+    header_is None = refl
+    header_is (Some row) =
+        (drawn_row table infos table.style.header_lines row, shows table.style.header_lines row, ap (λ ws. drawn_row table infos table.style.header_lines row ++ optional_frame_line table.style table.style.header_separator ws) widths_are)
+
+    rows_are : (rows : List RowValue) → AllZip (Shows table.style.content_lines) rows (map (drawn_row table infos table.style.content_lines) rows)
+    rows_are [] = tt
+    rows_are (row ∷ rows) = (shows table.style.content_lines row, rows_are rows)
+
+    pub frame_is : IsFramedBy Shows table content_at (drawing table widths)
+    frame_is =
+        record {
+          header = drawn_header table infos table.header;
+          rows = map (drawn_row table infos table.style.content_lines) table.rows;
+          is_header = header_is table.header;
+          are_rows = rows_are table.rows;
+          drawn =
+              ap (λ (rows : List Text). optional_frame_line table.style table.style.top_border (outer_widths infos) ++ (drawn_header table infos table.header ++ (rows ++ optional_frame_line table.style table.style.bottom_border (outer_widths infos))))
+              (sym (join_by-map (λ (block : List Text). block) (drawn_row table infos table.style.content_lines) (optional_frame_line table.style table.style.row_separator (outer_widths infos)) table.rows))
+              ∙ ap (λ ws. optional_frame_line table.style table.style.top_border ws ++ (drawn_header table infos table.header
+              ++ (join_by (λ (block : List Text). block) (optional_frame_line table.style table.style.row_separator ws) (map (drawn_row table infos table.style.content_lines) table.rows) ++ optional_frame_line table.style table.style.bottom_border ws)))
+              widths_are;
+        }
 
   -- ---- printable ASCII
 
@@ -402,6 +387,17 @@ module _ (table : TableValue) (widths : List ℕ) (long : length widths ≡ leng
               (λ j other below cell h found limit taller. even k default under j other below cell found h limit taller)));
         }
 
+-- ---- the table without styles
+
+module _ (table : TableValue) (widths : List ℕ) (long : length widths ≡ length table.columns) where
+  row_is : (borders : ContentLineStyle) (row : RowValue) → AreLinesOfRow table (content_at table widths long) (lines_at table widths long) borders row (drawn_row (bare table) (infos_of table widths) borders row)
+  row_is borders row = let own = parts_are (bare table) widths long refl borders row in record { as_high = own.as_high; drawn = own.drawn }
+
+  pub plain_frame_is : IsFramedBy (AreLinesOfRow table (content_at table widths long) (lines_at table widths long)) table (content_at table widths long) (drawing (bare table) widths)
+  plain_frame_is =
+      let own = frame_is (bare table) widths long (AreLinesOfRow table (content_at table widths long) (lines_at table widths long)) row_is in
+      record { header = own.header; rows = own.rows; is_header = own.is_header; are_rows = own.are_rows; drawn = own.drawn }
+
 -- ---- contents that have room
 
 -- what the shown columns need is their whole widths
@@ -410,6 +406,12 @@ needed : (table : TableValue) (ps : List (ℕ × ColumnValue))
 needed table [] = refl
 needed table (p ∷ ps) =
     omega (arith, needed table ps, sum_by-cons (λ (column : ColumnNeeds). max 1 column.content + column.padding) (needs_of table p) (map (needs_of table) ps), sum_by-cons (λ (n : ℕ). n) (whole_width p.1 (max 1 (column_content_width table p.0))) (map (λ (p : ℕ × ColumnValue). whole_width p.1 (max 1 (column_content_width table p.0))) ps))
+
+-- what they need without contents are their paddings
+sum-paddings : (table : TableValue) (ps : List (ℕ × ColumnValue)) → sum_by (λ (column : ColumnNeeds). column.padding) (map (needs_of table) ps) ≡ sum (map (λ (p : ℕ × ColumnValue). whole_width p.1 0) ps)
+sum-paddings table [] = refl
+sum-paddings table (p ∷ ps) =
+    omega (arith, sum-paddings table ps, sum_by-cons (λ (column : ColumnNeeds). column.padding) (needs_of table p) (map (needs_of table) ps), sum_by-cons (λ (n : ℕ). n) (whole_width p.1 0) (map (λ (q : ℕ × ColumnValue). whole_width q.1 0) ps))
 
 -- ---- what every drawing promises
 
@@ -423,11 +425,7 @@ module _ (table : TableValue) (widths : List ℕ) where
         are_cell_lines = λ k default under j other below cell found.
             let is = whole k default under j other below cell found in
             lines_of_cell (content_at measured widths long (slice_index_or (shown_columns table) j other).0) (cell_delimiter table (slice_index_or (shown_columns table) j other).1.delimiter cell) cell is.0 is.1;
-        header = drawn_header (bare measured) (infos_of table widths) measured.header;
-        rows = map (drawn_row (bare measured) (infos_of table widths) table.style.content_lines) measured.rows;
-        is_header = header_is measured widths long measured.header;
-        are_rows = rows_are measured widths long measured.rows;
-        drawn = drawing_is measured widths long;
+        frame = plain_frame_is measured widths long;
       }
     where
       measured : TableValue
@@ -449,15 +447,11 @@ framed_table table widths none long whole styled unstyled =
         are_cell_lines = λ k default under j other below cell found.
             let is = whole k default under j other below cell found in
             lines_of_cell (content_at table widths long (slice_index_or (shown_columns table) j other).0) (cell_delimiter table (slice_index_or (shown_columns table) j other).1.delimiter cell) cell is.0 is.1;
-        header = drawn_header (bare table) (infos_of table widths) table.header;
-        rows = map (drawn_row (bare table) (infos_of table widths) table.style.content_lines) table.rows;
-        is_header = header_is table widths long table.header;
-        are_rows = rows_are table widths long table.rows;
-        drawn = drawing_is table widths long;
+        frame = plain_frame_is table widths long;
       };
       styled = styled;
       unstyled = unstyled;
-      frame = frame_is table widths long;
+      frame = frame_is table widths long (AreContentLines table (content_at table widths long) (lines_at table widths long)) (content_is table widths long);
     }
 
 pub framed-plain : (table : TableValue) (widths : List ℕ) (none : table.custom_styling ≡ false) (long : length widths ≡ length table.columns) (whole : All (λ (row : RowValue). All (IsWholeAt table row) (shown_columns table)) (header_and_rows table)) (styled : AllZip IsStyled (drawing (bare table) widths) (drawing table widths))
@@ -468,8 +462,8 @@ framed-plain table widths none long whole styled unstyled = refl
 -- without colours its rows are the same
 pub framed-rows : (table : TableValue) (widths : List ℕ) (none : table.custom_styling ≡ false) (long : length widths ≡ length table.columns) (whole : All (λ (row : RowValue). All (IsWholeAt table row) (shown_columns table)) (header_and_rows table)) (styled : AllZip IsStyled (drawing (bare table) widths) (drawing table widths))
     (unstyled : should_style table ≡ false → drawing table widths ≡ drawing (bare table) widths) → All (λ (row : RowValue). All IsUncoloured row.cells) table.rows
-    → (framed_table table widths none long whole styled unstyled).frame.rows ≡ (framed_table table widths none long whole styled unstyled).is_plain.rows
-unfolding framed_table frame_is
+    → (framed_table table widths none long whole styled unstyled).frame.rows ≡ (framed_table table widths none long whole styled unstyled).is_plain.frame.rows
+unfolding framed_table frame_is plain_frame_is
 framed-rows table widths none long whole styled unstyled each =
     uncoloured_rows table (infos_of table widths) table.style.content_lines table.rows each
     ∙ ap (λ (custom : Bool). map (drawn_row (record table { custom_styling = custom; no_tty = true; enforce_styling = false }) (infos_of table widths) table.style.content_lines) table.rows) none
@@ -489,12 +483,24 @@ headline table lines drawn =
             kept drawn.arranged.shown_widths in
             let own : slice_index drawn.widths p.0 ≡ disabled_width table p = All-same_map (λ (q : ℕ × ColumnValue). slice_index drawn.widths q.0) (disabled_width table) (shown_columns table) all j other below in
             let content = own ∙ width_by_content table p.0 p.1 free in omega (arith, content);
-        keeps_contents = λ w known free dynamic room j other below.
+        keeps_contents = λ w known free kept room j other below.
             let p = slice_index_or (shown_columns table) j other in
             let needs = needed table (shown_columns table) in
-            let all = table_keeps_contents table w drawn.widths free dynamic known drawn.arranged (omega (arith, needs, room)) ∙ map-map (λ (column : ColumnNeeds). max 1 column.content) (needs_of table) (shown_columns table) in
-            let own : slice_index drawn.widths p.0 ≡ max 1 (column_content_width table p.0) = All-same_map (λ (q : ℕ × ColumnValue). slice_index drawn.widths q.0) (λ (q : ℕ × ColumnValue). max 1 (column_content_width table q.0)) (shown_columns table) all j other below in
-            omega (arith, own);
+            let all = contents_keep (room_beside_borders table w) (shown_needs table) (is_full_width table.arrangement) (unconstrained_needs free) (shown_contents table drawn.widths) (layout w known kept) (omega (arith, needs, room)) in
+            as_drawn (is_full_width table.arrangement) (column_content_width table p.0) (slice_index drawn.widths p.0)
+            (zip_maps (λ (column : ColumnNeeds) n. IsAsWide (is_full_width table.arrangement) (max 1 column.content) n) (needs_of table) (λ (q : ℕ × ColumnValue). slice_index drawn.widths q.0) (shown_columns table) all j other below);
+        keeps_to_level = λ w known free kept.
+            let own = level_keeps (room_beside_borders table w) (shown_needs table) (is_full_width table.arrangement) (unconstrained_needs free) (shown_contents table drawn.widths) (layout w known kept) in (
+              own.level,
+              subst (λ (n : ℕ). n ≤ own.level) (share w free) own.share,
+              λ j other below.
+                  let p = slice_index_or (shown_columns table) j other in
+                  let column = zip_maps (KeepsLevel (room_beside_borders table w) (shown_needs table) (is_full_width table.arrangement) (unconstrained_needs free) (shown_contents table drawn.widths) (layout w known kept) own.level) (needs_of table) (λ (q : ℕ × ColumnValue). slice_index drawn.widths q.0) (shown_columns table) own.keeps j other below in
+                  record {
+                    narrow = λ few. as_drawn (is_full_width table.arrangement) (column_content_width table p.0) (slice_index drawn.widths p.0) (column.narrow (omega (arith, few)));
+                    wide = λ more. elim (eq-zero-or-pos own.level) [ inl lowest ↦ inl (omega (arith, lowest)) | inr some ↦ by_level own.level j other below (column.wide (omega (arith, more, some))) ];
+                  },
+            );
         total = line_total table drawn.widths;
         frame_total = λ line. ap (λ ws. count (frame_line table.style line ws)) (sym (widths_are measured drawn.widths long)) ∙ frame_counts table drawn.widths line long;
         plain_total = λ printable even.
@@ -506,7 +512,9 @@ headline table lines drawn =
       styled = subst (AllZip IsStyled (drawing (unstyled table) drawn.widths)) (sym drawn.drawn) (styled_lines table drawn.widths drawn.texts.whole_texts);
       unstyled = drawn.edges.unstyled_lines;
       uncoloured = λ each none. drawn.drawn ∙ uncoloured_lines table drawn.widths each none;
-      frame = subst (IsFramed table (content_at table drawn.widths long) (lines_at table drawn.widths long)) (sym drawn.drawn) (frame_is table drawn.widths long);
+      frame =
+          subst (IsFramedBy (AreContentLines table (content_at table drawn.widths long) (lines_at table drawn.widths long)) table (content_at table drawn.widths long)) (sym drawn.drawn)
+          (frame_is table drawn.widths long (AreContentLines table (content_at table drawn.widths long) (lines_at table drawn.widths long)) (content_is table drawn.widths long));
     }
   where
     measured : TableValue
@@ -517,6 +525,40 @@ headline table lines drawn =
 
     own : IsFramedDrawing measured (drawing (unstyled table) drawn.widths)
     own = plain_lines table drawn.widths long (whole_at table lines drawn)
+
+    unconstrained_needs : NoConstraints table → All IsUnconstrained (shown_needs table)
+    unconstrained_needs free = All-from_recursion IsUnconstrained (shown_needs table) (unconstrained_shown table free)
+
+    -- where a width is kept, the widths are dynamic
+    layout : (w : ℕ) → table_width table ≡ Some w → table.arrangement ≢ Disabled → IsDynamicLayout (room_beside_borders table w) (shown_needs table) (is_full_width table.arrangement) (shown_contents table drawn.widths)
+    layout w known kept = dynamic_widths table table.arrangement w drawn.widths (keeps table.arrangement kept) refl known drawn.arranged
+      where
+        keeps : (arrangement : ContentArrangement) → arrangement ≢ Disabled → width_kept arrangement (Some w) ≡ Some w
+        keeps arrangements.Disabled kept = absurd (kept refl)
+        keeps arrangements.Dynamic kept = refl
+        keeps arrangements.DynamicFullWidth kept = refl
+
+    -- as it is drawn
+    as_drawn : (full : Bool) (content n : ℕ) → IsAsWide full (max 1 content) n → IsAsWide full (max 1 content) (max 1 n)
+    as_drawn true content n wide = omega (arith, wide)
+    as_drawn false content n same = omega (arith, same)
+
+    -- a level, or room for all lines at such a width
+    by_level : (level j : ℕ) (other : ℕ × ColumnValue) → j < length (shown_columns table)
+        → (level ≤ slice_index drawn.widths (slice_index_or (shown_columns table) j other).0)
+        ⊎ ((b : ℕ) × (level ≤ b) × (longest_line table (slice_index_or (shown_columns table) j other).0 (slice_index_or (shown_columns table) j other).1.delimiter b ≤ slice_index drawn.widths (slice_index_or (shown_columns table) j other).0))
+        → (level ≤ own.width (slice_index_or (shown_columns table) j other).0)
+        ⊎ ((w : ℕ) × (level ≤ w) × HasLinesWithin measured (slice_index_or (shown_columns table) j other) w (own.width (slice_index_or (shown_columns table) j other).0))
+    by_level level j other below (inl high) = inl (omega (arith, high))
+    by_level level j other below (inr (b, at_least, room)) =
+        inr (b, at_least, lines_within table (slice_index_or (shown_columns table) j other) b (max 1 (slice_index drawn.widths (slice_index_or (shown_columns table) j other).0)) (omega (arith, room)) (λ k default under cell found. (whole_at table lines drawn k default under j other below cell found).0))
+
+    -- an even share of the room
+    share : (w : ℕ) → NoConstraints table → content_room (room_beside_borders table w) (shown_needs table) / length (shown_needs table) ≡ room_for_texts table w / length (shown_columns table)
+    share w free =
+        let paddings = sum-paddings table (shown_columns table) in
+        let room : content_room (room_beside_borders table w) (shown_needs table) ≡ room_for_texts table w = omega (arith, paddings, content_room-unconstrained (room_beside_borders table w) (shown_needs table) (unconstrained_shown table free)) in
+        ap₂ (λ (a b : ℕ). a / b) room (length-map (shown_columns table) (needs_of table))
 
     no_width : (arrangement : ContentArrangement) (width : Option ℕ) → (arrangement ≡ Disabled) ⊎ (width ≡ None) → width_kept arrangement width ≡ None
     no_width arrangement width (inl disabled) = ap (λ (a : ContentArrangement). width_kept a width) disabled

@@ -1,5 +1,4 @@
 pub mod AddedLemmas
-pub mod AmongLemmas
 pub mod ConditionLemmas
 pub mod DrawnColumnLemmas
 pub mod FittingLemmas
@@ -7,6 +6,7 @@ mod FittingTextLemmas
 pub mod FrameLemmas
 pub mod HeadlineLemmas
 pub mod KeptLemmas
+pub mod LevelLemmas
 pub mod PieceLemmas
 pub mod PlacedLemmas
 pub mod PromiseLemmas

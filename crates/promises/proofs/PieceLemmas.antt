@@ -110,7 +110,7 @@ stays_joined =
     }
 
 -- their texts are written as they are
-uncoloured_text : (cell : CellValue) → IsUncoloured cell → (text : Text) → text ≡ styled cell text
+pub uncoloured_text : (cell : CellValue) → IsUncoloured cell → (text : Text) → text ≡ styled cell text
 uncoloured_text cell is text =
     sym (ap (λ (c : CellValue). styled c text) (ap₂ (λ f b. record cell { foreground = f; background = b }) is.no_foreground is.no_background)
     ∙ ap (λ (own : List Attribute). styled (record cell { foreground = None; background = None; attributes = own }) text) is.no_attributes ∙ append-nil text)

@@ -1,13 +1,10 @@
 -- A new table of a header and rows keeps the promises.
-use Rattle.std.proofs.Common.{◌≡◌, ◌<◌, ◌≤◌, ◌+◌, ◌*◌, ℕ, true, not, List, [], ◌∷◌, ◌++◌, None, Option, append-nil, refl, sym, ap, ◌∙◌, subst, arith, length, map, max, slice_index_or, option_to_list, flat_map, length-append, sum_by}
-use Rattle.std.specs.List.{All, AllByRecursion, AllZip, enumerate_from}
-use Rattle.std.proofs.lemmas.List.{append_assoc, get_or-append-add, get_or_append_left}
-use Rattle.std.proofs.lemmas.List.Elements.{All-cons, All-filter, All-from_get_or, All-from_recursion, All-head, All-nil, All-tail, All-weaker, recursion_from_All}
-use Rattle.std.proofs.lemmas.List.FromFn.{get_or-enumerate_from, length-enumerate_from}
+use Rattle.std.proofs.Common.{◌≡◌, ◌<◌, ◌≤◌, ◌+◌, ◌*◌, ℕ, true, not, List, [], ◌∷◌, None, Option, refl, sym, ap, ◌∙◌, subst, arith, length, max, sum_by}
+use Rattle.std.specs.List.{All, AllByRecursion}
+use Rattle.std.proofs.lemmas.List.Elements.{All-filter, All-head, All-nil, All-tail, All-weaker, recursion_from_All}
 use Rattle.std.proofs.lemmas.List.Sums.{sum_by-cons}
-use Rattle.std.proofs.lemmas.Option.{slice_get-get_or}
-use Rattle.comfy_parts.proofs.CallerLemmas.{every-places, filter_all, no_fewer_columns}
-use Rattle.comfy_parts.specs.CellValue.{CellValue, ColumnValue, RowValue, is_hidden_column, is_hidden_constraint, new_column}
+use Rattle.comfy_parts.proofs.CallerLemmas.{filter_all, no_fewer_columns}
+use Rattle.comfy_parts.specs.CellValue.{CellValue, ColumnValue, RowValue, is_hidden_column, is_hidden_constraint}
 use Rattle.comfy_parts.specs.Columns.{CharactersFit, IsOneColumnStyle}
 use Rattle.comfy_parts.specs.Text.{Text, measure}
 use Rattle.comfy_parts.specs.declared.style.column.ColumnConstraint.{ColumnConstraint}
@@ -18,66 +15,14 @@ use Rattle.comfy_table.proofs.BuiltTableLemmas as built
 use Rattle.comfy_table.specs.Arrangement.{width_kept}
 use Rattle.comfy_table.specs.Headline.{IsTableDrawing}
 use Rattle.comfy_table.specs.NewTables.{AreEquallyWide, IsShortRow}
-use Rattle.comfy_table.specs.TableValue.{TableValue, header_and_rows, new_table, should_style, shown_columns, table_width, with_header, with_row, with_rows}
+use Rattle.comfy_table.specs.TableValue.{TableValue, header_and_rows, new_table, should_style, table_width, with_header, with_row, with_rows}
 use Rattle.promises.proofs.ConditionLemmas.{of_rows, plain_frame}
 use Rattle.promises.proofs.PromiseLemmas.{keeps_promises}
 use Rattle.promises.specs.Conditions.{IsNewColumn, IsOfRows}
-use Rattle.promises.specs.Kept.{AreShown, IsFrame, ShowsWholeRow, StandAmong, text_lines_at}
 use Rattle.promises.specs.Promises.{KeepsPromises}
 use Rattle.promises.specs.Rows.{HaveCells, IsNarrowCell, IsNarrowRow, KeepsRows, table_of}
 use Rattle.promises.specs.Tables.{EachText, HasPlainFrame, IsPlain, IsShownWhole, IsUnconstrained, shown}
 use Rattle.promises.specs.Widths.{frame_room}
-
--- ---- lines
-
--- the text stands in one of the lines
-abbrev pub IsIn : List Text → Text → Type 0
-IsIn lines text =
-    (k : ℕ) × (before behind : Text) × (k < length lines)
-    × (slice_index_or lines k [] ≡ before ++ (text ++ behind))
-
--- so does each text line of a row's cells
-abbrev pub IsRowIn : List Text → RowValue → Type 0
-IsRowIn lines row = All (λ (cell : CellValue). All (IsIn lines) cell.text_lines) row.cells
-
--- a text of some lines stands in these and others
-in_more : (before block behind : List Text) (text : Text) → IsIn block text → IsIn (before ++ (block ++ behind)) text
-in_more before block behind text own =
-    let below = own.3 in
-    let long = length-append before (block ++ behind) in
-    let longer = length-append block behind in
-    (length before + own.0, own.1, own.2, omega (arith, below, long, longer), get_or-append-add before (block ++ behind) own.0 [] ∙ get_or_append_left block behind [] own.0 below ∙ own.4)
-
-in_later : (before block behind : List Text) (text : Text) → IsIn behind text → IsIn (before ++ (block ++ behind)) text
-in_later before block behind text own =
-    let below = own.3 in
-    let long = length-append before (block ++ behind) in
-    let longer = length-append block behind in (
-      length before + (length block + own.0),
-      own.1,
-      own.2,
-      omega (arith, below, long, longer),
-      get_or-append-add before (block ++ behind) (length block + own.0) [] ∙ get_or-append-add block behind own.0 [] ∙ own.4,
-    )
-
--- one text stands in another
-abbrev Stands : Text → Text → Type 0
-Stands whole part = (before behind : Text) × (whole ≡ before ++ (part ++ behind))
-
-stands-each : {X : Type 0} (P : Text → Type 0) (f : X → Text) (xs : List X) (whole : Text) → StandAmong P (map f xs) whole → AllByRecursion (λ x. Stands whole (f x)) xs
-stands-each P f [] whole stand = tt
-stands-each {X} P f (x ∷ xs) whole stand = ((stand.0, stand.1, stand.2), more xs (stands-each P f xs stand.1 stand.4))
-  where
-    deeper : (part : Text) → Stands stand.1 part → Stands whole part
-    deeper part own = (
-      stand.0 ++ (f x ++ own.0),
-      own.1,
-      stand.2 ∙ ap (λ t. stand.0 ++ (f x ++ t)) own.2 ∙ sym (append_assoc stand.0 (f x ++ own.0) (part ++ own.1) ∙ ap (λ t. stand.0 ++ t) (append_assoc (f x) own.0 (part ++ own.1))),
-    )
-
-    more : (ys : List X) → AllByRecursion (λ y. Stands stand.1 (f y)) ys → AllByRecursion (λ y. Stands whole (f y)) ys
-    more [] each = tt
-    more (y ∷ ys) each = (deeper (f y) each.0, more ys each.1)
 
 -- ---- columns
 
@@ -91,57 +36,10 @@ module _ (table : TableValue) (columns : All IsNewColumn table.columns) where
   pub all_shown : shown table ≡ table.columns
   all_shown = filter_all (λ (column : ColumnValue). not (is_hidden_column column)) table.columns all_seen
 
-  all_places : shown_columns table ≡ enumerate_from 0 table.columns
-  all_places =
-      filter_all (λ (p : ℕ × ColumnValue). not (is_hidden_column p.1)) (enumerate_from 0 table.columns) (every-places (λ (column : ColumnValue). not (is_hidden_column column) ≡ true) 0 table.columns all_seen)
-
   pub free_columns : IsUnconstrained table
   free_columns =
       All-filter (λ (column : ColumnValue). not (is_hidden_column column)) (λ (column : ColumnValue). column.constraint ≡ None) table.columns
       (All-weaker IsNewColumn (λ (column : ColumnValue). column.constraint ≡ None) (λ column new. new.no_constraint) table.columns columns)
-
-  -- what holds of all shown columns holds of the one at a position
-  at_column : (P : ℕ × ColumnValue → Type 0) → All P (shown_columns table) → (i : ℕ) → i < length table.columns → (column : ColumnValue) × P (i, column)
-  at_column P each i below =
-      let long = length-enumerate_from 0 table.columns in
-      let inside : i < length (enumerate_from 0 table.columns) = omega (arith, below, long) in
-      let own = subst (All P) all_places each i (0, new_column 0) inside in
-      let same : 0 + i ≡ i = omega arith in
-      let is = get_or-enumerate_from 0 table.columns i (0, new_column 0) below in
-      (slice_index_or table.columns i (new_column 0), subst P (is ∙ ap (λ (n : ℕ). (n, slice_index_or table.columns i (new_column 0))) same) own)
-
-  -- ---- rows
-
-  row_is_in : (row : RowValue) (block : List Text) → length row.cells ≤ length table.columns → ShowsWholeRow table row block → IsRowIn block row
-  row_is_in row block room shows i d below =
-      All-from_get_or (IsIn block) cell.text_lines [] (λ j inside.
-      let here : i < length table.columns = omega (arith, below, room) in
-      let enough = at_column (λ p. length (text_lines_at row p.0) ≤ length block) shows.enough_lines i here in
-      let size = ap length texts in
-      let high : j < length block = omega (arith, inside, enough.1, size) in
-      let each = All-from_recursion (λ (p : ℕ × ColumnValue). Stands (slice_index_or block j []) (slice_index_or (text_lines_at row p.0) j [])) (shown_columns table)
-      (stands-each (IsFrame table.style) (λ (p : ℕ × ColumnValue). slice_index_or (text_lines_at row p.0) j []) (shown_columns table) (slice_index_or block j []) (shows.stand j high)) in
-      let own = at_column (λ p. Stands (slice_index_or block j []) (slice_index_or (text_lines_at row p.0) j [])) each i here in
-      let stands = subst (λ (ts : List Text). Stands (slice_index_or block j []) (slice_index_or ts j [])) texts own.1 in
-      (j, stands.0, stands.1, high, stands.2))
-    where
-      cell : CellValue
-      cell = slice_index_or row.cells i d
-
-      texts : text_lines_at row i ≡ cell.text_lines
-      texts = ap (λ (o : Option CellValue). flat_map (λ (c : CellValue). c.text_lines) (option_to_list o)) (slice_get-get_or row.cells i d below) ∙ append-nil cell.text_lines
-
-  pub rows_are_in : (rows : List RowValue) (blocks : List (List Text)) (lines : List Text) → All (λ (row : RowValue). length row.cells ≤ length table.columns) rows
-      → StandAmong (All (IsFrame table.style)) blocks lines → AllZip (ShowsWholeRow table) rows blocks → All (IsRowIn lines) rows
-  rows_are_in [] blocks lines room stand shows = All-nil (IsRowIn lines)
-  rows_are_in (row ∷ rows) [] lines room stand shows = absurd shows
-  rows_are_in (row ∷ rows) (block ∷ blocks) lines room stand shows =
-      let own = row_is_in row block (All-head (λ (r : RowValue). length r.cells ≤ length table.columns) row rows room) shows.0 in
-      let others = rows_are_in rows blocks stand.1 (All-tail (λ (r : RowValue). length r.cells ≤ length table.columns) row rows room) stand.4 shows.1 in
-      subst (λ (ls : List Text). All (IsRowIn ls) (row ∷ rows)) (sym stand.2)
-      (All-cons (IsRowIn (stand.0 ++ (block ++ stand.1))) row rows
-      (λ i d below j e inside. in_more stand.0 block stand.1 _ (own i d below j e inside))
-      (λ k r lower i d below j e inside. in_later stand.0 block stand.1 _ (others k r lower i d below j e inside)))
 
 -- ---- the room of the frame
 
@@ -245,11 +143,6 @@ module _ (style : TableStyle) (arrangement : ContentArrangement) (width : Option
         known =
             built.built-rows base IsShortRow rows (with_header header base) (All-tail IsShortRow header rows short)
             (built.built-header base IsShortRow header base (All-head IsShortRow header rows short) (record { is = refl; columns = All-nil built.IsNewColumn; header = All-nil IsShortRow; rows = All-nil IsShortRow }))
-
-    pub texts_are_in : (lines : List Text) → AreShown (ShowsWholeRow table) table lines → All (IsRowIn lines) (header ∷ rows)
-    texts_are_in lines shown =
-        subst (λ (ls : List Text). All (IsRowIn ls) (header ∷ rows)) (sym (shown.unstyled plain.no_styles))
-        (rows_are_in table made.columns (header ∷ rows) shown.blocks shown.plain made.room shown.stand (subst (λ (rs : List RowValue). AllZip (ShowsWholeRow table) rs shown.blocks) its_rows shown.show))
 
   pub keeps_rows : (lines : List Text) → IsOneColumnStyle style → IsTableDrawing table lines → KeepsRows style arrangement width header rows lines
   keeps_rows lines characters drawn =

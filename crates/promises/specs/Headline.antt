@@ -1,6 +1,6 @@
 -- What a table draws: frame lines, and rows of padded lines of its cells' texts.
 -- Source: this library's own.
-use Rattle.std.specs.Prelude.{◌≡◌, ◌⊎◌, ℕ, ◌+◌, ◌<◌, ◌≤◌, true, false, List, [], ◌∷◌, ◌++◌, Option, Some, None, All, EachIndex, MatchOption, filter_map, flat_map, length, map, max, option_map, slice_get, slice_index_or, sum, unwrap_or}
+use Rattle.std.specs.Prelude.{◌≢◌, ◌-◌, ◌/◌, ◌&&◌, ◌||◌, is_some, nat_lt, ◌≡◌, ◌⊎◌, ℕ, ◌+◌, ◌<◌, ◌≤◌, Bool, true, false, List, Option, [], ◌∷◌, ◌++◌, Some, None, All, EachIndex, MatchOption, filter_map, flat_map, length, map, max, option_map, slice_get, slice_index_or, sum, unwrap_or}
 use Rattle.std.specs.Int.{is_in_range}
 use Rattle.std.specs.List.{AllZip, enumerate_from, join_by}
 use Rattle.comfy_parts.specs.CellValue.{CellValue, ColumnInfo, ColumnValue, RowValue, info_of}
@@ -8,6 +8,7 @@ use Rattle.comfy_parts.specs.Columns.{AddsOneColumn, CharactersFit}
 use Rattle.comfy_parts.specs.Text.{AddsOneColumnEach, Text, greatest, is_printable_ascii, measure, spaces}
 use Rattle.comfy_parts.specs.Wrapping.{IsWrapped}
 use Rattle.comfy_parts.specs.declared.style.table.ContentArrangement.TheVariants.{Disabled, Dynamic, DynamicFullWidth}
+use Rattle.comfy_table.specs.Arrangement.{is_full_width}
 use Rattle.comfy_parts.specs.declared.style.table_style.ContentLineStyle.{ContentLineStyle}
 use Rattle.comfy_parts.specs.declared.style.table_style.LineStyle.{LineStyle}
 use Rattle.comfy_table.specs.Frame.{border_count, content_line, frame_line, optional_frame_line}
@@ -45,12 +46,21 @@ EachShownCell P table =
 abbrev pub whole_width : ColumnValue → ℕ → ℕ
 whole_width column w = column.padding.0 + w + column.padding.1
 
+-- spaces, with SGR sequences among them if styles are written
+abbrev pub AreSpaces : Bool → ℕ → Text → Type 0
+AreSpaces true n text = IsStyled (spaces n) text
+AreSpaces false n text = text ≡ spaces n
+
 -- a line between spaces, at least the column's paddings, as wide as the column unless the line
 -- is wider
-pub record IsPiece (column : ColumnValue) (w : ℕ) (line piece : Text) : Type 0 where
+pub record IsPiece (styles : Bool) (column : ColumnValue) (w : ℕ) (line piece : Text)
+    : Type 0 where
   pub left : ℕ
   pub right : ℕ
-  pub drawn : piece ≡ spaces left ++ (line ++ spaces right)
+  pub before : Text
+  pub after : Text
+  pub drawn : piece ≡ before ++ (line ++ after)
+  pub are_spaces : AreSpaces styles left before × AreSpaces styles right after
   pub padded : (column.padding.0 ≤ left) × (column.padding.1 ≤ right)
   pub wide : left + measure line + right ≡ whole_width column (max w (measure line))
 
@@ -63,6 +73,28 @@ widths_shown table width =
 abbrev pub framed : TableValue → (ℕ → ℕ) → LineStyle → List Text
 framed table width line = optional_frame_line table.style line (widths_shown table width)
 
+-- whether a cell has a colour or an attribute
+abbrev pub is_coloured : Option CellValue → Bool
+is_coloured None = false
+is_coloured (Some cell) =
+    is_some cell.foreground || (is_some cell.background || nat_lt 0 (length cell.attributes))
+
+-- whether styles are written for the cell of a row
+abbrev pub is_styled : TableValue → RowValue → ℕ × ColumnValue → Bool
+is_styled table row p = should_style table && is_coloured (slice_get row.cells p.0)
+
+-- the lines of a row whose shown columns have these parts: as many as the longest part has, in each
+-- the pieces of the shown columns, side by side between these borders
+pub record AreLinesOfParts (styles : ℕ × ColumnValue → Bool) (table : TableValue) (width : ℕ → ℕ)
+    (parts : ℕ × ColumnValue → List Text) (borders : ContentLineStyle) (lines : List Text)
+    : Type 0 where
+  pub as_high : length lines
+      ≡ greatest (map (λ (p : ℕ × ColumnValue). length (parts p)) (shown_columns table))
+  pub drawn : EachIndex lines (λ k. (pieces : List Text) × AllZip (λ (p : ℕ × ColumnValue).
+      IsPiece (styles p) p.1 (width p.0) (slice_index_or (parts p) k [])) (shown_columns table)
+      pieces
+      × (slice_index_or lines k [] ≡ content_line table.style borders pieces))
+
 -- in a table whose columns have these widths, and whose cells these lines
 module _ (table : TableValue) (width : ℕ → ℕ)
     (cell_lines : ℕ × ColumnValue → CellValue → List Text) where
@@ -73,22 +105,34 @@ module _ (table : TableValue) (width : ℕ → ℕ)
       (cut_text (width p.0) table.indicator) row.max_height (cell_lines p cell))
       (slice_get row.cells p.0)) ([] ∷ [])
 
-  -- the lines of a row: as many as its highest cell has, in each the pieces of the shown columns,
-  -- side by side between these borders
-  pub record AreLinesOfRow (borders : ContentLineStyle) (row : RowValue) (lines : List Text)
-      : Type 0 where
-    pub as_high : length lines
-        ≡ greatest (map (λ (p : ℕ × ColumnValue). length (lines_in row p)) (shown_columns table))
-    pub drawn : EachIndex lines (λ k. (pieces : List Text) × AllZip (λ (p : ℕ × ColumnValue).
-        IsPiece p.1 (width p.0) (slice_index_or (lines_in row p) k [])) (shown_columns table) pieces
-        × (slice_index_or lines k [] ≡ content_line table.style borders pieces))
+  -- the lines of a row without styles
+  abbrev pub AreLinesOfRow : ContentLineStyle → RowValue → List Text → Type 0
+  AreLinesOfRow borders row lines =
+      AreLinesOfParts (λ p. false) table width (lines_in row) borders lines
 
-  -- the lines of the header, and the frame line below them
-  abbrev pub AreLinesOfHeader : Option RowValue → List Text → Type 0
-  AreLinesOfHeader None lines = lines ≡ []
-  AreLinesOfHeader (Some header) lines =
-      (block : List Text) × AreLinesOfRow table.style.header_lines header block
-      × (lines ≡ block ++ framed table width table.style.header_separator)
+  -- each line of a row is pieces of the shown columns, side by side between these borders; without
+  -- custom styling they are pieces of these lines
+  pub record AreContentLines (borders : ContentLineStyle) (row : RowValue) (lines : List Text)
+      : Type 0 where
+    pub pieces : EachIndex lines (λ k. (pieces : List Text)
+        × (length pieces ≡ length (shown_columns table))
+        × (slice_index_or lines k [] ≡ content_line table.style borders pieces))
+    pub are : table.custom_styling ≡ false
+        → AreLinesOfParts (is_styled table row) table width (lines_in row) borders lines
+
+-- the header, if there is one, and all rows, each in lines that show it, between frame lines over
+-- the same widths
+pub record IsFramedBy (Shows : ContentLineStyle → RowValue → List Text → Type 0)
+    (table : TableValue) (width : ℕ → ℕ) (lines : List Text) : Type 0 where
+  pub header : List Text
+  pub rows : List (List Text)
+  pub is_header : MatchOption table.header (header ≡ []) (λ row. (block : List Text)
+      × Shows table.style.header_lines row block
+      × (header ≡ block ++ framed table width table.style.header_separator))
+  pub are_rows : AllZip (Shows table.style.content_lines) table.rows rows
+  pub drawn : lines ≡ framed table width table.style.top_border ++ (header
+      ++ (join_by (λ block. block) (framed table width table.style.row_separator) rows
+      ++ framed table width table.style.bottom_border))
 
 -- the text lines and the delimiter of each shown cell are printable ASCII
 abbrev pub IsPrintable : TableValue → Type 0
@@ -102,35 +146,61 @@ widest table i =
     max 1 (greatest (map cell_content_width (filter_map (λ (row : RowValue). slice_get row.cells i)
     (header_and_rows table))))
 
--- the header of a table, if there is one, and all rows are between frame lines over the same
--- widths
+-- the terminal columns that a width leaves beside borders and paddings
+abbrev pub room_for_texts : TableValue → ℕ → ℕ
+room_for_texts table w =
+    w - (border_count table.style (length (shown_columns table))
+    + sum (widths_shown table (λ i. 0)))
+
+-- a column is as wide as a text, or at least as wide, if all columns may be widened
+abbrev pub IsAsWide : Bool → ℕ → ℕ → Type 0
+IsAsWide false text width = width ≡ text
+IsAsWide true text width = text ≤ width
+
+-- at a width w no line of a column's cells is wider than n
+abbrev pub HasLinesWithin : TableValue → ℕ × ColumnValue → ℕ → ℕ → Type 0
+HasLinesWithin table p w n =
+    All (λ (row : RowValue). (cell : CellValue) (lines : List Text)
+    → slice_get row.cells p.0 ≡ Some cell
+    → AreLinesOfCell w (cell_delimiter table p.1.delimiter cell) cell lines
+    → All (λ line. measure line ≤ n) lines) (header_and_rows table)
+
+-- a column whose widest text is at most a level is as wide as this text; any other is at least as
+-- wide as the level, or has room for its lines at such a width
+pub record KeepsToLevel (table : TableValue) (width : ℕ → ℕ) (level : ℕ) (p : ℕ × ColumnValue)
+    : Type 0 where
+  pub narrow : widest table p.0 ≤ level
+      → IsAsWide (is_full_width table.arrangement) (widest table p.0) (width p.0)
+  pub wide : level < widest table p.0 → (level ≤ width p.0)
+      ⊎ ((w : ℕ) × (level ≤ w) × HasLinesWithin table p w (width p.0))
+
+-- the lines of a table without styles
 pub record IsFramedDrawing (table : TableValue) (lines : List Text) : Type 0 where
   pub width : ℕ → ℕ
   pub cell_lines : ℕ × ColumnValue → CellValue → List Text
   pub are_cell_lines : EachShownCell (λ row p cell. AreLinesOfCell (width p.0)
       (cell_delimiter table p.1.delimiter cell) cell (cell_lines p cell)) table
-  pub header : List Text
-  pub rows : List (List Text)
-  pub is_header : AreLinesOfHeader table width cell_lines table.header header
-  pub are_rows :
-      AllZip (AreLinesOfRow table width cell_lines table.style.content_lines) table.rows rows
-  pub drawn : lines ≡ framed table width table.style.top_border ++ (header
-      ++ (join_by (λ block. block) (framed table width table.style.row_separator) rows
-      ++ framed table width table.style.bottom_border))
+  pub frame : IsFramedBy (AreLinesOfRow table width cell_lines) table width lines
 
--- so do those of a table without styles, whose widths are these
+-- its lines, and how wide its columns are
 pub record IsPlainDrawing (table : TableValue) (lines : List Text) : Type 0 where
   pub framed : IsFramedDrawing table lines
   -- without a width to keep to, a column is as wide as its widest text
   pub by_content : (table.arrangement ≡ Disabled) ⊎ (table_width table ≡ None)
       → All (λ (p : ℕ × ColumnValue). p.1.constraint ≡ None → framed.width p.0 ≡ widest table p.0)
       (shown_columns table)
-  -- so are all under `Dynamic`, where they have room
+  -- so is each if a width is kept that has room for all texts, or wider under `DynamicFullWidth`
   pub keeps_contents : (w : ℕ) → table_width table ≡ Some w → NoConstraints table
-      → table.arrangement ≡ Dynamic
+      → table.arrangement ≢ Disabled
       → border_count table.style (length (shown_columns table))
       + sum (widths_shown table (widest table)) ≤ w
-      → All (λ (p : ℕ × ColumnValue). framed.width p.0 ≡ widest table p.0) (shown_columns table)
+      → All (λ (p : ℕ × ColumnValue). IsAsWide (is_full_width table.arrangement)
+      (widest table p.0) (framed.width p.0)) (shown_columns table)
+  -- if it has room for some alone, columns keep to a level, at least an even share of the room
+  pub keeps_to_level : (w : ℕ) → table_width table ≡ Some w → NoConstraints table
+      → table.arrangement ≢ Disabled
+      → (level : ℕ) × (room_for_texts table w / length (shown_columns table) ≤ level)
+      × All (KeepsToLevel table framed.width level) (shown_columns table)
   -- each frame line counts as many characters, whatever the texts
   pub total : ℕ
   pub frame_total : (line : LineStyle)
@@ -153,39 +223,6 @@ pub record IsPlainDrawing (table : TableValue) (lines : List Text) : Type 0 wher
       → table.arrangement ≡ DynamicFullWidth → 0 < length (shown_columns table)
       → total ≡ max w (least_total table)
 
--- a line between spaces, with SGR sequences in these alone
-pub record IsAround (line piece : Text) : Type 0 where
-  pub before : Text
-  pub after : Text
-  pub drawn : piece ≡ before ++ (line ++ after)
-  pub left : (n : ℕ) × IsStyled (spaces n) before
-  pub right : (n : ℕ) × IsStyled (spaces n) after
-
--- in a table whose columns have these widths, and whose cells these lines
-module _ (table : TableValue) (width : ℕ → ℕ)
-    (cell_lines : ℕ × ColumnValue → CellValue → List Text) where
-  -- each line of a row is pieces of the shown columns, side by side between these borders; without
-  -- custom styling the texts stand in them unbroken
-  abbrev pub AreContentLines : ContentLineStyle → RowValue → List Text → Type 0
-  AreContentLines borders row lines =
-      EachIndex lines (λ k. (pieces : List Text) × (length pieces ≡ length (shown_columns table))
-      × (slice_index_or lines k [] ≡ content_line table.style borders pieces)
-      × (table.custom_styling ≡ false → AllZip (λ (p : ℕ × ColumnValue).
-      IsAround (slice_index_or (lines_in table width cell_lines row p) k []))
-      (shown_columns table) pieces))
-
-  -- so are those of the header and of all rows, which stand between frame lines
-  pub record IsFramed (lines : List Text) : Type 0 where
-    pub header : List Text
-    pub rows : List (List Text)
-    pub is_header : MatchOption table.header (header ≡ []) (λ row. (block : List Text)
-        × AreContentLines table.style.header_lines row block
-        × (header ≡ block ++ framed table width table.style.header_separator))
-    pub are_rows : AllZip (AreContentLines table.style.content_lines) table.rows rows
-    pub drawn : lines ≡ framed table width table.style.top_border ++ (header
-        ++ (join_by (λ block. block) (framed table width table.style.row_separator) rows
-        ++ framed table width table.style.bottom_border))
-
 -- lines are those of a table without styles, except for SGR sequences: if styles are written, these
 -- are in pieces around the texts
 pub record IsFramedTable (table : TableValue) (lines : List Text) : Type 0 where
@@ -193,7 +230,8 @@ pub record IsFramedTable (table : TableValue) (lines : List Text) : Type 0 where
   pub is_plain : IsFramedDrawing table plain
   pub styled : AllZip IsStyled plain lines
   pub unstyled : should_style table ≡ false → lines ≡ plain
-  pub frame : IsFramed table is_plain.width is_plain.cell_lines lines
+  pub frame : IsFramedBy (AreContentLines table is_plain.width is_plain.cell_lines) table
+      is_plain.width lines
 
 -- a cell without colours and attributes
 pub record IsUncoloured (cell : CellValue) : Type 0 where
@@ -208,8 +246,8 @@ pub record IsHeadline (table : TableValue) (lines : List Text) : Type 0 where
   pub is_plain : IsPlainDrawing (measured_table table) plain
   pub styled : AllZip IsStyled plain lines
   pub unstyled : should_style table ≡ false → table.custom_styling ≡ false → lines ≡ plain
-  pub frame : IsFramed table is_plain.framed.width
-      is_plain.framed.cell_lines lines
+  pub frame : IsFramedBy (AreContentLines table is_plain.framed.width is_plain.framed.cell_lines)
+      table is_plain.framed.width lines
   -- a table whose cells have neither colours nor attributes is drawn without sequences
   pub uncoloured : All (λ (row : RowValue). All IsUncoloured row.cells) (header_and_rows table)
       → table.custom_styling ≡ false → lines ≡ plain

@@ -37,7 +37,7 @@ HaveCells n rows = All (λ (row : RowValue). length row.cells ≤ n) rows
 -- what the lines of such a table keep: they are equally wide, where each character fits one
 -- terminal column, or where the table is as wide as its texts; they keep to a width, or fill it,
 -- where that has room for borders, paddings and one terminal column for each of n columns; and all
--- texts stand in them, unchanged where the table is as wide as its texts
+-- texts are in them, each in its row and column, unchanged where the table is as wide as its texts
 pub record KeepsRows (style : TableStyle) (arrangement : ContentArrangement) (width : Option ℕ)
     (header : RowValue) (rows : List RowValue) (lines : List Text) : Type 0 where
   pub straight : All IsNarrowRow (header ∷ rows) → AreEquallyWide lines

@@ -5,18 +5,24 @@ ghost use Rattle.promises.specs.Headline.{IsHeadline};
 
 use comfy_table::{Lines, Result, Table};
 
-/// A table draws frame lines, and rows of its shown cells' text lines between spaces and borders,
-/// SGR sequences aside. With `custom_styling` a text is what is visible of it. A text line that
-/// fits its column is one line, an empty one too. Any other is cut where texts wrap, which leaves
-/// out nothing but delimiters; one of delimiters alone has no line. Where `max_height` cuts, the
-/// last line is its head for what the indicator leaves, and the indicator, which isn't drawn where
-/// it is wider than the column. A column is as wide as its widest text where no width is kept, and
-/// under `Dynamic` where all texts have room.
+/// A table draws frame lines, and rows of its shown cells' text lines between spaces and borders. A
+/// row has as many lines as its highest cell. SGR sequences are in these spaces alone, if styles
+/// are written and the cell has a colour or an attribute. With `custom_styling` a text is what is
+/// visible of it, and sequences may be in it.
 ///
-/// Where the width is set, or is the terminal's, and no column has a constraint but `Hidden`, a
-/// frame line counts at most so many characters under `Dynamic`, or as many as borders, paddings
-/// and one for each column. Under `DynamicFullWidth` it counts exactly so many, where a column is
-/// shown. Rows of printable ASCII count the same.
+/// A text line that fits its column is one line, an empty one too. Any other is cut where texts
+/// wrap, which leaves out nothing but delimiters; one of delimiters alone has no line. If
+/// `max_height` cuts, the last line is its head for what the indicator leaves, and the indicator,
+/// which isn't drawn if it is wider than the column. A column is as wide as its widest text if no
+/// width is kept.
+///
+/// If the width is set, or is the terminal's, and no column has a constraint but `Hidden`, each
+/// column is as wide as its widest text if all have room, or wider under `DynamicFullWidth`. If not
+/// all have room, there is a level, which is at least an even share of it. A column whose widest
+/// text is at most the level is as wide as this text. Any other is at least as wide as the level,
+/// or has room for its lines at such a width. A frame line counts at most as many characters as the
+/// width under `Dynamic`, or as borders, paddings and one for each column. Under `DynamicFullWidth`
+/// it counts exactly as many, if a column is shown. Rows of printable ASCII count the same.
 pub fn headline(table: &Table) -> Result<Lines>
     ensures { IfOk result (λ lines. IsHeadline table.now lines) }
 {

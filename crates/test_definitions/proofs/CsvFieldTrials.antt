@@ -20,7 +20,7 @@ use Rattle.csv_tables.specs.Drawn.{condensed_style}
 use Rattle.csv_tables.specs.Fields.{field_or_blank}
 use Rattle.csv_tables.specs.declared.options.Look.{Look}
 use Rattle.promises.proofs.KeptLemmas.{slices_anywhere}
-use Rattle.promises.specs.Headline.{AreLinesOfCell, AreLinesOfHeader, AreLinesOfRow, AreLinesOfText, IsFramedDrawing, IsPiece, lines_in, widths_shown}
+use Rattle.promises.specs.Headline.{AreLinesOfCell, AreLinesOfRow, AreLinesOfText, IsFramedDrawing, IsPiece, framed, lines_in, widths_shown}
 use Rattle.csv_promises.specs.Fields.{HoldsField, HoldsFields, IsDrawingOf, IsFieldColumn}
 
 -- a style with a hyphen, which no line draws where there is no header
@@ -36,7 +36,7 @@ pub record IsOneRow (fields : List Text) (lines : List Text) : Type 0 where
   pub cell_lines : ℕ × ColumnValue → CellValue → List Text
   pub are_cell_lines : All (λ (p : ℕ × ColumnValue). (cell : CellValue) → slice_get row.cells p.0 ≡ Some cell → AreLinesOfCell (width p.0) (cell_delimiter table p.1.delimiter cell) cell (cell_lines p cell)) (enumerate_from 0 table.columns)
   pub as_high : length lines ≡ greatest (map (λ (p : ℕ × ColumnValue). length (lines_in table width cell_lines row p)) (enumerate_from 0 table.columns))
-  pub drawn : EachIndex lines (λ k. (pieces : List Text) × AllZip (λ (p : ℕ × ColumnValue). IsPiece p.1 (width p.0) (slice_index_or (lines_in table width cell_lines row p) k [])) (enumerate_from 0 table.columns) pieces
+  pub drawn : EachIndex lines (λ k. (pieces : List Text) × AllZip (λ (p : ℕ × ColumnValue). IsPiece false p.1 (width p.0) (slice_index_or (lines_in table width cell_lines row p) k [])) (enumerate_from 0 table.columns) pieces
       × (slice_index_or lines k [] ≡ join_by (λ (piece : Text). piece) [] pieces ++ []))
   pub columns : All IsFieldColumn table.columns
   pub no_delimiter : table.delimiter ≡ None
@@ -44,7 +44,7 @@ pub record IsOneRow (fields : List Text) (lines : List Text) : Type 0 where
   pub as_many : length table.columns ≤ length fields
 
 pub one_row : (look : Look) → look.style ≡ dashed → look.has_bold_header ≡ false → (fields lines : List Text) (text : Text) → ((own : List Text) → AreLinesOf text own → own ≡ lines) → IsDrawingOf look false (fields ∷ []) text → IsOneRow fields lines
-one_row look own_style plain_header fields lines text cut is = by_header is.table.header is.table.rows is.is_table.header is.is_table.hold is.framed.is_plain.is_header is.framed.is_plain.are_rows is.framed.is_plain.are_cell_lines is.is_table.has_columns
+one_row look own_style plain_header fields lines text cut is = by_header is.table.header is.table.rows is.is_table.header is.is_table.hold is.framed.is_plain.frame.is_header is.framed.is_plain.frame.are_rows is.framed.is_plain.are_cell_lines is.is_table.has_columns
   where
     table : TableValue
     table = is.table
@@ -62,25 +62,25 @@ one_row look own_style plain_header fields lines text cut is = by_header is.tabl
         by_style (inl own) = own
         by_style (inr own) = own
 
-    drawn : lines ≡ plain.header ++ (join_by (λ (block : List Text). block) [] plain.rows ++ [])
+    drawn : lines ≡ plain.frame.header ++ (join_by (λ (block : List Text). block) [] plain.frame.rows ++ [])
     drawn =
         sym same
-        ∙ subst (λ (s : TableStyle). is.framed.plain ≡ optional_frame_line s s.top_border (widths_shown table plain.width) ++ (plain.header ++ (join_by (λ (block : List Text). block) (optional_frame_line s s.row_separator (widths_shown table plain.width)) plain.rows
-        ++ optional_frame_line s s.bottom_border (widths_shown table plain.width)))) style plain.drawn
+        ∙ subst (λ (s : TableStyle). is.framed.plain ≡ optional_frame_line s s.top_border (widths_shown table plain.width) ++ (plain.frame.header ++ (join_by (λ (block : List Text). block) (optional_frame_line s s.row_separator (widths_shown table plain.width)) plain.frame.rows
+        ++ optional_frame_line s s.bottom_border (widths_shown table plain.width)))) style plain.frame.drawn
 
-    by_header : (header : Option RowValue) (rows : List RowValue) → is_some header ≡ false → AllZip HoldsFields (fields ∷ []) (option_to_list header ++ rows) → AreLinesOfHeader table plain.width plain.cell_lines header plain.header
-        → AllZip (AreLinesOfRow table plain.width plain.cell_lines table.style.content_lines) rows plain.rows
+    by_header : (header : Option RowValue) (rows : List RowValue) → is_some header ≡ false → AllZip HoldsFields (fields ∷ []) (option_to_list header ++ rows) → MatchOption header (plain.frame.header ≡ []) (λ row. (block : List Text) × AreLinesOfRow table plain.width plain.cell_lines table.style.header_lines row block × (plain.frame.header ≡ block ++ framed table plain.width table.style.header_separator))
+        → AllZip (AreLinesOfRow table plain.width plain.cell_lines table.style.content_lines) rows plain.frame.rows
         → All (λ (row : RowValue). All (λ (p : ℕ × ColumnValue). (cell : CellValue) → slice_get row.cells p.0 ≡ Some cell → AreLinesOfCell (plain.width p.0) (cell_delimiter table p.1.delimiter cell) cell (plain.cell_lines p cell)) (shown_columns table)) (option_to_list header ++ rows)
         → All (λ (row : RowValue). length row.cells ≤ length table.columns) (option_to_list header ++ rows) → IsOneRow fields lines
     by_header (Some header) rows none hold own are texts few = absurd (cc none)
     by_header None [] none hold own are texts few = absurd hold
     by_header None (row ∷ other ∷ rows) none hold own are texts few = absurd hold.1
-    by_header None (row ∷ []) none hold own are texts few = by_rows plain.rows refl are
+    by_header None (row ∷ []) none hold own are texts few = by_rows plain.frame.rows refl are
       where
         Own : RowValue → Type 0
         Own r = All (λ (p : ℕ × ColumnValue). (cell : CellValue) → slice_get r.cells p.0 ≡ Some cell → AreLinesOfCell (plain.width p.0) (cell_delimiter table p.1.delimiter cell) cell (plain.cell_lines p cell)) (shown_columns table)
 
-        by_rows : (blocks : List (List Text)) → plain.rows ≡ blocks → AllZip (AreLinesOfRow table plain.width plain.cell_lines table.style.content_lines) (row ∷ []) blocks → IsOneRow fields lines
+        by_rows : (blocks : List (List Text)) → plain.frame.rows ≡ blocks → AllZip (AreLinesOfRow table plain.width plain.cell_lines table.style.content_lines) (row ∷ []) blocks → IsOneRow fields lines
         by_rows [] is_rows zip = absurd zip
         by_rows (block ∷ other ∷ blocks) is_rows zip = absurd zip.1
         by_rows (block ∷ []) is_rows zip =
@@ -98,7 +98,7 @@ one_row look own_style plain_header fields lines text cut is = by_header is.tabl
               drawn = λ k below.
                   let here = zip.0.drawn k below in (
                     here.0,
-                    subst (λ (ps : List (ℕ × ColumnValue)). AllZip (λ (p : ℕ × ColumnValue). IsPiece p.1 (plain.width p.0) (slice_index_or (lines_in table plain.width plain.cell_lines row p) k [])) ps here.0) is.is_table.shown here.1,
+                    subst (λ (ps : List (ℕ × ColumnValue)). AllZip (λ (p : ℕ × ColumnValue). IsPiece false p.1 (plain.width p.0) (slice_index_or (lines_in table plain.width plain.cell_lines row p) k [])) ps here.0) is.is_table.shown here.1,
                     here.2 ∙ ap (λ (s : TableStyle). content_line s s.content_lines here.0) style,
                   );
               columns = is.is_table.columns;
@@ -204,7 +204,7 @@ module _ (field : Text) (fields : List Text) (line : Text) (made : ℕ → Text)
   pub begins : BeginsWith made (length fields == 0) line
   begins = by_columns is.table.columns (first field fields (line ∷ []) made text_is is some) is.columns here.0 here.1 here.2 is.as_many
     where
-      here : (pieces : List Text) × AllZip (λ (p : ℕ × ColumnValue). IsPiece p.1 (is.width p.0) (slice_index_or (lines_in is.table is.width is.cell_lines is.row p) 0 [])) (enumerate_from 0 is.table.columns) pieces × (line ≡ join_by (λ (piece : Text). piece) [] pieces ++ [])
+      here : (pieces : List Text) × AllZip (λ (p : ℕ × ColumnValue). IsPiece false p.1 (is.width p.0) (slice_index_or (lines_in is.table is.width is.cell_lines is.row p) 0 [])) (enumerate_from 0 is.table.columns) pieces × (line ≡ join_by (λ (piece : Text). piece) [] pieces ++ [])
       here = is.drawn 0 (omega arith)
 
       -- the first line is a front of the text
@@ -219,11 +219,11 @@ module _ (field : Text) (fields : List Text) (line : Text) (made : ℕ → Text)
               absurd (text_is.unspaced n (encode_utf8_all (replicate m 0x20) ++ (one ++ tail)) (splits ∙ ap (λ (g : Text). g ++ (one ++ tail)) (only ∙ ap (λ (t : Text). t ++ encode_utf8_all (replicate m 0x20)) (encode_ascii 0x20 (omega arith)))))
 
       by_columns : (columns : List ColumnValue) → HasFirst field fields (line ∷ []) made text_is is some columns → All IsFieldColumn columns → (pieces : List Text)
-          → AllZip (λ (p : ℕ × ColumnValue). IsPiece p.1 (is.width p.0) (slice_index_or (lines_in is.table is.width is.cell_lines is.row p) 0 [])) (enumerate_from 0 columns) pieces
+          → AllZip (λ (p : ℕ × ColumnValue). IsPiece false p.1 (is.width p.0) (slice_index_or (lines_in is.table is.width is.cell_lines is.row p) 0 [])) (enumerate_from 0 columns) pieces
           → line ≡ join_by (λ (piece : Text). piece) [] pieces ++ [] → length columns ≤ suc (length fields) → BeginsWith made (length fields == 0) line
       by_columns [] has pads pieces zip made_is few = absurd (cc has.are)
       by_columns (column ∷ more) has pads [] zip made_is few = absurd zip
-      by_columns (column ∷ more) has pads (piece ∷ pieces) zip made_is few = by_left zip.0.left zip.0.right zip.0.drawn room.0 room.1
+      by_columns (column ∷ more) has pads (piece ∷ pieces) zip made_is few = by_left zip.0.left zip.0.right (zip.0.drawn ∙ ap₂ (λ (a b : Text). a ++ (slice_index_or (lines_in is.table is.width is.cell_lines is.row (0, column)) 0 [] ++ b)) zip.0.are_spaces.0 zip.0.are_spaces.1) room.0 room.1
         where
           pad : column.padding ≡ (1, 1)
           pad = (All-head IsFieldColumn column more pads).padding
@@ -240,11 +240,11 @@ module _ (field : Text) (fields : List Text) (line : Text) (made : ℕ → Text)
           fronts : (tail : Text) × (made has.behind ≡ slice_index_or (lines_in is.table is.width is.cell_lines is.row (0, column)) 0 [] ++ tail)
           fronts = subst (λ (c : ColumnValue). (tail : Text) × (made has.behind ≡ slice_index_or (lines_in is.table is.width is.cell_lines is.row (0, c)) 0 [] ++ tail)) (sym same) (front_of (lines_in is.table is.width is.cell_lines is.row (0, has.column)) has.behind has.own)
 
-          joined : (others : List Text) → AllZip (λ (p : ℕ × ColumnValue). IsPiece p.1 (is.width p.0) (slice_index_or (lines_in is.table is.width is.cell_lines is.row p) 0 [])) (enumerate_from 1 more) others
+          joined : (others : List Text) → AllZip (λ (p : ℕ × ColumnValue). IsPiece false p.1 (is.width p.0) (slice_index_or (lines_in is.table is.width is.cell_lines is.row p) 0 [])) (enumerate_from 1 more) others
               → (rest : Text) × (join_by (λ (piece : Text). piece) [] (piece ∷ others) ++ [] ≡ piece ++ rest) × ((length fields == 0) ≡ true → rest ≡ [])
           joined others own = (flat_map (λ (other : Text). [] ++ other) others ++ [], append_assoc piece (flat_map (λ (other : Text). [] ++ other) others) [], λ alone. by_more others more own alone few)
             where
-              by_more : (others : List Text) (cs : List ColumnValue) → AllZip (λ (p : ℕ × ColumnValue). IsPiece p.1 (is.width p.0) (slice_index_or (lines_in is.table is.width is.cell_lines is.row p) 0 [])) (enumerate_from 1 cs) others → (length fields == 0) ≡ true → suc (length cs) ≤ suc (length fields)
+              by_more : (others : List Text) (cs : List ColumnValue) → AllZip (λ (p : ℕ × ColumnValue). IsPiece false p.1 (is.width p.0) (slice_index_or (lines_in is.table is.width is.cell_lines is.row p) 0 [])) (enumerate_from 1 cs) others → (length fields == 0) ≡ true → suc (length cs) ≤ suc (length fields)
                   → flat_map (λ (other : Text). [] ++ other) others ++ [] ≡ []
               by_more [] cs zips alone short = refl
               by_more (other ∷ others) [] zips alone short = absurd zips

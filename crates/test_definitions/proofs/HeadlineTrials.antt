@@ -1,10 +1,13 @@
 -- Drawings that are near a headline, and none.
-use Rattle.std.proofs.Common.{◌≡◌, ◌==◌, ◌<◌, ◌≤◌, ℕ, suc, ◌+◌, Bool, true, false, List, [], ◌∷◌, ◌++◌, Option, Some, None, zero, codes, length, map, max, take, inl, refl, sym, ap, ap₂, ◌∙◌, subst, arith, append-nil, length-append, slice_index_or}
+use Rattle.std.proofs.Common.{◌≡◌, ◌==◌, ◌<◌, ◌≤◌, ℕ, suc, ◌+◌, Bool, true, false, List, [], ◌∷◌, ◌++◌, Option, Some, None, zero, codes, nat_le, inr, ◌⊎◌, length, map, max, take, inl, refl, sym, ap, ap₂, ◌∙◌, subst, arith, append-nil, length-append, slice_index_or}
 use Rattle.std.specs.Int.{is_in_range}
-use Rattle.std.specs.Prelude.{slice_index}
+use Rattle.std.specs.Prelude.{if◌then◌else◌, slice_index}
+use Rattle.std.specs.Str.{IsUtf8}
+use Rattle.std.proofs.lemmas.Bool.Decides.{nat_tests}
+use Rattle.promises.proofs.HeadlineLemmas.{lines_of_cell}
 use Rattle.std.specs.List.{All, AllZip, flat_map, join_by, list_all, slice_get}
 use lib.Utf8.{encode}
-use Rattle.std.proofs.lemmas.Bool.{or_parts}
+use Rattle.std.proofs.lemmas.Bool.{cases_lt, or_parts}
 use Rattle.std.proofs.lemmas.List.{length-replicate}
 use Rattle.std.proofs.lemmas.List.Elements.{All-from_recursion, All-head, All-tail}
 use Rattle.std.proofs.lemmas.Option.{same_Some}
@@ -21,10 +24,10 @@ use Rattle.comfy_parts.specs.declared.style.table.ContentArrangement.{ContentArr
 use Rattle.comfy_parts.specs.declared.style.table.ContentArrangement.TheVariants.{Disabled, Dynamic, DynamicFullWidth}
 use Rattle.comfy_table.proofs.CountLemmas.{frame_lines_count}
 use Rattle.comfy_table.specs.Laws.{NoConstraints, count, least_total}
-use Rattle.comfy_table.specs.Lines.{cell_delimiter, cut_text, cut_to_limit, fitting_indicator}
+use Rattle.comfy_table.specs.Lines.{cell_delimiter, cell_lines, cut_text, cut_to_limit, fitting_indicator}
 use Rattle.comfy_table.specs.Parts.{ArrangedValue, IsArrangedTable}
 use Rattle.comfy_table.specs.TableValue.{TableValue, ellipsis, header_and_rows, measured_table, new_table, shown_columns, width_or_terminal, with_header, with_rows}
-use Rattle.promises.specs.Headline.{AreColumnsOf, AreContentLines, AreLinesOfHeader, AreLinesOfRow, IsAround, AreLinesOfText, EachShownCell, IsHeadline, IsPiece, IsPlainDrawing, IsPrintable, IsUncoloured, lines_in}
+use Rattle.promises.specs.Headline.{AreColumnsOf, AreContentLines, AreLinesOfRow, AreLinesOfText, EachShownCell, AreLinesOfCell, HasLinesWithin, IsFramedBy, IsHeadline, IsPiece, KeepsToLevel, widest, IsPlainDrawing, IsPrintable, IsUncoloured, lines_in}
 use Rattle.promises.specs.Promises.{KeepsPromises}
 use Rattle.promises.specs.Shown.{IsStyled}
 use Rattle.promises.specs.Straight.{AreStraightWhereCharactersFit}
@@ -65,12 +68,12 @@ pub record IsPadded (w : ℕ) (text line : Text) : Type 0 where
   pub wide : left + measure text + right ≡ 1 + max w (measure text) + 1
 
 -- so is the one piece of a line
-padded_of : (width : ℕ → ℕ) (text line : Text) (pieces : List Text) → AllZip (λ (p : ℕ × ColumnValue). IsPiece p.1 (width p.0) text) (place ∷ []) pieces → line ≡ join_by (λ (piece : Text). piece) [] pieces ++ [] → IsPadded (width 0) text line
+padded_of : (width : ℕ → ℕ) (text line : Text) (pieces : List Text) → AllZip (λ (p : ℕ × ColumnValue). IsPiece false p.1 (width p.0) text) (place ∷ []) pieces → line ≡ join_by (λ (piece : Text). piece) [] pieces ++ [] → IsPadded (width 0) text line
 padded_of width text line [] zip is_line = absurd zip
 padded_of width text line (piece ∷ other ∷ pieces) zip is_line = absurd zip.1
 padded_of width text line (piece ∷ []) zip is_line =
     let joined : line ≡ piece = is_line ∙ append-nil (piece ++ []) ∙ append-nil piece in
-    record { left = zip.0.left; right = zip.0.right; drawn = joined ∙ zip.0.drawn; padded = zip.0.padded; wide = zip.0.wide }
+    record { left = zip.0.left; right = zip.0.right; drawn = joined ∙ zip.0.drawn ∙ ap₂ (λ (a b : Text). a ++ (text ++ b)) zip.0.are_spaces.0 zip.0.are_spaces.1; padded = zip.0.padded; wide = zip.0.wide }
 
 -- lines, each of which is one of these texts, padded
 abbrev pub ArePadded : ℕ → List Text → List Text → Type 0
@@ -115,13 +118,13 @@ module _ (enforce : Bool) (arrangement : ContentArrangement) (kept : Option ℕ)
 
   -- so are the lines of the drawing
   pub lines_are : (cut : List Text) → cut_lines ≡ cut → ArePadded (is.framed.width 0) cut lines
-  lines_are cut same = by_rows is.framed.rows is.framed.are_rows is.framed.drawn
+  lines_are cut same = by_rows is.framed.frame.rows is.framed.frame.are_rows is.framed.frame.drawn
     where
-      by_rows : (rows : List (List Text)) → AllZip (AreLinesOfRow (one_cell enforce arrangement kept indicator limit texts) is.framed.width is.framed.cell_lines nothing.content_lines) (row_of limit texts ∷ []) rows → lines ≡ is.framed.header ++ (join_by (λ block. block) [] rows ++ []) → ArePadded (is.framed.width 0) cut lines
+      by_rows : (rows : List (List Text)) → AllZip (AreLinesOfRow (one_cell enforce arrangement kept indicator limit texts) is.framed.width is.framed.cell_lines nothing.content_lines) (row_of limit texts ∷ []) rows → lines ≡ is.framed.frame.header ++ (join_by (λ block. block) [] rows ++ []) → ArePadded (is.framed.width 0) cut lines
       by_rows [] each drawn = absurd each
       by_rows (block ∷ other ∷ rows) each drawn = absurd each.1
       by_rows (block ∷ []) each drawn =
-          let all : lines ≡ block = drawn ∙ ap (λ (header : List Text). header ++ ((block ++ []) ++ [])) is.framed.is_header ∙ append-nil (block ++ []) ∙ append-nil block in
+          let all : lines ≡ block = drawn ∙ ap (λ (header : List Text). header ++ ((block ++ []) ++ [])) is.framed.frame.is_header ∙ append-nil (block ++ []) ∙ append-nil block in
           subst (λ (ls : List Text). ArePadded (is.framed.width 0) cut ls) (sym all) (block_is block each.0 cut same)
 
   -- the lines of texts that all fit are these texts
@@ -247,16 +250,24 @@ framed_line : ¬ (IsHeadline (free_cell None (codes "ab" ∷ [])) (codes "----" 
 framed_line is = framed_line-differs (ab_headline None (λ cut. refl) (codes "----" ∷ codes " ab " ∷ []) is)
 
 -- nor is another header
-other_header : ¬ (AreLinesOfHeader (free_cell None []) (λ i. 2) (λ p cell. cell.text_lines) (Some (row_of None (codes "ab" ∷ []))) (codes " XY " ∷ []))
-other_header (block, own, made) =
-    let is : codes " XY " ∷ [] ≡ block = made ∙ append-nil block in
-    let long = ap length is in
-    let here = own.drawn 0 (omega (arith, long)) in
-    another_text-differs (ap (λ (t : Text). t ∷ []) (ab_padded (codes " XY ") (padded_of (λ i. 2) (codes "ab") (codes " XY ") here.0 here.1 (ap (λ (ls : List Text). slice_index_or ls 0 []) is ∙ here.2))))
+abbrev headed : TableValue
+headed = with_header (row_of None (codes "ab" ∷ [])) (new_table nothing)
+
+other_header : ¬ (IsFramedBy (AreLinesOfRow headed (λ i. 2) (λ p cell. cell.text_lines)) headed (λ i. 2) (codes " XY " ∷ []))
+other_header is = by_block is.rows is.are_rows is.is_header.0 is.is_header.1 (is.drawn ∙ ap (λ (header : List Text). header ++ (join_by (λ (block : List Text). block) [] is.rows ++ [])) (is.is_header.2 ∙ append-nil is.is_header.0))
+  where
+    by_block : (rows : List (List Text)) → AllZip (AreLinesOfRow headed (λ i. 2) (λ p cell. cell.text_lines) nothing.content_lines) [] rows → (block : List Text) → AreLinesOfRow headed (λ i. 2) (λ p cell. cell.text_lines) nothing.header_lines (row_of None (codes "ab" ∷ [])) block
+        → ¬ (codes " XY " ∷ [] ≡ block ++ (join_by (λ (block : List Text). block) [] rows ++ []))
+    by_block (row ∷ rows) each block own made = each
+    by_block [] each block own made =
+        let is : codes " XY " ∷ [] ≡ block = made ∙ append-nil block in
+        let long = ap length is in
+        let here = own.drawn 0 (omega (arith, long)) in
+        another_text-differs (ap (λ (t : Text). t ∷ []) (ab_padded (codes " XY ") (padded_of (λ i. 2) (codes "ab") (codes " XY ") here.0 here.1 (ap (λ (ls : List Text). slice_index_or ls 0 []) is ∙ here.2))))
 
 -- nor one without the line below it
 no_separator : ¬ (IsHeadline (with_header (plain_row []) (new_table ascii_full)) (codes "++" ∷ codes "++" ∷ []))
-no_separator is = let (block, own, made) = is.is_plain.framed.is_header in too_few is.is_plain.framed.header _ block _ _ _ (is.unstyled refl refl ∙ is.is_plain.framed.drawn) made
+no_separator is = let (block, own, made) = is.is_plain.framed.frame.is_header in too_few is.is_plain.framed.frame.header _ block _ _ _ (is.unstyled refl refl ∙ is.is_plain.framed.frame.drawn) made
   where
     too_few : (header rows block : List Text) (top separator bottom : Text) → codes "++" ∷ codes "++" ∷ [] ≡ top ∷ (header ++ (rows ++ bottom ∷ [])) → ¬ (header ≡ block ++ separator ∷ [])
     too_few header rows block top separator bottom made is =
@@ -395,20 +406,21 @@ wide_line : ¬ (AreLinesOfText 1 0x20 (codes "ab") (codes "ab" ∷ []))
 wide_line own = let fits : measure (codes "ab") ≤ 1 = own.fit (frame_adds 0x20 refl) ab_fits 0 [] (omega arith) in omega (arith, fits, two)
 
 -- it is cut where texts wrap
+wrapped_text : (w n : ℕ) (text : Text) → w < measure text → n ≡ w → (of_texts : List (List Text)) → AllZip (AreLinesOfText n 0x20) (text ∷ []) of_texts → flat_map (λ (of_text : List Text). of_text) of_texts ≡ wrapped w 0x20 text
+wrapped_text w n text wide same [] zip = absurd zip
+wrapped_text w n text wide same (own ∷ other ∷ of_texts) zip = absurd zip.1
+wrapped_text w n text wide same (own ∷ []) zip = append-nil own ∙ wrapped_is_one n 0x20 text own refl (zip.0.slices (omega (arith, wide, same))) ∙ ap (λ (m : ℕ). wrapped m 0x20 text) same
+
+wrapped_at : (arrangement : ContentArrangement) (kept : Option ℕ) (w : ℕ) (text : Text) (lines : List Text) → w < measure text → (is : IsPlainDrawing (one_cell false arrangement kept ellipsis None (text ∷ [])) lines) → is.framed.width 0 ≡ w → ArePadded w (wrapped w 0x20 text) lines
+wrapped_at arrangement kept w text lines wide is width =
+    let own = is.framed.are_cell_lines 0 (row_of None (text ∷ [])) (omega arith) 0 place (omega arith) (cell_of (text ∷ [])) refl in
+    subst (λ (n : ℕ). ArePadded n (wrapped w 0x20 text) lines) width (lines_are false arrangement kept ellipsis None (text ∷ []) lines is (wrapped w 0x20 text) (own.2 ∙ wrapped_text w (is.framed.width 0) text wide width own.0 own.1))
+
 wrapped_is : (w : ℕ) (text : Text) (lines : List Text) → w < measure text → 1 ≤ w → IsHeadline (wide_cell (w + 2) (text ∷ [])) lines → ArePadded w (wrapped w 0x20 text) lines
 wrapped_is w text lines wide some headline =
     let is = plain_of DynamicFullWidth (Some (w + 2)) ellipsis None (text ∷ []) lines headline in
     let room = room_is false DynamicFullWidth (Some (w + 2)) ellipsis None (text ∷ []) lines is (w + 2) refl refl (omega (arith, some)) in
-    let width : is.framed.width 0 ≡ w = omega (arith, room) in
-    let own = is.framed.are_cell_lines 0 (row_of None (text ∷ [])) (omega arith) 0 place (omega arith) (cell_of (text ∷ [])) refl in
-    subst (λ (n : ℕ). ArePadded n (wrapped w 0x20 text) lines) width
-    (lines_are false DynamicFullWidth (Some (w + 2)) ellipsis None (text ∷ []) lines is (wrapped w 0x20 text) (own.2 ∙ by_texts (is.framed.width 0) width own.0 own.1))
-  where
-    by_texts : (n : ℕ) → n ≡ w → (of_texts : List (List Text)) → AllZip (AreLinesOfText n 0x20) (text ∷ []) of_texts → flat_map (λ (of_text : List Text). of_text) of_texts ≡ wrapped w 0x20 text
-    by_texts n same [] zip = absurd zip
-    by_texts n same (own ∷ other ∷ of_texts) zip = absurd zip.1
-    by_texts n same (own ∷ []) zip =
-        append-nil own ∙ wrapped_is_one n 0x20 text own refl (zip.0.slices (omega (arith, wide, same))) ∙ ap (λ (m : ℕ). wrapped m 0x20 text) same
+    wrapped_at DynamicFullWidth (Some (w + 2)) w text lines wide is (omega (arith, room))
 
 nine : measure (codes "ab cdefgh") ≡ 9
 unfolding wrapping
@@ -446,10 +458,152 @@ torn_in_a_wide_table headline = by_lines.1
     is = plain_of Dynamic (Some 80) ellipsis None (codes "ab" ∷ []) (codes " a " ∷ codes " b " ∷ []) headline
 
     width : is.framed.width 0 ≡ 2
-    width = let own = is.keeps_contents 80 refl (unconstrained false Dynamic (Some 80) ellipsis None (codes "ab" ∷ [])) refl (omega (arith, two)) 0 place (omega arith) in omega (arith, own, two)
+    width = let own = is.keeps_contents 80 refl (unconstrained false Dynamic (Some 80) ellipsis None (codes "ab" ∷ [])) (λ same. cc same) (omega (arith, two)) 0 place (omega arith) in omega (arith, own, two)
 
     by_lines : ArePadded (is.framed.width 0) (codes "ab" ∷ []) (codes " a " ∷ codes " b " ∷ [])
     by_lines = lines_are false Dynamic (Some 80) ellipsis None (codes "ab" ∷ []) (codes " a " ∷ codes " b " ∷ []) is (codes "ab" ∷ []) (texts_stay false Dynamic (Some 80) ellipsis None (codes "ab" ∷ []) (codes " a " ∷ codes " b " ∷ []) is (All-from_recursion (λ text. measure text ≤ is.framed.width 0) (codes "ab" ∷ []) (omega (arith, width, two), tt)))
+
+-- nor is a text that has no room drawn a character a line, where its column has room for nine
+abbrev ten_letters : Text
+ten_letters = codes "abcdefghij"
+
+abbrev eleven_wide : TableValue
+eleven_wide = one_cell false Dynamic (Some 11) ellipsis None (ten_letters ∷ [])
+
+ten : measure ten_letters ≡ 10
+unfolding wrapping
+ten = refl
+
+in_two : wrapped 9 0x20 ten_letters ≡ codes "abcdefghi" ∷ codes "j" ∷ []
+unfolding wrapping
+in_two = refl
+
+in_nine : cell_lines 9 0x20 (cell_of (ten_letters ∷ [])) ≡ codes "abcdefghi" ∷ codes "j" ∷ []
+unfolding wrapping
+in_nine = refl
+
+nine_of_them : measure (codes "abcdefghi") ≡ 9
+unfolding wrapping
+nine_of_them = refl
+
+letters_are_text : All IsUtf8 (ten_letters ∷ [])
+unfolding wrapping encode
+letters_are_text = All-from_recursion IsUtf8 (ten_letters ∷ []) ((ten_letters, (refl, refl)), tt)
+
+a_character_a_line : (lines : List Text) → length lines ≡ 10 → ¬ (IsHeadline eleven_wide lines)
+a_character_a_line lines many headline = by_level level.0 level.1 (level.2 0 place (omega arith))
+  where
+    is : IsPlainDrawing eleven_wide lines
+    is = plain_of Dynamic (Some 11) ellipsis None (ten_letters ∷ []) lines headline
+
+    n : ℕ
+    n = is.framed.width 0
+
+    free : NoConstraints eleven_wide
+    free = unconstrained false Dynamic (Some 11) ellipsis None (ten_letters ∷ [])
+
+    level : (level : ℕ) × (9 ≤ level) × All (KeepsToLevel eleven_wide is.framed.width level) (shown_columns eleven_wide)
+    level = is.keeps_to_level 11 refl free (λ same. cc same)
+
+    within : n ≤ 9
+    within =
+        let all = is.keeps_to_width 11 refl free refl in
+        let least : least_total eleven_wide ≡ 3 = refl in
+        let line = is.frame_total nothing.top_border in
+        let counts = frame_lines_count nothing nothing.top_border (record (info_of (new_column 0) 0) { content_width = is.framed.width 0 } ∷ []) in
+        omega (arith, all, least, line, counts)
+
+    -- nine columns make two lines
+    nine_wide : ¬ (n ≡ 9)
+    nine_wide width = two_lines lines (subst (λ (cut : List Text). ArePadded 9 cut lines) in_two (wrapped_at Dynamic (Some 11) 9 ten_letters lines (omega (arith, ten)) is width)) many
+      where
+        two_lines : (ls : List Text) → ArePadded 9 (codes "abcdefghi" ∷ codes "j" ∷ []) ls → ¬ (length ls ≡ 10)
+        two_lines [] zip long = zip
+        two_lines (x ∷ []) zip long = zip.1
+        two_lines (x ∷ y ∷ z ∷ ls) zip long = zip.1.1
+        two_lines (x ∷ y ∷ []) zip long = absurd (omega (arith, long))
+
+    -- at any width of nine or more a line is as wide
+    lines_at : (w : ℕ) → 9 ≤ w → HasLinesWithin eleven_wide place w n → 9 ≤ n
+    lines_at w least each = by_width (cases_lt w 10)
+      where
+        own : All (λ line. measure line ≤ n) (cell_lines w 0x20 (cell_of (ten_letters ∷ [])))
+        own = each 0 (row_of None (ten_letters ∷ [])) (omega arith) (cell_of (ten_letters ∷ [])) (cell_lines w 0x20 (cell_of (ten_letters ∷ []))) refl (lines_of_cell w 0x20 (cell_of (ten_letters ∷ [])) refl letters_are_text)
+
+        by_width : (w < 10) ⊎ (10 ≤ w) → 9 ≤ n
+        by_width (inl less) =
+            let same : w ≡ 9 = omega (arith, less, least) in
+            let first : measure (codes "abcdefghi") ≤ n = subst (λ (ls : List Text). All (λ line. measure line ≤ n) ls) (ap (λ (m : ℕ). cell_lines m 0x20 (cell_of (ten_letters ∷ []))) same ∙ in_nine) own 0 [] (omega arith) in
+            omega (arith, first, nine_of_them)
+        by_width (inr more) =
+            let fits : nat_le (measure ten_letters) w ≡ true = grind (arith, nat_tests, ten, more) in
+            let first : measure ten_letters ≤ n = subst (λ (ls : List Text). All (λ line. measure line ≤ n) ls) (ap (λ (b : Bool). (if b then ten_letters ∷ [] else wrapped w 0x20 ten_letters) ++ []) fits) own 0 [] (omega arith) in
+            omega (arith, first, ten)
+
+    by_level : (level : ℕ) → 9 ≤ level → ¬ (KeepsToLevel eleven_wide is.framed.width level place)
+    by_level level least keeps = by_cases (cases_lt level 10)
+      where
+        by_cases : ¬ ((level < 10) ⊎ (10 ≤ level))
+        by_cases (inr more) = let whole = keeps.narrow (omega (arith, ten, more)) in omega (arith, whole, within, ten)
+        by_cases (inl less) = by_wide (keeps.wide (omega (arith, ten, less)))
+          where
+            by_wide : ¬ ((level ≤ n) ⊎ ((w : ℕ) × (level ≤ w) × HasLinesWithin eleven_wide place w n))
+            by_wide (inl high) = nine_wide (omega (arith, high, least, within))
+            by_wide (inr (w, high, each)) = let enough = lines_at w (omega (arith, high, least)) each in nine_wide (omega (arith, enough, within))
+
+five_and_one : (measure (codes "hello") ≡ 5) × (measure (codes "x") ≡ 1)
+unfolding wrapping
+five_and_one = (refl, refl)
+
+-- nor is a narrow column broken beside a long text
+abbrev beside_a_long_text : TableValue
+beside_a_long_text = with_rows (plain_row (plain_cell (codes "hello") ∷ plain_cell (codes "abcdefghijklmnopqrstuvwxyzabcd") ∷ []) ∷ []) (record (new_table nothing) { arrangement = Dynamic; set_width = Some 30 })
+
+broken_column : (lines : List Text) (is : IsPlainDrawing beside_a_long_text lines) → ¬ (is.framed.width 0 ≡ 1)
+broken_column lines is one =
+    let level : (level : ℕ) × (13 ≤ level) × All (KeepsToLevel beside_a_long_text is.framed.width level) (shown_columns beside_a_long_text) =
+    is.keeps_to_level 30 refl (All-from_recursion (λ (p : ℕ × ColumnValue). p.1.constraint ≡ None) (shown_columns beside_a_long_text) (refl, (refl, tt))) (λ same. cc same) in
+    let own = (level.2 0 place (omega arith)).narrow (omega (arith, five_and_one, level.1)) in
+    absurd (omega (arith, own, one, five_and_one))
+
+-- nor is a text torn that has room in a table of full width
+abbrev greeting : RowValue
+greeting = plain_row (plain_cell (codes "hello") ∷ plain_cell (codes "x") ∷ [])
+
+abbrev full_table : TableValue
+full_table = with_rows (greeting ∷ []) (record (new_table nothing) { arrangement = DynamicFullWidth; set_width = Some 80 })
+
+torn_at_full_width : (lines : List Text) → length lines ≡ 5 → ¬ (IsHeadline full_table lines)
+torn_at_full_width lines many headline = by_rows is.framed.frame.rows is.framed.frame.are_rows (is.framed.frame.drawn ∙ ap (λ (header : List Text). header ++ (join_by (λ (block : List Text). block) [] is.framed.frame.rows ++ [])) is.framed.frame.is_header)
+  where
+    is : IsPlainDrawing full_table lines
+    is = subst (IsPlainDrawing full_table) (sym (headline.unstyled refl refl)) headline.is_plain
+
+    other : ℕ × ColumnValue
+    other = (1, new_column 1)
+
+    kept : All (λ (p : ℕ × ColumnValue). widest full_table p.0 ≤ is.framed.width p.0) (shown_columns full_table)
+    kept = is.keeps_contents 80 refl (All-from_recursion (λ (p : ℕ × ColumnValue). p.1.constraint ≡ None) (shown_columns full_table) (refl, (refl, tt))) (λ same. cc same) (omega (arith, five_and_one))
+
+    one_line : (w : ℕ) (text : Text) → measure text ≤ w → (own : List Text) → AreLinesOfCell w 0x20 (cell_of (text ∷ [])) own → length own ≡ 1
+    one_line w text room own (of_texts, zip, are) = by_texts of_texts zip are
+      where
+        by_texts : (of_texts : List (List Text)) → AllZip (AreLinesOfText w 0x20) (text ∷ []) of_texts → own ≡ flat_map (λ (of_text : List Text). of_text) of_texts → length own ≡ 1
+        by_texts [] zip are = absurd zip
+        by_texts (mine ∷ more ∷ of_texts) zip are = absurd zip.1
+        by_texts (mine ∷ []) zip are = ap length (are ∙ append-nil mine ∙ zip.0.whole room)
+
+    by_rows : (rows : List (List Text)) → AllZip (AreLinesOfRow full_table is.framed.width is.framed.cell_lines nothing.content_lines) (greeting ∷ []) rows → ¬ (lines ≡ join_by (λ (block : List Text). block) [] rows ++ [])
+    by_rows [] each made = each
+    by_rows (block ∷ more ∷ rows) each made = each.1
+    by_rows (block ∷ []) each made =
+        let all = ap length (made ∙ append-nil (block ++ []) ∙ append-nil block) in
+        let high = each.0.as_high in
+        let room = kept 0 place (omega arith) in
+        let room_beside = kept 1 place (omega arith) in
+        let first = one_line (is.framed.width 0) (codes "hello") (omega (arith, room, five_and_one.0)) (is.framed.cell_lines place (plain_cell (codes "hello"))) (is.framed.are_cell_lines 0 greeting (omega arith) 0 place (omega arith) (plain_cell (codes "hello")) refl) in
+        let second = one_line (is.framed.width 1) (codes "x") (omega (arith, room_beside, five_and_one.1)) (is.framed.cell_lines other (plain_cell (codes "x"))) (is.framed.are_cell_lines 0 greeting (omega arith) 1 place (omega arith) (plain_cell (codes "x")) refl) in
+        omega (arith, many, all, high, first, second)
 
 -- nor is one wider than the width that is kept, where that has room
 abbrev narrow_table : TableValue
@@ -557,13 +711,10 @@ coloured_inside is = by_rows is.frame.rows is.frame.are_rows (is.frame.drawn ∙
         let width : is.is_plain.framed.width 0 ≡ 2 = let own = width_is true Disabled None ellipsis None (codes "ab" ∷ []) is.plain is.is_plain refl (omega (arith, two)) in omega (arith, own, two) in
         texts_stay true Disabled None ellipsis None (codes "ab" ∷ []) is.plain is.is_plain (All-from_recursion (λ text. measure text ≤ is.is_plain.framed.width 0) (codes "ab" ∷ []) (omega (arith, width, two), tt))
 
-    around : (piece : Text) → IsAround (codes "ab") piece → ¬ (codes " a\u{1b}[31mb " ≡ piece)
-    around piece own same = no_ab_inside (codes " a\u{1b}[31mb ") refl own.before own.after (same ∙ own.drawn)
-
-    by_pieces : (pieces : List Text) → AllZip (λ (p : ℕ × ColumnValue). IsAround (slice_index_or (codes "ab" ∷ []) 0 [])) (place ∷ []) pieces → ¬ (codes " a\u{1b}[31mb " ≡ join_by (λ (piece : Text). piece) [] pieces ++ [])
-    by_pieces [] zip made = zip
-    by_pieces (piece ∷ other ∷ pieces) zip made = zip.1
-    by_pieces (piece ∷ []) zip made = around piece zip.0 (made ∙ append-nil (piece ++ []) ∙ append-nil piece)
+    by_pieces : (w : ℕ) (pieces : List Text) → AllZip (λ (p : ℕ × ColumnValue). IsPiece false p.1 w (codes "ab")) (place ∷ []) pieces → ¬ (codes " a\u{1b}[31mb " ≡ join_by (λ (piece : Text). piece) [] pieces ++ [])
+    by_pieces w [] zip made = zip
+    by_pieces w (piece ∷ other ∷ pieces) zip made = zip.1
+    by_pieces w (piece ∷ []) zip made = no_ab_inside (codes " a\u{1b}[31mb ") refl zip.0.before zip.0.after (made ∙ append-nil (piece ++ []) ∙ append-nil piece ∙ zip.0.drawn)
 
     by_rows : (rows : List (List Text)) → AllZip (AreContentLines (styled_cell (codes "ab" ∷ [])) is.is_plain.framed.width is.is_plain.framed.cell_lines nothing.content_lines) (row_of None (codes "ab" ∷ []) ∷ []) rows
         → ¬ (codes " a\u{1b}[31mb " ∷ [] ≡ join_by (λ (block : List Text). block) [] rows ++ [])
@@ -572,8 +723,8 @@ coloured_inside is = by_rows is.frame.rows is.frame.are_rows (is.frame.drawn ∙
     by_rows (block ∷ []) each made =
         let same : codes " a\u{1b}[31mb " ∷ [] ≡ block = made ∙ append-nil (block ++ []) ∙ append-nil block in
         let long = ap length same in
-        let own = each.0 0 (omega (arith, long)) in
-        by_pieces own.0 (subst (λ (cut : List Text). AllZip (λ (p : ℕ × ColumnValue). IsAround (slice_index_or cut 0 [])) (place ∷ []) own.0) is_text (own.3 refl)) (ap (λ (ls : List Text). slice_index_or ls 0 []) same ∙ own.2)
+        let own = (each.0.are refl).drawn 0 (omega (arith, long)) in
+        by_pieces (is.is_plain.framed.width 0) own.0 (subst (λ (cut : List Text). AllZip (λ (p : ℕ × ColumnValue). IsPiece false p.1 (is.is_plain.framed.width 0) (slice_index_or cut 0 [])) (place ∷ []) own.0) is_text own.1) (ap (λ (ls : List Text). slice_index_or ls 0 []) same ∙ own.2)
 
 -- a width that is to be filled isn't left unfilled
 unfilled : ¬ (IsHeadline (wide_cell 8 (codes "ab" ∷ [])) (codes " ab " ∷ []))

@@ -14,6 +14,7 @@ mod EncodingTrials
 mod HeadlineTrials
 mod HiddenColumnTrials
 mod InputTrials
+mod KeptTrials
 mod LawTrials
 mod MarkdownLineTrials
 mod NumberLawTrials

@@ -1,15 +1,13 @@
 -- Tables for which the premises of the promises hold, and texts that these promises refuse.
-use Rattle.std.proofs.Common.{◌≡◌, ◌==◌, ◌&&◌, ◌⊎◌, inl, inr, ◌≤◌, ◌<◌, ℕ, zero, suc, Bool, true, false, not, List, [], ◌∷◌, ◌++◌, ◌∙◌, length, length-append, max, flat_map, append-nil, append_assoc, Contains, Option, Some, None, codes, refl, sym, ap, ap₂, subst, arith, slice_index_or}
-use Rattle.std.specs.List.{All, AllZip, list_all, slice_get}
+use Rattle.std.proofs.Common.{◌≡◌, ◌==◌, ◌&&◌, inl, inr, ◌≤◌, ◌<◌, ℕ, zero, suc, Bool, true, false, not, List, [], ◌∷◌, ◌++◌, ◌∙◌, length, length-append, max, flat_map, append-nil, append_assoc, Contains, Option, Some, None, codes, refl, sym, ap, subst, arith, slice_index_or}
+use Rattle.std.specs.List.{All, AllZip, join_by, list_all, slice_get}
 use Rattle.std.specs.Char.{is_control}
 use Rattle.std.specs.Prelude.{encode_utf8_all, replicate, slice_index}
-use Rattle.std.specs.Str.{NoCharPasses, chars}
+use Rattle.std.specs.Str.{NoCharPasses}
 use Prim.Native.String.{String}
 use lib.Utf8.{encode}
-use Rattle.std.proofs.lemmas.Bool.{and_parts, or_parts}
-use Rattle.std.proofs.lemmas.Bool.Decides.{nat_tests}
+use Rattle.std.proofs.lemmas.Bool.{or_parts}
 use Rattle.std.proofs.lemmas.List.Elements.{All-from_recursion, All-head}
-use Rattle.std.proofs.lemmas.List.Folds.{list_all-append}
 use Rattle.std.proofs.lemmas.Option.{same_Some}
 use Rattle.std.proofs.lemmas.Str.{NoCharPasses-byte}
 use Rattle.std.specs.Int.{is_in_range}
@@ -17,30 +15,32 @@ use Rattle.std.proofs.lemmas.List.{length-replicate}
 use Rattle.comfy_parts.proofs.CallerLemmas.{All-at, All-every, frame_adds, measure-printable, one_column_characters}
 use Rattle.comfy_parts.proofs.Computing.{wrapping}
 use Rattle.comfy_parts.specs.CellValue.{ColumnInfo, info_of, new_column, CellValue, ColumnValue, RowValue, plain_cell, plain_row}
-use Rattle.comfy_parts.specs.Columns.{CharactersFit, IsOneColumn, style_characters}
+use Rattle.comfy_parts.specs.Columns.{CharactersFit, IsOneColumn}
 use Rattle.comfy_parts.specs.Presets as presets
 use Rattle.comfy_parts.specs.Presets.{ascii_full, utf8_full}
 use Rattle.comfy_parts.specs.Text.{HasNo, IsOnly, Text, measure}
-use Rattle.comfy_parts.specs.Wrapping.{IsSlicesWhere}
 use Rattle.comfy_parts.specs.declared.style.table.ContentArrangement.{ContentArrangement}
 use Rattle.comfy_parts.specs.declared.style.table.ContentArrangement.TheVariants.{Disabled, Dynamic, DynamicFullWidth}
+use Rattle.comfy_parts.specs.declared.style.attribute.Attribute.{Attribute}
+use Rattle.comfy_parts.specs.declared.style.attribute.Attribute.TheVariants.{Bold}
+use Rattle.comfy_parts.specs.declared.style.table_style.ContentLineStyle.{ContentLineStyle}
 use Rattle.comfy_parts.specs.declared.style.column.ColumnConstraint.TheVariants.{ContentWidth, Hidden}
 use Rattle.comfy_table.specs.Frame.{frame_line, optional_frame_line}
 use Rattle.comfy_table.specs.HiddenColumns.{without_hidden}
 use Rattle.comfy_table.specs.TableValue.{cell_content_width, TableValue, header_and_rows, new_table, shown_columns, constrained, with_rows}
 use Rattle.promises.specs.Added.{AreSameButForHidden, HasRoomFor, StandsBelowAsWide, Stay, StayWithRow}
-use Rattle.promises.specs.Headline.{IsHeadline}
-use Rattle.promises.specs.Kept.{AreShown, AreSlicesOf, IsFrame, ShowAllTexts, ShowWholeTexts, ShowsRow, ShowsWholeRow, StandAmong}
+use Rattle.promises.specs.Headline.{IsFramedBy, IsHeadline, IsPiece, is_styled}
+use Rattle.promises.specs.Kept.{AreShown, AreSlicesOf, ShowAllTexts, ShowWholeTexts, ShowsRow, ShowsWholeRow}
 use Rattle.promises.specs.Promises.{KeepsPromises}
-use Rattle.promises.specs.Kept.IsFrame.{nothing as no_frame, space as frame_space, character as frame_character}
-use Rattle.promises.specs.Shown.{AreShownEquallyWide, HasNoControls, IsHarmless, IsStyled, Shows}
+use Rattle.promises.specs.Shown.{AreShownEquallyWide, HasNoControls, IsHarmless, Shows}
 use Rattle.promises.specs.Shown.Shows.{nothing, byte, sequence}
 use Rattle.promises.specs.Tables.{CharactersFitColumns, EachShownText, EachText, HasPlainFrame, IsPlain, IsShownWhole}
 use Rattle.promises.specs.Straight.{AreShownStraight, AreStraight, AreStraightWhereCharactersFit, AreStraightWhole}
 use Rattle.promises.specs.Widths.{FillWidth, IsFree, IsNarrow, KeepToWidth, KeepToWidthWhereCharactersFit, frame_room}
 use Rattle.test_definitions.proofs.StraightTrials.{ellipsis_is_apart}
 use Rattle.test_definitions.proofs.TrialTables as tables
-use Rattle.test_definitions.proofs.HeadlineTrials.{no_parameters, unstyled_same}
+use Rattle.test_definitions.proofs.HeadlineTrials.{no_parameters}
+use Rattle.test_definitions.proofs.KeptTrials.{squeezed, squeezed-piece}
 use Rattle.test_definitions.proofs.LawTrials.{shorter_line}
 use Rattle.test_definitions.proofs.TrialTables.{no_ab_inside, utf8}
 
@@ -214,10 +214,6 @@ has_room = record { columns = omega arith; widths = λ i cell found. at i cell f
     at (suc zero) cell found = (row_of "day" "text", cell, header, found, omega arith)
     at (suc (suc i)) cell found = absurd (cc found)
 
--- a text in a line, among spaces
-text_in_line : StandAmong (IsFrame presets.nothing) (codes "12.80" ∷ []) (codes " 12.80 ")
-text_in_line = (codes " ", codes " ", refl, frame_space [] no_frame, frame_space [] no_frame)
-
 -- ---- what is refused
 
 -- a character of two columns where one is allowed
@@ -295,61 +291,6 @@ escape_is_harmful (shown, shows, none) = lone_escape shows refl
 clearing_is_harmful : ¬ (IsHarmless (codes "\u{1b}[2Jm"))
 clearing_is_harmful (shown, shows, none) = clear_screen shows refl
 
--- ---- texts among a frame
-
--- a style without characters
-none_set : All (λ (c : Option ℕ). c ≡ None) (style_characters presets.nothing)
-none_set = All-from_recursion (λ (c : Option ℕ). c ≡ None) (style_characters presets.nothing) (refl, (refl, (refl, (refl, (refl, (refl, (refl, (refl, (refl, (refl, (refl, (refl, (refl, (refl, (refl, (refl, (refl, (refl, (refl, (refl, (refl, (refl, tt))))))))))))))))))))))
-
--- its frame is spaces
-pub spaces_alone : (text : Text) → IsFrame presets.nothing text → list_all (λ b. b == 0x20) text ≡ true
-spaces_alone _ no_frame = refl
-spaces_alone _ (frame_space text own) = spaces_alone text own
-spaces_alone _ (frame_character c text (k, below, is) own) = absurd (cc (sym is ∙ none_set k (Some c) below))
-
--- so a text that begins otherwise doesn't stand behind them
-not_behind : (x y : ℕ) (rest more : Text) → ¬ (x ≡ 0x20) → ¬ (x ≡ y) → ¬ (0x20 ≡ y) → (before : Text) → IsFrame presets.nothing before → ¬ (0x20 ∷ x ∷ rest ≡ before ++ (y ∷ more))
-not_behind x y rest more shown other third [] frame made = let same : 0x20 ≡ y = cc made in third same
-not_behind x y rest more shown other third (a ∷ []) frame made = let same : x ≡ y = cc made in other same
-not_behind x y rest more shown other third (a ∷ b ∷ before) frame made =
-    let all = spaces_alone (a ∷ b ∷ before) frame in
-    let same : x ≡ b = cc made in
-    let blank : (b == 0x20) ≡ true = (and_parts (b == 0x20) _ (and_parts (a == 0x20) _ all).1).0 in
-    let space_is : b ≡ 0x20 = grind (arith, nat_tests, blank) in
-    shown (same ∙ space_is)
-
--- 12.80 isn't the amount in -912.8099
-another_amount : ¬ (StandAmong (IsFrame presets.nothing) (codes "12.80" ∷ []) (codes " -912.8099 "))
-another_amount (before, behind, made, frame, rest) =
-    not_behind 0x2D 0x31 (codes "912.8099 ") (codes "2.80" ++ behind) (λ is. omega (arith, is)) (λ is. omega (arith, is)) (λ is. omega (arith, is)) before frame made
-
--- nor 1 that in 91.50
-other_amount : ¬ (StandAmong (IsFrame presets.nothing) (codes "1" ∷ []) (codes " 91.50 "))
-other_amount (before, behind, made, frame, rest) =
-    not_behind 0x39 0x31 (codes "1.50 ") behind (λ is. omega (arith, is)) (λ is. omega (arith, is)) (λ is. omega (arith, is)) before frame made
-
--- nothing stands in an empty list
-pub none_in_nothing : {A : Type 0} (before part behind : List A) (x : A)
-    → ¬ ([] ≡ before ++ ((x ∷ part) ++ behind))
-none_in_nothing [] part behind x is = cc is
-none_in_nothing (b ∷ before) part behind x is = cc is
-
--- nor does `b` stand before `a` where it should stand behind it
-turned_round : ¬ (StandAmong (IsFrame presets.nothing) (codes "a" ∷ codes "b" ∷ []) (codes " b a "))
-turned_round (before, behind, made, frame, rest) =
-    not_behind 0x62 0x61 (codes " a ") behind (λ is. omega (arith, is)) (λ is. omega (arith, is)) (λ is. omega (arith, is)) before frame made
-
--- nor does a row that belongs below another stand above it
-rows_turned_round : ¬ (StandAmong (All (IsFrame presets.nothing)) ((codes " a " ∷ []) ∷ (codes " b " ∷ []) ∷ []) (codes " b " ∷ codes " a " ∷ []))
-rows_turned_round (before, behind, made, frame, rest) = by_before before frame made
-  where
-    by_before : (before : List Text) → All (IsFrame presets.nothing) before → ¬ (codes " b " ∷ codes " a " ∷ [] ≡ before ++ ((codes " a " ∷ []) ++ behind))
-    by_before [] frame made = let letter : 0x62 ≡ 0x61 = ap (λ (ls : List Text). slice_index (slice_index_or ls 0 []) 1) made in absurd (omega (arith, letter))
-    by_before (x ∷ before) frame made =
-        let line : codes " b " ≡ x = cc made in
-        let blank : false ≡ true = spaces_alone (codes " b ") (subst (IsFrame presets.nothing) (sym line) (All-head (IsFrame presets.nothing) x before frame)) in
-        cc blank
-
 -- ---- what no call returns
 
 -- lines of two widths
@@ -417,66 +358,31 @@ wider_than_filled : ¬ (FillWidth (kept_table DynamicFullWidth (Some 9) "3 mai �
 wider_than_filled is =
     let all : measure (codes "0123456789") ≡ 9 = is (is_narrow DynamicFullWidth (Some 9)) (omega arith) 0 [] (omega arith) in omega (arith, all, ten)
 
--- what stands in nothing is nothing
-nothing_inside : {A : Type 0} (before part behind : List A) → [] ≡ before ++ (part ++ behind) → part ≡ []
-nothing_inside before [] behind is = refl
-nothing_inside before (x ∷ part) behind is = absurd (none_in_nothing before part behind x is)
-
--- a list that is no longer than another one without elements is none
-no_longer : {A B : Type 0} (xs : List A) (ys : List B) → ys ≡ [] → length xs ≤ length ys → xs ≡ []
-no_longer [] ys none short = refl
-no_longer (x ∷ xs) ys none short = let zero_long = ap length none in absurd (omega (arith, short, zero_long))
-
--- the first shown column of these tables
-first_column : 0 < length (shown_columns (table_of "3 mai" "oats"))
-first_column = omega arith
-
--- a text has a slice
-some_slice : (own : List Text) → AreSlicesOf 0x20 (codes "day") own → ¬ (own ≡ [])
-unfolding encode
-some_slice own (inl whole) none = cc (sym none ∙ whole)
-some_slice own (inr cut) none = no_spaces (subst (IsSlicesWhere (λ line tail. Unit {0}) 0x20 (codes "day")) none cut)
-  where
-    no_spaces : ¬ (IsOnly 0x20 (codes "day"))
-    no_spaces (zero, is) = cc is
-    no_spaces (suc n, is) = let letter : ◌≡◌ {A = ℕ} 0x64 0x20 = cc is in absurd (omega (arith, letter))
-
 pub no_lines_lose_texts : ¬ (AreShown (ShowsRow (table_of "3 mai" "oats")) (table_of "3 mai" "oats") [])
-unfolding chars encode
-no_lines_lose_texts is = by_blocks is.blocks (subst (StandAmong (All (IsFrame utf8_full)) is.blocks) (sym (is.unstyled refl)) is.stand) is.show
-  where
-    by_blocks : (blocks : List (List Text)) → StandAmong (All (IsFrame utf8_full)) blocks [] → ¬ (AllZip (ShowsRow (table_of "3 mai" "oats")) (row_of "day" "text" ∷ row_of "3 mai" "oats" ∷ []) blocks)
-    by_blocks [] stand show = show
-    by_blocks (block ∷ blocks) (before, behind, inside, around, later) show =
-        let header = show.0 in
-        let none = nothing_inside before block behind inside in
-        let short : length (header.slices (0, new_column 0)) ≤ length block = header.stand.enough_lines 0 (0, new_column 0) first_column in
-        let gone = no_longer (header.slices (0, new_column 0)) block none short in
-        let own = header.are_slices refl 0 (0, new_column 0) first_column in
-        by_texts own.0 own.1 (sym own.2 ∙ gone)
-      where
-        by_texts : (of_texts : List (List Text)) → AllZip (AreSlicesOf 0x20) (codes "day" ∷ []) of_texts → ¬ (flat_map (λ (of_text : List Text). of_text) of_texts ≡ [])
-        by_texts [] zip same = zip
-        by_texts (own ∷ other ∷ more) zip same = zip.1
-        by_texts (own ∷ []) zip same = some_slice own zip.0 (sym (append-nil own) ∙ same)
+no_lines_lose_texts (width, is) = cc is.drawn
+
+no_lines_lose_whole_texts : ¬ (AreShown (ShowsWholeRow (table_of "3 mai" "oats")) (table_of "3 mai" "oats") [])
+no_lines_lose_whole_texts (width, is) = cc is.drawn
 
 -- ---- a word that is shown, and a whole text
 
--- a table of one text, without a frame
+-- a table of one cell, without a frame
+abbrev cell_table : Bool → CellValue → TableValue
+cell_table styles cell = with_rows (plain_row (cell ∷ []) ∷ []) (record (new_table presets.nothing) { enforce_styling = styles })
+
 abbrev word_table : Text → TableValue
-word_table text = with_rows (plain_row (plain_cell text ∷ []) ∷ []) (new_table presets.nothing)
+word_table text = cell_table false (plain_cell text)
 
--- which may write styles
+-- a word, which may have attributes
+abbrev word : List Attribute → CellValue
+word attributes = record (plain_cell (codes "ab")) { attributes = attributes }
+
+-- in a table that may write styles
 abbrev styled_word : Bool → TableValue
-styled_word styles = record (word_table (codes "ab")) { enforce_styling = styles }
+styled_word styles = cell_table styles (word [])
 
--- some lines of one line are this one, or none
-alone : (before block behind : List Text) (line : Text) → line ∷ [] ≡ before ++ (block ++ behind) → (block ≡ []) ⊎ (block ≡ line ∷ [])
-alone before [] behind line made = inl refl
-alone [] (x ∷ []) behind line made = inr (cc made)
-alone [] (x ∷ y ∷ block) behind line made = absurd (cc made)
-alone (b ∷ before) (x ∷ block) behind line made =
-    absurd (none_in_nothing before block behind x (let rest : [] ≡ before ++ ((x ∷ block) ++ behind) = cc made in rest))
+abbrev place : ℕ × ColumnValue
+place = (0, new_column 0)
 
 -- a slice that is all of a word is the word
 only_slice : (slice : Text) → AreSlicesOf 0x20 (codes "ab") (slice ∷ []) → slice ≡ codes "ab"
@@ -502,57 +408,65 @@ no_slice (inl whole) = cc whole
 no_slice (inr (zero, only)) = cc only
 no_slice (inr (suc n, only)) = let letter : ◌≡◌ {A = ℕ} 0x61 0x20 = cc only in absurd (omega (arith, letter))
 
--- in a line that shows the word alone it stands among spaces
-word_stands : (styles : Bool) (line : Text) (lines : List Text) (is : AreShown (ShowsRow (styled_word styles)) (styled_word styles) lines) → is.plain ≡ line ∷ [] → StandAmong (IsFrame presets.nothing) (codes "ab" ∷ []) line
-word_stands styles line lines is same = by_blocks is.blocks (subst (StandAmong (All (IsFrame presets.nothing)) is.blocks) same is.stand) is.show
+-- the lines of a table of one cell are those of its row
+block_is : (styles : Bool) (cell : CellValue) (Shows : ContentLineStyle → RowValue → List Text → Type 0) (width : ℕ → ℕ) (lines : List Text) → IsFramedBy Shows (cell_table styles cell) width lines → Shows presets.nothing.content_lines (plain_row (cell ∷ [])) lines
+block_is styles cell Shows width lines is = by_rows is.rows is.are_rows (is.drawn ∙ ap (λ (header : List Text). header ++ (join_by (λ (block : List Text). block) [] is.rows ++ [])) is.is_header)
   where
-    by_slices : (slices : List Text) → length slices ≤ 1 → (of_texts : List (List Text)) → AllZip (AreSlicesOf 0x20) (codes "ab" ∷ []) of_texts → slices ≡ flat_map (λ (of_text : List Text). of_text) of_texts → slices ≡ codes "ab" ∷ []
+    by_rows : (rows : List (List Text)) → AllZip (Shows presets.nothing.content_lines) (plain_row (cell ∷ []) ∷ []) rows → lines ≡ join_by (λ (block : List Text). block) [] rows ++ [] → Shows presets.nothing.content_lines (plain_row (cell ∷ [])) lines
+    by_rows [] each made = absurd each
+    by_rows (block ∷ other ∷ rows) each made = absurd each.1
+    by_rows (block ∷ []) each made = subst (Shows presets.nothing.content_lines (plain_row (cell ∷ []))) (sym (made ∙ append-nil (block ++ []) ∙ append-nil block)) each.0
+
+-- a line of one piece is the piece
+piece_is : (styles : Bool) (w : ℕ) (part line : Text) (pieces : List Text) → AllZip (λ (p : ℕ × ColumnValue). IsPiece styles p.1 w part) (place ∷ []) pieces → line ≡ join_by (λ (piece : Text). piece) [] pieces ++ [] → IsPiece styles (new_column 0) w part line
+piece_is styles w part line [] zip made = absurd zip
+piece_is styles w part line (piece ∷ other ∷ pieces) zip made = absurd zip.1
+piece_is styles w part line (piece ∷ []) zip made = subst (IsPiece styles (new_column 0) w part) (sym (made ∙ append-nil (piece ++ []) ∙ append-nil piece)) zip.0
+
+-- a line that shows the word is a piece of it
+word_is : (styles : Bool) (attributes : List Attribute) (line : Text) → AreShown (ShowsRow (cell_table styles (word attributes))) (cell_table styles (word attributes)) (line ∷ [])
+    → (w : ℕ) × IsPiece (is_styled (cell_table styles (word attributes)) (plain_row (word attributes ∷ [])) place) (new_column 0) w (codes "ab") line
+word_is styles attributes line (width, is) = (
+  width 0,
+  subst (λ (part : Text). IsPiece (is_styled (cell_table styles (word attributes)) (plain_row (word attributes ∷ [])) place) (new_column 0) (width 0) part line) part_is
+      (piece_is (is_styled (cell_table styles (word attributes)) (plain_row (word attributes ∷ [])) place) (width 0) (slice_index_or (row.slices place) 0 []) line here.0 here.1 here.2),
+)
+  where
+    row : ShowsRow (cell_table styles (word attributes)) width presets.nothing.content_lines (plain_row (word attributes ∷ [])) (line ∷ [])
+    row = block_is styles (word attributes) (ShowsRow (cell_table styles (word attributes)) width) width (line ∷ []) is
+
+    here : (pieces : List Text) × AllZip (λ (p : ℕ × ColumnValue). IsPiece (is_styled (cell_table styles (word attributes)) (plain_row (word attributes ∷ [])) p) p.1 (width p.0) (slice_index_or (row.slices p) 0 [])) (place ∷ []) pieces × (line ≡ join_by (λ (piece : Text). piece) [] pieces ++ [])
+    here = row.shown.drawn 0 (omega arith)
+
+    by_slices : (slices : List Text) → length slices ≡ 1 → (of_texts : List (List Text)) → AllZip (AreSlicesOf 0x20) (codes "ab" ∷ []) of_texts → slices ≡ flat_map (λ (of_text : List Text). of_text) of_texts → slices ≡ codes "ab" ∷ []
     by_slices slices few [] zip same = absurd zip
     by_slices slices few (own ∷ other ∷ more) zip same = absurd zip.1
     by_slices slices few ([] ∷ []) zip same = absurd (no_slice zip.0)
     by_slices slices few ((slice ∷ []) ∷ []) zip same = same ∙ ap (λ (t : Text). t ∷ []) (only_slice slice zip.0)
     by_slices slices few ((slice ∷ other ∷ own) ∷ []) zip same = let long = ap length same in absurd (omega (arith, few, long))
 
-    by_blocks : (blocks : List (List Text)) → StandAmong (All (IsFrame presets.nothing)) blocks (line ∷ []) → AllZip (ShowsRow (styled_word styles)) (plain_row (plain_cell (codes "ab") ∷ []) ∷ []) blocks → StandAmong (IsFrame presets.nothing) (codes "ab" ∷ []) line
-    by_blocks [] stand show = absurd show
-    by_blocks (block ∷ other ∷ blocks) stand show = absurd show.1
-    by_blocks (block ∷ []) (before, behind, made, around, rest) show = by_lines (alone before block behind line made)
-      where
-        row : ShowsRow (styled_word styles) (plain_row (plain_cell (codes "ab") ∷ [])) block
-        row = show.0
-
-        enough : length (row.slices (0, new_column 0)) ≤ length block
-        enough = row.stand.enough_lines 0 (0, new_column 0) (omega arith)
-
-        are : length block ≤ 1 → row.slices (0, new_column 0) ≡ codes "ab" ∷ []
-        are few = let own = row.are_slices refl 0 (0, new_column 0) (omega arith) in by_slices (row.slices (0, new_column 0)) (omega (arith, enough, few)) own.0 own.1 own.2
-
-        by_lines : (block ≡ []) ⊎ (block ≡ line ∷ []) → StandAmong (IsFrame presets.nothing) (codes "ab" ∷ []) line
-        by_lines (inl none) =
-            let short = ap length none in
-            let long = ap length (are (omega (arith, short))) in absurd (omega (arith, enough, short, long))
-        by_lines (inr own) =
-            let long = ap length own in
-            let stand = row.stand.stand 0 (omega (arith, long)) in
-            subst (λ (slices : List Text). StandAmong (IsFrame presets.nothing) (slice_index_or slices 0 [] ∷ []) line) (are (omega (arith, long)))
-            (subst (λ (lines : List Text). StandAmong (IsFrame presets.nothing) (slice_index_or (row.slices (0, new_column 0)) 0 [] ∷ []) (slice_index_or lines 0 [])) own stand)
+    part_is : slice_index_or (row.slices place) 0 [] ≡ codes "ab"
+    part_is =
+        let high = row.shown.as_high in
+        let own = row.are_slices refl 0 place (omega arith) in ap (λ (ls : List Text). slice_index_or ls 0 []) (by_slices (row.slices place) (omega (arith, high)) own.0 own.1 own.2)
 
 -- it isn't torn
 torn_word : ¬ (AreShown (ShowsRow (styled_word false)) (styled_word false) (codes " a      b " ∷ []))
-torn_word is =
-    let stands = word_stands false (codes " a      b ") _ is (sym (is.unstyled refl)) in
-    no_ab_inside (codes " a      b ") refl stands.0 stands.1 stands.2
+torn_word is = let own = word_is false [] (codes " a      b ") is in no_ab_inside (codes " a      b ") refl own.1.before own.1.after own.1.drawn
 
 -- nor is it another text where styles are written
 other_styled_word : ¬ (AreShown (ShowsRow (styled_word true)) (styled_word true) (codes " XY " ∷ []))
-other_styled_word is =
-    let stands = word_stands true (codes " XY ") _ is (unstyled_line is.plain (codes " XY ") is.styled refl) in
-    no_ab_inside (codes " XY ") refl stands.0 stands.1 stands.2
-  where
-    unstyled_line : (plain : List Text) (line : Text) → AllZip IsStyled plain (line ∷ []) → HasNo 0x1B line → plain ≡ line ∷ []
-    unstyled_line [] line zip none = absurd zip
-    unstyled_line (x ∷ y ∷ plain) line zip none = absurd zip.1
-    unstyled_line (x ∷ []) line zip none = ap (λ (t : Text). t ∷ []) (unstyled_same zip.0 none)
+other_styled_word is = let own = word_is true [] (codes " XY ") is in no_ab_inside (codes " XY ") refl own.1.before own.1.after own.1.drawn
+
+-- nor has it a sequence inside, where it has an attribute
+coloured_inside : ¬ (AreShown (ShowsRow (cell_table true (word (Bold ∷ [])))) (cell_table true (word (Bold ∷ []))) (codes " a\u{1b}[31mb " ∷ []))
+coloured_inside is = let own = word_is true (Bold ∷ []) (codes " a\u{1b}[31mb ") is in no_ab_inside (codes " a\u{1b}[31mb ") refl own.1.before own.1.after own.1.drawn
+
+-- nor one beside it, where it has none
+hidden_word : ¬ (AreShown (ShowsRow (styled_word true)) (styled_word true) (codes "\u{1b}[8m ab " ∷ []))
+hidden_word is =
+    let own = word_is true [] (codes "\u{1b}[8m ab ") is in
+    let escape : ◌≡◌ {A = ℕ} 0x1B 0x61 = cc (squeezed-piece (new_column 0) own.0 (codes "ab") (codes "\u{1b}[8m ab ") own.1) in absurd (omega (arith, escape))
 
 -- nor has its slice one letter less
 lost_letter : ¬ (AreSlicesOf 0x20 (codes "ab") (codes "a" ∷ []))
@@ -560,66 +474,27 @@ lost_letter own = cc (only_slice (codes "a") own)
 
 -- nor has it another letter beside it
 word_with_more : ¬ (AreShown (ShowsRow (styled_word false)) (styled_word false) (codes " abs " ∷ []))
-word_with_more is = by_before stands.0 stands.2
-  where
-    stands : StandAmong (IsFrame presets.nothing) (codes "ab" ∷ []) (codes " abs ")
-    stands = word_stands false (codes " abs ") _ is (sym (is.unstyled refl))
+word_with_more is = let own = word_is false [] (codes " abs ") is in cc (squeezed-piece (new_column 0) own.0 (codes "ab") (codes " abs ") own.1)
 
-    letter_behind : ¬ (stands.1 ≡ codes "s ")
-    letter_behind same = let none : false ≡ true = spaces_alone (codes "s ") (subst (IsFrame presets.nothing) same stands.4) in cc none
-
-    by_before : (before : Text) → ¬ (codes " abs " ≡ before ++ (codes "ab" ++ stands.1))
-    by_before [] made = let letter : ◌≡◌ {A = ℕ} 0x20 0x61 = cc made in absurd (omega (arith, letter))
-    by_before (b ∷ []) made = letter_behind (cc made)
-    by_before (b ∷ c ∷ []) made = let letter : ◌≡◌ {A = ℕ} 0x62 0x61 = cc made in absurd (omega (arith, letter))
-    by_before (b ∷ c ∷ d ∷ []) made = let letter : ◌≡◌ {A = ℕ} 0x73 0x61 = cc made in absurd (omega (arith, letter))
-    by_before (b ∷ c ∷ d ∷ e ∷ []) made = let letter : ◌≡◌ {A = ℕ} 0x20 0x61 = cc made in absurd (omega (arith, letter))
-    by_before (b ∷ c ∷ d ∷ e ∷ f ∷ before) made = none_in_nothing before (codes "b") stands.1 0x61 (let rest : [] ≡ before ++ (codes "ab" ++ stands.1) = cc made in rest)
-
--- nor does a text stand where the row has no cell
-text_without_a_cell : ¬ (ShowsRow (styled_word false) (plain_row []) (codes " x " ∷ []))
-text_without_a_cell row = blank stands.0 stands.1 stands.3 stands.4 stands.2
-  where
-    stands : StandAmong (IsFrame presets.nothing) ([] ∷ []) (codes " x ")
-    stands = subst (λ (slices : List Text). StandAmong (IsFrame presets.nothing) (slice_index_or slices 0 [] ∷ []) (codes " x ")) (row.are_slices refl 0 (0, new_column 0) (omega arith)) (row.stand.stand 0 (omega arith))
-
-    blank : (before behind : Text) → IsFrame presets.nothing before → IsFrame presets.nothing behind → ¬ (codes " x " ≡ before ++ behind)
-    blank before behind left right made =
-        let letter : false ≡ true = ap (list_all (λ b. b == 0x20)) made ∙ list_all-append (λ b. b == 0x20) before behind ∙ ap₂ (λ (a b : Bool). a && b) (spaces_alone before left) (spaces_alone behind right) in
-        cc letter
+-- nor is a text where the row has no cell
+text_without_a_cell : (width : ℕ → ℕ) → ¬ (ShowsRow (styled_word false) width presets.nothing.content_lines (plain_row []) (codes " x " ∷ []))
+text_without_a_cell width row =
+    let here = row.shown.drawn 0 (omega arith) in
+    let part = ap (λ (slices : List Text). slice_index_or slices 0 []) (row.are_slices refl 0 place (omega arith)) in
+    let own = piece_is false (width 0) (slice_index_or (row.slices place) 0 []) (codes " x ") here.0 here.1 here.2 in
+    cc (squeezed-piece (new_column 0) (width 0) (slice_index_or (row.slices place) 0 []) (codes " x ") own ∙ ap squeezed part)
 
 -- and 1 isn't shown by 91.50
 other_whole_text : ¬ (AreShown (ShowsWholeRow (word_table (codes "1"))) (word_table (codes "1")) (codes " 91.50 " ∷ []))
-other_whole_text is = by_blocks is.blocks (subst (StandAmong (All (IsFrame presets.nothing)) is.blocks) (sym (is.unstyled refl)) is.stand) is.show
-  where
-    by_blocks : (blocks : List (List Text)) → StandAmong (All (IsFrame presets.nothing)) blocks (codes " 91.50 " ∷ []) → ¬ (AllZip (ShowsWholeRow (word_table (codes "1"))) (plain_row (plain_cell (codes "1") ∷ []) ∷ []) blocks)
-    by_blocks [] stand show = show
-    by_blocks (block ∷ other ∷ blocks) stand show = show.1
-    by_blocks (block ∷ []) (before, behind, made, around, rest) show = by_lines (alone before block behind (codes " 91.50 ") made)
-      where
-        enough : 1 ≤ length block
-        enough = show.0.enough_lines 0 (0, new_column 0) (omega arith)
-
-        by_lines : ¬ ((block ≡ []) ⊎ (block ≡ codes " 91.50 " ∷ []))
-        by_lines (inl none) = let short = ap length none in absurd (omega (arith, enough, short))
-        by_lines (inr own) = other_amount (subst (λ (lines : List Text). StandAmong (IsFrame presets.nothing) (codes "1" ∷ []) (slice_index_or lines 0 [])) own (show.0.stand 0 (omega (arith, enough))))
+other_whole_text (width, is) =
+    let row = block_is false (plain_cell (codes "1")) (ShowsWholeRow (word_table (codes "1")) width) width (codes " 91.50 " ∷ []) is in
+    let here = row.drawn 0 (omega arith) in
+    let own = piece_is false (width 0) (codes "1") (codes " 91.50 ") here.0 here.1 here.2 in
+    let digit : ◌≡◌ {A = ℕ} 0x39 0x31 = cc (squeezed-piece (new_column 0) (width 0) (codes "1") (codes " 91.50 ") own) in absurd (omega (arith, digit))
 
 -- nor is a whole text in two lines
-sliced_text : ¬ (ShowsWholeRow (word_table (codes "ab")) (plain_row (plain_cell (codes "ab") ∷ [])) (codes " a " ∷ codes " b " ∷ []))
-sliced_text shows =
-    let stands = shows.stand 0 (omega arith) in
-    no_ab_inside (codes " a ") refl stands.0 stands.1 stands.2
-
-no_lines_lose_whole_texts : ¬ (AreShown (ShowsWholeRow (table_of "3 mai" "oats")) (table_of "3 mai" "oats") [])
-unfolding chars encode
-no_lines_lose_whole_texts is = by_blocks is.blocks (subst (StandAmong (All (IsFrame utf8_full)) is.blocks) (sym (is.unstyled refl)) is.stand) is.show
-  where
-    by_blocks : (blocks : List (List Text)) → StandAmong (All (IsFrame utf8_full)) blocks [] → ¬ (AllZip (ShowsWholeRow (table_of "3 mai" "oats")) (row_of "day" "text" ∷ row_of "3 mai" "oats" ∷ []) blocks)
-    by_blocks [] stand show = show
-    by_blocks (block ∷ blocks) (before, behind, inside, around, later) show =
-        let none = ap length (nothing_inside before block behind inside) in
-        let short : 1 ≤ length block = show.0.enough_lines 0 (0, new_column 0) first_column in
-        absurd (omega (arith, short, none))
+sliced_text : (width : ℕ → ℕ) → ¬ (ShowsWholeRow (word_table (codes "ab")) width presets.nothing.content_lines (plain_row (plain_cell (codes "ab") ∷ [])) (codes " a " ∷ codes " b " ∷ []))
+sliced_text width shows = let high : 2 ≡ 1 = shows.as_high in absurd (omega (arith, high))
 
 other_line : ¬ (uneven ≡ codes "ab" ∷ codes "b" ∷ [])
 other_line is = let letter : ◌≡◌ {A = ℕ} 0x61 0x62 = cc is in absurd (omega (arith, letter))
@@ -638,7 +513,7 @@ changed_line table (above, added, widths, before, after) = by_above above (optio
 
 -- false: promises::headline
 no_lines_are_no_table : ¬ (IsHeadline (table_of "3 mai" "oats") [])
-no_lines_are_no_table is = cc (is.unstyled refl refl ∙ is.is_plain.framed.drawn)
+no_lines_are_no_table is = cc (is.unstyled refl refl ∙ is.is_plain.framed.frame.drawn)
 
 -- ---- tables that don't meet the conditions
 

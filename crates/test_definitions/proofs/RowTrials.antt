@@ -1,17 +1,19 @@
 -- Lines that no new table of a header and rows has.
-use Rattle.std.proofs.Common.{◌≡◌, ◌≤◌, ◌<◌, ℕ, zero, suc, List, [], ◌∷◌, ◌++◌, Option, Some, None, codes, length, refl, arith, slice_index_or}
-use Rattle.std.specs.List.{All}
-use Rattle.std.proofs.lemmas.List.Elements.{All-cons, All-from_recursion, All-head, All-nil}
+use Rattle.std.proofs.Common.{false, append-nil, ◌∙◌, ap, ◌≡◌, ◌≤◌, ℕ, List, [], ◌∷◌, ◌++◌, Option, Some, None, codes, length, refl, arith, slice_index_or}
+use Rattle.std.specs.List.{All, AllZip, join_by}
+use Rattle.std.proofs.lemmas.List.Elements.{All-cons, All-from_recursion, All-nil}
 use Rattle.comfy_parts.proofs.Computing.{wrapping}
-use Rattle.comfy_parts.specs.CellValue.{CellValue, RowValue, plain_cell}
+use Rattle.comfy_parts.specs.CellValue.{CellValue, ColumnValue, RowValue, new_column, plain_cell}
 use Rattle.comfy_parts.specs.Columns.{CharactersFit}
 use Rattle.comfy_parts.specs.Presets.{nothing, utf8_full}
 use Rattle.comfy_parts.specs.Text.{Text, measure}
 use Rattle.comfy_parts.specs.declared.style.table.ContentArrangement.{ContentArrangement}
 use Rattle.comfy_parts.specs.declared.style.table.ContentArrangement.TheVariants.{Disabled, Dynamic, DynamicFullWidth}
 use Rattle.comfy_table.specs.NewTables.{IsShortRow}
-use Rattle.promises.proofs.TableOfRowsLemmas.{IsIn, IsRowIn, texts_are_in}
-use Rattle.promises.specs.Rows.{HaveCells, IsNarrowCell, IsNarrowRow, KeepsRows}
+use Rattle.comfy_table.specs.TableValue.{TableValue}
+use Rattle.promises.specs.Headline.{IsPiece}
+use Rattle.promises.specs.Kept.{ShowsWholeRow}
+use Rattle.promises.specs.Rows.{HaveCells, IsNarrowCell, IsNarrowRow, KeepsRows, table_of}
 use Rattle.test_definitions.proofs.LawTrials.{shorter_line}
 use Rattle.test_definitions.proofs.PromiseTrials as promises
 use Rattle.test_definitions.proofs.PromiseTrials.{no_lines_lose_texts}
@@ -72,11 +74,20 @@ no_texts keeps = no_lines_lose_texts keeps.all_texts
 
 -- a text that is torn
 torn : ¬ (Keeps Disabled None (codes " a b " ∷ []))
-torn keeps = by_line own.0 own.3 own.1 own.4
+torn keeps = let (width, is) = keeps.whole_texts refl short in by_rows width is.rows is.are_rows is.is_header.0 is.is_header.1 (is.drawn ∙ ap (λ (lines : List Text). lines ++ (join_by (λ (block : List Text). block) [] is.rows ++ [])) is.is_header.2)
   where
-    own : IsIn (codes " a b " ∷ []) (codes "ab")
-    own = All-head (IsRowIn (codes " a b " ∷ [])) header [] (texts_are_in nothing Disabled None header [] refl short (codes " a b " ∷ []) (keeps.whole_texts refl short)) 0 (plain_cell []) (omega arith) 0 [] (omega arith)
+    table : TableValue
+    table = table_of nothing Disabled None header []
 
-    by_line : (k : ℕ) → k < 1 → (before : Text) → ¬ (slice_index_or (codes " a b " ∷ []) k [] ≡ before ++ (codes "ab" ++ own.2))
-    by_line zero below before made = no_ab_inside (codes " a b ") refl before own.2 made
-    by_line (suc k) below before made = absurd (omega (arith, below))
+    by_pieces : (w : ℕ) (pieces : List Text) → AllZip (λ (p : ℕ × ColumnValue). IsPiece false p.1 w (codes "ab")) ((0, new_column 0) ∷ []) pieces → ¬ (codes " a b " ≡ join_by (λ (piece : Text). piece) [] pieces ++ [])
+    by_pieces w [] zip made = zip
+    by_pieces w (piece ∷ other ∷ pieces) zip made = zip.1
+    by_pieces w (piece ∷ []) zip made = no_ab_inside (codes " a b ") refl zip.0.before zip.0.after (made ∙ append-nil (piece ++ []) ∙ append-nil piece ∙ zip.0.drawn)
+
+    by_rows : (width : ℕ → ℕ) (rows : List (List Text)) → AllZip (ShowsWholeRow table width nothing.content_lines) [] rows → (block : List Text) → ShowsWholeRow table width nothing.header_lines header block → ¬ (codes " a b " ∷ [] ≡ (block ++ []) ++ (join_by (λ (block : List Text). block) [] rows ++ []))
+    by_rows width (row ∷ rows) each block own made = each
+    by_rows width [] each block own made =
+        let same : codes " a b " ∷ [] ≡ block = made ∙ append-nil (block ++ []) ∙ append-nil block in
+        let long = ap length same in
+        let here = own.drawn 0 (omega (arith, long)) in
+        by_pieces (width 0) here.0 here.1 (ap (λ (ls : List Text). slice_index_or ls 0 []) same ∙ here.2)
