@@ -512,6 +512,7 @@ headline table lines drawn =
       styled = subst (AllZip IsStyled (drawing (unstyled table) drawn.widths)) (sym drawn.drawn) (styled_lines table drawn.widths drawn.texts.whole_texts);
       unstyled = drawn.edges.unstyled_lines;
       uncoloured = λ each none. drawn.drawn ∙ uncoloured_lines table drawn.widths each none;
+      closed = drawn.sequences.closed_lines;
       frame =
           subst (IsFramedBy (AreContentLines table (content_at table drawn.widths long) (lines_at table drawn.widths long)) table (content_at table drawn.widths long)) (sym drawn.drawn)
           (frame_is table drawn.widths long (AreContentLines table (content_at table drawn.widths long) (lines_at table drawn.widths long)) (content_is table drawn.widths long));

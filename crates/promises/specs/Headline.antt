@@ -12,7 +12,7 @@ use Rattle.comfy_table.specs.Arrangement.{is_full_width}
 use Rattle.comfy_parts.specs.declared.style.table_style.ContentLineStyle.{ContentLineStyle}
 use Rattle.comfy_parts.specs.declared.style.table_style.LineStyle.{LineStyle}
 use Rattle.comfy_table.specs.Frame.{border_count, content_line, frame_line, optional_frame_line}
-use Rattle.comfy_table.specs.Laws.{NoConstraints, count, least_total}
+use Rattle.comfy_table.specs.Laws.{HasSequencesInTextsAlone, LeavesNoneOpen, NoConstraints, count, least_total}
 use Rattle.comfy_table.specs.Lines.{cell_delimiter, cut_text, cut_to_limit, fitting_indicator}
 use Rattle.comfy_table.specs.TableValue.{TableValue, cell_content_width, header_and_rows, measured_table, should_style, shown_columns, table_width}
 use Rattle.promises.specs.Shown.{IsStyled}
@@ -251,6 +251,9 @@ pub record IsHeadline (table : TableValue) (lines : List Text) : Type 0 where
   -- a table whose cells have neither colours nor attributes is drawn without sequences
   pub uncoloured : All (λ (row : RowValue). All IsUncoloured row.cells) (header_and_rows table)
       → table.custom_styling ≡ false → lines ≡ plain
+  -- with custom styling no line leaves a sequence open, if sequences are in texts alone
+  pub closed : table.custom_styling ≡ true → HasSequencesInTextsAlone table
+      → All LeavesNoneOpen lines
 
 -- the columns of a headline, as wide as there
 abbrev pub AreColumnsOf : TableValue → List Text → List ColumnInfo → Type 0

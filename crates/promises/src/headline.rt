@@ -8,7 +8,7 @@ use comfy_table::{Lines, Result, Table};
 /// A table draws frame lines, and rows of its shown cells' text lines between spaces and borders. A
 /// row has as many lines as its highest cell. SGR sequences are in these spaces alone, if styles
 /// are written and the cell has a colour or an attribute. With `custom_styling` a text is what is
-/// visible of it, and sequences may be in it.
+/// visible of it, and sequences may be in it. No line leaves one open, if they are in texts alone.
 ///
 /// A text line that fits its column is one line, an empty one too. Any other is cut where texts
 /// wrap, which leaves out nothing but delimiters; one of delimiters alone has no line. If

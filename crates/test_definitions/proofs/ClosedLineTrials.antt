@@ -42,7 +42,7 @@ colour_stays_open = refl
 
 -- ---- halves of a sequence in two cells
 
-abbrev halves : TableValue
+abbrev pub halves : TableValue
 halves = record (rows_of nothing (("\u{1b}[1" ∷ "m" ∷ []) ∷ [])) { custom_styling = true }
 
 abbrev joined_halves : TableValue
@@ -65,7 +65,7 @@ joined_stays_open none = true≢false (sym (ap (λ (ss : List Text). length ss =
 abbrev EndsInTexts : TableValue → ℕ × ColumnValue → Type 0
 EndsInTexts table p = (1 ≤ p.1.padding.1) ⊎ All (λ (cell : CellValue). All HasNoEscape cell.text_lines) (column_cells table p.0)
 
-halves_end_in_texts : HasSequencesInTextsAlone halves
+pub halves_end_in_texts : HasSequencesInTextsAlone halves
 halves_end_in_texts =
     record { styling = inl refl; style = record { indicator = refl; characters = refl }; ends = All-cons (EndsInTexts halves) (0, new_column 0) ((1, new_column 1) ∷ []) (inl (lit≤ {n = 1} (tt {0}))) (All-cons (EndsInTexts halves) (1, new_column 1) [] (inl (lit≤ {n = 1} (tt {0}))) (All-nil (EndsInTexts halves))) }
 

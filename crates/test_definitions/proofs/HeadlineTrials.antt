@@ -23,7 +23,7 @@ use Rattle.comfy_parts.specs.Wrapping.{wrapped}
 use Rattle.comfy_parts.specs.declared.style.table.ContentArrangement.{ContentArrangement}
 use Rattle.comfy_parts.specs.declared.style.table.ContentArrangement.TheVariants.{Disabled, Dynamic, DynamicFullWidth}
 use Rattle.comfy_table.proofs.CountLemmas.{frame_lines_count}
-use Rattle.comfy_table.specs.Laws.{NoConstraints, count, least_total}
+use Rattle.comfy_table.specs.Laws.{LeavesNoneOpen, NoConstraints, count, least_total}
 use Rattle.comfy_table.specs.Lines.{cell_delimiter, cell_lines, cut_text, cut_to_limit, fitting_indicator}
 use Rattle.comfy_table.specs.Parts.{ArrangedValue, IsArrangedTable}
 use Rattle.comfy_table.specs.TableValue.{TableValue, ellipsis, header_and_rows, measured_table, new_table, shown_columns, width_or_terminal, with_header, with_rows}
@@ -33,6 +33,7 @@ use Rattle.promises.specs.Shown.{IsStyled}
 use Rattle.promises.specs.Straight.{AreStraightWhereCharactersFit}
 use Rattle.promises.specs.Widths.{KeepToWidthWhereCharactersFit}
 use Rattle.promises.specs.Shown.IsStyled.{nothing as no_byte, byte, sequence}
+use Rattle.test_definitions.proofs.ClosedLineTrials.{bold_stays_open, halves, halves_end_in_texts}
 use Rattle.test_definitions.proofs.TrialTables.{no_ab_inside}
 
 -- a table of one cell, without a frame
@@ -759,3 +760,7 @@ one_column_more (is, are) = let few : 2 ≡ 1 = ap length are in absurd (omega (
 blinking_frame : ¬ (IsHeadline (record (new_table ascii_full) { enforce_styling = true }) (codes "\u{1b}[5m++" ∷ codes "++" ∷ []))
 unfolding encode
 blinking_frame is = let letter : 0x1B ≡ 0x2B = ap (λ (ls : List Text). slice_index (slice_index_or ls 0 []) 0) is.frame.drawn in absurd (omega (arith, letter))
+
+-- with custom styling no line leaves bold open
+open_line : ¬ (IsHeadline halves (codes "| \u{1b}[1mab |" ∷ []))
+open_line is = bold_stays_open (All-head LeavesNoneOpen (codes "| \u{1b}[1mab |") [] (is.closed refl halves_end_in_texts))
