@@ -1,6 +1,7 @@
 mod ColumnLemmas
 mod FrameLemmas
 mod MessageLemmas
+mod WholeLemmas
 mod WidthLemmas
 pub mod BoldLemmas
 pub mod ExpandedLemmas

@@ -1,17 +1,17 @@
 -- What is written of records shows all of their fields.
-use Rattle.std.proofs.Common.{◌≡◌, ◌≤◌, ◌<◌, ◌==◌, decimal, filter, is_some, ◌||◌, inl, inr, ℕ, zero, suc, ◌+◌, Bool, true, false, List, [], ◌∷◌, ◌++◌, Option, Some, None, Ok, drop, flat_map, length, map, nat_lt, take, refl, sym, ap, ap₂, ◌∙◌, subst, arith, append_assoc, length-append, slice_index_or, unwrap_or}
+use Rattle.std.proofs.Common.{◌≡◌, ◌≤◌, ◌<◌, ◌==◌, decimal, filter, is_some, ◌||◌, inl, inr, ℕ, zero, suc, ◌+◌, Bool, true, false, List, [], ◌∷◌, ◌++◌, Option, Some, None, Ok, drop, filter_map, flat_map, length, map, max, nat_lt, take, refl, sym, ap, ap₂, ◌∙◌, subst, arith, append_assoc, length-append, slice_index_or, unwrap_or}
 use Rattle.std.specs.List.{All, AllZip, range_with_len}
-use Rattle.std.specs.Prelude.{if◌then◌else◌, codes, option_to_list, sum_by}
+use Rattle.std.specs.Prelude.{if◌then◌else◌, codes, option_to_list, slice_get, slice_index, sum_by}
 use Rattle.std.specs.Str.{IsUtf8}
 use Rattle.std.proofs.Math.Seq.{take-length}
 use Rattle.std.proofs.lemmas.List.Elements.{All-cons, All-head, All-map, All-nil, All-tail, All-weaker}
 use Rattle.comfy_parts.specs.CellValue.{RowValue}
-use Rattle.comfy_parts.specs.Text.{Text}
+use Rattle.comfy_parts.specs.Text.{Text, greatest}
 use Rattle.comfy_table.specs.Drawing.{drawing, drawing_of_infos, infos_of, terminated_text_of}
 use Rattle.comfy_table.specs.Headline.{IsTableDrawing}
 use Rattle.comfy_table.specs.Laws.{IsStyleWithout}
 use Rattle.comfy_table.specs.Parts.{ArrangedValue, with_rows_alone}
-use Rattle.comfy_table.specs.TableValue.{TableValue, header_and_rows}
+use Rattle.comfy_table.specs.TableValue.{TableValue, cell_content_width, header_and_rows}
 use Rattle.csv.specs.Records.{AllText}
 use Rattle.csv_command.proofs.StyleLemmas.{parsed_style_without_controls}
 use Rattle.csv_command.specs.declared.arguments.Invocation.{Invocation}
@@ -24,7 +24,7 @@ use Rattle.csv_tables.proofs.RowLemmas.{positions-shown, with_rows-rows}
 use Rattle.csv_tables.specs.Cells.{Shown, cell_for, columns_within, shown_cells, shown_in, with_weight, number_name, row_for, counted_from}
 use Rattle.csv_tables.specs.Columns.{ColumnsValue, count_of, name_at, seen}
 use Rattle.csv_command.specs.Columns.{columns_for}
-use Rattle.csv_tables.specs.Drawn.{SelectedValue, RendersAsTable, RendersTable, columns_of, count_below, drawn_fields, drawn_rows, empty_table, has_room_for, headed_table, is_expanded_in, limited, names_of, note_for, note_text, output_table, pairs_in, record_line, record_text, records_below, rows_table, separated_table, some_lines, table_text, is_aligned_in}
+use Rattle.csv_tables.specs.Drawn.{SelectedValue, RendersAsTable, RendersTable, columns_of, count_below, drawn_fields, drawn_rows, empty_table, has_room_for, headed_table, is_expanded_in, limited, names_of, note_for, note_text, is_table_expanded, output_table, pairs_in, record_line, record_text, records_below, rows_table, separated_table, some_lines, table_text, is_aligned_in}
 use Rattle.csv_command.specs.Drawn.{RendersChosen, layout_with}
 use Rattle.csv_tables.specs.declared.options.DrawnColumn.{DrawnColumn}
 use Rattle.csv_tables.specs.declared.options.Look.{Look}
@@ -34,21 +34,22 @@ use Rattle.std.proofs.lemmas.List.{length-map}
 use Rattle.csv_records.specs.Cleaning.{cleaned}
 use Rattle.csv_tables.specs.Fields.{field_or_blank}
 use Rattle.csv_promises.proofs.FrameLemmas.{most_columns, places_of}
-use Rattle.promises.specs.Headline.{IsUncoloured}
+use Rattle.promises.specs.Headline.{IsUncoloured, widest}
 use Rattle.csv_promises.proofs.ExpandedLemmas.{rows_at}
 use Rattle.csv_promises.proofs.FieldLemmas.{IsRowFor, are_pairs, are_rows, is_header, positions_of}
 use Rattle.csv_promises.proofs.PositionLemmas.{chosen, kept_positions}
 use Rattle.csv_promises.proofs.RecordLemmas.{all_drawn, with_rows-header}
-use Rattle.csv_promises.proofs.ShownTableLemmas.{HasRowsOf, has_rows_of, part_shows}
+use Rattle.csv_promises.proofs.ShownTableLemmas.{HasRowsOf, has_rows_of, no_custom_styling, part_shows}
+use Rattle.csv_promises.proofs.WholeLemmas.{AreColumns, kept_whole, unbroken-shown, widest-content}
 use Rattle.csv_promises.proofs.LineLemmas.{may_expand, no_records, no_rows, none_drawn}
 use Rattle.csv_promises.proofs.WrittenLemmas.{IsDrawnBy, by_extent}
 use Rattle.csv_promises.specs.Counted.{AreExpanded, MayExpand}
-use Rattle.csv_promises.specs.Fields.{IsDrawingOf, fields_at, row_behind, rows_from, ShowsDrawn, ShowsPairs, ShowsRecords, ShowsRows, pairs_at, positions_in, all_rows}
+use Rattle.csv_promises.specs.Fields.{IsDrawingOf, fields_at, row_behind, rows_from, ShowsDrawn, ShowsPairs, ShowsRecords, ShowsRows, pairs_at, positions_in, all_rows, whole_for}
 use Rattle.csv_promises.specs.Written.{IsWritten}
 
 -- of no rows nothing
-none_shown : (look : Look) (has_header : Bool) → ShowsRows look has_header [] []
-none_shown look has_header = inl (refl, refl)
+none_shown : (look : Look) (has_header : Bool) (whole : List Bool) → ShowsRows look has_header whole [] []
+none_shown look has_header whole = inl (refl, refl)
 
 -- ---- tables
 
@@ -86,7 +87,8 @@ module _ (look : Look) (all : DrawsAll look) (is_numbered : Bool) (names : Optio
     is = has_rows_of look content is_expanded renders.has_separators
 
     abbrev shows : (first n : ℕ) (has_header : Bool) → is_some table.header ≡ has_header → (fields : List (List Text)) → AllZip IsRowFor fields (option_to_list table.header ++ take n (drop first table.rows)) → All (λ (own : List Text). length table.columns ≤ length own) fields
-        → (has_header ≡ true → All (λ (row : RowValue). All IsUncoloured row.cells) (take n (drop first table.rows))) → IsDrawingOf look has_header fields (terminated_text_of (drawing (with_rows_alone first n table) drawn.widths))
+        → (has_header ≡ true → All (λ (row : RowValue). All IsUncoloured row.cells) (take n (drop first table.rows)))
+        → (whole : List Bool) → ((i : ℕ) → i < length table.columns → slice_get whole i ≡ Some true → widest (with_rows_alone first n table) i ≤ max 1 (slice_index drawn.widths i)) → IsDrawingOf look has_header whole fields (terminated_text_of (drawing (with_rows_alone first n table) drawn.widths))
     shows = part_shows look content is_expanded renders.has_separators all.unkept all.style lines drawn
 
     -- it has no more columns than fields
@@ -94,12 +96,24 @@ module _ (look : Look) (all : DrawsAll look) (is_numbered : Bool) (names : Optio
     enough fields many = let most = most_columns is_expanded renders.has_separators look content in omega (arith, most, many)
 
   -- the table of rows
-  pub rows_shown : (text : Text) → RendersTable false look content text → All (All IsUtf8) (option_to_list names ++ rows) → ShowsRows look (is_some names) (all_rows is_numbered (positions_of columns) names rows) text
-  rows_shown text renders utf8 =
-      subst (ShowsRows look (is_some names) fields) (sym (is_text false text renders))
+  pub rows_shown : (text : Text) → RendersTable false look content text → All (All IsUtf8) (option_to_list names ++ rows) → AreColumns look content
+      → ShowsRows look (is_some names) (whole_for look.width look.expansion is_numbered (positions_of columns) rows) (all_rows is_numbered (positions_of columns) names rows) text
+  rows_shown text renders utf8 are =
+      subst (ShowsRows look (is_some names) whole fields) (sym (is_text false text renders))
       (inr (shows false text renders 0 (length (table false text renders).rows) (is_some names) headed fields
-      (subst (λ (own : List RowValue). AllZip IsRowFor fields (option_to_list (table false text renders).header ++ own)) (sym (take-length (table false text renders).rows)) each) many (λ some. uncoloured)))
+      (subst (λ (own : List RowValue). AllZip IsRowFor fields (option_to_list (table false text renders).header ++ own)) (sym (take-length (table false text renders).rows)) each) many (λ some. uncoloured) whole wide))
     where
+      whole : List Bool
+      whole = whole_for look.width look.expansion is_numbered (positions_of columns) rows
+
+      wide : (i : ℕ) → i < length (table false text renders).columns → slice_get whole i ≡ Some true → widest (with_rows_alone 0 (length (table false text renders).rows) (table false text renders)) i ≤ max 1 (slice_index (drawn false text renders).widths i)
+      wide i below is_whole =
+          let made = table false text renders in
+          let widths = (drawn false text renders).widths in
+          let kept = kept_whole look content are renders.has_separators widths (drawn false text renders).arranged i below is_whole in
+          let same = widest-content made (no_custom_styling look content false renders.has_separators all.unkept) i in
+          subst (λ (own : List RowValue). max 1 (greatest (map cell_content_width (filter_map (λ (row : RowValue). slice_get row.cells i) (option_to_list made.header ++ own)))) ≤ max 1 (slice_index widths i)) (sym (take-length made.rows)) (omega (arith, kept, same))
+
       fields : List (List Text)
       fields = all_rows is_numbered (positions_of columns) names rows
 
@@ -197,13 +211,13 @@ module _ (look : Look) (all : DrawsAll look) (is_numbered : Bool) (names : Optio
     rows_are : (table true text renders).rows ≡ own_rows
     rows_are = (is true text renders).rows ∙ with_rows-rows own_rows (empty_table look)
 
-    by_count : (first n : ℕ) (fields : List (List Text)) → AllZip IsRowFor fields (take n (drop first (table true text renders).rows)) → All (λ (own : List Text). 2 ≤ length own) fields → ShowsRows look false fields (terminated_text_of (some_lines own_arranged first n))
-    by_count first zero [] each two = none_shown look false
+    by_count : (first n : ℕ) (fields : List (List Text)) → AllZip IsRowFor fields (take n (drop first (table true text renders).rows)) → All (λ (own : List Text). 2 ≤ length own) fields → ShowsRows look false [] fields (terminated_text_of (some_lines own_arranged first n))
+    by_count first zero [] each two = none_shown look false []
     by_count first zero (own ∷ fields) each two = absurd each
     by_count first (suc n) fields each two =
         inr (shows true text renders first (suc n) false (ap is_some no_header) fields
         (subst (λ (header : Option RowValue). AllZip IsRowFor fields (option_to_list header ++ take (suc n) (drop first (table true text renders).rows))) (sym no_header) each)
-        (All-weaker (λ (own : List Text). 2 ≤ length own) (λ (own : List Text). length (table true text renders).columns ≤ length own) (enough true text renders) fields two) (λ some. absurd (cc some)))
+        (All-weaker (λ (own : List Text). 2 ≤ length own) (λ (own : List Text). length (table true text renders).columns ≤ length own) (enough true text renders) fields two) (λ some. absurd (cc some)) [] (λ i below none. absurd (cc none)))
 
     -- a name and a field are two
     pairs_two : (fields : List Text) → All (λ (own : List Text). 2 ≤ length own) (pairs_at header (positions_of columns) fields)
@@ -268,10 +282,14 @@ module _ (o : Options) (all : DrawsAll o.look) (count : Option ℕ) (records : L
         sym (kept_positions (unwrap_or names []) (count_of (unwrap_or names []) rows) o.columns.chosen.items o.columns.dropped.items (positions_of columns)
         (chosen (unwrap_or names []) _ _ _ own found ∙ ap Ok (sym (positions-shown own (map (seen look.has_sequences) rows)))))
 
-    by_kind : (is_expanded : Bool) (text : Text) → RendersTable is_expanded look (content look all o.selection.is_numbered names rows columns count) text → ShowsDrawn is_expanded o names rows count text
-    by_kind false text renders =
-        subst (λ (ps : List ℕ). ShowsRows look (is_some names) (all_rows o.selection.is_numbered ps names rows) text) (sym positions) (rows_shown look all o.selection.is_numbered names rows columns count text renders utf8)
-    by_kind true text renders =
+    abbrev own_content : SelectedValue
+    own_content = content look all o.selection.is_numbered names rows columns count
+
+    by_kind : (is_expanded : Bool) → is_expanded ≡ is_table_expanded look own_content → (text : Text) → RendersTable is_expanded look own_content text → ShowsDrawn is_expanded o names rows count text
+    by_kind false kind text renders =
+        subst (λ (ps : List ℕ). ShowsRows look (is_some names) (whole_for look.width look.expansion o.selection.is_numbered ps rows) (all_rows o.selection.is_numbered ps names rows) text) (sym positions)
+        (rows_shown look all o.selection.is_numbered names rows columns count text renders utf8 (record { table = all.table; kind = sym kind; unbroken = unbroken-shown own look.has_sequences all.unkept rows }))
+    by_kind true kind text renders =
         subst (λ (ps : List ℕ). AreExpanded (ShowsPairs look (unwrap_or names []) ps) count 1 rows text) (sym positions) (records_shown look all o.selection.is_numbered names rows columns count text renders)
 
   output_shown : (output : Text) → RendersChosen count o records output → IsShown o names rows count output
@@ -280,7 +298,7 @@ module _ (o : Options) (all : DrawsAll o.look) (count : Option ℕ) (records : L
         is_expanded = text.is_expanded;
         expansion = may_expand look.expansion ((length rows == 0) || has_room_for look own (is_aligned_in look own)) text.is_expanded text.expansion;
         drawn = made.is_output.text;
-        shows = by_kind made.columns made.are_chosen text.is_expanded made.is_output.text text.drawn;
+        shows = by_kind made.columns made.are_chosen text.is_expanded text.expansion made.is_output.text text.drawn;
         joined = made.is_output.joined ∙ ap₂ (λ (b : Bool) (n : Option ℕ). made.is_output.text ++ note_for b o.selection.limit n) all.table (ap (λ (c : SelectedValue). c.count) same);
       }
     where
@@ -306,7 +324,7 @@ module _ (arguments : List Text) (context : OutputContext) (invocation : Invocat
 
       by_kind : (is_expanded : Bool) (count : Option ℕ) → ShowsDrawn is_expanded options None [] count []
       by_kind true count = refl
-      by_kind false count = none_shown options.look false
+      by_kind false count = none_shown options.look false _
 
       none : ShowsRecords options [] []
       none =
