@@ -40,11 +40,11 @@ use Rattle.csv_promises.proofs.FieldLemmas.{IsRowFor, are_pairs, are_rows, is_he
 use Rattle.csv_promises.proofs.PositionLemmas.{chosen, kept_positions}
 use Rattle.csv_promises.proofs.RecordLemmas.{all_drawn, with_rows-header}
 use Rattle.csv_promises.proofs.ShownTableLemmas.{HasRowsOf, has_rows_of, no_custom_styling, part_shows}
-use Rattle.csv_promises.proofs.WholeLemmas.{AreColumns, kept_whole, unbroken-shown, widest-content}
+use Rattle.csv_promises.proofs.WholeLemmas.{AreColumns, kept_whole, pairs_kept_whole, unbroken-shown, widest-content}
 use Rattle.csv_promises.proofs.LineLemmas.{may_expand, no_records, no_rows, none_drawn}
 use Rattle.csv_promises.proofs.WrittenLemmas.{IsDrawnBy, by_extent}
 use Rattle.csv_promises.specs.Counted.{AreExpanded, MayExpand}
-use Rattle.csv_promises.specs.Fields.{IsDrawingOf, fields_at, row_behind, rows_from, ShowsDrawn, ShowsPairs, ShowsRecords, ShowsRows, pairs_at, positions_in, all_rows, whole_for}
+use Rattle.csv_promises.specs.Fields.{IsDrawingOf, fields_at, row_behind, rows_from, ShowsDrawn, ShowsPairs, ShowsRecords, ShowsRows, pairs_at, positions_in, all_rows, whole_for, whole_pairs}
 use Rattle.csv_promises.specs.Written.{IsWritten}
 
 -- of no rows nothing
@@ -211,13 +211,14 @@ module _ (look : Look) (all : DrawsAll look) (is_numbered : Bool) (names : Optio
     rows_are : (table true text renders).rows ≡ own_rows
     rows_are = (is true text renders).rows ∙ with_rows-rows own_rows (empty_table look)
 
-    by_count : (first n : ℕ) (fields : List (List Text)) → AllZip IsRowFor fields (take n (drop first (table true text renders).rows)) → All (λ (own : List Text). 2 ≤ length own) fields → ShowsRows look false [] fields (terminated_text_of (some_lines own_arranged first n))
-    by_count first zero [] each two = none_shown look false []
+    by_count : (first n : ℕ) (fields : List (List Text)) → AllZip IsRowFor fields (take n (drop first (table true text renders).rows)) → All (λ (own : List Text). 2 ≤ length own) fields → ShowsRows look false (whole_pairs look.width) fields (terminated_text_of (some_lines own_arranged first n))
+    by_count first zero [] each two = none_shown look false (whole_pairs look.width)
     by_count first zero (own ∷ fields) each two = absurd each
     by_count first (suc n) fields each two =
         inr (shows true text renders first (suc n) false (ap is_some no_header) fields
         (subst (λ (header : Option RowValue). AllZip IsRowFor fields (option_to_list header ++ take (suc n) (drop first (table true text renders).rows))) (sym no_header) each)
-        (All-weaker (λ (own : List Text). 2 ≤ length own) (λ (own : List Text). length (table true text renders).columns ≤ length own) (enough true text renders) fields two) (λ some. absurd (cc some)) [] (λ i below none. absurd (cc none)))
+        (All-weaker (λ (own : List Text). 2 ≤ length own) (λ (own : List Text). length (table true text renders).columns ≤ length own) (enough true text renders) fields two) (λ some. absurd (cc some)) (whole_pairs look.width)
+        (pairs_kept_whole look content renders.has_separators (drawn true text renders).widths first (suc n) all.unkept (drawn true text renders).arranged))
 
     -- a name and a field are two
     pairs_two : (fields : List Text) → All (λ (own : List Text). 2 ≤ length own) (pairs_at header (positions_of columns) fields)

@@ -1,15 +1,16 @@
 -- Columns of a drawn table are as wide as their texts.
-use Rattle.std.proofs.Common.{◌≡◌, ◌==◌, ◌≤◌, ◌<◌, ◌&&◌, ℕ, zero, suc, ◌+◌, Bool, true, false, not, List, [], ◌∷◌, ◌++◌, Option, Some, None, length, map, max, filter_map, refl, sym, ap, ◌∙◌, subst, arith}
-use Rattle.std.specs.List.{All, enumerate_from, slice_get}
-use Rattle.std.specs.Prelude.{MatchOption, if◌then◌else◌, slice_index, slice_index_or}
+use Rattle.std.proofs.Common.{◌≡◌, ◌==◌, ◌≤◌, ◌<◌, ◌&&◌, ℕ, zero, suc, ◌+◌, Bool, true, false, not, List, [], ◌∷◌, ◌++◌, Option, Some, None, drop, length, map, max, filter_map, take, refl, sym, ap, ◌∙◌, subst, arith}
+use Rattle.std.specs.List.{All, cons_option, enumerate_from, slice_get}
+use Rattle.std.specs.Prelude.{MatchOption, if◌then◌else◌, option_to_list, slice_index, slice_index_or}
 use Rattle.std.proofs.lemmas.Bool.{ne_eqb}
 use Rattle.std.proofs.lemmas.List.Elements.{All-head, All-tail}
 use Rattle.comfy_parts.proofs.CallerLemmas.{All-same_map}
-use Rattle.comfy_parts.specs.CellValue.{ColumnValue, RowValue}
+use Rattle.comfy_parts.specs.CellValue.{CellValue, ColumnValue, RowValue}
 use Rattle.comfy_parts.specs.Text.{Text, greatest}
 use Rattle.comfy_table.specs.Arrangement.{IsArranged, is_full_width, room_beside_borders, width_kept, widths_at}
 use Rattle.comfy_table.specs.Dynamic.{IsDynamicLayout}
 use Rattle.comfy_table.specs.Laws.{NoConstraints}
+use Rattle.comfy_table.specs.Parts.{with_rows_alone}
 use Rattle.comfy_table.specs.TableValue.{TableValue, cell_content_width, column_content_width, shown_columns, table_width}
 use Rattle.comfy_table.specs.Widths.{disabled_width, shown_needs}
 use Rattle.csv_tables.proofs.KeptWidthLemmas.{auto_keeps_whole}
@@ -26,13 +27,64 @@ use Rattle.promises.proofs.PlacedLemmas.{measured_plain}
 use Rattle.promises.proofs.RowLemmas.{width_by_content}
 use Rattle.promises.specs.Headline.{widest}
 use Rattle.csv_promises.proofs.FieldLemmas.{positions_of}
-use Rattle.csv_promises.proofs.ShownTableLemmas.{has_rows_of}
-use Rattle.csv_promises.specs.Fields.{has_numbers, whole_for}
+use Rattle.csv_promises.proofs.ShownTableLemmas.{has_rows_of, no_custom_styling}
+use Rattle.csv_promises.specs.Fields.{has_numbers, whole_for, whole_pairs}
 
 -- the widest text of a column is its content
 pub widest-content : (table : TableValue) → table.custom_styling ≡ false → (i : ℕ) → widest table i ≡ max 1 (column_content_width table i)
 widest-content table plain i =
     ap (λ (rows : List RowValue). max 1 (greatest (map cell_content_width (filter_map (λ (row : RowValue). slice_get row.cells i) rows)))) (sym (measured_plain table plain))
+
+-- ---- parts of a table
+
+module _ (i : ℕ) where
+  -- the widest text of a column of rows
+  abbrev content : List RowValue → ℕ
+  content rows = greatest (map cell_content_width (filter_map (λ (row : RowValue). slice_get row.cells i) rows))
+
+  -- one more row above two lists of rows, of which one has no wider text
+  one-wider : (row : RowValue) (some all : List RowValue) → content some ≤ content all → content (row ∷ some) ≤ content (row ∷ all)
+  one-wider row some all within = by_cell (slice_get row.cells i)
+    where
+      cells : List RowValue → List CellValue
+      cells rows = filter_map (λ (r : RowValue). slice_get r.cells i) rows
+
+      by_cell : (o : Option CellValue) → greatest (map cell_content_width (cons_option o (cells some))) ≤ greatest (map cell_content_width (cons_option o (cells all)))
+      by_cell None = within
+      by_cell (Some cell) = omega (arith, within)
+
+  one-more : (row : RowValue) (rows : List RowValue) → content rows ≤ content (row ∷ rows)
+  one-more row rows = by_cell (slice_get row.cells i)
+    where
+      cells : List CellValue
+      cells = filter_map (λ (r : RowValue). slice_get r.cells i) rows
+
+      by_cell : (o : Option CellValue) → greatest (map cell_content_width cells) ≤ greatest (map cell_content_width (cons_option o cells))
+      by_cell None = omega arith
+      by_cell (Some cell) = omega arith
+
+  taken : (n : ℕ) (rows : List RowValue) → content (take n rows) ≤ content rows
+  taken zero rows = omega arith
+  taken (suc n) [] = omega arith
+  taken (suc n) (row ∷ rows) = one-wider row (take n rows) rows (taken n rows)
+
+  dropped : (n : ℕ) (rows : List RowValue) → content (drop n rows) ≤ content rows
+  dropped zero rows = omega arith
+  dropped (suc n) [] = omega arith
+  dropped (suc n) (row ∷ rows) = let own = dropped n rows in let more = one-more row rows in omega (arith, own, more)
+
+  -- a part has no wider text than the table
+  pub part-widest : (table : TableValue) (first n : ℕ) → widest (with_rows_alone first n table) i ≤ widest table i
+  part-widest table first n =
+      let own = taken n (drop first table.rows) in
+      let all = dropped first table.rows in
+      let within = by_header table.header (omega (arith, own, all)) in omega (arith, within)
+    where
+      by_header : (header : Option RowValue) → content (take n (drop first table.rows)) ≤ content table.rows → content (option_to_list header ++ take n (drop first table.rows)) ≤ content (option_to_list header ++ table.rows)
+      by_header None within = within
+      by_header (Some row) within = one-wider row (take n (drop first table.rows)) table.rows within
+
+-- ---- tables without a width
 
 -- what holds at the place of each element holds at each index
 at_place : {A : Type 0} (P : ℕ → Type 0) (n : ℕ) (xs : List A) → All (λ (p : ℕ × A). P p.0) (enumerate_from n xs) → (i : ℕ) → i < length xs → P (n + i)
@@ -75,6 +127,21 @@ module _ (look : Look) (content : SelectedValue) (is_expanded has : Bool) (width
       each j other within =
           let p = slice_index_or (shown_columns made) j other in
           All-same_map (λ (q : ℕ × ColumnValue). slice_index widths q.0) (disabled_width made) (shown_columns made) all j other within ∙ width_by_content made p.0 p.1 (free j other within)
+
+-- so are those of expanded records, and parts of them
+pub pairs_kept_whole : (look : Look) (content : SelectedValue) (has : Bool) (widths : List ℕ) (first n : ℕ) → look.has_sequences ≡ false → IsArranged (made look content true has widths) widths → (i : ℕ) → i < length (made look content true has widths).columns → slice_get (whole_pairs look.width) i ≡ Some true
+    → widest (with_rows_alone first n (made look content true has widths)) i ≤ max 1 (slice_index widths i)
+pairs_kept_whole look content has widths first n unkept arranged i below = by_width look.width refl
+  where
+    table : TableValue
+    table = made look content true has widths
+
+    by_width : (o : Option ℕ) → look.width ≡ o → slice_get (whole_pairs o) i ≡ Some true → widest (with_rows_alone first n table) i ≤ max 1 (slice_index widths i)
+    by_width None none found =
+        let own = as_wide look content true has widths none arranged i below in
+        let part = part-widest i table first n in
+        let whole = widest-content table (no_custom_styling look content true has unkept) i in omega (arith, own, part, whole)
+    by_width (Some w) wide found = absurd (cc found)
 
 -- ---- columns of numbers and dates
 

@@ -110,6 +110,11 @@ whole_for None expansion is_numbered positions rows =
 whole_for (Some width) expansion is_numbered positions rows =
     whole_within expansion is_numbered positions rows
 
+-- so are the names and the fields of expanded records
+abbrev pub whole_pairs : Option ℕ → List Bool
+whole_pairs None = true ∷ true ∷ []
+whole_pairs (Some width) = []
+
 -- ---- records
 
 -- a record's fields at these positions, as they are cleaned; missing ones are empty
@@ -146,7 +151,7 @@ pairs_at names positions fields =
 -- a text shows the names and fields of an expanded record
 abbrev pub ShowsPairs : Look → List Text → List ℕ → List Text → Text → Type 0
 ShowsPairs look names positions fields text =
-    ShowsRows look false [] (pairs_at names positions fields) text
+    ShowsRows look false (whole_pairs look.width) (pairs_at names positions fields) text
 
 -- the positions of the columns that some words choose, in their order
 abbrev pub positions_by : {A : Type 0} → List Text → ℕ → List (String A) → List ℕ

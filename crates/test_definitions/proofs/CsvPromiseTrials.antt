@@ -311,9 +311,9 @@ no_name : ¬ (OneExpanded (codes "record 1 of 1\n"))
 unfolding digits field_at
 no_name (own, rest, is, shows, more) = by_own own (ap (drop 14) is) shows
   where
-    by_own : (own : Text) → ◌≡◌ {A = Text} [] (own ++ rest) → ¬ (ShowsRows unbold false [] ((cleaned false (codes "a") ∷ cleaned false (codes "a") ∷ []) ∷ []) own)
+    by_own : (own : Text) → ◌≡◌ {A = Text} [] (own ++ rest) → ¬ (ShowsRows unbold false (true ∷ true ∷ []) ((cleaned false (codes "a") ∷ cleaned false (codes "a") ∷ []) ∷ []) own)
     by_own (b ∷ own) same shows = absurd (cc same)
-    by_own [] same shows = nothing_shows_no_field unbold refl refl (cleaned false (codes "a") ∷ []) [] (subst (λ (name : Text). ShowsRows unbold false [] ((name ∷ cleaned false (codes "a") ∷ []) ∷ []) []) a_stays shows)
+    by_own [] same shows = nothing_shows_no_field unbold refl refl (cleaned false (codes "a") ∷ []) (true ∷ true ∷ []) (subst (λ (name : Text). ShowsRows unbold false (true ∷ true ∷ []) ((name ∷ cleaned false (codes "a") ∷ []) ∷ []) []) a_stays shows)
 
 -- nothing stands behind the last record
 text_behind : ¬ (AreExpanded (ShowsPairs unbold [] []) (Some 1) 2 [] (codes " a \n"))
