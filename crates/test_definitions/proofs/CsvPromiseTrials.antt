@@ -17,6 +17,8 @@ use Rattle.comfy_parts.specs.Presets.{utf8_full}
 use Rattle.comfy_parts.specs.Text.{Text, is_printable_ascii, measure, spaces}
 use Rattle.csv_tables.specs.Cells.{is_blank}
 use Rattle.csv.specs.Records.{field_at}
+use Rattle.ucd_category.proofs.Computing.{ucd_category}
+use Rattle.csv_records.specs.Number.{is_neutral, is_number}
 use Rattle.csv_tables.specs.declared.options.Expansion.{Expansion}
 use Rattle.csv_tables.specs.declared.options.Expansion.TheVariants.{Always, Auto, Never}
 use Rattle.csv_tables.specs.declared.options.Look.{Look}
@@ -241,6 +243,19 @@ split_number is =
     by_left (suc right) behind others zero (x ∷ []) made wide = cc made
     by_left right behind others zero (x ∷ y ∷ []) made wide = cc made
     by_left right behind others zero (x ∷ y ∷ z ∷ front) made wide = cc made
+
+-- columns of numbers and dates are whole under `auto`, and that of record numbers, if there is a row
+numbers_and_words : List (List Text)
+numbers_and_words = (codes "12" ∷ codes "a" ∷ []) ∷ (codes "2026-05-02" ∷ []) ∷ []
+
+whole_under_auto : map (λ rows. whole_for (Some 9) Auto true (1 ∷ 0 ∷ []) rows) (numbers_and_words ∷ [] ∷ []) ≡ (true ∷ false ∷ true ∷ []) ∷ [] ∷ []
+unfolding numbers_and_words chars encode ucd_category field_at is_neutral is_number
+whole_under_auto = refl
+
+-- none is otherwise, but all without a width
+whole_otherwise : map (λ width. whole_for width Never true (1 ∷ 0 ∷ []) numbers_and_words) (Some 9 ∷ None ∷ []) ≡ [] ∷ (true ∷ true ∷ true ∷ []) ∷ []
+unfolding numbers_and_words
+whole_otherwise = refl
 
 -- and gains no space
 gained_space : ¬ (ShowsRow (codes "therapist" ∷ []) (codes " the rapist "))
