@@ -9,6 +9,7 @@ mod TwoColumnTableLemmas
 pub mod WideTextLemmas
 pub mod WidthLemmas
 mod WrappedCharacterLemmas
+mod WholeLemmas
 pub mod BoldLemmas
 pub mod ExpandedLemmas
 pub mod FieldLemmas

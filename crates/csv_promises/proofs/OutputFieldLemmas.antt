@@ -1,17 +1,17 @@
 -- What is written of records shows all of their fields.
-use Rattle.std.proofs.Common.{◌≡◌, ◌≤◌, ◌<◌, ◌==◌, decimal, filter, is_some, ◌||◌, inl, inr, ℕ, zero, suc, ◌+◌, Bool, true, false, List, [], ◌∷◌, ◌++◌, Option, Some, None, Ok, drop, flat_map, length, map, nat_lt, take, refl, sym, ap, ap₂, ◌∙◌, subst, arith, append_assoc, length-append, slice_index_or, unwrap_or}
+use Rattle.std.proofs.Common.{◌≡◌, ◌≤◌, ◌<◌, ◌==◌, decimal, filter, is_some, ◌||◌, inl, inr, ℕ, zero, suc, ◌+◌, Bool, true, false, List, [], ◌∷◌, ◌++◌, Option, Some, None, Ok, drop, filter_map, flat_map, length, map, max, nat_lt, take, refl, sym, ap, ap₂, ◌∙◌, subst, arith, append_assoc, length-append, slice_index_or, unwrap_or}
 use Rattle.std.specs.List.{All, AllZip, range_with_len}
-use Rattle.std.specs.Prelude.{if◌then◌else◌, codes, option_to_list, sum_by}
+use Rattle.std.specs.Prelude.{if◌then◌else◌, codes, option_to_list, slice_get, slice_index, sum_by}
 use Rattle.std.specs.Str.{IsUtf8}
 use Rattle.std.proofs.Math.Seq.{take-length}
 use Rattle.std.proofs.lemmas.List.Elements.{All-cons, All-head, All-map, All-nil, All-tail, All-weaker}
 use Rattle.comfy_parts.specs.CellValue.{RowValue}
-use Rattle.comfy_parts.specs.Text.{Text}
+use Rattle.comfy_parts.specs.Text.{Text, greatest}
 use Rattle.comfy_table.specs.Drawing.{drawing, drawing_of_infos, infos_of, terminated_text_of}
 use Rattle.comfy_table.specs.Headline.{IsTableDrawing}
 use Rattle.comfy_table.specs.Laws.{IsStyleWithout}
 use Rattle.comfy_table.specs.Parts.{ArrangedValue, with_rows_alone}
-use Rattle.comfy_table.specs.TableValue.{TableValue, header_and_rows}
+use Rattle.comfy_table.specs.TableValue.{TableValue, cell_content_width, header_and_rows}
 use Rattle.csv.specs.Records.{AllText}
 use Rattle.csv_command.proofs.StyleLemmas.{parsed_style_without_controls}
 use Rattle.csv_command.specs.declared.arguments.Invocation.{Invocation}
@@ -24,7 +24,7 @@ use Rattle.csv_tables.proofs.RowLemmas.{positions-shown, with_rows-rows}
 use Rattle.csv_tables.specs.Cells.{Shown, cell_for, columns_within, shown_cells, shown_in, with_weight, number_name, row_for, counted_from}
 use Rattle.csv_tables.specs.Columns.{ColumnsValue, count_of, name_at, seen}
 use Rattle.csv_command.specs.Columns.{columns_for}
-use Rattle.csv_tables.specs.Drawn.{SelectedValue, RendersAsTable, RendersRecords, RendersTable, columns_of, count_below, drawn_fields, drawn_rows, empty_table, has_room_for, headed_table, is_expanded_in, limited, names_of, note_for, note_text, output_table, pairs_in, record_line, record_text, records_below, rows_table, separated_table, some_lines, table_text, is_aligned_in}
+use Rattle.csv_tables.specs.Drawn.{SelectedValue, RendersAsTable, RendersRecords, RendersTable, columns_of, count_below, drawn_fields, drawn_rows, empty_table, has_room_for, headed_table, is_expanded_in, limited, names_of, note_for, note_text, output_table, pairs_in, record_line, record_text, records_below, rows_table, separated_table, some_lines, table_text, is_aligned_in, is_table_expanded}
 use Rattle.csv_command.specs.Drawn.{RendersChosen, layout_with}
 use Rattle.csv_tables.specs.declared.options.DrawnColumn.{DrawnColumn}
 use Rattle.csv_tables.specs.declared.options.Layout.{Layout}
@@ -35,22 +35,23 @@ use Rattle.std.proofs.lemmas.List.{length-map}
 use Rattle.csv_records.specs.Cleaning.{cleaned}
 use Rattle.csv_tables.specs.Fields.{field_or_blank}
 use Rattle.csv_promises.proofs.FrameLemmas.{most_columns, places_of}
-use Rattle.promises.specs.Headline.{IsUncoloured}
+use Rattle.promises.specs.Headline.{IsUncoloured, widest}
 use Rattle.csv_promises.proofs.ExpandedLemmas.{rows_at}
 use Rattle.csv_promises.proofs.FieldLemmas.{IsRowFor, are_pairs, are_rows, is_header, positions_of}
 use Rattle.csv_promises.proofs.ColumnLemmas as columns_lemmas
 use Rattle.csv_promises.proofs.DrawnColumnLemmas.{placed}
 use Rattle.csv_promises.proofs.RecordLemmas.{all_drawn, with_rows-header}
-use Rattle.csv_promises.proofs.ShownTableLemmas.{HasRowsOf, has_rows_of, part_shows}
+use Rattle.csv_promises.proofs.ShownTableLemmas.{HasRowsOf, has_rows_of, part_shows, no_custom_styling}
 use Rattle.csv_promises.proofs.LineLemmas.{may_expand, no_records, no_rows, none_below, nothing_noted}
 use Rattle.csv_promises.proofs.WrittenLemmas.{IsDrawnBy, by_extent}
-use Rattle.csv_promises.specs.Counted.{AreExpanded, IsCount, IsWrittenFor}
-use Rattle.csv_promises.specs.Fields.{IsDrawingOf, ShowsAllFields, ShowsFields, fields_at, row_behind, rows_from, ShowsDrawn, ShowsPairs, ShowsRecords, ShowsRows, pairs_at, positions_in, all_rows}
+use Rattle.csv_promises.specs.Counted.{AreExpanded, IsCount, IsWrittenFor, MayExpand}
+use Rattle.csv_promises.specs.Fields.{IsDrawingOf, ShowsAllFields, ShowsFields, fields_at, row_behind, rows_from, ShowsDrawn, ShowsPairs, ShowsRecords, ShowsRows, pairs_at, positions_in, all_rows, whole_for, whole_pairs}
+use Rattle.csv_promises.proofs.WholeLemmas.{AreColumns, kept_whole, pairs_kept_whole, unbroken-shown, widest-content}
 use Rattle.csv_promises.specs.Written.{IsWritten}
 
 -- of no rows nothing
-none_shown : (look : Look) (has_header : Bool) → ShowsRows look has_header [] []
-none_shown look has_header = inl (refl, refl)
+none_shown : (look : Look) (has_header : Bool) (whole : List Bool) → ShowsRows look has_header whole [] []
+none_shown look has_header whole = inl (refl, refl)
 
 -- ---- tables
 
@@ -88,7 +89,8 @@ module _ (look : Look) (all : DrawsAll look) (is_numbered : Bool) (names : Optio
     is = has_rows_of look content is_expanded renders.has_separators
 
     abbrev shows : (first n : ℕ) (has_header : Bool) → is_some table.header ≡ has_header → (fields : List (List Text)) → AllZip IsRowFor fields (option_to_list table.header ++ take n (drop first table.rows)) → All (λ (own : List Text). length table.columns ≤ length own) fields
-        → (has_header ≡ true → All (λ (row : RowValue). All IsUncoloured row.cells) (take n (drop first table.rows))) → IsDrawingOf look has_header fields (terminated_text_of (drawing (with_rows_alone first n table) drawn.widths))
+        → (has_header ≡ true → All (λ (row : RowValue). All IsUncoloured row.cells) (take n (drop first table.rows)))
+        → (whole : List Bool) → ((i : ℕ) → i < length table.columns → slice_get whole i ≡ Some true → widest (with_rows_alone first n table) i ≤ max 1 (slice_index drawn.widths i)) → IsDrawingOf look has_header whole fields (terminated_text_of (drawing (with_rows_alone first n table) drawn.widths))
     shows = part_shows look content is_expanded renders.has_separators all.unkept all.style lines drawn
 
     -- it has no more columns than fields
@@ -96,12 +98,24 @@ module _ (look : Look) (all : DrawsAll look) (is_numbered : Bool) (names : Optio
     enough fields many = let most = most_columns is_expanded renders.has_separators look content in omega (arith, most, many)
 
   -- the table of rows
-  pub rows_shown : (text : Text) → RendersTable false look content text → All (All IsUtf8) (option_to_list names ++ rows) → ShowsRows look (is_some names) (all_rows is_numbered (positions_of columns) names rows) text
-  rows_shown text renders utf8 =
-      subst (ShowsRows look (is_some names) fields) (sym (is_text false text renders))
+  pub rows_shown : (text : Text) → RendersTable false look content text → All (All IsUtf8) (option_to_list names ++ rows) → AreColumns look content
+      → ShowsRows look (is_some names) (whole_for look.width look.expansion is_numbered (positions_of columns) rows) (all_rows is_numbered (positions_of columns) names rows) text
+  rows_shown text renders utf8 are =
+      subst (ShowsRows look (is_some names) whole fields) (sym (is_text false text renders))
       (inr (shows false text renders 0 (length (table false text renders).rows) (is_some names) headed fields
-      (subst (λ (own : List RowValue). AllZip IsRowFor fields (option_to_list (table false text renders).header ++ own)) (sym (take-length (table false text renders).rows)) each) many (λ some. uncoloured)))
+      (subst (λ (own : List RowValue). AllZip IsRowFor fields (option_to_list (table false text renders).header ++ own)) (sym (take-length (table false text renders).rows)) each) many (λ some. uncoloured) whole wide))
     where
+      whole : List Bool
+      whole = whole_for look.width look.expansion is_numbered (positions_of columns) rows
+
+      wide : (i : ℕ) → i < length (table false text renders).columns → slice_get whole i ≡ Some true → widest (with_rows_alone 0 (length (table false text renders).rows) (table false text renders)) i ≤ max 1 (slice_index (drawn false text renders).widths i)
+      wide i below is_whole =
+          let made = table false text renders in
+          let widths = (drawn false text renders).widths in
+          let kept = kept_whole look content are renders.has_separators widths (drawn false text renders).arranged i below is_whole in
+          let same = widest-content made (no_custom_styling look content false renders.has_separators all.unkept) i in
+          subst (λ (own : List RowValue). max 1 (greatest (map cell_content_width (filter_map (λ (row : RowValue). slice_get row.cells i) (option_to_list made.header ++ own)))) ≤ max 1 (slice_index widths i)) (sym (take-length made.rows)) (omega (arith, kept, same))
+
       fields : List (List Text)
       fields = all_rows is_numbered (positions_of columns) names rows
 
@@ -199,13 +213,14 @@ module _ (look : Look) (all : DrawsAll look) (is_numbered : Bool) (names : Optio
     rows_are : (table true text renders).rows ≡ own_rows
     rows_are = (is true text renders).rows ∙ with_rows-rows own_rows (empty_table look)
 
-    by_count : (first n : ℕ) (fields : List (List Text)) → AllZip IsRowFor fields (take n (drop first (table true text renders).rows)) → All (λ (own : List Text). 2 ≤ length own) fields → ShowsRows look false fields (terminated_text_of (some_lines own_arranged first n))
-    by_count first zero [] each two = none_shown look false
+    by_count : (first n : ℕ) (fields : List (List Text)) → AllZip IsRowFor fields (take n (drop first (table true text renders).rows)) → All (λ (own : List Text). 2 ≤ length own) fields → ShowsRows look false (whole_pairs look.width) fields (terminated_text_of (some_lines own_arranged first n))
+    by_count first zero [] each two = none_shown look false (whole_pairs look.width)
     by_count first zero (own ∷ fields) each two = absurd each
     by_count first (suc n) fields each two =
         inr (shows true text renders first (suc n) false (ap is_some no_header) fields
         (subst (λ (header : Option RowValue). AllZip IsRowFor fields (option_to_list header ++ take (suc n) (drop first (table true text renders).rows))) (sym no_header) each)
-        (All-weaker (λ (own : List Text). 2 ≤ length own) (λ (own : List Text). length (table true text renders).columns ≤ length own) (enough true text renders) fields two) (λ some. absurd (cc some)))
+        (All-weaker (λ (own : List Text). 2 ≤ length own) (λ (own : List Text). length (table true text renders).columns ≤ length own) (enough true text renders) fields two) (λ some. absurd (cc some)) (whole_pairs look.width)
+        (pairs_kept_whole look content renders.has_separators (drawn true text renders).widths first (suc n) all.unkept (drawn true text renders).arranged))
 
     -- a name and a field are two
     pairs_two : (fields : List Text) → All (λ (own : List Text). 2 ≤ length own) (pairs_at header (positions_of columns) fields)
@@ -271,10 +286,11 @@ module _ (layout : Layout) (all : DrawsAll layout.look) (known : Option ℕ) (re
   abbrev Shows : Bool → Option ℕ → Text → Type 0
   Shows is_expanded = ShowsFields is_expanded look is_numbered layout.columns.drawn names rows
 
-  by_kind : (is_expanded : Bool) (text : Text) → RendersTable is_expanded look own text → Shows is_expanded known text
-  by_kind false text renders =
-      subst (λ (ps : List ℕ). ShowsFields false look is_numbered ps names rows known text) positions (rows_shown look all is_numbered names rows columns known text renders utf8)
-  by_kind true text renders =
+  by_kind : (is_expanded : Bool) → is_expanded ≡ is_table_expanded look own → (text : Text) → RendersTable is_expanded look own text → Shows is_expanded known text
+  by_kind false kind text renders =
+      subst (λ (ps : List ℕ). ShowsFields false look is_numbered ps names rows known text) positions
+      (rows_shown look all is_numbered names rows columns known text renders utf8 (record { table = all.table; kind = sym kind; unbroken = unbroken-shown layout.columns look.has_sequences all.unkept rows }))
+  by_kind true kind text renders =
       subst (λ (ps : List ℕ). ShowsFields true look is_numbered ps names rows known text) positions (records_shown look all is_numbered names rows columns known text renders)
 
   text : RendersAsTable look own made.text
@@ -289,7 +305,7 @@ module _ (layout : Layout) (all : DrawsAll layout.look) (known : Option ℕ) (re
         is_expanded = text.is_expanded;
         expansion = may_expand look.expansion ((length rows == 0) || has_room_for look own (is_aligned_in look own)) text.is_expanded text.expansion;
         drawn = made.text;
-        draws = by_kind text.is_expanded made.text text.drawn;
+        draws = by_kind text.is_expanded text.expansion made.text text.drawn;
         joined = made.joined ∙ ap₂ (λ (b : Bool) (n : Option ℕ). made.text ++ note_for b layout.selection.limit n) all.table (ap (λ (c : SelectedValue). c.count) same);
       }
 
@@ -306,7 +322,7 @@ none_of_all MayCount is_count layout =
 
     by_kind : (is_expanded : Bool) (count : Option ℕ) → Shows None [] is_expanded count []
     by_kind true count = refl
-    by_kind false count = none_shown layout.look false
+    by_kind false count = none_shown layout.look false _
 
 -- so of what is written for arguments
 module _ (arguments : List Text) (context : OutputContext) (invocation : Invocation) (input : Text) (records : List (List Text)) (output : Text) (is : IsWritten false arguments context invocation input records output) where

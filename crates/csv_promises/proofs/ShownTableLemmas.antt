@@ -1,7 +1,7 @@
 -- The table that is drawn of records, and what its parts show.
-use Rattle.std.proofs.Common.{◌≡◌, ◌≤◌, ◌⊎◌, inl, inr, is_some, ◌||◌, ℕ, Bool, true, false, not, List, [], ◌∷◌, ◌++◌, Option, Some, None, drop, filter, length, take, refl, sym, ap, ◌∙◌, subst, arith}
+use Rattle.std.proofs.Common.{◌≡◌, ◌≤◌, ◌<◌, ◌⊎◌, inl, inr, is_some, ◌||◌, ℕ, Bool, true, false, not, List, [], ◌∷◌, ◌++◌, Option, Some, None, drop, filter, length, max, take, refl, sym, ap, ◌∙◌, subst, arith}
 use Rattle.std.specs.List.{All, AllByRecursion, AllZip, enumerate_from}
-use Rattle.std.specs.Prelude.{Contains, if◌then◌else◌, option_to_list, slice_index}
+use Rattle.std.specs.Prelude.{Contains, if◌then◌else◌, option_to_list, slice_get, slice_index}
 use Rattle.std.proofs.lemmas.List.Elements.{All-append, All-cons, All-nil, All-contains, All-contains_itself, All-drop, All-from_recursion, All-take, All-weaker, recursion_from_All}
 use Rattle.comfy_parts.proofs.CallerLemmas.{every-parts, every-places, filter_all}
 use Rattle.comfy_parts.specs.CellValue.{ColumnValue, RowValue, is_hidden_column, is_hidden_constraint}
@@ -21,8 +21,8 @@ use Rattle.csv_tables.proofs.WholeTableLemmas.{IsDrawn, drawn-is}
 use Rattle.csv_tables.specs.Drawn.{SelectedValue, condensed_style, empty_table, output_table, pairs_table, rows_table, separated_table, unbroken_in, is_aligned_in}
 use Rattle.csv_tables.specs.Unbroken.{field_width, has_room, kept_unbroken, given_in, kept_unbroken_fields, may_break, room_beside, room_for_two, with_field_width, with_kept, with_second}
 use Rattle.csv_tables.specs.declared.options.Look.{Look}
-use Rattle.promises.proofs.KeptLemmas.{part_framed, part_plain, part_rows}
-use Rattle.promises.specs.Headline.{IsUncoloured}
+use Rattle.promises.proofs.KeptLemmas.{part_framed, part_plain, part_rows, part_width}
+use Rattle.promises.specs.Headline.{IsUncoloured, widest}
 use Rattle.csv_promises.proofs.BoldLemmas.{IsWeighted, weighted_lines}
 use Rattle.csv_promises.proofs.FieldLemmas.{IsRowFor}
 use Rattle.csv_promises.proofs.RecordLemmas.{HasColumns, table_has_columns}
@@ -136,6 +136,9 @@ module _ (look : Look) (content : SelectedValue) where
     unstyled : look.has_bold_header ≡ false → should_style made ≡ false
     unstyled none = ap should_style looks ∙ ap (λ (b : Bool). b || is_tty (empty_table (separated has look))) (kept_setting (λ l. l.has_bold_header) look refl has false none)
 
+    pub no_custom_styling : look.has_sequences ≡ false → made.custom_styling ≡ false
+    no_custom_styling unkept = ap (λ (t : TableValue). t.custom_styling) looks ∙ kept_setting (λ l. l.has_sequences) look refl has false unkept
+
     -- the style is that of the look, with lines between rows or without
     style_is : (made.style ≡ look.style) ⊎ (made.style ≡ condensed_style look.style)
     style_is = by_lines has (ap (λ (t : TableValue). t.style) looks)
@@ -180,9 +183,10 @@ module _ (look : Look) (content : SelectedValue) where
       all_weighted (own ∷ fields) [] each = absurd each
       all_weighted (own ∷ fields) (row ∷ rows) each = All-cons (λ (r : RowValue). All IsWeighted r.cells) row rows each.0.weighted (all_weighted fields rows each.1)
 
-      pub part_shows : (has_header : Bool) → is_some made.header ≡ has_header → (fields : List (List Text)) → AllZip IsRowFor fields (header_and_rows part) → All (λ (own : List Text). length made.columns ≤ length own) fields → (has_header ≡ true → All (λ (row : RowValue). All IsUncoloured row.cells) alone) → IsDrawingOf look has_header fields (terminated_text_of (drawing part drawn.widths))
-      part_shows has_header header fields each as_many uncoloured =
-          let plain = ap (λ (t : TableValue). t.custom_styling) looks ∙ kept_setting (λ l. l.has_sequences) look refl has false unkept in
+      pub part_shows : (has_header : Bool) → is_some made.header ≡ has_header → (fields : List (List Text)) → AllZip IsRowFor fields (header_and_rows part) → All (λ (own : List Text). length made.columns ≤ length own) fields → (has_header ≡ true → All (λ (row : RowValue). All IsUncoloured row.cells) alone)
+          → (whole : List Bool) → ((i : ℕ) → i < length made.columns → slice_get whole i ≡ Some true → widest part i ≤ max 1 (slice_index drawn.widths i)) → IsDrawingOf look has_header whole fields (terminated_text_of (drawing part drawn.widths))
+      part_shows has_header header fields each as_many uncoloured whole wide =
+          let plain = no_custom_styling unkept in
           let framed = part_framed made lines drawn plain alone within in
           let both = every-parts (HasColumns made) (option_to_list made.header) made.rows (recursion_from_All (HasColumns made) _ have_columns) in
           let few =
@@ -197,6 +201,7 @@ module _ (look : Look) (content : SelectedValue) where
             in_bold = subst (λ (ls : List Text). AllZip IsInBold ls (drawing part drawn.widths)) (sym (part_plain made lines drawn plain alone within)) (weighted_lines part (ap (λ (t : TableValue). t.style_text_only) looks) drawn.widths (all_weighted fields (header_and_rows part) each));
             plain_rows = λ some. part_rows made lines drawn plain alone within (uncoloured some);
             unstyled = λ none. framed.unstyled (unstyled none);
+            keeps_whole = λ i below is. subst (λ (width : ℕ). widest part i ≤ width) (sym (part_width made lines drawn plain alone within i)) (wide i below is);
           }
         where
           whole_lines : List Text

@@ -1,7 +1,7 @@
 -- Where the fields of records stand in what is written of them.
 -- Source: this library's own.
-use Rattle.std.specs.Prelude.{◌≡◌, ◌<◌, ◌≤◌, ◌==◌, ℕ, ◌+◌, Bool, true, false, List, [], ◌∷◌, ◌++◌, Option, None, String, codes, All, MatchOption, decimal, filter, flat_map, length, map, nat_lt, option_map, option_to_list, string_bytes, unwrap_or, IsUtf8, chars, if◌then◌else◌, is_some, ◌⊎◌, slice_get}
-use Rattle.std.specs.List.{AllZip, enumerate_from, list_any, range_with_len}
+use Rattle.std.specs.Prelude.{◌≡◌, ◌<◌, ◌≤◌, ◌==◌, ℕ, ◌+◌, Bool, true, false, List, [], ◌∷◌, ◌++◌, Option, None, Some, String, codes, All, MatchOption, decimal, filter, flat_map, length, map, nat_lt, option_map, option_to_list, string_bytes, unwrap_or, IsUtf8, chars, if◌then◌else◌, is_some, ◌⊎◌, slice_get}
+use Rattle.std.specs.List.{AllZip, enumerate_from, list_all, list_any, range_with_len}
 use Rattle.comfy_parts.specs.CellValue.{CellValue, ColumnValue, RowValue, plain_cell}
 use Rattle.comfy_parts.specs.Text.{Text, spaces}
 use Rattle.comfy_table.specs.TableValue.{TableValue, header_and_rows, shown_columns}
@@ -13,11 +13,15 @@ use Rattle.csv_tables.specs.Columns.{count_of, name_at}
 use Rattle.csv_command.specs.Columns.{columns_chosen, positions_between, without}
 use Rattle.csv_tables.specs.Drawn.{condensed_style, drawn_rows, names_of}
 use Rattle.csv_tables.specs.declared.options.Layout.{Layout}
+use Rattle.csv_tables.specs.Summaries.{column_fields}
+use Rattle.csv_tables.specs.Unbroken.{is_unbroken}
+use Rattle.csv_tables.specs.declared.options.Expansion.{Expansion}
+use Rattle.csv_tables.specs.declared.options.Expansion.TheVariants.{Always, Auto, Never}
 use Rattle.csv_tables.specs.declared.options.Look.{Look}
 use Rattle.csv_command.specs.declared.arguments.Options.{Options}
 use Rattle.csv_promises.specs.Counted.{AreExpanded, IsDrawnWithNote, IsWrittenFor}
 use Rattle.csv_promises.specs.Harmless.{IsInBold}
-use Rattle.promises.specs.Headline.{IsFramedTable}
+use Rattle.promises.specs.Headline.{IsFramedTable, widest}
 
 -- ---- rows of fields
 
@@ -58,9 +62,9 @@ pub record IsTableOf (look : Look) (has_header : Bool) (rows : List (List Text))
   pub no_sequences : table.custom_styling ≡ false
 
 -- a text is the lines of such a table, but for bold in the pieces around its texts, where the
--- header is bold
-pub record IsDrawingOf (look : Look) (has_header : Bool) (rows : List (List Text)) (text : Text)
-    : Type 0 where
+-- header is bold. A list says which of its columns are whole
+pub record IsDrawingOf (look : Look) (has_header : Bool) (whole : List Bool)
+    (rows : List (List Text)) (text : Text) : Type 0 where
   pub lines : List Text
   pub are : AreLinesOf text lines
   pub table : TableValue
@@ -70,11 +74,47 @@ pub record IsDrawingOf (look : Look) (has_header : Bool) (rows : List (List Text
   -- if there is a header, nothing below it is in bold
   pub plain_rows : has_header ≡ true → framed.frame.rows ≡ framed.is_plain.frame.rows
   pub unstyled : look.has_bold_header ≡ false → lines ≡ framed.plain
+  -- a whole column is at least as wide as its widest text, so that each of its texts is on one line
+  pub keeps_whole : (i : ℕ) → i < length table.columns → slice_get whole i ≡ Some true
+      → widest table i ≤ framed.is_plain.width i
 
--- a text shows rows of fields in a table; or nothing, where there are none
-abbrev pub ShowsRows : Look → Bool → List (List Text) → Text → Type 0
-ShowsRows look has_header rows text =
-    ((rows ≡ []) × (text ≡ [])) ⊎ IsDrawingOf look has_header rows text
+-- a text shows rows of fields in a table, in which these columns are whole; or nothing, where there
+-- are none
+abbrev pub ShowsRows : Look → Bool → List Bool → List (List Text) → Text → Type 0
+ShowsRows look has_header whole rows text =
+    ((rows ≡ []) × (text ≡ [])) ⊎ IsDrawingOf look has_header whole rows text
+
+-- ---- whole columns
+
+-- each field that rows have at a position is a number or a date, or says nothing
+abbrev pub has_numbers : List (List Text) → ℕ → Bool
+has_numbers rows position = list_all is_unbroken (column_fields rows position)
+
+-- columns at positions are whole if they pass a test; that of record numbers is, if there is one
+abbrev pub whole_columns : Bool → List ℕ → (ℕ → Bool) → List Bool
+whole_columns is_numbered positions passes =
+    (if is_numbered then true ∷ [] else []) ++ map passes positions
+
+-- in a width that is asked for, columns of numbers and dates are whole, and that of record numbers,
+-- if records may be expanded instead and there is a row
+abbrev pub whole_within : Expansion → Bool → List ℕ → List (List Text) → List Bool
+whole_within expansion is_numbered positions [] = []
+whole_within Auto is_numbered positions (fields ∷ rows) =
+    whole_columns is_numbered positions (has_numbers (fields ∷ rows))
+whole_within Always is_numbered positions (fields ∷ rows) = []
+whole_within Never is_numbered positions (fields ∷ rows) = []
+
+-- without a width all columns are
+abbrev pub whole_for : Option ℕ → Expansion → Bool → List ℕ → List (List Text) → List Bool
+whole_for None expansion is_numbered positions rows =
+    whole_columns is_numbered positions (λ position. true)
+whole_for (Some width) expansion is_numbered positions rows =
+    whole_within expansion is_numbered positions rows
+
+-- so are the names and the fields of expanded records
+abbrev pub whole_pairs : Option ℕ → List Bool
+whole_pairs None = true ∷ true ∷ []
+whole_pairs (Some width) = []
 
 -- ---- records
 
@@ -112,7 +152,7 @@ pairs_at names positions fields =
 -- a text shows the names and fields of an expanded record
 abbrev pub ShowsPairs : Look → List Text → List ℕ → List Text → Text → Type 0
 ShowsPairs look names positions fields text =
-    ShowsRows look false (pairs_at names positions fields) text
+    ShowsRows look false (whole_pairs look.width) (pairs_at names positions fields) text
 
 -- the positions of the columns that some words choose, in their order
 abbrev pub positions_by : {A : Type 0} → List Text → ℕ → List (String A) → List ℕ
@@ -135,7 +175,9 @@ positions_in options names rows =
 abbrev pub ShowsFields :
     Bool → Look → Bool → List ℕ → Option (List Text) → List (List Text) → Option ℕ → Text → Type 0
 ShowsFields false look is_numbered positions names rows count text =
-    ShowsRows look (is_some names) (all_rows is_numbered positions names rows) text
+    ShowsRows look (is_some names)
+    (whole_for look.width look.expansion is_numbered positions rows)
+    (all_rows is_numbered positions names rows) text
 ShowsFields true look is_numbered positions names rows count text =
     AreExpanded (ShowsPairs look (unwrap_or names []) positions) count 1 rows text
 

@@ -459,6 +459,12 @@ pub framed-plain : (table : TableValue) (widths : List ℕ) (none : table.custom
 unfolding framed_table
 framed-plain table widths none long whole styled unstyled = refl
 
+-- a column has its width, at least 1
+pub framed-width : (table : TableValue) (widths : List ℕ) (none : table.custom_styling ≡ false) (long : length widths ≡ length table.columns) (whole : All (λ (row : RowValue). All (IsWholeAt table row) (shown_columns table)) (header_and_rows table)) (styled : AllZip IsStyled (drawing (bare table) widths) (drawing table widths))
+    (unstyled : should_style table ≡ false → drawing table widths ≡ drawing (bare table) widths) (i : ℕ) → (framed_table table widths none long whole styled unstyled).is_plain.width i ≡ max 1 (slice_index widths i)
+unfolding framed_table
+framed-width table widths none long whole styled unstyled i = refl
+
 -- without colours its rows are the same
 pub framed-rows : (table : TableValue) (widths : List ℕ) (none : table.custom_styling ≡ false) (long : length widths ≡ length table.columns) (whole : All (λ (row : RowValue). All (IsWholeAt table row) (shown_columns table)) (header_and_rows table)) (styled : AllZip IsStyled (drawing (bare table) widths) (drawing table widths))
     (unstyled : should_style table ≡ false → drawing table widths ≡ drawing (bare table) widths) → All (λ (row : RowValue). All IsUncoloured row.cells) table.rows

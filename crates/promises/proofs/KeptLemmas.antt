@@ -1,7 +1,7 @@
 -- Where the texts of a table are in its drawing.
-use Rattle.std.proofs.Common.{◌≡◌, inl, inr, ◌<◌, ◌≤◌, ℕ, Bool, true, false, List, [], ◌∷◌, ◌++◌, Option, Some, None, length, map, not, flat_map, refl, sym, ap, ap₂, ◌∙◌, subst, arith, slice_index_or, unwrap_or, nat_le}
+use Rattle.std.proofs.Common.{◌≡◌, inl, inr, ◌<◌, ◌≤◌, ℕ, Bool, true, false, List, [], ◌∷◌, ◌++◌, Option, Some, None, length, map, max, not, flat_map, refl, sym, ap, ap₂, ◌∙◌, subst, arith, slice_index_or, unwrap_or, nat_le}
 use Rattle.std.specs.List.{All, AllZip, slice_get, filter_map}
-use Rattle.std.specs.Prelude.{Contains, option_map, option_to_list, MatchOption}
+use Rattle.std.specs.Prelude.{Contains, option_map, option_to_list, slice_index, MatchOption}
 use Rattle.std.specs.Str.{IsUtf8}
 use Rattle.std.proofs.lemmas.List.Elements.{All-append, All-contains, All-from_recursion, All-head, All-tail, All-weaker, recursion_from_All}
 use Rattle.comfy_parts.proofs.CallerLemmas.{All-at, All-given, every-parts}
@@ -19,7 +19,7 @@ use Rattle.comfy_table.specs.Laws.{unstyled}
 use Rattle.comfy_table.specs.Lines.{cell_delimiter, cut_text, cut_to_limit}
 use Rattle.comfy_table.specs.TableValue.{TableValue, cell_content_width, header_and_rows, measured_rows, shown_columns, with_other_rows}
 use Rattle.promises.proofs.DrawnColumnLemmas.{IsWholeAt, whole_at}
-use Rattle.promises.proofs.HeadlineLemmas.{bare, framed-plain, framed-rows, framed_table, headline, styled_lines}
+use Rattle.promises.proofs.HeadlineLemmas.{bare, framed-plain, framed-rows, framed-width, framed_table, headline, styled_lines}
 use Rattle.promises.proofs.PieceLemmas.{measured-plain, plainly}
 use Rattle.promises.proofs.PlacedLemmas.{measured_plain, placed}
 use Rattle.promises.specs.Headline.{AreContentLines, AreLinesOfCell, AreLinesOfParts, AreLinesOfText, EachShownCell, IsFramedBy, IsFramedTable, IsHeadline, IsPiece, IsUncoloured, framed, is_styled, lines_in, widest}
@@ -225,6 +225,11 @@ module _ (table : TableValue) (lines : List Text) (drawn : IsTableDrawing table 
     pub part_plain : part_framed.plain ≡ drawing (plainly part) drawn.widths
     unfolding part_framed
     part_plain = framed-plain part drawn.widths plain _ _ _ _ ∙ ap (λ (custom : Bool). drawing (record part { custom_styling = custom; no_tty = true; enforce_styling = false }) drawn.widths) (sym plain)
+
+    -- its columns have the table's widths
+    pub part_width : (i : ℕ) → part_framed.is_plain.width i ≡ max 1 (slice_index drawn.widths i)
+    unfolding part_framed
+    part_width i = framed-width part drawn.widths plain _ _ _ _ i
 
   -- the headline, of the table as it is
   is : IsHeadline table lines

@@ -1,6 +1,6 @@
 -- Lines that show no field of a record, a wrong one, or in a wrong place.
-use Rattle.std.proofs.Common.{◌≡◌, ◌==◌, ◌⊎◌, inl, inr, ◌<◌, ◌≤◌, ℕ, zero, suc, Bool, true, false, List, [], ◌∷◌, ◌++◌, Option, None, Some, is_some, arith, append-nil, append_assoc, flat_map, length, map, nat_le, refl, slice_index_or, sym, ap, ap₂, ◌∙◌, subst, unwrap_or}
-use Rattle.std.specs.List.{All, AllZip, enumerate_from, join_by, slice_get, slice_split}
+use Rattle.std.proofs.Common.{◌≡◌, ◌==◌, ◌⊎◌, inl, inr, ◌<◌, ◌≤◌, ℕ, zero, suc, ◌+◌, Bool, true, false, List, [], ◌∷◌, ◌++◌, Option, None, Some, is_some, arith, append-nil, append_assoc, filter_map, flat_map, length, map, max, min, nat_le, refl, slice_index_or, sym, ap, ap₂, ◌∙◌, subst, unwrap_or}
+use Rattle.std.specs.List.{All, AllZip, cons_option, enumerate_from, join_by, slice_get, slice_split}
 use Rattle.std.specs.Prelude.{EachIndex, MatchOption, encode_utf8_all, option_map, option_to_list, replicate}
 use Rattle.std.proofs.lemmas.Bool.Decides.{nat_tests}
 use Rattle.std.proofs.lemmas.List.Elements.{All-head}
@@ -13,22 +13,26 @@ use Rattle.comfy_parts.specs.declared.style.table_style.TableStyle.{TableStyle}
 use Rattle.comfy_table.specs.Frame.{content_line, optional_frame_line}
 use Rattle.comfy_table.specs.Laws.{AreLinesOf}
 use Rattle.comfy_table.specs.Lines.{cell_delimiter, cut_text, cut_to_limit}
-use Rattle.comfy_table.specs.TableValue.{TableValue, shown_columns}
+use Rattle.comfy_table.specs.TableValue.{TableValue, cell_content_width, shown_columns}
 use Rattle.csv.specs.Records.{field_at}
 use Rattle.csv_tables.specs.Cells.{unless_blank}
 use Rattle.csv_tables.specs.Drawn.{condensed_style}
 use Rattle.csv_tables.specs.Fields.{field_or_blank}
 use Rattle.csv_tables.specs.declared.options.Look.{Look}
 use Rattle.promises.proofs.KeptLemmas.{slices_anywhere}
-use Rattle.promises.specs.Headline.{AreLinesOfCell, AreLinesOfRow, AreLinesOfText, IsFramedDrawing, IsPiece, framed, lines_in, widths_shown}
+use Rattle.promises.specs.Headline.{AreLinesOfCell, AreLinesOfRow, AreLinesOfText, IsFramedDrawing, IsPiece, framed, lines_in, widths_shown, whole_width}
 use Rattle.csv_promises.specs.Fields.{HoldsField, HoldsFields, IsDrawingOf, IsFieldColumn}
 
 -- a style with a hyphen, which no line draws where there is no header
 abbrev pub dashed : TableStyle
 dashed = record nothing { header_separator = record { left = None; fill = Some 0x2D; junction = None; right = None } }
 
+-- the widest text of a column of these rows
+abbrev widest_of : List RowValue → ℕ → ℕ
+widest_of rows i = max 1 (greatest (map cell_content_width (filter_map (λ (row : RowValue). slice_get row.cells i) rows)))
+
 -- the lines of a drawing of one row of fields, in a style without borders, are those of that row
-pub record IsOneRow (fields : List Text) (lines : List Text) : Type 0 where
+pub record IsOneRow (whole : List Bool) (fields : List Text) (lines : List Text) : Type 0 where
   pub table : TableValue
   pub row : RowValue
   pub hold : HoldsFields fields row
@@ -42,9 +46,10 @@ pub record IsOneRow (fields : List Text) (lines : List Text) : Type 0 where
   pub no_delimiter : table.delimiter ≡ None
   pub has_columns : length row.cells ≤ length table.columns
   pub as_many : length table.columns ≤ length fields
+  pub keeps_whole : (i : ℕ) → i < length table.columns → slice_get whole i ≡ Some true → widest_of (row ∷ []) i ≤ width i
 
-pub one_row : (look : Look) → look.style ≡ dashed → look.has_bold_header ≡ false → (fields lines : List Text) (text : Text) → ((own : List Text) → AreLinesOf text own → own ≡ lines) → IsDrawingOf look false (fields ∷ []) text → IsOneRow fields lines
-one_row look own_style plain_header fields lines text cut is = by_header is.table.header is.table.rows is.is_table.header is.is_table.hold is.framed.is_plain.frame.is_header is.framed.is_plain.frame.are_rows is.framed.is_plain.are_cell_lines is.is_table.has_columns
+pub one_row : (look : Look) → look.style ≡ dashed → look.has_bold_header ≡ false → (whole : List Bool) (fields lines : List Text) (text : Text) → ((own : List Text) → AreLinesOf text own → own ≡ lines) → IsDrawingOf look false whole (fields ∷ []) text → IsOneRow whole fields lines
+one_row look own_style plain_header whole fields lines text cut is = by_header is.table.header is.table.rows is.is_table.header is.is_table.hold is.framed.is_plain.frame.is_header is.framed.is_plain.frame.are_rows is.framed.is_plain.are_cell_lines is.is_table.has_columns is.keeps_whole
   where
     table : TableValue
     table = is.table
@@ -71,22 +76,23 @@ one_row look own_style plain_header fields lines text cut is = by_header is.tabl
     by_header : (header : Option RowValue) (rows : List RowValue) → is_some header ≡ false → AllZip HoldsFields (fields ∷ []) (option_to_list header ++ rows) → MatchOption header (plain.frame.header ≡ []) (λ row. (block : List Text) × AreLinesOfRow table plain.width plain.cell_lines table.style.header_lines row block × (plain.frame.header ≡ block ++ framed table plain.width table.style.header_separator))
         → AllZip (AreLinesOfRow table plain.width plain.cell_lines table.style.content_lines) rows plain.frame.rows
         → All (λ (row : RowValue). All (λ (p : ℕ × ColumnValue). (cell : CellValue) → slice_get row.cells p.0 ≡ Some cell → AreLinesOfCell (plain.width p.0) (cell_delimiter table p.1.delimiter cell) cell (plain.cell_lines p cell)) (shown_columns table)) (option_to_list header ++ rows)
-        → All (λ (row : RowValue). length row.cells ≤ length table.columns) (option_to_list header ++ rows) → IsOneRow fields lines
-    by_header (Some header) rows none hold own are texts few = absurd (cc none)
-    by_header None [] none hold own are texts few = absurd hold
-    by_header None (row ∷ other ∷ rows) none hold own are texts few = absurd hold.1
-    by_header None (row ∷ []) none hold own are texts few = by_rows plain.frame.rows refl are
+        → All (λ (row : RowValue). length row.cells ≤ length table.columns) (option_to_list header ++ rows)
+        → ((i : ℕ) → i < length table.columns → slice_get whole i ≡ Some true → widest_of (option_to_list header ++ rows) i ≤ plain.width i) → IsOneRow whole fields lines
+    by_header (Some header) rows none hold own are texts few wide = absurd (cc none)
+    by_header None [] none hold own are texts few wide = absurd hold
+    by_header None (row ∷ other ∷ rows) none hold own are texts few wide = absurd hold.1
+    by_header None (row ∷ []) none hold own are texts few wide = by_rows plain.frame.rows refl are
       where
         Own : RowValue → Type 0
         Own r = All (λ (p : ℕ × ColumnValue). (cell : CellValue) → slice_get r.cells p.0 ≡ Some cell → AreLinesOfCell (plain.width p.0) (cell_delimiter table p.1.delimiter cell) cell (plain.cell_lines p cell)) (shown_columns table)
 
-        by_rows : (blocks : List (List Text)) → plain.frame.rows ≡ blocks → AllZip (AreLinesOfRow table plain.width plain.cell_lines table.style.content_lines) (row ∷ []) blocks → IsOneRow fields lines
+        by_rows : (blocks : List (List Text)) → plain.frame.rows ≡ blocks → AllZip (AreLinesOfRow table plain.width plain.cell_lines table.style.content_lines) (row ∷ []) blocks → IsOneRow whole fields lines
         by_rows [] is_rows zip = absurd zip
         by_rows (block ∷ other ∷ blocks) is_rows zip = absurd zip.1
         by_rows (block ∷ []) is_rows zip =
             let block_is : lines ≡ block =
             drawn ∙ ap₂ (λ (h : List Text) (bs : List (List Text)). h ++ (join_by (λ (b : List Text). b) [] bs ++ [])) own is_rows ∙ append-nil (block ++ []) ∙ append-nil block in
-            subst (IsOneRow fields) (sym block_is)
+            subst (IsOneRow whole fields) (sym block_is)
             (record {
               table = table;
               row = row;
@@ -105,6 +111,7 @@ one_row look own_style plain_header fields lines text cut is = by_header is.tabl
               no_delimiter = is.is_table.no_delimiter;
               as_many = All-head (λ (own : List Text). length table.columns ≤ length own) fields [] is.is_table.as_many;
               has_columns = All-head (λ (r : RowValue). length r.cells ≤ length table.columns) row [] few;
+              keeps_whole = wide;
             })
 
 -- what a cell has for a field with so many spaces behind it: one text line, which begins with no space
@@ -112,7 +119,7 @@ pub record IsOneText (field : Text) (made : ℕ → Text) : Type 0 where
   pub one : (n : ℕ) → slice_split (λ b. b == 0x0A) (unless_blank (field ++ spaces n)) ≡ made n ∷ []
   pub unspaced : (n : ℕ) (rest : Text) → ¬ (made n ≡ 0x20 ∷ rest)
 
-module _ (field : Text) (fields lines : List Text) (made : ℕ → Text) (text_is : IsOneText field made) (is : IsOneRow (field ∷ fields) lines) (some : ¬ (is.row.cells ≡ [])) where
+module _ (whole : List Bool) (field : Text) (fields lines : List Text) (made : ℕ → Text) (text_is : IsOneText field made) (is : IsOneRow whole (field ∷ fields) lines) (some : ¬ (is.row.cells ≡ [])) where
   abbrev lines_of : ColumnValue → List Text
   lines_of column = lines_in is.table is.width is.cell_lines is.row (0, column)
 
@@ -122,6 +129,7 @@ module _ (field : Text) (fields lines : List Text) (made : ℕ → Text) (text_i
     more : List ColumnValue
     are : columns ≡ column ∷ more
     behind : ℕ
+    wide : slice_get whole 0 ≡ Some true → min 65535 (measure (made behind)) ≤ is.width 0
     own : (lines_of column ≡ made behind ∷ []) ⊎ IsSlicesWhere (λ line tail. Unit {0}) 0x20 (made behind) (lines_of column)
 
   first : HasFirst is.table.columns
@@ -147,14 +155,19 @@ module _ (field : Text) (fields lines : List Text) (made : ℕ → Text) (text_i
               let space : cell_delimiter is.table column.delimiter cell ≡ 0x20 =
               ap₂ (λ (a b : Option ℕ). unwrap_or a (unwrap_or b (unwrap_or is.table.delimiter 0x20))) holds.no_delimiter pad.no_delimiter ∙ ap (λ (o : Option ℕ). unwrap_or o 0x20) is.no_delimiter in
               let text : cell.text_lines ≡ made holds.behind ∷ [] = holds.texts ∙ text_is.one holds.behind in
-              let whole : lines_of column ≡ is.cell_lines (0, column) cell =
+              let uncut : lines_of column ≡ is.cell_lines (0, column) cell =
               ap₂ (λ (o : Option CellValue) (limit : Option ℕ). unwrap_or (option_map (λ (c : CellValue). cut_to_limit (cut_text (is.width 0) is.table.indicator) limit (is.cell_lines (0, column) c)) o) ([] ∷ [])) found is.hold.uncut in
               record {
                 column = column;
                 more = more;
                 are = refl;
                 behind = holds.behind;
-                own = by_texts (is.width 0) (made holds.behind) cell_is.0 (subst (λ (ts : List Text). AllZip (AreLinesOfText (is.width 0) 0x20) ts cell_is.0) text (subst (λ (d : ℕ). AllZip (AreLinesOfText (is.width 0) d) cell.text_lines cell_is.0) space cell_is.1)) (lines_of column) (whole ∙ cell_is.2);
+                own = by_texts (is.width 0) (made holds.behind) cell_is.0 (subst (λ (ts : List Text). AllZip (AreLinesOfText (is.width 0) 0x20) ts cell_is.0) text (subst (λ (d : ℕ). AllZip (AreLinesOfText (is.width 0) d) cell.text_lines cell_is.0) space cell_is.1)) (lines_of column) (uncut ∙ cell_is.2);
+                wide = λ is_whole.
+                    let some_column : 0 < length is.table.columns = omega (arith, ap length same) in
+                    let content : widest_of (is.row ∷ []) 0 ≡ max 1 (max 1 (min 65535 (measure (made holds.behind)))) =
+                    ap (λ (o : Option CellValue). max 1 (greatest (map cell_content_width (cons_option o [])))) found ∙ ap (λ (ts : List Text). max 1 (max (max 1 (min 65535 (greatest (map measure ts)))) 0)) text ∙ omega arith in
+                    let kept = is.keeps_whole 0 some_column is_whole in omega (arith, content, kept);
               }
             where
               by_texts : (w : ℕ) (text : Text) (of_texts : List (List Text)) → AllZip (AreLinesOfText w 0x20) (text ∷ []) of_texts → (own : List Text) → own ≡ flat_map (λ (of_text : List Text). of_text) of_texts → (own ≡ text ∷ []) ⊎ IsSlicesWhere (λ line tail. Unit {0}) 0x20 text own
@@ -187,8 +200,8 @@ module _ (field : Text) (fields lines : List Text) (made : ℕ → Text) (text_i
           let own : length (lines_of column) ≡ length (lines_of has.column) = ap (λ (c : ColumnValue). length (lines_of c)) same in
           omega (arith, high, long, own)
 
--- a line begins with a space or more, the front of a text, and again a space
-pub record BeginsWith (made : ℕ → Text) (is_alone : Bool) (line : Text) : Type 0 where
+-- a line begins with a space or more, the front of a text, and again a space; in a whole column they have room for the text
+pub record BeginsWith (whole : List Bool) (made : ℕ → Text) (is_alone : Bool) (line : Text) : Type 0 where
   pub left : ℕ
   pub right : ℕ
   pub front : Text
@@ -198,11 +211,12 @@ pub record BeginsWith (made : ℕ → Text) (is_alone : Bool) (line : Text) : Ty
   pub behind : ℕ
   pub tail : Text
   pub fronts : made behind ≡ front ++ tail
+  pub wide : slice_get whole 0 ≡ Some true → min 65535 (measure (made behind)) ≤ left + measure front + right
 
-module _ (field : Text) (fields : List Text) (line : Text) (made : ℕ → Text) (text_is : IsOneText field made) (is : IsOneRow (field ∷ fields) (line ∷ [])) (some : ¬ (is.row.cells ≡ [])) where
+module _ (whole : List Bool) (field : Text) (fields : List Text) (line : Text) (below : List Text) (made : ℕ → Text) (text_is : IsOneText field made) (is : IsOneRow whole (field ∷ fields) (line ∷ below)) (some : ¬ (is.row.cells ≡ [])) where
   -- so does the line of a row whose first field is this
-  pub begins : BeginsWith made (length fields == 0) line
-  begins = by_columns is.table.columns (first field fields (line ∷ []) made text_is is some) is.columns here.0 here.1 here.2 is.as_many
+  pub begins : BeginsWith whole made (length fields == 0) line
+  begins = by_columns is.table.columns (first whole field fields (line ∷ below) made text_is is some) is.columns here.0 here.1 here.2 is.as_many
     where
       here : (pieces : List Text) × AllZip (λ (p : ℕ × ColumnValue). IsPiece false p.1 (is.width p.0) (slice_index_or (lines_in is.table is.width is.cell_lines is.row p) 0 [])) (enumerate_from 0 is.table.columns) pieces × (line ≡ join_by (λ (piece : Text). piece) [] pieces ++ [])
       here = is.drawn 0 (omega arith)
@@ -218,12 +232,12 @@ module _ (field : Text) (fields : List Text) (line : Text) (made : ℕ → Text)
           by_gap gap (suc m, only) splits =
               absurd (text_is.unspaced n (encode_utf8_all (replicate m 0x20) ++ (one ++ tail)) (splits ∙ ap (λ (g : Text). g ++ (one ++ tail)) (only ∙ ap (λ (t : Text). t ++ encode_utf8_all (replicate m 0x20)) (encode_ascii 0x20 (omega arith)))))
 
-      by_columns : (columns : List ColumnValue) → HasFirst field fields (line ∷ []) made text_is is some columns → All IsFieldColumn columns → (pieces : List Text)
+      by_columns : (columns : List ColumnValue) → HasFirst whole field fields (line ∷ below) made text_is is some columns → All IsFieldColumn columns → (pieces : List Text)
           → AllZip (λ (p : ℕ × ColumnValue). IsPiece false p.1 (is.width p.0) (slice_index_or (lines_in is.table is.width is.cell_lines is.row p) 0 [])) (enumerate_from 0 columns) pieces
-          → line ≡ join_by (λ (piece : Text). piece) [] pieces ++ [] → length columns ≤ suc (length fields) → BeginsWith made (length fields == 0) line
+          → line ≡ join_by (λ (piece : Text). piece) [] pieces ++ [] → length columns ≤ suc (length fields) → BeginsWith whole made (length fields == 0) line
       by_columns [] has pads pieces zip made_is few = absurd (cc has.are)
       by_columns (column ∷ more) has pads [] zip made_is few = absurd zip
-      by_columns (column ∷ more) has pads (piece ∷ pieces) zip made_is few = by_left zip.0.left zip.0.right (zip.0.drawn ∙ ap₂ (λ (a b : Text). a ++ (slice_index_or (lines_in is.table is.width is.cell_lines is.row (0, column)) 0 [] ++ b)) zip.0.are_spaces.0 zip.0.are_spaces.1) room.0 room.1
+      by_columns (column ∷ more) has pads (piece ∷ pieces) zip made_is few = by_left zip.0.left zip.0.right (zip.0.drawn ∙ ap₂ (λ (a b : Text). a ++ (slice_index_or (lines_in is.table is.width is.cell_lines is.row (0, column)) 0 [] ++ b)) zip.0.are_spaces.0 zip.0.are_spaces.1) zip.0.wide room.0 room.1
         where
           pad : column.padding ≡ (1, 1)
           pad = (All-head IsFieldColumn column more pads).padding
@@ -250,10 +264,11 @@ module _ (field : Text) (fields : List Text) (line : Text) (made : ℕ → Text)
               by_more (other ∷ others) [] zips alone short = absurd zips
               by_more (other ∷ others) (c ∷ cs) zips alone short = absurd (grind (arith, nat_tests, alone, short))
 
-          by_left : (l r : ℕ) → piece ≡ spaces l ++ (slice_index_or (lines_in is.table is.width is.cell_lines is.row (0, column)) 0 [] ++ spaces r) → 1 ≤ l → 1 ≤ r → BeginsWith made (length fields == 0) line
-          by_left zero r drawn some_left some_right = absurd (omega (arith, some_left))
-          by_left (suc l) zero drawn some_left some_right = absurd (omega (arith, some_right))
-          by_left (suc l) (suc r) drawn some_left some_right =
+          by_left : (l r : ℕ) → piece ≡ spaces l ++ (slice_index_or (lines_in is.table is.width is.cell_lines is.row (0, column)) 0 [] ++ spaces r)
+              → l + measure (slice_index_or (lines_in is.table is.width is.cell_lines is.row (0, column)) 0 []) + r ≡ whole_width column (max (is.width 0) (measure (slice_index_or (lines_in is.table is.width is.cell_lines is.row (0, column)) 0 []))) → 1 ≤ l → 1 ≤ r → BeginsWith whole made (length fields == 0) line
+          by_left zero r drawn wide some_left some_right = absurd (omega (arith, some_left))
+          by_left (suc l) zero drawn wide some_left some_right = absurd (omega (arith, some_right))
+          by_left (suc l) (suc r) drawn wide some_left some_right =
               let rest = joined pieces zip.1 in
               record {
                 left = l;
@@ -265,4 +280,8 @@ module _ (field : Text) (fields : List Text) (line : Text) (made : ℕ → Text)
                 behind = has.behind;
                 tail = fronts.0;
                 fronts = fronts.1;
+                wide = λ is_whole.
+                    let one : column.padding.0 ≡ 1 = ap (λ (x : ℕ × ℕ). x.0) pad in
+                    let other : column.padding.1 ≡ 1 = ap (λ (x : ℕ × ℕ). x.1) pad in
+                    let kept = has.wide is_whole in omega (arith, one, other, wide, kept);
               }

@@ -1,5 +1,5 @@
 -- Lines that the promises on files refuse, and records for which one is made.
-use Rattle.std.proofs.Common.{◌≡◌, ◌==◌, ◌&&◌, ◌||◌, zero, suc, ◌⊎◌, inl, inr, ◌≤◌, ℕ, Bool, List, [], None, Some, Option, ◌∷◌, ◌++◌, arith, codes, append-nil, decimal, length, length-append, drop, map, refl, reverse, slice_index_or, sym, ap, ◌∙◌, subst, true, false}
+use Rattle.std.proofs.Common.{◌≡◌, ◌==◌, ◌&&◌, ◌||◌, zero, suc, ◌⊎◌, inl, inr, ◌≤◌, ℕ, ◌+◌, Bool, List, [], None, Some, Option, ◌∷◌, ◌++◌, arith, codes, append-nil, decimal, length, length-append, drop, map, min, refl, reverse, slice_index_or, sym, ap, ◌∙◌, subst, true, false}
 use Rattle.std.specs.Fmt.{digits}
 use Rattle.std.specs.List.{All, AllByRecursion, list_any, slice_get, slice_split}
 use Rattle.std.proofs.lemmas.List.Splits.{slice_split_none}
@@ -10,13 +10,15 @@ use Rattle.std.proofs.lemmas.List.{append_cancel_right, reverse-append}
 use Rattle.std.proofs.lemmas.Str.{encodes_same}
 use Rattle.std.proofs.lemmas.List.Elements.{All-from_recursion, All-head, All-tail}
 use lib.Utf8.{encode}
-use Rattle.comfy_parts.proofs.CallerLemmas.{none_by_characters}
+use Rattle.comfy_parts.proofs.CallerLemmas.{measure-printable, none_by_characters}
 use Rattle.comfy_parts.proofs.Computing.{wrapping}
 use Rattle.comfy_parts.specs.CellValue.{CellValue, RowValue}
 use Rattle.comfy_parts.specs.Presets.{utf8_full}
-use Rattle.comfy_parts.specs.Text.{Text, measure, spaces}
+use Rattle.comfy_parts.specs.Text.{Text, is_printable_ascii, measure, spaces}
 use Rattle.csv_tables.specs.Cells.{is_blank}
 use Rattle.csv.specs.Records.{field_at}
+use Rattle.ucd_category.proofs.Computing.{ucd_category}
+use Rattle.csv_records.specs.Number.{is_neutral, is_number}
 use Rattle.csv_tables.specs.declared.options.Expansion.{Expansion}
 use Rattle.csv_tables.specs.declared.options.Expansion.TheVariants.{Always, Auto, Never}
 use Rattle.csv_tables.specs.declared.options.Look.{Look}
@@ -28,7 +30,7 @@ use Rattle.csv_tables.specs.Drawn.{drawn_rows, note_for, record_line}
 use Rattle.comfy_table.specs.Drawing.{terminated_text_of}
 use Rattle.comfy_table.specs.Laws.{AreLinesOf, LeavesNoneOpen}
 use Rattle.csv_promises.specs.Counted.{AreExpanded, DrawsLines, EachDrawnLine, HasEachLine, MayExpand}
-use Rattle.csv_promises.specs.Fields.{HoldsField, HoldsFields, IsDrawingOf, ShowsDrawn, ShowsPairs, ShowsRecords, ShowsRows, StaysAsItIs, all_rows, positions_in}
+use Rattle.csv_promises.specs.Fields.{HoldsField, HoldsFields, IsDrawingOf, ShowsDrawn, ShowsPairs, ShowsRecords, ShowsRows, StaysAsItIs, all_rows, positions_in, whole_for}
 use Rattle.csv_promises.specs.Harmless.{IsHarmlessFor, IsInBold, ShowsNothingHarmful}
 use Rattle.csv_promises.specs.Messages.{IsTameLine}
 use Rattle.csv_records.specs.Cleaning.{cleaned, is_harmful, is_replaced}
@@ -172,11 +174,11 @@ unfolding field_at
 second_cell blank c field fields row hold none = let gone : c ∷ field ≡ [] = subst (λ (cells : List CellValue). MatchOption (slice_get cells 1) (c ∷ field ≡ []) (HoldsField (c ∷ field))) none (hold.each 1) in cc gone
 
 -- nothing shows no field
-nothing_shows_no_field : (look : Look) → look.style ≡ dashed → look.has_bold_header ≡ false → (rest : List Text) → ¬ (ShowsRows look false ((codes "a" ∷ rest) ∷ []) [])
-nothing_shows_no_field look style weight rest (inl none) = cc none.0
-nothing_shows_no_field look style weight rest (inr is) =
-    let row = one_row look style weight (codes "a" ∷ rest) [] [] no_text_lines is in
-    let some = has_line (codes "a") rest [] (λ n. 0x61 ∷ ([] ++ spaces n)) (one_text 0x61 [] refl refl) row (some_cell 0x61 [] rest row.row row.hold) (λ n same. cc same) in
+nothing_shows_no_field : (look : Look) → look.style ≡ dashed → look.has_bold_header ≡ false → (rest : List Text) → (whole : List Bool) → ¬ (ShowsRows look false whole ((codes "a" ∷ rest) ∷ []) [])
+nothing_shows_no_field look style weight rest whole (inl none) = cc none.0
+nothing_shows_no_field look style weight rest whole (inr is) =
+    let row = one_row look style weight whole (codes "a" ∷ rest) [] [] no_text_lines is in
+    let some = has_line whole (codes "a") rest [] (λ n. 0x61 ∷ ([] ++ spaces n)) (one_text 0x61 [] refl refl) row (some_cell 0x61 [] rest row.row row.hold) (λ n same. cc same) in
     absurd (omega (arith, some))
 
 -- the only line of a text
@@ -185,13 +187,13 @@ only line text cut own are = one_line line own (sym cut ∙ found text own are)
 
 -- one row of fields, which this line shows
 abbrev ShowsRow : List Text → Text → Type 0
-ShowsRow fields line = IsDrawingOf unbold false (fields ∷ []) (line ++ codes "\n")
+ShowsRow fields line = IsDrawingOf unbold false [] (fields ∷ []) (line ++ codes "\n")
 
 -- an amount isn't shown by another one, whose hyphen a frame could have
 other_amount : ¬ (ShowsRow (codes "12.80" ∷ []) (codes " -12.80 "))
 other_amount is =
-    let row = one_row unbold refl refl (codes "12.80" ∷ []) (codes " -12.80 " ∷ []) (codes " -12.80 \n") (only (codes " -12.80 ") (codes " -12.80 \n") refl) is in
-    let own = begins (codes "12.80") [] (codes " -12.80 ") (λ n. 0x31 ∷ (codes "2.80" ++ spaces n)) (one_text 0x31 (codes "2.80") refl refl) row (some_cell 0x31 (codes "2.80") [] row.row row.hold) in
+    let row = one_row unbold refl refl [] (codes "12.80" ∷ []) (codes " -12.80 " ∷ []) (codes " -12.80 \n") (only (codes " -12.80 ") (codes " -12.80 \n") refl) is in
+    let own = begins [] (codes "12.80") [] (codes " -12.80 ") [] (λ n. 0x31 ∷ (codes "2.80" ++ spaces n)) (one_text 0x31 (codes "2.80") refl refl) row (some_cell 0x31 (codes "2.80") [] row.row row.hold) in
     by_left own.right own.behind own.others own.tail own.left own.front own.is own.fronts
   where
     by_left : (right behind : ℕ) (others tail : Text) (left : ℕ) (front : Text) → codes " -12.80 " ≡ (spaces (suc left) ++ (front ++ spaces (suc right))) ++ others → ¬ (0x31 ∷ (codes "2.80" ++ spaces behind) ≡ front ++ tail)
@@ -204,8 +206,8 @@ other_amount is =
 -- a field doesn't stand in a column to the left of its own, where the field there is blank
 wrong_column : ¬ (ShowsRow ([] ∷ codes "1280" ∷ []) (codes " 1280    "))
 wrong_column is =
-    let row = one_row unbold refl refl ([] ∷ codes "1280" ∷ []) (codes " 1280    " ∷ []) (codes " 1280    \n") (only (codes " 1280    ") (codes " 1280    \n") refl) is in
-    let own = begins [] (codes "1280" ∷ []) (codes " 1280    ") (λ n. []) blank_text row (second_cell [] 0x31 (codes "280") [] row.row row.hold) in
+    let row = one_row unbold refl refl [] ([] ∷ codes "1280" ∷ []) (codes " 1280    " ∷ []) (codes " 1280    \n") (only (codes " 1280    ") (codes " 1280    \n") refl) is in
+    let own = begins [] [] (codes "1280" ∷ []) (codes " 1280    ") [] (λ n. []) blank_text row (second_cell [] 0x31 (codes "280") [] row.row row.hold) in
     by_left own.right own.others own.tail own.left own.front own.is own.fronts
   where
     by_left : (right : ℕ) (others tail : Text) (left : ℕ) (front : Text) → codes " 1280    " ≡ (spaces (suc left) ++ (front ++ spaces (suc right))) ++ others → ¬ (◌≡◌ {A = Text} [] (front ++ tail))
@@ -213,11 +215,54 @@ wrong_column is =
     by_left right others tail zero [] made fronts = let letter : ◌≡◌ {A = ℕ} 0x31 0x20 = cc made in absurd (omega (arith, letter))
     by_left right others tail zero (x ∷ front) made fronts = cc fronts
 
+-- a number isn't split over lines in a whole column
+split_number : ¬ (IsDrawingOf unbold false (true ∷ []) ((codes "12" ∷ []) ∷ []) (codes " 1 \n 2 \n"))
+split_number is =
+    let row = one_row unbold refl refl (true ∷ []) (codes "12" ∷ []) (codes " 1 " ∷ codes " 2 " ∷ []) (codes " 1 \n 2 \n") (λ own are. two_lines (codes " 1 ") (codes " 2 ") own (found (codes " 1 \n 2 \n") own are)) is in
+    let own = begins (true ∷ []) (codes "12") [] (codes " 1 ") (codes " 2 " ∷ []) (λ n. 0x31 ∷ (codes "2" ++ spaces n)) (one_text 0x31 (codes "2") refl refl) row (some_cell 0x31 (codes "2") [] row.row row.hold) in
+    by_left own.right own.behind own.others own.left own.front own.is (own.wide refl)
+  where
+    Wide : ℕ → ℕ → ℕ → Text → Type 0
+    Wide right behind left front = min 65535 (measure (0x31 ∷ (codes "2" ++ spaces behind))) ≤ left + measure front + right
+
+    printable : (behind : ℕ) → is_printable_ascii (spaces behind) ≡ true
+    printable zero = refl
+    printable (suc behind) = printable behind
+
+    long : (behind : ℕ) → 2 ≤ measure (0x31 ∷ (codes "2" ++ spaces behind))
+    long behind = let whole = measure-printable (0x31 ∷ (codes "2" ++ spaces behind)) (printable behind) in omega (arith, whole)
+
+    by_left : (right behind : ℕ) (others : Text) (left : ℕ) (front : Text) → codes " 1 " ≡ (spaces (suc left) ++ (front ++ spaces (suc right))) ++ others → ¬ (Wide right behind left front)
+    by_left right behind others (suc left) front made wide = let letter : ◌≡◌ {A = ℕ} 0x31 0x20 = cc made in absurd (omega (arith, letter))
+    by_left right behind others zero [] made wide = let letter : ◌≡◌ {A = ℕ} 0x31 0x20 = cc made in absurd (omega (arith, letter))
+    by_left zero behind others zero (x ∷ []) made wide =
+        let one : measure (x ∷ []) ≡ 1 = ap (λ (c : ℕ). measure (c ∷ [])) (sym first) ∙ measure-printable (codes "1") refl in
+        omega (arith, one, wide, long behind)
+      where
+        first : 0x31 ≡ x
+        first = cc made
+    by_left (suc right) behind others zero (x ∷ []) made wide = cc made
+    by_left right behind others zero (x ∷ y ∷ []) made wide = cc made
+    by_left right behind others zero (x ∷ y ∷ z ∷ front) made wide = cc made
+
+-- columns of numbers and dates are whole under `auto`, and that of record numbers, if there is a row
+numbers_and_words : List (List Text)
+numbers_and_words = (codes "12" ∷ codes "a" ∷ []) ∷ (codes "2026-05-02" ∷ []) ∷ []
+
+whole_under_auto : map (λ rows. whole_for (Some 9) Auto true (1 ∷ 0 ∷ []) rows) (numbers_and_words ∷ [] ∷ []) ≡ (true ∷ false ∷ true ∷ []) ∷ [] ∷ []
+unfolding numbers_and_words chars encode ucd_category field_at is_neutral is_number
+whole_under_auto = refl
+
+-- none is otherwise, but all without a width
+whole_otherwise : map (λ width. whole_for width Never true (1 ∷ 0 ∷ []) numbers_and_words) (Some 9 ∷ None ∷ []) ≡ [] ∷ (true ∷ true ∷ true ∷ []) ∷ []
+unfolding numbers_and_words
+whole_otherwise = refl
+
 -- and gains no space
 gained_space : ¬ (ShowsRow (codes "therapist" ∷ []) (codes " the rapist "))
 gained_space is =
-    let row = one_row unbold refl refl (codes "therapist" ∷ []) (codes " the rapist " ∷ []) (codes " the rapist \n") (only (codes " the rapist ") (codes " the rapist \n") refl) is in
-    let own = begins (codes "therapist") [] (codes " the rapist ") (λ n. 0x74 ∷ (codes "herapist" ++ spaces n)) (one_text 0x74 (codes "herapist") refl refl) row (some_cell 0x74 (codes "herapist") [] row.row row.hold) in
+    let row = one_row unbold refl refl [] (codes "therapist" ∷ []) (codes " the rapist " ∷ []) (codes " the rapist \n") (only (codes " the rapist ") (codes " the rapist \n") refl) is in
+    let own = begins [] (codes "therapist") [] (codes " the rapist ") [] (λ n. 0x74 ∷ (codes "herapist" ++ spaces n)) (one_text 0x74 (codes "herapist") refl refl) row (some_cell 0x74 (codes "herapist") [] row.row row.hold) in
     by_left own.behind own.tail own.left own.right own.front own.fronts (own.is ∙ ap (λ (t : Text). (spaces (suc own.left) ++ (own.front ++ spaces (suc own.right))) ++ t) (own.alone refl))
   where
     by_left : (behind : ℕ) (tail : Text) (left right : ℕ) (front : Text) → 0x74 ∷ (codes "herapist" ++ spaces behind) ≡ front ++ tail → ¬ (codes " the rapist " ≡ (spaces (suc left) ++ (front ++ spaces (suc right))) ++ [])
@@ -282,9 +327,9 @@ no_name : ¬ (OneExpanded (codes "record 1 of 1\n"))
 unfolding digits field_at
 no_name (own, rest, is, shows, more) = by_own own (ap (drop 14) is) shows
   where
-    by_own : (own : Text) → ◌≡◌ {A = Text} [] (own ++ rest) → ¬ (ShowsRows unbold false ((cleaned false (codes "a") ∷ cleaned false (codes "a") ∷ []) ∷ []) own)
+    by_own : (own : Text) → ◌≡◌ {A = Text} [] (own ++ rest) → ¬ (ShowsRows unbold false (true ∷ true ∷ []) ((cleaned false (codes "a") ∷ cleaned false (codes "a") ∷ []) ∷ []) own)
     by_own (b ∷ own) same shows = absurd (cc same)
-    by_own [] same shows = nothing_shows_no_field unbold refl refl (cleaned false (codes "a") ∷ []) (subst (λ (name : Text). ShowsRows unbold false ((name ∷ cleaned false (codes "a") ∷ []) ∷ []) []) a_stays shows)
+    by_own [] same shows = nothing_shows_no_field unbold refl refl (cleaned false (codes "a") ∷ []) (true ∷ true ∷ []) (subst (λ (name : Text). ShowsRows unbold false (true ∷ true ∷ []) ((name ∷ cleaned false (codes "a") ∷ []) ∷ []) []) a_stays shows)
 
 -- nothing stands behind the last record
 text_behind : ¬ (AreExpanded (ShowsPairs unbold [] []) (Some 1) 2 [] (codes " a \n"))
@@ -309,10 +354,10 @@ in_rows = record unbold { expansion = Never }
 lost_record : (options : Options) → options.columns.chosen.items ≡ [] → options.columns.dropped.items ≡ [] → options.selection.is_numbered ≡ false → ¬ (ShowsRecords (asked Never None options) ((codes "a" ∷ []) ∷ []) [])
 unfolding field_at
 lost_record options chosen dropped unnumbered is =
-    nothing_shows_no_field in_rows refl refl [] (subst (λ (field : Text). ShowsRows in_rows false ((field ∷ []) ∷ []) []) a_stays
-    (subst (ShowsRows in_rows false ((cleaned false (codes "a") ∷ []) ∷ [])) (sym (is.joined ∙ append-nil is.drawn))
-    (subst (λ (positions : List ℕ). ShowsRows in_rows false (all_rows false positions None ((codes "a" ∷ []) ∷ [])) is.drawn) first
-    (subst (λ (b : Bool). ShowsRows in_rows false (all_rows b (positions_in (asked Never None options) [] ((codes "a" ∷ []) ∷ [])) None ((codes "a" ∷ []) ∷ [])) is.drawn) unnumbered
+    nothing_shows_no_field in_rows refl refl [] (true ∷ []) (subst (λ (field : Text). ShowsRows in_rows false (true ∷ []) ((field ∷ []) ∷ []) []) a_stays
+    (subst (ShowsRows in_rows false (true ∷ []) ((cleaned false (codes "a") ∷ []) ∷ [])) (sym (is.joined ∙ append-nil is.drawn))
+    (subst (λ (positions : List ℕ). ShowsRows in_rows false (whole_for None Never false positions ((codes "a" ∷ []) ∷ [])) (all_rows false positions None ((codes "a" ∷ []) ∷ [])) is.drawn) first
+    (subst (λ (b : Bool). ShowsRows in_rows false (whole_for None Never b (positions_in (asked Never None options) [] ((codes "a" ∷ []) ∷ [])) ((codes "a" ∷ []) ∷ [])) (all_rows b (positions_in (asked Never None options) [] ((codes "a" ∷ []) ∷ [])) None ((codes "a" ∷ []) ∷ [])) is.drawn) unnumbered
     (subst (λ (b : Bool). ShowsDrawn b (asked Never None options) None ((codes "a" ∷ []) ∷ []) is.count is.drawn) is.expansion is.draws)))))
   where
     first : positions_in (asked Never None options) [] ((codes "a" ∷ []) ∷ []) ≡ 0 ∷ []
