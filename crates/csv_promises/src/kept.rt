@@ -18,11 +18,11 @@ use std::alloc::Global;
 /// sequences that begin and end bold are in its pieces. If not all records are drawn, a line below
 /// them counts them.
 ///
-/// No number and no date is split over lines under `--expanded auto`: if records aren't expanded, a
+/// Under `--expanded auto` no number and no date is split over lines, if records aren't expanded. A
 /// column is at least as wide as its widest text, that of the header included, if all of its fields
 /// are numbers or dates of at most 25 characters, or say nothing. So is the column of record
-/// numbers. If no width is kept to, every column is, under each expansion. A text of more than 65535
-/// terminal columns counts as one of 65535.
+/// numbers. If no width is kept to, every column is, under each expansion. A text of more than
+/// 65535 terminal columns counts as one of 65535.
 ///
 /// It is `None` if the arguments ask for `--ansi`, Markdown, a height or no drawing, if the whole
 /// input can't be read or drawn so, or if memory runs out.
