@@ -1,5 +1,5 @@
 -- Lines that leave a sequence open and lines that don't, and the lines of a cell that aren't cut, computed.
-use Rattle.std.proofs.Common.{◌≡◌, ◌≤◌, ◌⊎◌, ℕ, arith, lit≤, inl, inr, true, false, List, [], ◌∷◌, Some, None, refl, sym, ap, ◌==◌, length}
+use Rattle.std.proofs.Common.{◌≡◌, ◌≤◌, ◌⊎◌, ℕ, arith, lit≤, inl, inr, true, false, List, [], ◌∷◌, ◌++◌, Some, None, refl, sym, ap, ◌==◌, length}
 use Rattle.std.specs.List.{All}
 use Rattle.std.specs.Prelude.{codes}
 use Rattle.std.proofs.lemmas.List.Elements.{All-cons, All-head, All-nil}
@@ -78,6 +78,22 @@ joined_halves_do_not alone =
     by_case (inl some) = absurd (omega (arith, some))
     by_case (inr clear) =
         true≢false (All-head HasNoEscape (codes "\u{1b}[1") [] (All-head (λ (cell : CellValue). All HasNoEscape cell.text_lines) (visible_cell (plain_cell (utf8 "\u{1b}[1"))) [] clear))
+
+-- ---- a letter of two bytes in bold
+
+abbrev pub bold_letter : TableValue
+bold_letter = record (rows_of nothing (("\u{1b}[1mé\u{1b}[0m" ∷ []) ∷ [])) { custom_styling = true }
+
+-- its bytes apart, on red, and the second one concealed
+abbrev pub torn_letter : Text
+torn_letter = codes " \u{1b}[41m" ++ (0xC3 ∷ codes "\u{1b}[8m") ++ (0xA9 ∷ codes " ")
+
+pub torn_stays_open : ¬ (LeavesNoneOpen torn_letter)
+torn_stays_open none = true≢false (sym (ap (λ (ss : List Text). length ss == 0) none))
+
+pub bold_ends_in_text : HasSequencesInTextsAlone bold_letter
+bold_ends_in_text =
+    record { styling = inl refl; style = record { indicator = refl; characters = refl }; ends = All-cons (EndsInTexts bold_letter) (0, new_column 0) [] (inl (lit≤ {n = 1} (tt {0}))) (All-nil (EndsInTexts bold_letter)) }
 
 -- ---- lines that aren't cut
 

@@ -33,7 +33,7 @@ use Rattle.promises.specs.Shown.{IsStyled}
 use Rattle.promises.specs.Straight.{AreStraightWhereCharactersFit}
 use Rattle.promises.specs.Widths.{KeepToWidthWhereCharactersFit}
 use Rattle.promises.specs.Shown.IsStyled.{nothing as no_byte, byte, sequence}
-use Rattle.test_definitions.proofs.ClosedLineTrials.{bold_stays_open, halves, halves_end_in_texts}
+use Rattle.test_definitions.proofs.ClosedLineTrials.{bold_ends_in_text, bold_letter, bold_stays_open, halves, halves_end_in_texts, torn_letter, torn_stays_open}
 use Rattle.test_definitions.proofs.TrialTables.{no_ab_inside}
 
 -- a table of one cell, without a frame
@@ -764,3 +764,7 @@ blinking_frame is = let letter : 0x1B ≡ 0x2B = ap (λ (ls : List Text). slice_
 -- with custom styling no line leaves bold open
 open_line : ¬ (IsHeadline halves (codes "| \u{1b}[1mab |" ∷ []))
 open_line is = bold_stays_open (All-head LeavesNoneOpen (codes "| \u{1b}[1mab |") [] (is.closed refl halves_end_in_texts))
+
+-- nor tears a bold letter apart and conceals what is after it
+torn_line : ¬ (IsHeadline bold_letter (torn_letter ∷ []))
+torn_line is = torn_stays_open (All-head LeavesNoneOpen torn_letter [] (is.closed refl bold_ends_in_text))
