@@ -1,8 +1,7 @@
 -- What a terminal is told by an output: what it shows, and without colours of fields nothing but bold.
-use Rattle.std.proofs.Common.{◌≡◌, ◌⊎◌, ◌≤◌, ◌||◌, ◌==◌, ◌&&◌, not, inl, inr, append_assoc, ℕ, Bool, true, false, List, [], ◌∷◌, ◌++◌, Option, Some, None, append-nil, arith, codes, length, map, refl, suc, sym, unwrap_or, ap, ap₂, ◌∙◌, subst}
+use Rattle.std.proofs.Common.{◌≡◌, ◌⊎◌, ◌≤◌, ◌||◌, ◌==◌, inl, inr, append_assoc, ℕ, Bool, true, false, List, [], ◌∷◌, ◌++◌, Option, Some, None, append-nil, arith, codes, length, refl, suc, sym, unwrap_or, ap, ◌∙◌, subst}
 use Rattle.std.specs.List.{All, AllZip}
-use Rattle.std.specs.Prelude.{if◌then◌else◌, option_to_list}
-use Rattle.std.specs.Str.{NoCharPasses}
+use Rattle.std.specs.Prelude.{option_to_list}
 use Rattle.std.proofs.lemmas.List.Elements.{All-append, All-cons, All-head, All-map, All-nil, All-tail, All-weaker}
 use Rattle.std.proofs.lemmas.List.Folds.{list_any_none}
 use Rattle.std.proofs.lemmas.Str.{NoCharPasses-nil}
@@ -10,10 +9,9 @@ use Rattle.comfy_parts.proofs.CallerLemmas.{All-every, All-none, HasNo-parts, no
 use Rattle.comfy_parts.specs.CellValue.{CellValue, ColumnValue, RowValue}
 use Rattle.comfy_parts.specs.Columns.{style_characters}
 use Rattle.comfy_parts.specs.declared.style.table_style.TableStyle.{TableStyle}
-use Rattle.comfy_parts.specs.Text.{HasNo, Text, is_printable_ascii}
+use Rattle.comfy_parts.specs.Text.{HasNo, Text}
 use Rattle.comfy_parts.specs.VisibleText.{visible_text}
-use Rattle.comfy_table.proofs.MeasuredLemmas.{measured_rows-is}
-use Rattle.comfy_table.specs.Drawing.{drawing, drawing_of_infos, infos_of}
+use Rattle.comfy_table.specs.Drawing.{drawing, drawing_of_infos}
 use Rattle.comfy_table.specs.Headline.{IsTableDrawing}
 use Rattle.comfy_table.specs.Laws.{EndsItsStyling, HasNoBreak, HasNoEscape, HasSequencesInTextsAlone, IsStyleWithout, LeavesNoneOpen, unstyled}
 use Rattle.comfy_table.specs.TableValue.{TableValue, header_and_rows, column_cells, is_tty, max_content_widths, measured_table, should_style, shown_columns}

@@ -20,7 +20,7 @@ use Rattle.csv_tables.specs.declared.options.Layout.{Layout}
 use Rattle.csv_tables.specs.declared.selection.Selection.{Selection}
 use Rattle.promises.proofs.ShownLemmas.{shows_visible}
 use Rattle.promises.specs.Shown.{ShowsColumns}
-use Rattle.csv_promises.specs.Counted.{AreExpanded, DrawsLines, EachDrawnLine, EachLineFor, HasEachLine, IsCount, IsDrawnWithNote, IsWrittenFor, MayExpand}
+use Rattle.csv_promises.specs.Counted.{AreExpanded, DrawsLines, EachDrawnLine, EachLineFor, HasEachLine, IsCount, IsDrawnWithNote, MayExpand}
 
 -- ---- no records
 

@@ -1,5 +1,5 @@
 -- What is written for Markdown is a table whose lines give back the names and the drawn records.
-use Rattle.std.proofs.Common.{ap, ap₂, arith, decimal, length, length-append, ◌≡◌, ◌≤◌, ◌<◌, ◌⊎◌, inl, inr, ℕ, ◌+◌, Bool, true, false, List, [], ◌∷◌, ◌++◌, map, Option, Some, None, unwrap_or, refl, sym, ◌∙◌, subst}
+use Rattle.std.proofs.Common.{ap, ap₂, arith, decimal, length, ◌≡◌, ◌≤◌, ◌<◌, ◌⊎◌, inl, inr, ℕ, ◌+◌, Bool, true, false, List, [], ◌∷◌, ◌++◌, map, Option, Some, None, unwrap_or, refl, sym, ◌∙◌, subst}
 use Rattle.std.specs.List.{All, AllZip}
 use Rattle.std.specs.Prelude.{chars, if◌then◌else◌}
 use Rattle.std.proofs.lemmas.List.{length-map}
@@ -9,8 +9,7 @@ use Rattle.comfy_parts.specs.CellValue.{plain_cell}
 use Rattle.comfy_parts.specs.Text.{Text, is_printable_ascii, measure}
 use Rattle.comfy_table.specs.Drawing.{terminated_text_of}
 use Rattle.comfy_table.specs.Laws.{HasNoBreak}
-use Rattle.comfy_table.specs.TableValue.{TableValue, column_content_width, max_content_widths}
-use Rattle.csv.specs.Records.{AllText}
+use Rattle.comfy_table.specs.TableValue.{column_content_width, max_content_widths}
 use Rattle.csv_command.specs.Drawn.{layout_with}
 use Rattle.csv_command.specs.declared.arguments.Invocation.{Invocation}
 use Rattle.csv_command.specs.declared.arguments.Options.{Options}
@@ -21,19 +20,19 @@ use Rattle.csv_tables.proofs.FieldLemmas.{number_is_printable, printable_unbroke
 use Rattle.csv_tables.proofs.MarkdownDrawingLemmas.{records_are_given_back}
 use Rattle.csv_tables.proofs.MarkdownWidthLemmas.{headed, sides-length}
 use Rattle.csv_tables.proofs.OutputControlLemmas.{rule_is_printable}
-use Rattle.csv_tables.specs.Cells.{Shown, counted_from, field_text, number_name, number_of, shown_fields, shown_in, shown_names, shown_number}
+use Rattle.csv_tables.specs.Cells.{Shown, counted_from, field_text, number_name, shown_fields, shown_in, shown_names, shown_number}
 use Rattle.csv_tables.specs.Drawn.{SelectedValue, columns_of, drawn_rows, markdown_table, names_of, note_for, selected_of, sides}
 use Rattle.csv_tables.specs.Fields.{field_or_blank}
 use Rattle.csv_tables.specs.Laws.{EachText}
 use Rattle.csv_tables.specs.Markdown.{rule_line}
-use Rattle.csv_tables.specs.MarkdownLines.{GivesBack, GivesRecordsBack, parts_between_bars, read_field, read_part, without_outer_spaces}
+use Rattle.csv_tables.specs.MarkdownLines.{GivesBack, GivesRecordsBack, read_field, without_outer_spaces}
 use Rattle.csv_tables.specs.declared.options.DrawnColumn.{DrawnColumn}
 use Rattle.csv_tables.specs.declared.options.Layout.{Layout}
 use Rattle.csv_tables.specs.declared.options.Look.{Look}
 use Rattle.csv_promises.proofs.ColumnLemmas.{chosen_positions, some_column}
 use Rattle.csv_promises.proofs.WrittenLemmas.{IsDrawnBy, by_extent, own_fields}
 use Rattle.csv_promises.specs.Fields.{all_rows, fields_at, positions_in, row_behind, rows_from}
-use Rattle.csv_promises.specs.MarkdownTable.{HasFields, IsMarkdownTable, IsRule, IsWrittenAsMarkdown, names_and_rows}
+use Rattle.csv_promises.specs.MarkdownTable.{HasFields, IsMarkdownTable, IsRule, IsWrittenAsMarkdown}
 use Rattle.csv_promises.specs.Written.{IsWritten}
 
 -- ---- fields that are read

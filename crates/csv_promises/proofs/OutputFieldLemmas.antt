@@ -1,7 +1,7 @@
 -- What is written of records shows all of their fields.
-use Rattle.std.proofs.Common.{◌≡◌, ◌≤◌, ◌<◌, ◌==◌, decimal, filter, is_some, ◌||◌, inl, inr, ℕ, zero, suc, ◌+◌, Bool, true, false, List, [], ◌∷◌, ◌++◌, Option, Some, None, Ok, drop, filter_map, flat_map, length, map, max, nat_lt, take, refl, sym, ap, ap₂, ◌∙◌, subst, arith, append_assoc, length-append, slice_index_or, unwrap_or}
+use Rattle.std.proofs.Common.{◌≡◌, ◌≤◌, ◌<◌, ◌==◌, decimal, filter, is_some, ◌||◌, inl, inr, ℕ, zero, suc, ◌+◌, Bool, true, false, List, [], ◌∷◌, ◌++◌, Option, Some, None, drop, filter_map, flat_map, length, map, max, nat_lt, take, refl, sym, ap, ap₂, ◌∙◌, subst, arith, append_assoc, length-append, slice_index_or, unwrap_or}
 use Rattle.std.specs.List.{All, AllZip, range_with_len}
-use Rattle.std.specs.Prelude.{if◌then◌else◌, codes, option_to_list, slice_get, slice_index, sum_by}
+use Rattle.std.specs.Prelude.{if◌then◌else◌, option_to_list, slice_get, slice_index, sum_by}
 use Rattle.std.specs.Str.{IsUtf8}
 use Rattle.std.proofs.Math.Seq.{take-length}
 use Rattle.std.proofs.lemmas.List.Elements.{All-cons, All-head, All-map, All-nil, All-tail, All-weaker}
@@ -20,12 +20,11 @@ use Rattle.csv_tables.proofs.BuiltLemmas.{plain_table}
 use Rattle.csv_tables.proofs.LineLemmas.{is_table_text}
 use Rattle.csv_tables.proofs.OutputControlLemmas.{unbroken_without}
 use Rattle.csv_tables.proofs.FieldControlLemmas.{text_fields}
-use Rattle.csv_tables.proofs.RowLemmas.{positions-shown, with_rows-rows}
+use Rattle.csv_tables.proofs.RowLemmas.{with_rows-rows}
 use Rattle.csv_tables.specs.Cells.{Shown, cell_for, columns_within, shown_cells, shown_in, with_weight, number_name, row_for, counted_from}
-use Rattle.csv_tables.specs.Columns.{ColumnsValue, count_of, name_at, seen}
-use Rattle.csv_command.specs.Columns.{columns_for}
-use Rattle.csv_tables.specs.Drawn.{SelectedValue, RendersAsTable, RendersRecords, RendersTable, columns_of, count_below, drawn_fields, drawn_rows, empty_table, has_room_for, headed_table, is_expanded_in, limited, names_of, note_for, note_text, output_table, pairs_in, record_line, record_text, records_below, rows_table, separated_table, some_lines, table_text, is_aligned_in, is_table_expanded}
-use Rattle.csv_command.specs.Drawn.{RendersChosen, layout_with}
+use Rattle.csv_tables.specs.Columns.{name_at}
+use Rattle.csv_tables.specs.Drawn.{SelectedValue, RendersAsTable, RendersRecords, RendersTable, columns_of, drawn_fields, drawn_rows, empty_table, has_room_for, headed_table, names_of, note_for, output_table, pairs_in, record_line, record_text, rows_table, separated_table, some_lines, table_text, is_aligned_in, is_table_expanded}
+use Rattle.csv_command.specs.Drawn.{layout_with}
 use Rattle.csv_tables.specs.declared.options.DrawnColumn.{DrawnColumn}
 use Rattle.csv_tables.specs.declared.options.Layout.{Layout}
 use Rattle.csv_tables.specs.declared.options.Look.{Look}
@@ -44,8 +43,8 @@ use Rattle.csv_promises.proofs.RecordLemmas.{all_drawn, with_rows-header}
 use Rattle.csv_promises.proofs.ShownTableLemmas.{HasRowsOf, has_rows_of, part_shows, no_custom_styling}
 use Rattle.csv_promises.proofs.LineLemmas.{may_expand, no_records, no_rows, none_below, nothing_noted}
 use Rattle.csv_promises.proofs.WrittenLemmas.{IsDrawnBy, by_extent}
-use Rattle.csv_promises.specs.Counted.{AreExpanded, IsCount, IsWrittenFor, MayExpand}
-use Rattle.csv_promises.specs.Fields.{IsDrawingOf, ShowsAllFields, ShowsFields, fields_at, row_behind, rows_from, ShowsDrawn, ShowsPairs, ShowsRecords, ShowsRows, pairs_at, positions_in, all_rows, whole_for, whole_pairs}
+use Rattle.csv_promises.specs.Counted.{AreExpanded, IsCount, IsWrittenFor}
+use Rattle.csv_promises.specs.Fields.{IsDrawingOf, ShowsAllFields, ShowsFields, fields_at, row_behind, rows_from, ShowsPairs, ShowsRecords, ShowsRows, pairs_at, positions_in, all_rows, whole_for, whole_pairs}
 use Rattle.csv_promises.proofs.WholeLemmas.{AreColumns, kept_whole, pairs_kept_whole, unbroken-shown, widest-content}
 use Rattle.csv_promises.specs.Written.{IsWritten}
 

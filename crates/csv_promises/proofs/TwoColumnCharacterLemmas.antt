@@ -1,7 +1,7 @@
 -- In a width with room each text fits its column whose characters take at most two terminal columns, and no more than one of its lines.
-use Rattle.std.proofs.Common.{◌≡◌, ◌<◌, ◌≤◌, ◌==◌, ℕ, ◌+◌, Bool, true, false, not, List, [], ◌∷◌, ◌++◌, Option, Some, None, filter, filter_map, flat_map, length, map, max, min, nat_le, slice_get, slice_index, slice_index_or, unwrap_or, refl, sym, ap, ◌∙◌, subst, arith, ⊎_elim, le_trans}
+use Rattle.std.proofs.Common.{◌≡◌, ◌<◌, ◌≤◌, ℕ, ◌+◌, Bool, true, false, not, List, [], ◌∷◌, Option, Some, None, flat_map, length, map, max, min, nat_le, slice_get, slice_index, slice_index_or, unwrap_or, refl, sym, ap, ◌∙◌, subst, arith, ⊎_elim, le_trans}
 use Rattle.std.specs.List.{All, AllByRecursion, enumerate_from}
-use Rattle.std.specs.Prelude.{◌⊎◌, if◌then◌else◌}
+use Rattle.std.specs.Prelude.{if◌then◌else◌}
 use Rattle.std.proofs.lemmas.Bool.{le-leb, leb-false, leb-true}
 use Rattle.std.proofs.lemmas.List.{map-append}
 use Rattle.std.proofs.lemmas.List.Elements.{All-filter, All-from_recursion, All-weaker}
@@ -13,13 +13,12 @@ use Rattle.comfy_parts.specs.Wrapping.{lines_of_text, wrapped}
 use Rattle.comfy_table.proofs.ColumnCellLemmas.{greatest-append}
 use Rattle.comfy_table.proofs.InfoLemmas.{infos-at}
 use Rattle.comfy_table.proofs.ThreePlacesLemmas.{every-le-greatest}
-use Rattle.comfy_table.specs.Arrangement.{IsArranged}
 use Rattle.comfy_table.specs.Drawing.{infos_of}
 use Rattle.comfy_table.specs.FittingTables.{CharactersFitColumn}
 use Rattle.comfy_table.specs.Lines.{cell_delimiter, cell_lines, longest_line}
 use Rattle.comfy_table.specs.Pieces.{shown_infos}
 use Rattle.comfy_table.specs.Straight.{EachCell}
-use Rattle.comfy_table.specs.TableValue.{TableValue, cell_content_width, column_cells, column_content_width, measured_rows, shown_columns}
+use Rattle.comfy_table.specs.TableValue.{TableValue, cell_content_width, column_cells, column_content_width, measured_rows}
 use Rattle.csv_tables.proofs.BuiltLemmas.{EachShown, each_content}
 use Rattle.csv_tables.proofs.FittingLemmas.{content_pointed, each_drawn}
 use Rattle.csv_tables.proofs.LineLemmas.{kept_setting}

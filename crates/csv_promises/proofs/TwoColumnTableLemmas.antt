@@ -28,7 +28,7 @@ use Rattle.csv_tables.proofs.WholeColumnLemmas.{IsPaddedColumn, all_shown, both_
 use Rattle.csv_tables.proofs.WholeTableLemmas.{IsDrawn, drawn-is, fewer_borders, field_separated, still_fits}
 use Rattle.csv_tables.specs.Drawn.{SelectedValue, arrangement_for, empty_table, is_aligned_in, is_expanded_for, is_expanded_in, is_table_expanded, output_table, pairs_table, rows_table, separated_table, unbroken_in}
 use Rattle.csv_tables.specs.Laws.{IsDrawnTable}
-use Rattle.csv_tables.specs.Unbroken.{at_least, boundary_for, by_columns, field_width, framed_width, given_at, has_room, kept_at, kept_unbroken, kept_unbroken_fields, least_width, level_in, may_break, name_in, room_beside, room_for_two, shared_at, wide_word, with_content, with_field_width, with_kept, with_second, word_width}
+use Rattle.csv_tables.specs.Unbroken.{at_least, boundary_for, by_columns, field_width, framed_width, given_at, has_room, kept_at, kept_unbroken, kept_unbroken_fields, least_width, level_in, may_break, name_in, room_beside, room_for_two, shared_at, wide_word, with_content, with_field_width, with_kept, word_width}
 use Rattle.csv_tables.specs.declared.options.Expansion.{Expansion}
 use Rattle.csv_tables.specs.declared.options.Expansion.TheVariants.{Always, Auto, Never}
 use Rattle.csv_tables.specs.declared.options.Look.{Look}

@@ -1,19 +1,14 @@
 -- Under a width with room, what is written is straight, if characters take at most two terminal columns.
-use Rattle.std.proofs.Common.{◌≡◌, ◌≤◌, ◌==◌, ◌&&◌, ◌||◌, ℕ, ◌+◌, ◌*◌, Bool, true, false, not, List, [], ◌∷◌, Option, Some, chars, length, nat_le, refl, sym, ap, ap₂, ◌∙◌, subst, arith}
+use Rattle.std.proofs.Common.{◌≡◌, ◌≤◌, ◌==◌, ◌&&◌, ℕ, ◌+◌, ◌*◌, Bool, true, false, not, List, [], ◌∷◌, Option, chars, length, nat_le, refl, sym, ap, ap₂, ◌∙◌, subst, arith}
 use Rattle.std.specs.List.{All, list_all, list_any}
 use Rattle.std.specs.Prelude.{encode_utf8, if◌then◌else◌}
 use Rattle.std.specs.Str.{IsUtf8}
 use Rattle.std.proofs.lemmas.Bool.{and_parts, or_parts}
-use Rattle.std.proofs.lemmas.List.Elements.{All-head, All-tail}
 use lib.Utf8.{encode}
 use Rattle.comfy_parts.proofs.Computing.{wrapping}
-use Rattle.comfy_parts.specs.CellValue.{plain_cell}
-use Rattle.comfy_parts.specs.Columns.{CharactersFit}
 use Rattle.comfy_parts.specs.Text.{Text, measure}
-use Rattle.comfy_parts.specs.Wrapping.{lines_of_text}
 use Rattle.comfy_table.specs.TableValue.{TableValue}
 use Rattle.csv.specs.Records.{AllText}
-use Rattle.csv_command.specs.Columns.{columns_for}
 use Rattle.csv_command.specs.Drawn.{layout_with}
 use Rattle.csv_command.specs.declared.arguments.Invocation.{Invocation}
 use Rattle.csv_command.specs.declared.arguments.Options.{Options}
@@ -28,7 +23,6 @@ use Rattle.csv_tables.specs.Laws.{CharactersFitEachWidth, EachText, IsDrawnTable
 use Rattle.csv_tables.specs.declared.options.Layout.{Layout}
 use Rattle.csv_tables.specs.declared.options.Look.{Look}
 use Rattle.promises.proofs.FittingLemmas.{text_fits}
-use Rattle.promises.specs.Tables.{HasCharactersWithin}
 use Rattle.csv_promises.proofs.ColumnLemmas.{counted}
 use Rattle.csv_promises.proofs.DrawnColumnLemmas.{drawn_count, no_rows-is}
 use Rattle.csv_promises.proofs.FrameLemmas.{most_columns, places_of}

@@ -1,6 +1,6 @@
 -- Where the fields of records stand in what is written of them.
 -- Source: this library's own.
-use Rattle.std.specs.Prelude.{◌≡◌, ◌<◌, ◌≤◌, ◌==◌, ℕ, ◌+◌, Bool, true, false, List, [], ◌∷◌, ◌++◌, Option, None, Some, String, codes, All, MatchOption, decimal, filter, flat_map, length, map, nat_lt, option_map, option_to_list, string_bytes, unwrap_or, IsUtf8, chars, if◌then◌else◌, is_some, ◌⊎◌, slice_get}
+use Rattle.std.specs.Prelude.{◌≡◌, ◌<◌, ◌≤◌, ◌==◌, ℕ, ◌+◌, Bool, true, false, List, [], ◌∷◌, ◌++◌, Option, None, Some, String, All, MatchOption, decimal, filter, flat_map, length, map, nat_lt, option_map, option_to_list, string_bytes, unwrap_or, IsUtf8, chars, if◌then◌else◌, is_some, ◌⊎◌, slice_get}
 use Rattle.std.specs.List.{AllZip, enumerate_from, list_all, list_any, range_with_len}
 use Rattle.comfy_parts.specs.CellValue.{CellValue, ColumnValue, RowValue, plain_cell}
 use Rattle.comfy_parts.specs.Text.{Text, spaces}
