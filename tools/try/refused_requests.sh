@@ -1,7 +1,8 @@
 #!/bin/sh
 # Refuses each request for memory of four built programs, one after another: those of ctable and csvtable on their stored
 # inputs, without arguments and with some, those of test_cases on two of its cases, and those of test_refused on each call by
-# itself. Each such run of the first three must end with status 1, print nothing, and say that there is no memory. One of
+# itself. Each such run of the first three must end with status 1, print nothing, and say that there is no memory. Or it
+# prints as many bytes as with ample memory: `collect` asks for room for all values, and if that is refused, for one. One of
 # test_refused must say that the call was refused as promised, or end with status 3 and print nothing, where the request
 # wasn't the call's. Of a call that adds three rows it must also say how many are kept: 0 at first, then 1, then 2, as
 # later requests are refused. And format_row must make fewer than 250 requests for 100 pieces, also of wide texts, of styled
@@ -40,14 +41,16 @@ refuse() {
   input=$2
   message=$3
   shift 3
+  whole=$(($("$crates/$name/out/$name" "$@" < "$input" | wc -c)))
   said=$("$work/refuse" "$input" "$crates/$name/out/$name" "$@") || exit 2
   called=$name${*:+" $*"}
   printf '%s\n' "$said" | sed "s/^/$called: /"
-  if ! printf '%s\n' "$said" | grep -q '^refused in turn: [1-9]'; then
-    echo "$0: no request of $called was refused" >&2
+  if ! printf '%s\n' "$said" | grep -q "^request 1: status 1, 0 bytes, $message *\$"; then
+    echo "$0: the first request of $called was not refused" >&2
     exit 1
   fi
-  if printf '%s\n' "$said" | grep '^request ' | grep -v ": status 1, 0 bytes, $message *\$"; then
+  if printf '%s\n' "$said" | grep '^request ' \
+    | grep -v -e ": status 1, 0 bytes, $message *\$" -e ": status 0, $whole bytes, *\$"; then
     echo "$0: a refused request of $called ended otherwise" >&2
     exit 1
   fi
