@@ -42,7 +42,7 @@ pub fn drawn_cells(
 }
 
 /// What a caller gets with 0 is UTF-8: the table of rows that its settings and bytes of columns ask
-/// for, as `csvtable` draws records of these texts. A terminal shows it, and is told nothing else:
+/// for, as `csvtable` draws records of these texts. It sends a terminal nothing but text:
 /// no character of what it shows is a control character but a line feed, and none turns the
 /// direction of text. Its only sequences begin bold and end it, unless sequences of texts are kept.
 ///

@@ -55,7 +55,7 @@ module _ (layout : Layout) (records : List (List Text)) (known : Option ℕ) (co
   pub some_drawn : 1 ≤ length layout.columns.drawn → 1 ≤ length content.columns
   some_drawn some = omega (arith, some, long, ap (λ (cs : List DrawnColumn). length cs) own_columns)
 
-  -- so many are drawn, with that of numbers
+  -- the number of drawn columns, with that of record numbers
   pub drawn_count : length content.columns + (if content.is_numbered then 1 else 0) ≡ columns_in layout
   drawn_count = ap₂ (λ (n : ℕ) (b : Bool). n + (if b then 1 else 0)) (ap (λ (cs : List DrawnColumn). length cs) own_columns ∙ long) (sym (ap (λ (c : SelectedValue). c.is_numbered) is))
 

@@ -40,7 +40,7 @@ both_empty : {A : Type 0} (xs ys : List A) → xs ++ ys ≡ [] → (xs ≡ []) �
 both_empty [] ys none = (refl, none)
 both_empty (x ∷ xs) ys none = absurd (cc none)
 
--- where no record has a field of the columns, none has lines
+-- if no record has a field of the columns, none has lines
 module _ (look : Look) (content : SelectedValue) (arranged : ArrangedValue) (none : flat_map (pairs_in look content) content.rows ≡ []) where
   no_fields : (rows : List (List Text)) → flat_map (pairs_in look content) rows ≡ [] → (at : ℕ) → drawn_fields content (slice_index_or rows at []) ≡ 0
   no_fields [] none at = ap length (no_field content.columns)
@@ -137,7 +137,7 @@ module _ (w : ℕ) (known : Option ℕ) (layout : Layout) (records : List (List 
   abbrev Good : Type 0
   Good = EachLineFor IsGood MayCount layout whole output
 
-  -- all lines keep to it where a column is shown
+  -- all lines keep to it if a column is shown
   kept : 0 < shown_count t → Good
   kept some = output_lines IsGood layout MayCount whole records known output lines table is_count same (with_lines known layout records output own text table plain_lines.unbroken) each
     where

@@ -1,4 +1,4 @@
--- What a terminal is told by an output: what it shows, and without colours of fields nothing but bold.
+-- An output sends a terminal only text, and without colours of fields no sequence but those of bold.
 use Rattle.std.proofs.Common.{◌≡◌, ◌⊎◌, ◌≤◌, ◌||◌, ◌==◌, inl, inr, append_assoc, ℕ, Bool, true, false, List, [], ◌∷◌, ◌++◌, Option, Some, None, append-nil, arith, codes, length, refl, suc, sym, unwrap_or, ap, ◌∙◌, subst}
 use Rattle.std.specs.List.{All, AllZip}
 use Rattle.std.specs.Prelude.{option_to_list}

@@ -86,7 +86,7 @@ places-within n (column ∷ more) =
     (omega arith, every-weaker (λ (p : ℕ × ColumnValue). p.0 < n + 1 + length more) (λ (p : ℕ × ColumnValue). p.0 < n + length (column ∷ more)) (enumerate_from (n + 1) more) (λ p below. omega (arith, below)) (places-within (n + 1) more))
 
 module _ (table : TableValue) (i width : ℕ) (two : HasTwoAt table i width) (plain : table.delimiter ≡ None) where
-  -- a cell's texts fit, where it is one of the column
+  -- a cell's texts fit, if it is one of the column
   abbrev TextsFitWidth : CellValue → Type 0
   TextsFitWidth cell = cell.delimiter ≡ None → All FitsTwo cell.text_lines → All (CharactersFit (max 1 width)) cell.text_lines
 
@@ -153,7 +153,7 @@ each_separated : (look : Look) (has is_aligned : Bool) (content : SelectedValue)
 each_separated look true is_aligned content each = each
 each_separated look false is_aligned content each = record { fields = each.fields; shown = each.shown }
 
--- where a width has room for each table that may be drawn, each character of such fields has room in its column
+-- if a width has room for each table that may be drawn, each character of such fields has room in its column
 pub two_fit_each_width : (w : ℕ) (counted : Option ℕ) (layout : Layout) (records : List (List Text)) → layout.look.width ≡ Some w → layout.look.has_sequences ≡ false → EachText FitsTwo layout.look records
     → ((content : SelectedValue) (table : TableValue) → selected_of counted layout records ≡ content → IsDrawnTable layout.look content table → HasRoomFor w layout.look content table) → CharactersFitEachWidth counted layout records
 two_fit_each_width w counted layout records wide none each room content table widths is (has, made) arranged =

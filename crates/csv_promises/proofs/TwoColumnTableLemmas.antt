@@ -328,7 +328,7 @@ module _ (w : ℕ) (look : Look) (content : SelectedValue) (wide : look.width �
       (recursion_from_All IsNewColumn _ (any_built expanded (is_aligned_in look content) (separated has look) content).columns)
 
   module _ (table : TableValue) (widths : List ℕ) (arranged : IsArranged table widths) where
-    -- the table of rows, where a width has room
+    -- the table of rows, if a width has room
     rows_two : table ≡ separated_table has (output_table false look content)
         → (has_room (Some w) (unbroken_in content) (rows_table look (is_aligned_in look content) content) ≡ true) ⊎ (1 + 5 * length table.columns ≤ w) → EachHasTwo table widths
     rows_two made room = by_test (has_room (Some w) whole rows) refl
@@ -462,7 +462,7 @@ no_delimiter_at [] i column each is = absurd (cc is)
 no_delimiter_at (c ∷ cs) zero column each is = let own : c ≡ column = cc is in ap (λ (d : ColumnValue). d.delimiter) (sym own) ∙ each.0.no_delimiter
 no_delimiter_at (c ∷ cs) (suc i) column each is = no_delimiter_at cs i column each.1 is
 
--- where a width has room for the table that is drawn of some records, each column has two
+-- if a width has room for the table that is drawn of some records, each column has two
 pub two_or_content : (w : ℕ) (look : Look) (content : SelectedValue) → look.width ≡ Some w → (table : TableValue) (widths : List ℕ) → IsDrawnTable look content table → HasRoomFor w look content table → IsArranged table widths
     → (i : ℕ) → i < length table.columns → HasTwoAt table i (slice_index widths i)
 two_or_content w look content wide table widths (has, made) room arranged i below =
@@ -488,7 +488,7 @@ two_or_content w look content wide table widths (has, made) room arranged i belo
 
 -- ---- by options
 
--- a width has room for the drawn table by options alone, where no table of rows has more than all columns, and none of expanded records more than two
+-- a width has room for the drawn table by options alone, if no table of rows has more than all columns, and none of expanded records more than two
 pub room_by_expansion : (w all : ℕ) (look : Look) (content : SelectedValue) (table : TableValue) → look.is_markdown ≡ false → look.width ≡ Some w → (is_expanded_for look content ≡ false → length table.columns ≤ all) → (is_expanded_for look content ≡ true → length table.columns ≤ 2) → IsDrawnTable look content table
     → 1 + 5 * columns_by look.expansion (not (length content.rows == 0)) all ≤ w → HasRoomFor w look content table
 room_by_expansion w all look content table plain wide most two is_drawn five =

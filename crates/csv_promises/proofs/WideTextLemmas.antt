@@ -56,7 +56,7 @@ none_is_all p (c ∷ cs) none = let both = or_parts (p c) (list_any p cs) none i
 abbrev is_no_selector : ℕ → Bool
 is_no_selector c = not (c == 0xFE0E)
 
--- a character takes at most so many terminal columns, and isn't U+FE01
+-- a character takes at most n terminal columns, and isn't U+FE01
 abbrev is_within : ℕ → ℕ → Bool
 is_within n c = nat_le (measure (encode_utf8 c)) n && not (c == 0xFE01)
 

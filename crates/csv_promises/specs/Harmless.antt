@@ -1,4 +1,4 @@
--- What a terminal is told by an output.
+-- An output sends a terminal nothing but text and, if they are wanted, colours and attributes.
 -- Source: this library's own.
 use Rattle.std.specs.Prelude.{◌≡◌, ◌⊎◌, [], ◌++◌, true, false, codes}
 use Rattle.std.specs.Str.{NoCharPasses}
@@ -18,16 +18,15 @@ pub data IsInBold : Text → Text → Type 0 where
   bold : (part line styled : Text) → IsInBold line styled
       → IsInBold (part ++ line) ((codes "\u{1b}[1m" ++ (part ++ codes "\u{1b}[0m")) ++ styled)
 
--- a terminal shows a text without its SGR sequences, which set colours and attributes, and is told
--- nothing else: of what is visible no character is a control character but a line feed, and none
--- turns the direction of text
+-- a terminal shows a text without its SGR sequences, which set colours and attributes. The visible
+-- text has no control character but line feeds, and no character that turns the direction of text
 abbrev pub ShowsNothingHarmful : Text → Type 0
 ShowsNothingHarmful text = (visible : Text) × Shows text visible × NoCharPasses is_harmful visible
 
--- a terminal shows an output, and is told nothing else: of what is visible no character is a
--- control character but a line feed, and none turns the direction of text. Unless colours of
--- fields are kept, its only sequences begin bold and end it; and without bold it has none. If
--- they are kept, no sequence is open at the end of a line
+-- the visible text of an output has no control character but line feeds, and no character that
+-- turns the direction of text. Unless colours of fields are kept, its only sequences begin bold
+-- and end it; and without bold it has none. If they are kept, no sequence is open at the end of a
+-- line
 pub record IsHarmlessFor (look : Look) (output : Text) : Type 0 where
   pub visible : Text
   pub shows : Shows output visible

@@ -37,12 +37,12 @@ framed_columns options records =
     columns_by options.look.expansion
     (not (length (drawn_rows options.selection records) == 0)) (all_columns options records)
 
--- so many a layout draws: those of its own columns, and that of numbers
+-- the number of columns that a layout draws: its own, and that of record numbers
 abbrev pub columns_in : Layout → ℕ
 columns_in layout =
     length layout.columns.drawn + (if layout.selection.is_numbered then 1 else 0)
 
--- and so many its frame is drawn for
+-- the number of columns for which its frame is drawn
 abbrev pub framed_columns_in : Layout → List (List Text) → ℕ
 framed_columns_in layout records =
     columns_by layout.look.expansion

@@ -419,7 +419,7 @@ count_is_missing options counts is = by_count is.count is.is_count is.joined
     by_count (Some n) two made =
         let letter : ◌≡◌ {A = ℕ} 0x65 0x73 = ap (λ (t : Text). slice_index_or t 1 0) (ap reverse (made ∙ ap (λ (m : ℕ). is.drawn ++ note_for false (Some 1) (Some m)) two) ∙ reverse-append is.drawn (note_for false (Some 1) (Some 2))) in absurd (omega (arith, letter))
 
--- ---- what a terminal is told
+-- ---- texts that a terminal gets
 
 -- text of which a character is harmful isn't shown
 harmful_is_not_shown : (visible : Text) (cs : List ℕ) → visible ≡ encode_utf8_all cs → list_any is_harmful cs ≡ true → ¬ (NoCharPasses is_harmful visible)

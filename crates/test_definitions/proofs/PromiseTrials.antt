@@ -458,11 +458,11 @@ torn_word is = let own = word_is false [] (codes " a      b ") is in no_ab_insid
 other_styled_word : ¬ (AreShown (ShowsRow (styled_word true)) (styled_word true) (codes " XY " ∷ []))
 other_styled_word is = let own = word_is true [] (codes " XY ") is in no_ab_inside (codes " XY ") refl own.1.before own.1.after own.1.drawn
 
--- nor has it a sequence inside, where it has an attribute
+-- nor has it a sequence inside, if it has an attribute
 coloured_inside : ¬ (AreShown (ShowsRow (cell_table true (word (Bold ∷ [])))) (cell_table true (word (Bold ∷ []))) (codes " a\u{1b}[31mb " ∷ []))
 coloured_inside is = let own = word_is true (Bold ∷ []) (codes " a\u{1b}[31mb ") is in no_ab_inside (codes " a\u{1b}[31mb ") refl own.1.before own.1.after own.1.drawn
 
--- nor one beside it, where it has none
+-- nor one beside it, if it has none
 hidden_word : ¬ (AreShown (ShowsRow (styled_word true)) (styled_word true) (codes "\u{1b}[8m ab " ∷ []))
 hidden_word is =
     let own = word_is true [] (codes "\u{1b}[8m ab ") is in
