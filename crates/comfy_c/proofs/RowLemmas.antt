@@ -169,7 +169,7 @@ module _ (settings : RowsSettings) (bytes : List ℕ) (layout : Layout) (output 
     some_shown is uncut =
         all_shown layout
         (record { unkept = is.unkept; table = is.unmarked; uncut = uncut; style = unbroken_without layout.look.style (style_is_harmless settings.style layout.look.style style) })
-        known rows texts output made MayCount refl
+        known rows texts output made (some_left layout.selection bytes rows layout.columns own.columns some) (are_below layout.selection bytes rows layout.columns own.columns) MayCount refl
 
     some_harmless : IsHarmlessFor layout.look output
     some_harmless = harmless_output known layout rows output (style_is_harmless settings.style layout.look.style style) texts made

@@ -53,12 +53,13 @@ pub fn drawn_cells(
 /// - All lines show the same number of terminal columns, except those that count rows. This holds
 ///   if each character takes at most one terminal column, and none is U+FE01. It also holds without
 ///   a width and a height, if each text takes at most 65535 terminal columns and has no control
-///   character and none that turns the direction of text; and if each character has room in its
-///   column.
-/// - Under a width no such line shows more terminal columns than the width, or than the frame
-///   takes, if each character takes at most one. If the width is filled and has room for the frame,
-///   each line shows exactly as many. The frame is that of two columns if rows are or may be drawn
-///   as tables of their own, and otherwise that of all drawn columns.
+///   character and none that turns the direction of text. And it holds if each character has room
+///   in its column, as characters of at most two terminal columns have under a width of 1 + 5 n or
+///   more. Here n is 2 if rows are or may be drawn as tables of their own, and otherwise the number
+///   of drawn columns. U+FE01 and U+FE0E are excepted.
+/// - Under a width no such line shows more terminal columns than the width, or than the frame of n
+///   columns takes, if each character takes at most one, or two under such a width. If the width is
+///   filled and has room for the frame, each line shows exactly as many.
 pub fn drawn_rows(
     alloc: Global,
     texts: &[u8],

@@ -21,12 +21,13 @@ pub record IsNewColumn (column : ColumnValue) : Type 0 where
   pub padding : column.padding ≡ (1, 1)
   pub no_constraint : column.constraint ≡ None
   pub no_delimiter : column.delimiter ≡ None
+  pub no_alignment : column.alignment ≡ None
 
 grown : (n : ℕ) (columns : List ColumnValue) → All IsNewColumn columns → All IsNewColumn (columns_grown_to n columns)
 grown n columns each =
     All-append IsNewColumn columns _ each
     (All-map IsNewColumn new_column (range_with_len (length columns) (n - length columns))
-    (All-every (λ i. IsNewColumn (new_column i)) (range_with_len (length columns) (n - length columns)) (λ i. record { padding = refl; no_constraint = refl; no_delimiter = refl })))
+    (All-every (λ i. IsNewColumn (new_column i)) (range_with_len (length columns) (n - length columns)) (λ i. record { padding = refl; no_constraint = refl; no_delimiter = refl; no_alignment = refl })))
 
 -- a table like the base, but for new columns, and for a header and rows that P holds of
 module _ (base : TableValue) (P : RowValue → Type 0) where

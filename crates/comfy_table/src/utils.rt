@@ -1,6 +1,6 @@
 //! What stands between a table and its drawn lines.
 
-ghost use Rattle.std.specs.Prelude.{◌≡◌, List, IfOk};
+ghost use Rattle.std.specs.Prelude.{All, IsUtf8, ◌≡◌, List, IfOk};
 ghost use Rattle.comfy_table.specs.Arrangement.{IsDrawingOf};
 ghost use Rattle.comfy_table.specs.Headline.{IsTableDrawing};
 ghost use Rattle.comfy_parts.specs.Text.{Text};
@@ -19,6 +19,7 @@ use formatting::{Extent, Output, OutputForm};
 pub fn build_table(table: &Table) -> Result<Lines>
     ensures drawing { IfOk result (λ lines. IsDrawingOf table.now lines) }
     ensures headline { IfOk result (λ lines. IsTableDrawing table.now lines) }
+    ensures characters { IfOk result (λ lines. All IsUtf8 lines) }
 {
     let drawing = drawn(table, OutputForm::Lines)?;
     Ok(Lines::new(drawing.into_lines()))

@@ -1,5 +1,5 @@
 -- How many columns are drawn of records.
-use Rattle.std.proofs.Common.{◌≡◌, ◌≤◌, ◌<◌, ◌==◌, ◌&&◌, ℕ, ◌+◌, ◌-◌, Bool, true, false, List, [], ◌∷◌, Option, Some, None, Ok, drop, get_or, length, map, nat_le, nat_lt, option_map, string_bytes, take, unwrap_or, refl, sym, ap, ◌∙◌, subst, arith}
+use Rattle.std.proofs.Common.{◌≡◌, ◌≤◌, ◌<◌, ◌==◌, ◌&&◌, ℕ, ◌+◌, ◌-◌, Bool, true, false, List, [], ◌∷◌, Option, Some, None, Ok, drop, get_or, length, map, nat_le, nat_lt, option_map, string_bytes, take, unwrap_or, refl, sym, ap, ap₂, ◌∙◌, subst, arith}
 use Rattle.std.specs.List.{All, list_any, range_with_len}
 use Rattle.std.specs.Option.{option_or}
 use Rattle.std.specs.Prelude.{String, if◌then◌else◌, not}
@@ -15,8 +15,8 @@ use Rattle.csv_tables.specs.Columns.{ColumnsValue, count_of}
 use Rattle.csv_tables.specs.Drawn.{SelectedValue, columns_of, selected_of, drawn_rows, names_or_none}
 use Rattle.csv_tables.specs.declared.options.DrawnColumn.{DrawnColumn}
 use Rattle.csv_promises.proofs.DrawnColumnLemmas.{AreBelow, placed, some_drawn}
-use Rattle.csv_promises.proofs.PositionLemmas.{chosen, kept_positions, some_kept}
-use Rattle.csv_promises.specs.Fields.{positions_by, positions_in}
+use Rattle.csv_promises.proofs.PositionLemmas.{at_sides, chosen, found_by, kept_positions, some_kept}
+use Rattle.csv_promises.specs.Fields.{columns_asked, positions_by, positions_in}
 use Rattle.csv_promises.specs.Width.{all_columns, columns_in}
 
 -- ---- positions
@@ -126,6 +126,16 @@ module _ (options : Options) (records : List (List Text)) (own : ColumnsValue) (
 
   pub positions : own.drawn ≡ positions_in options names rows
   positions = kept_positions names (count_of names rows) options.columns.chosen.items options.columns.dropped.items own.drawn (chosen names _ _ _ own found)
+
+  -- they and their sides are those that options ask for
+  pub are_asked : own ≡ columns_asked options names rows
+  are_asked =
+      let sides = at_sides names _ _ _ own found in
+      let count = count_of names rows in
+      let right = found_by names count options.columns.right.items [] own.right sides.0 in
+      let left = found_by names count options.columns.left.items [] own.left sides.1 in
+      ap (λ (ps : List ℕ). record { drawn = ps; right = own.right; left = own.left }) positions
+      ∙ ap₂ (λ (r l : List ℕ). record { drawn = positions_in options names rows; right = r; left = l }) right left
 
   pub some_position : 1 ≤ length own.drawn
   some_position = some_kept names (count_of names rows) options.columns.chosen.items options.columns.dropped.items own.drawn (chosen names _ _ _ own found)

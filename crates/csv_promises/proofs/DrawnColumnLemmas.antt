@@ -3,12 +3,10 @@ use Rattle.std.proofs.Common.{◌≡◌, ◌≤◌, ◌<◌, ◌||◌, ◌==◌,
 use Rattle.std.specs.List.{All, list_any}
 use Rattle.std.specs.Prelude.{if◌then◌else◌}
 use Rattle.std.proofs.lemmas.List.{length-map}
-use Rattle.std.proofs.lemmas.List.Folds.{Any-from_list_any, list_any-from_Any}
-use Rattle.std.proofs.lemmas.List.Elements.{All-head}
+use Rattle.std.proofs.lemmas.List.Elements.{All-head, All-tail}
 use Rattle.comfy_parts.proofs.CallerLemmas.{All-of_map}
 use Rattle.comfy_parts.specs.Text.{Text}
 use Rattle.csv_tables.proofs.RowLemmas.{positions-shown}
-use Rattle.csv_tables.specs.Cells.{has_field}
 use Rattle.csv_tables.specs.Columns.{count_of, seen}
 use Rattle.csv_tables.specs.Drawn.{SelectedValue, columns_of, drawn_rows, names_or_none, selected_of}
 use Rattle.csv_tables.specs.declared.options.DrawnColumn.{DrawnColumn}
@@ -66,9 +64,9 @@ module _ (layout : Layout) (records : List (List Text)) (known : Option ℕ) (co
   pub no_rows-is : (length content.rows == 0) ≡ (length rows == 0)
   no_rows-is = ap (λ (rs : List (List Text)). length rs == 0) same_rows
 
-  -- without names a row has the field of a column
-  pub reaches_one : 1 ≤ length layout.columns.drawn → AreBelow names rows layout.columns.drawn → content.names ≡ None → reaches content.columns content.rows ≡ true
-  reaches_one some inside none =
+  -- without names a row has the field of the last column
+  pub reaches_last : 1 ≤ length layout.columns.drawn → AreBelow names rows layout.columns.drawn → content.names ≡ None → reaches content.columns content.rows ≡ true
+  reaches_last some inside none =
       ap₂ (λ (cs : List DrawnColumn) (rs : List (List Text)). reaches cs rs) own_columns same_rows ∙ by_columns columns (omega (arith, some, long)) below
     where
       unnamed : names ≡ []
@@ -82,6 +80,5 @@ module _ (layout : Layout) (records : List (List Text)) (known : Option ℕ) (co
 
       by_columns : (cs : List DrawnColumn) → 1 ≤ length cs → All IsIn cs → reaches cs rows ≡ true
       by_columns [] one in_rows = absurd (omega (arith, one))
-      by_columns (column ∷ cs) one in_rows =
-          let own = Any-from_list_any (λ (fields : List Text). nat_lt column.position (length fields)) rows (in_row column.position rows 0 (omega arith) (All-head IsIn column cs in_rows)) in
-          list_any-from_Any (λ (fields : List Text). list_any (has_field fields) (column ∷ cs)) rows (own.0, own.1, own.2, own.3, ap (λ (b : Bool). b || list_any (has_field own.1) cs) own.4)
+      by_columns (column ∷ []) one in_rows = in_row column.position rows 0 (omega arith) (All-head IsIn column [] in_rows)
+      by_columns (column ∷ next ∷ more) one in_rows = by_columns (next ∷ more) (omega arith) (All-tail IsIn column (next ∷ more) in_rows)

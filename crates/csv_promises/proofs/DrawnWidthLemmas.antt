@@ -8,7 +8,7 @@ use Rattle.comfy_table.specs.Laws.{HasNoBreak, HasNoControl, least_total}
 use Rattle.comfy_table.specs.Parts.{ArrangedValue}
 use Rattle.comfy_table.specs.TableValue.{TableValue}
 use Rattle.comfy_table.specs.Widths.{shown_count}
-use Rattle.csv_promises.proofs.DrawnColumnLemmas.{AreBelow, drawn_count, no_rows-is, reaches_one, some_drawn}
+use Rattle.csv_promises.proofs.DrawnColumnLemmas.{AreBelow, drawn_count, no_rows-is, reaches_last, some_drawn}
 use Rattle.csv_promises.proofs.DrawnLemmas.{IsPlainOutput, own_fit, plain}
 use Rattle.csv_promises.proofs.FrameLemmas.{column_is_shown, frame_has_room, width_has_room, places_of}
 use Rattle.csv_promises.proofs.LineLemmas.{output_lines, shown_line}
@@ -178,7 +178,7 @@ module _ (w : ℕ) (known : Option ℕ) (layout : Layout) (records : List (List 
   keep = by_pairs text.is_expanded refl (flat_map (pairs_in look content) content.rows) refl
     where
       shown : (text.is_expanded ≡ true → ¬ (flat_map (pairs_in look content) content.rows ≡ [])) → Good
-      shown pairs = kept (column_is_shown text.is_expanded has look content some_columns (reaches_one layout records known content own.is_content some below) pairs)
+      shown pairs = kept (column_is_shown text.is_expanded has look content some_columns (reaches_last layout records known content own.is_content some below) pairs)
 
       by_pairs : (e : Bool) → text.is_expanded ≡ e → (pairs : List RowValue) → flat_map (pairs_in look content) content.rows ≡ pairs → Good
       by_pairs true is [] none = empty is none

@@ -2,7 +2,7 @@
 use Rattle.std.proofs.Common.{◌≡◌, ◌≤◌, ◌<◌, ◌||◌, ℕ, ◌+◌, Bool, true, false, not, List, [], ◌∷◌, Option, Some, None, flat_map, length, map, refl, sym, ap, ◌∙◌, subst, arith, sum_by}
 use Rattle.std.specs.List.{All, enumerate_from, list_any}
 use Rattle.std.specs.Prelude.{if◌then◌else◌}
-use Rattle.std.proofs.lemmas.Bool.{leb-true}
+use Rattle.std.proofs.lemmas.Bool.{leb-true, or_right}
 use Rattle.std.proofs.lemmas.List.{length-map}
 use Rattle.std.proofs.lemmas.List.Elements.{All-head, All-map, All-tail, recursion_from_All}
 use Rattle.std.proofs.lemmas.List.FromFn.{length-enumerate_from}
@@ -14,7 +14,7 @@ use Rattle.comfy_table.proofs.BuiltTableLemmas.{IsNewColumn}
 use Rattle.comfy_table.specs.Laws.{least_total}
 use Rattle.comfy_table.specs.TableValue.{TableValue, shown_columns, with_row, with_rows}
 use Rattle.comfy_table.specs.Widths.{shown_count}
-use Rattle.csv_tables.proofs.BuiltLemmas.{names-length, plain_table, row-length}
+use Rattle.csv_tables.proofs.BuiltLemmas.{names-length, row-length}
 use Rattle.csv_tables.proofs.LineLemmas.{Any, any_built, any_drawn}
 use Rattle.csv_tables.proofs.ReachedLemmas.{reached-length}
 use Rattle.csv_tables.proofs.SeparatorLemmas.{separated}
@@ -115,18 +115,31 @@ module _ (look : Look) (content : SelectedValue) (has : Bool) where
 
 -- ---- columns that are drawn
 
--- whether a record has the field of one of these columns
-abbrev pub reaches : List DrawnColumn → List (List Text) → Bool
-reaches columns rows = list_any (λ (fields : List Text). list_any (has_field fields) columns) rows
+-- whether a record has the field of the last column
+abbrev pub has_last : List Text → List DrawnColumn → Bool
+has_last fields [] = true
+has_last fields (column ∷ []) = has_field fields column
+has_last fields (column ∷ next ∷ more) = has_last fields (next ∷ more)
 
-some_reached : (fields : List Text) (columns : List DrawnColumn) → list_any (has_field fields) columns ≡ true → 1 ≤ length (columns_within fields columns)
-some_reached fields [] none = absurd (cc none)
-some_reached fields (column ∷ columns) some = rw some (omega arith)
+-- so one has it
+abbrev pub reaches : List DrawnColumn → List (List Text) → Bool
+reaches columns rows = list_any (λ (fields : List Text). has_last fields columns) rows
+
+-- such a record has a cell for each column
+any_to_last : (fields : List Text) (column : DrawnColumn) (more : List DrawnColumn) → has_last fields (column ∷ more) ≡ true → list_any (has_field fields) (column ∷ more) ≡ true
+any_to_last fields column [] last = ap (λ (b : Bool). b || false) last
+any_to_last fields column (next ∷ more) last = or_right (has_field fields column) (list_any (has_field fields) (next ∷ more)) (any_to_last fields next more last)
+
+all_within : (fields : List Text) (columns : List DrawnColumn) → has_last fields columns ≡ true → columns_within fields columns ≡ columns
+all_within fields [] last = refl
+all_within fields (column ∷ []) last = rw (any_to_last fields column [] last) refl
+all_within fields (column ∷ next ∷ more) last = rw (any_to_last fields column (next ∷ more) last) (ap (λ (cs : List DrawnColumn). column ∷ cs) (all_within fields (next ∷ more) last))
 
 module _ (look : Look) (is_aligned is_numbered : Bool) (columns : List DrawnColumn) where
-  some_cells : (n : ℕ) (rows : List (List Text)) (table : TableValue) → reaches columns rows ≡ true → 1 ≤ length (with_rows (map (row_for look is_aligned is_numbered columns) (counted_from n rows)) table).columns
-  some_cells n [] table none = absurd (cc none)
-  some_cells n (fields ∷ more) table some = by_test (some_cells (n + 1) more) (list_any (has_field fields) columns) refl
+  -- so the table has them all
+  all_cells : (n : ℕ) (rows : List (List Text)) (table : TableValue) → reaches columns rows ≡ true → length columns + (if is_numbered then 1 else 0) ≤ length (with_rows (map (row_for look is_aligned is_numbered columns) (counted_from n rows)) table).columns
+  all_cells n [] table none = absurd (cc none)
+  all_cells n (fields ∷ more) table some = by_test (all_cells (n + 1) more) (has_last fields columns) refl
     where
       row : RowValue
       row = row_for look is_aligned is_numbered columns (n, fields)
@@ -134,46 +147,49 @@ module _ (look : Look) (is_aligned is_numbered : Bool) (columns : List DrawnColu
       rest : List RowValue
       rest = map (row_for look is_aligned is_numbered columns) (counted_from (n + 1) more)
 
-      by_test : ((t : TableValue) → reaches columns more ≡ true → 1 ≤ length (with_rows rest t).columns) → (b : Bool) → list_any (has_field fields) columns ≡ b → 1 ≤ length (with_rows rest (with_row row table)).columns
+      by_test : ((t : TableValue) → reaches columns more ≡ true → length columns + (if is_numbered then 1 else 0) ≤ length (with_rows rest t).columns) → (b : Bool) → has_last fields columns ≡ b → length columns + (if is_numbered then 1 else 0) ≤ length (with_rows rest (with_row row table)).columns
       by_test later true own =
           let shown = shown_in look is_aligned is_numbered (columns_within fields columns) (n, fields) in
-          with_rows-columns 1 rest (with_row row table)
-          (omega (arith, some_reached fields columns own, row-length look is_aligned is_numbered (columns_within fields columns) (n, fields), cells-length look false shown, no_fewer_columns (length row.cells) table.columns))
+          with_rows-columns (length columns + (if is_numbered then 1 else 0)) rest (with_row row table)
+          (omega (arith, ap length (all_within fields columns own), row-length look is_aligned is_numbered (columns_within fields columns) (n, fields), cells-length look false shown, no_fewer_columns (length row.cells) table.columns))
       by_test later false own = later (with_row row table) (ap (λ (b : Bool). b || reaches columns more) (sym own) ∙ some)
 
--- the table of rows has a column where there are names, or where a record has the field of a column
+-- the table of rows has all columns if there are names, or a record has the field of the last one
 abbrev rows_made : Look → SelectedValue → List RowValue
 rows_made look content = map (row_for look (is_aligned_in look content) content.is_numbered content.columns) (counted_from 1 content.rows)
 
-some_columns : (look : Look) (content : SelectedValue) → 1 ≤ length content.columns → (content.names ≡ None → reaches content.columns content.rows ≡ true) → 1 ≤ length (rows_table look (is_aligned_in look content) content).columns
-some_columns look content some reach = by_names content.names refl
+reached_columns : (look : Look) (content : SelectedValue) → (content.names ≡ None → reaches content.columns content.rows ≡ true) → places_of content ≤ length (rows_table look (is_aligned_in look content) content).columns
+reached_columns look content reach = by_names content.names refl
   where
-    by_names : (names : Option (List Text)) → content.names ≡ names → 1 ≤ length (with_rows (rows_made look content) (headed_table look content.is_numbered content.columns names)).columns
-    by_names None is = some_cells look (is_aligned_in look content) content.is_numbered content.columns 1 content.rows (empty_table look) (reach is)
+    by_names : (names : Option (List Text)) → content.names ≡ names → places_of content ≤ length (with_rows (rows_made look content) (headed_table look content.is_numbered content.columns names)).columns
+    by_names None is = all_cells look (is_aligned_in look content) content.is_numbered content.columns 1 content.rows (empty_table look) (reach is)
     by_names (Some names) is =
-        with_rows-columns 1 (rows_made look content) (headed_table look content.is_numbered content.columns (Some names))
-        (omega (arith, some, header_few look content names, no_fewer_columns (length (header_for look content.is_numbered content.columns names).cells) []))
+        with_rows-columns (places_of content) (rows_made look content) (headed_table look content.is_numbered content.columns (Some names))
+        (omega (arith, header_few look content names, no_fewer_columns (length (header_for look content.is_numbered content.columns names).cells) []))
 
--- all columns of a drawn table are shown
-all_are_shown : (is_expanded has : Bool) (look : Look) (content : SelectedValue) → shown_count (separated_table has (output_table is_expanded look content)) ≡ length (plain_table is_expanded (is_aligned_in look content) look content).columns
+-- so has a drawn one
+pub row_columns : (has : Bool) (look : Look) (content : SelectedValue) → (content.names ≡ None → reaches content.columns content.rows ≡ true) → length (separated_table has (output_table false look content)).columns ≡ places_of content
+row_columns has look content reach =
+    omega (arith, reached_columns look content reach, rows_few look (is_aligned_in look content) content, (has_rows_of look content false has).as_many)
+
+-- that of expanded records has two, if one has a field
+pub pair_columns : (has : Bool) (look : Look) (content : SelectedValue) → ¬ (flat_map (pairs_in look content) content.rows ≡ []) → length (separated_table has (output_table true look content)).columns ≡ 2
+pair_columns has look content some = by_pairs (flat_map (pairs_in look content) content.rows) refl
+  where
+    by_pairs : (rows : List RowValue) → flat_map (pairs_in look content) content.rows ≡ rows → length (separated_table has (output_table true look content)).columns ≡ 2
+    by_pairs [] none = absurd (some none)
+    by_pairs (row ∷ more) is =
+        let two : length (pairs_table look content).columns ≡ 2 =
+        ap (λ (rows : List RowValue). length (with_rows rows (empty_table look)).columns) is
+        ∙ exactly_two row more (empty_table look) (subst (All HasTwo) is (pairs_are_two look content)) (omega arith) in
+        omega (arith, two, (has_rows_of look content true has).as_many)
+
+-- all its columns are shown, so that one is
+all_are_shown : (is_expanded has : Bool) (look : Look) (content : SelectedValue) → shown_count (separated_table has (output_table is_expanded look content)) ≡ length (separated_table has (output_table is_expanded look content)).columns
 all_are_shown is_expanded has look content =
-    let own = has_rows_of look content is_expanded has in
-    ap length own.shown ∙ length-enumerate_from 0 (separated_table has (output_table is_expanded look content)).columns ∙ own.as_many
+    ap length (has_rows_of look content is_expanded has).shown ∙ length-enumerate_from 0 (separated_table has (output_table is_expanded look content)).columns
 
--- those of expanded records are two, where one has a field
-pairs_shown : (has : Bool) (look : Look) (content : SelectedValue) (row : RowValue) (more : List RowValue) → flat_map (pairs_in look content) content.rows ≡ row ∷ more → 1 ≤ shown_count (separated_table has (output_table true look content))
-pairs_shown has look content row more some =
-    let two : length (pairs_table look content).columns ≡ 2 =
-    ap (λ (rows : List RowValue). length (with_rows rows (empty_table look)).columns) some
-    ∙ exactly_two row more (empty_table look) (subst (All HasTwo) some (pairs_are_two look content)) (omega arith) in
-    omega (arith, two, all_are_shown true has look content)
-
--- a drawn table has a shown column
 pub column_is_shown : (is_expanded has : Bool) (look : Look) (content : SelectedValue) → 1 ≤ length content.columns → (content.names ≡ None → reaches content.columns content.rows ≡ true)
     → (is_expanded ≡ true → ¬ (flat_map (pairs_in look content) content.rows ≡ [])) → 0 < shown_count (separated_table has (output_table is_expanded look content))
-column_is_shown true has look content some reach pairs = by_pairs (flat_map (pairs_in look content) content.rows) refl
-  where
-    by_pairs : (rows : List RowValue) → flat_map (pairs_in look content) content.rows ≡ rows → 0 < shown_count (separated_table has (output_table true look content))
-    by_pairs [] none = absurd (pairs refl none)
-    by_pairs (row ∷ more) is = let own = pairs_shown has look content row more is in omega (arith, own)
-column_is_shown false has look content some reach pairs = omega (arith, some_columns look content some reach, all_are_shown false has look content)
+column_is_shown true has look content some reach pairs = omega (arith, pair_columns has look content (pairs refl), all_are_shown true has look content)
+column_is_shown false has look content some reach pairs = omega (arith, some, row_columns has look content reach, all_are_shown false has look content)

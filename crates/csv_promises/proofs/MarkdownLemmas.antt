@@ -17,7 +17,8 @@ use Rattle.csv_command.specs.declared.arguments.OutputContext.{OutputContext}
 use Rattle.csv_records.proofs.CleaningLemmas.{cleaned-printable}
 use Rattle.csv_records.specs.Cleaning.{cleaned}
 use Rattle.csv_tables.proofs.FieldLemmas.{number_is_printable, printable_unbroken}
-use Rattle.csv_tables.proofs.MarkdownDrawingLemmas.{records_are_given_back}
+use Rattle.csv_tables.proofs.MarkdownDrawingLemmas.{GivesRecordsBack, records_are_given_back}
+use Rattle.csv_tables.proofs.MarkdownLineLemmas.{GivesBack, read_field}
 use Rattle.csv_tables.proofs.MarkdownWidthLemmas.{headed, sides-length}
 use Rattle.csv_tables.proofs.OutputControlLemmas.{rule_is_printable}
 use Rattle.csv_tables.specs.Cells.{Shown, counted_from, field_text, number_name, shown_fields, shown_in, shown_names, shown_number}
@@ -25,13 +26,13 @@ use Rattle.csv_tables.specs.Drawn.{SelectedValue, columns_of, drawn_rows, markdo
 use Rattle.csv_tables.specs.Fields.{field_or_blank}
 use Rattle.csv_tables.specs.Laws.{EachText}
 use Rattle.csv_tables.specs.Markdown.{rule_line}
-use Rattle.csv_tables.specs.MarkdownLines.{GivesBack, GivesRecordsBack, read_field, without_outer_spaces}
+use Rattle.csv_tables.specs.MarkdownLines.{without_outer_spaces}
 use Rattle.csv_tables.specs.declared.options.DrawnColumn.{DrawnColumn}
 use Rattle.csv_tables.specs.declared.options.Layout.{Layout}
 use Rattle.csv_tables.specs.declared.options.Look.{Look}
 use Rattle.csv_promises.proofs.ColumnLemmas.{chosen_positions, some_column}
 use Rattle.csv_promises.proofs.WrittenLemmas.{IsDrawnBy, by_extent, own_fields}
-use Rattle.csv_promises.specs.Fields.{all_rows, fields_at, positions_in, row_behind, rows_from}
+use Rattle.csv_promises.specs.Fields.{all_rows, fields_at, no_marks, positions_in, row_behind, rows_from}
 use Rattle.csv_promises.specs.MarkdownTable.{HasFields, IsMarkdownTable, IsRule, IsWrittenAsMarkdown}
 use Rattle.csv_promises.specs.Written.{IsWritten}
 
@@ -48,7 +49,7 @@ positions_of columns = map (λ (column : DrawnColumn). column.position) columns
 
 module _ (look : Look) where
   -- a shown field is read as it is cleaned
-  fields_read : (columns : List DrawnColumn) (fields : List Text) → map read_shown (shown_fields look false columns fields) ≡ map as_read (fields_at (positions_of columns) fields)
+  fields_read : (columns : List DrawnColumn) (fields : List Text) → map read_shown (shown_fields look false columns fields) ≡ map as_read (fields_at no_marks (positions_of columns) fields)
   fields_read [] fields = refl
   fields_read (column ∷ columns) fields = ap (λ (rest : List (List ℕ)). as_read (cleaned false (field_or_blank fields column.position)) ∷ rest) (fields_read columns fields)
 
@@ -65,19 +66,19 @@ module _ (look : Look) where
   name_is_printable [] = refl
   name_is_printable (name ∷ names) = refl
 
-  header_has : (is_numbered : Bool) (columns : List DrawnColumn) (names : List Text) (line : Text) → GivesBack (shown_names look is_numbered columns names) line → HasFields (row_behind is_numbered (number_name names) (fields_at (positions_of columns) names)) line
+  header_has : (is_numbered : Bool) (columns : List DrawnColumn) (names : List Text) (line : Text) → GivesBack (shown_names look is_numbered columns names) line → HasFields (row_behind is_numbered (number_name names) (fields_at no_marks (positions_of columns) names)) line
   header_has is_numbered columns names line =
-      has_fields (shown_names look is_numbered columns names) (row_behind is_numbered (number_name names) (fields_at (positions_of columns) names)) line
-      (row_read is_numbered (number_name names) (name_is_printable names) (shown_fields look false columns names) (fields_at (positions_of columns) names) (fields_read columns names))
+      has_fields (shown_names look is_numbered columns names) (row_behind is_numbered (number_name names) (fields_at no_marks (positions_of columns) names)) line
+      (row_read is_numbered (number_name names) (name_is_printable names) (shown_fields look false columns names) (fields_at no_marks (positions_of columns) names) (fields_read columns names))
 
   rows_have : (is_numbered : Bool) (columns : List DrawnColumn) (n : ℕ) (rows : List (List Text)) (lines : List Text) → AllZip (λ row line. GivesBack (shown_in look false is_numbered columns row) line) (counted_from n rows) lines
-      → AllZip HasFields (rows_from is_numbered (positions_of columns) n rows) lines
+      → AllZip HasFields (rows_from is_numbered no_marks (positions_of columns) n rows) lines
   rows_have is_numbered columns n [] [] each = tt
   rows_have is_numbered columns n [] (line ∷ lines) each = absurd each
   rows_have is_numbered columns n (fields ∷ rows) [] each = absurd each
   rows_have is_numbered columns n (fields ∷ rows) (line ∷ lines) (own, more) = (
-    has_fields (shown_in look false is_numbered columns (n, fields)) (row_behind is_numbered (decimal n) (fields_at (positions_of columns) fields)) line
-        (row_read is_numbered (decimal n) (number_is_printable n) (shown_fields look false columns fields) (fields_at (positions_of columns) fields) (fields_read columns fields)) own,
+    has_fields (shown_in look false is_numbered columns (n, fields)) (row_behind is_numbered (decimal n) (fields_at no_marks (positions_of columns) fields)) line
+        (row_read is_numbered (decimal n) (number_is_printable n) (shown_fields look false columns fields) (fields_at no_marks (positions_of columns) fields) (fields_read columns fields)) own,
     rows_have is_numbered columns (n + 1) rows lines more,
   )
 
@@ -89,14 +90,14 @@ count_in is_numbered positions = (if is_numbered then 1 else 0) + length positio
 abbrev HasCount : Bool → List ℕ → List Text → Type 0
 HasCount is_numbered positions fields = length fields ≡ count_in is_numbered positions
 
-one_count : (is_numbered : Bool) (positions : List ℕ) (number : Text) (fields : List Text) → HasCount is_numbered positions (row_behind is_numbered number (fields_at positions fields))
-one_count true positions number fields = let own : length (fields_at positions fields) ≡ length positions = length-map positions (λ position. cleaned false (field_or_blank fields position)) in omega (arith, own)
-one_count false positions number fields = let own : length (fields_at positions fields) ≡ length positions = length-map positions (λ position. cleaned false (field_or_blank fields position)) in omega (arith, own)
+one_count : (is_numbered : Bool) (positions : List ℕ) (number : Text) (fields : List Text) → HasCount is_numbered positions (row_behind is_numbered number (fields_at no_marks positions fields))
+one_count true positions number fields = let own : length (fields_at no_marks positions fields) ≡ length positions = length-map positions (λ position. cleaned false (field_or_blank fields position)) in omega (arith, own)
+one_count false positions number fields = let own : length (fields_at no_marks positions fields) ≡ length positions = length-map positions (λ position. cleaned false (field_or_blank fields position)) in omega (arith, own)
 
-rows_count : (is_numbered : Bool) (positions : List ℕ) (n : ℕ) (rows : List (List Text)) → All (HasCount is_numbered positions) (rows_from is_numbered positions n rows)
+rows_count : (is_numbered : Bool) (positions : List ℕ) (n : ℕ) (rows : List (List Text)) → All (HasCount is_numbered positions) (rows_from is_numbered no_marks positions n rows)
 rows_count is_numbered positions n [] = All-nil (HasCount is_numbered positions)
 rows_count is_numbered positions n (fields ∷ rows) =
-    All-cons (HasCount is_numbered positions) (row_behind is_numbered (decimal n) (fields_at positions fields)) (rows_from is_numbered positions (n + 1) rows) (one_count is_numbered positions (decimal n) fields) (rows_count is_numbered positions (n + 1) rows)
+    All-cons (HasCount is_numbered positions) (row_behind is_numbered (decimal n) (fields_at no_marks positions fields)) (rows_from is_numbered no_marks positions (n + 1) rows) (one_count is_numbered positions (decimal n) fields) (rows_count is_numbered positions (n + 1) rows)
 
 -- ---- what is written for arguments
 
@@ -109,7 +110,7 @@ module _ (arguments : List Text) (context : OutputContext) (invocation : Invocat
 
   -- the names and rows of these
   abbrev rows_for : Option (List Text) → List (List Text) → List (List Text)
-  rows_for names rows = all_rows is_numbered (positions_in options (unwrap_or names []) rows) (Some (unwrap_or names [])) rows
+  rows_for names rows = all_rows is_numbered no_marks (positions_in options (unwrap_or names []) rows) (Some (unwrap_or names [])) rows
 
   module _ (known : Option ℕ) (rs : List (List Text)) (by : IsDrawnBy true arguments context invocation input records output is known rs) where
     abbrev layout : Layout
@@ -136,7 +137,7 @@ module _ (arguments : List Text) (context : OutputContext) (invocation : Invocat
       have =
           subst (λ (names : Option (List Text)). AllZip HasFields (rows_for names (drawn_rows options.selection records)) (back.header ∷ back.lines)) by.names
           (subst (λ (rows : List (List Text)). AllZip HasFields (rows_for (names_of options.selection.has_header rs) rows) (back.header ∷ back.lines)) by.rows
-          (subst (λ (ps : List ℕ). AllZip HasFields (all_rows is_numbered ps (Some (unwrap_or (names_of options.selection.has_header rs) [])) (drawn_rows options.selection rs)) (back.header ∷ back.lines)) positions (
+          (subst (λ (ps : List ℕ). AllZip HasFields (all_rows is_numbered no_marks ps (Some (unwrap_or (names_of options.selection.has_header rs) [])) (drawn_rows options.selection rs)) (back.header ∷ back.lines)) positions (
             header_has look is_numbered columns (unwrap_or (names_of options.selection.has_header rs) []) back.header
                 (subst (λ (c : SelectedValue). GivesBack (shown_names look c.is_numbered c.columns (unwrap_or c.names [])) back.header) same back.names),
             rows_have look is_numbered columns 1 (drawn_rows options.selection rs) back.lines
@@ -168,7 +169,7 @@ module _ (arguments : List Text) (context : OutputContext) (invocation : Invocat
           let ps = positions_in options (unwrap_or (names_of options.selection.has_header records) []) (drawn_rows options.selection records) in
           let names = unwrap_or (names_of options.selection.has_header records) [] in
           subst (λ (n : ℕ). All (λ (fields : List Text). length fields ≡ n) (rows_for (names_of options.selection.has_header records) (drawn_rows options.selection records))) counted
-          (All-cons (HasCount is_numbered ps) (row_behind is_numbered (number_name names) (fields_at ps names)) (rows_from is_numbered ps 1 (drawn_rows options.selection records)) (one_count is_numbered ps (number_name names) names)
+          (All-cons (HasCount is_numbered ps) (row_behind is_numbered (number_name names) (fields_at no_marks ps names)) (rows_from is_numbered no_marks ps 1 (drawn_rows options.selection records)) (one_count is_numbered ps (number_name names) names)
           (rows_count is_numbered ps 1 (drawn_rows options.selection records)))
 
       table : IsMarkdownTable options records output

@@ -1,12 +1,13 @@
 -- What is written of records shows all of their fields.
-use Rattle.std.proofs.Common.{◌≡◌, ◌≤◌, ◌<◌, ◌==◌, decimal, filter, is_some, ◌||◌, inl, inr, ℕ, zero, suc, ◌+◌, Bool, true, false, List, [], ◌∷◌, ◌++◌, Option, Some, None, drop, filter_map, flat_map, length, map, max, nat_lt, take, refl, sym, ap, ap₂, ◌∙◌, subst, arith, append_assoc, length-append, slice_index_or, unwrap_or}
+use Rattle.std.proofs.Common.{◌≡◌, ◌≤◌, ◌<◌, ◌==◌, decimal, filter, is_some, ◌||◌, ◌&&◌, inl, inr, ℕ, zero, suc, ◌+◌, Bool, true, false, List, [], ◌∷◌, ◌++◌, Option, Some, None, drop, filter_map, flat_map, length, map, max, nat_lt, take, refl, sym, ap, ap₂, ◌∙◌, subst, arith, append_assoc, length-append, slice_index_or, unwrap_or}
 use Rattle.std.specs.List.{All, AllZip, range_with_len}
 use Rattle.std.specs.Prelude.{if◌then◌else◌, option_to_list, slice_get, slice_index, sum_by}
 use Rattle.std.specs.Str.{IsUtf8}
-use Rattle.std.proofs.Math.Seq.{take-length}
-use Rattle.std.proofs.lemmas.List.Elements.{All-cons, All-head, All-map, All-nil, All-tail, All-weaker}
+use Rattle.std.proofs.Math.Seq.{drop-nil, take-length, take-nil}
+use Rattle.std.proofs.lemmas.List.Elements.{All-cons, All-drop, All-head, All-map, All-nil, All-tail, All-take, All-weaker}
 use Rattle.comfy_parts.specs.CellValue.{RowValue}
 use Rattle.comfy_parts.specs.Text.{Text, greatest}
+use Rattle.comfy_parts.specs.declared.style.cell.CellAlignment.{CellAlignment}
 use Rattle.comfy_table.specs.Drawing.{drawing, drawing_of_infos, infos_of, terminated_text_of}
 use Rattle.comfy_table.specs.Headline.{IsTableDrawing}
 use Rattle.comfy_table.specs.Laws.{IsStyleWithout}
@@ -21,11 +22,13 @@ use Rattle.csv_tables.proofs.LineLemmas.{is_table_text}
 use Rattle.csv_tables.proofs.OutputControlLemmas.{unbroken_without}
 use Rattle.csv_tables.proofs.FieldControlLemmas.{text_fields}
 use Rattle.csv_tables.proofs.RowLemmas.{with_rows-rows}
-use Rattle.csv_tables.specs.Cells.{Shown, cell_for, columns_within, shown_cells, shown_in, with_weight, number_name, row_for, counted_from}
-use Rattle.csv_tables.specs.Columns.{name_at}
-use Rattle.csv_tables.specs.Drawn.{SelectedValue, RendersAsTable, RendersRecords, RendersTable, columns_of, drawn_fields, drawn_rows, empty_table, has_room_for, headed_table, names_of, note_for, output_table, pairs_in, record_line, record_text, rows_table, separated_table, some_lines, table_text, is_aligned_in, is_table_expanded}
+use Rattle.csv_tables.specs.Cells.{Shown, cell_for, columns_within, held, pair_for, shown_cells, shown_in, with_weight, number_name, row_for, counted_from}
+use Rattle.csv_tables.specs.Columns.{ColumnsValue, name_at}
+use Rattle.csv_tables.specs.Drawn.{SelectedValue, RendersAsTable, RendersRecords, RendersTable, columns_of, drawn_fields, drawn_rows, empty_table, has_room_for, headed_table, names_of, note_for, output_table, pairs_in, record_line, record_text, rows_table, separated_table, some_lines, table_text, unbroken_in, is_aligned_in, is_table_expanded, names_or_none}
+use Rattle.csv_tables.specs.Unbroken.{has_room}
 use Rattle.csv_command.specs.Drawn.{layout_with}
 use Rattle.csv_tables.specs.declared.options.DrawnColumn.{DrawnColumn}
+use Rattle.csv_records.specs.declared.decimals.Points.{Points}
 use Rattle.csv_tables.specs.declared.options.Layout.{Layout}
 use Rattle.csv_tables.specs.declared.options.Look.{Look}
 use Rattle.csv_command.specs.declared.arguments.Options.{Options}
@@ -33,24 +36,28 @@ use Rattle.comfy_parts.proofs.CallerLemmas.{All-every}
 use Rattle.std.proofs.lemmas.List.{length-map}
 use Rattle.csv_records.specs.Cleaning.{cleaned}
 use Rattle.csv_tables.specs.Fields.{field_or_blank}
-use Rattle.csv_promises.proofs.FrameLemmas.{most_columns, places_of}
+use Rattle.csv_promises.proofs.FrameLemmas.{pair_columns, places_of, reaches, row_columns}
 use Rattle.promises.specs.Headline.{IsUncoloured, widest}
 use Rattle.csv_promises.proofs.ExpandedLemmas.{rows_at}
-use Rattle.csv_promises.proofs.FieldLemmas.{IsRowFor, are_pairs, are_rows, is_header, positions_of}
-use Rattle.csv_promises.proofs.ColumnLemmas as columns_lemmas
-use Rattle.csv_promises.proofs.DrawnColumnLemmas.{placed}
+use Rattle.csv_promises.proofs.FieldLemmas.{IsRowFor, are_pairs, are_rows, is_header, own_sides, positions_of}
+use Rattle.csv_promises.proofs.ColumnLemmas.{are_asked, are_below, some_position}
+use Rattle.csv_promises.proofs.DrawnColumnLemmas.{AreBelow, placed, reaches_last}
 use Rattle.csv_promises.proofs.RecordLemmas.{all_drawn, with_rows-header}
-use Rattle.csv_promises.proofs.ShownTableLemmas.{HasRowsOf, has_rows_of, part_shows, no_custom_styling}
+use Rattle.csv_promises.proofs.ShownTableLemmas.{HasPlainFields, HasRowsOf, has_rows_of, part_shows, no_custom_styling}
 use Rattle.csv_promises.proofs.LineLemmas.{may_expand, no_records, no_rows, none_below, nothing_noted}
 use Rattle.csv_promises.proofs.WrittenLemmas.{IsDrawnBy, by_extent}
 use Rattle.csv_promises.specs.Counted.{AreExpanded, IsCount, IsWrittenFor}
-use Rattle.csv_promises.specs.Fields.{IsDrawingOf, ShowsAllFields, ShowsFields, fields_at, row_behind, rows_from, ShowsPairs, ShowsRecords, ShowsRows, pairs_at, positions_in, all_rows, whole_for, whole_pairs}
-use Rattle.csv_promises.proofs.WholeLemmas.{AreColumns, kept_whole, pairs_kept_whole, unbroken-shown, widest-content}
+use Rattle.csv_promises.specs.Fields.{AreLinedUp, IsDrawingOf, KeepsNumbers, ShowsAllFields, ShowsFields, fields_at, row_behind, rows_from, ShowsPairs, ShowsRecords, ShowsRows, columns_asked, lined_up, mark_for, no_marks, pairs_at, all_rows, sides_behind, whole_for, whole_pairs}
+use Rattle.csv_promises.proofs.WholeLemmas.{AreColumns, kept_whole, marks-shown, pairs_keep_numbers, pairs_kept_whole, sides-shown, unbroken-shown, widest-content}
 use Rattle.csv_promises.specs.Written.{IsWritten}
 
 -- of no rows nothing
-none_shown : (look : Look) (has_header : Bool) (whole : List Bool) → ShowsRows look has_header whole [] []
-none_shown look has_header whole = inl (refl, refl)
+none_shown : (look : Look) (has_header has_names : Bool) (sides : List CellAlignment) (whole : List Bool) → ShowsRows look has_header has_names sides whole [] []
+none_shown look has_header has_names sides whole = inl (refl, refl)
+
+-- a name and a field
+abbrev IsPair : List Text → Type 0
+IsPair own = length own ≡ 2
 
 -- ---- tables
 
@@ -87,22 +94,22 @@ module _ (look : Look) (all : DrawsAll look) (is_numbered : Bool) (names : Optio
     abbrev is : HasRowsOf (plain_table is_expanded (is_aligned_in look content) look content) table
     is = has_rows_of look content is_expanded renders.has_separators
 
-    abbrev shows : (first n : ℕ) (has_header : Bool) → is_some table.header ≡ has_header → (fields : List (List Text)) → AllZip IsRowFor fields (option_to_list table.header ++ take n (drop first table.rows)) → All (λ (own : List Text). length table.columns ≤ length own) fields
-        → (has_header ≡ true → All (λ (row : RowValue). All IsUncoloured row.cells) (take n (drop first table.rows)))
-        → (whole : List Bool) → ((i : ℕ) → i < length table.columns → slice_get whole i ≡ Some true → widest (with_rows_alone first n table) i ≤ max 1 (slice_index drawn.widths i)) → IsDrawingOf look has_header whole fields (terminated_text_of (drawing (with_rows_alone first n table) drawn.widths))
+    abbrev shows : (first n : ℕ) (has_header has_names : Bool) → is_some table.header ≡ has_header → (sides : List CellAlignment) (fields : List (List Text)) → AllZip (IsRowFor sides) fields (option_to_list table.header ++ take n (drop first table.rows)) → All (λ (own : List Text). length table.columns ≡ length own) fields
+        → All (HasPlainFields has_names) (take n (drop first table.rows))
+        → (whole : List Bool) → ((i : ℕ) → i < length table.columns → slice_get whole i ≡ Some true → widest (with_rows_alone first n table) i ≤ max 1 (slice_index drawn.widths i))
+        → (has_names ≡ true → (w : ℕ) → w ≤ 65535 → look.width ≡ Some w → All (KeepsNumbers look w (max 1 (slice_index drawn.widths 1))) (take n (drop first table.rows))) → IsDrawingOf look has_header has_names sides whole fields (terminated_text_of (drawing (with_rows_alone first n table) drawn.widths))
     shows = part_shows look content is_expanded renders.has_separators all.unkept all.style lines drawn
 
-    -- it has no more columns than fields
-    enough : (fields : List Text) → (if is_expanded then 2 else places_of content) ≤ length fields → length table.columns ≤ length fields
-    enough fields many = let most = most_columns is_expanded renders.has_separators look content in omega (arith, most, many)
-
   -- the table of rows
-  pub rows_shown : (text : Text) → RendersTable false look content text → All (All IsUtf8) (option_to_list names ++ rows) → AreColumns look content
-      → ShowsRows look (is_some names) (whole_for look.width look.expansion is_numbered (positions_of columns) rows) (all_rows is_numbered (positions_of columns) names rows) text
-  rows_shown text renders utf8 are =
-      subst (ShowsRows look (is_some names) whole fields) (sym (is_text false text renders))
-      (inr (shows false text renders 0 (length (table false text renders).rows) (is_some names) headed fields
-      (subst (λ (own : List RowValue). AllZip IsRowFor fields (option_to_list (table false text renders).header ++ own)) (sym (take-length (table false text renders).rows)) each) many (λ some. uncoloured) whole wide))
+  abbrev sides : List CellAlignment
+  sides = sides_behind is_numbered (own_sides columns)
+
+  pub rows_shown : (text : Text) → RendersTable false look content text → All (All IsUtf8) (option_to_list names ++ rows) → AreColumns look content → (names ≡ None → reaches columns rows ≡ true) → (marks : ℕ → Option Points) → ((i : ℕ) (d : DrawnColumn) → slice_get columns i ≡ Some d → (if is_aligned_in look content then d.points else None) ≡ marks d.position)
+      → ShowsRows look (is_some names) false sides (whole_for look.width look.expansion is_numbered (positions_of columns) rows) (all_rows is_numbered marks (positions_of columns) names rows) text
+  rows_shown text renders utf8 are reach marks have =
+      subst (ShowsRows look (is_some names) false sides whole fields) (sym (is_text false text renders))
+      (inr (shows false text renders 0 (length (table false text renders).rows) (is_some names) false headed sides fields
+      (subst (λ (own : List RowValue). AllZip (IsRowFor sides) fields (option_to_list (table false text renders).header ++ own)) (sym (take-length (table false text renders).rows)) each) many uncoloured whole wide (λ no. absurd (cc no))))
     where
       whole : List Bool
       whole = whole_for look.width look.expansion is_numbered (positions_of columns) rows
@@ -116,7 +123,7 @@ module _ (look : Look) (all : DrawsAll look) (is_numbered : Bool) (names : Optio
           subst (λ (own : List RowValue). max 1 (greatest (map cell_content_width (filter_map (λ (row : RowValue). slice_get row.cells i) (option_to_list made.header ++ own)))) ≤ max 1 (slice_index widths i)) (sym (take-length made.rows)) (omega (arith, kept, same))
 
       fields : List (List Text)
-      fields = all_rows is_numbered (positions_of columns) names rows
+      fields = all_rows is_numbered marks (positions_of columns) names rows
 
       made : List RowValue
       made = map (row_for look (is_aligned_in look content) is_numbered columns) (counted_from 1 rows)
@@ -128,39 +135,42 @@ module _ (look : Look) (all : DrawsAll look) (is_numbered : Bool) (names : Optio
       headed : is_some (table false text renders).header ≡ is_some names
       headed = ap is_some ((is false text renders).header ∙ with_rows-header made (headed_table look is_numbered columns names)) ∙ by_header names
 
-      behind-length : (number : Text) (own : List Text) → places_of content ≤ length (row_behind is_numbered number (fields_at (positions_of columns) own))
-      behind-length number own =
-          let long : length (fields_at (positions_of columns) own) ≡ length columns = length-map (positions_of columns) (λ position. cleaned false (field_or_blank own position)) ∙ length-map columns (λ (column : DrawnColumn). column.position) in
+      behind-length : (number : Text) (at : ℕ → Option Points) (own : List Text) → length (row_behind is_numbered number (fields_at at (positions_of columns) own)) ≡ places_of content
+      behind-length number at own =
+          let long : length (fields_at at (positions_of columns) own) ≡ length columns = length-map (positions_of columns) (λ position. lined_up (at position) (field_or_blank own position)) ∙ length-map columns (λ (column : DrawnColumn). column.position) in
           by_number is_numbered long
         where
-          by_number : (b : Bool) → length (fields_at (positions_of columns) own) ≡ length columns → length columns + (if b then 1 else 0) ≤ length (row_behind b number (fields_at (positions_of columns) own))
+          by_number : (b : Bool) → length (fields_at at (positions_of columns) own) ≡ length columns → length (row_behind b number (fields_at at (positions_of columns) own)) ≡ length columns + (if b then 1 else 0)
           by_number true long = omega (arith, long)
           by_number false long = omega (arith, long)
 
       Many : List Text → Type 0
-      Many own = length (table false text renders).columns ≤ length own
+      Many own = length (table false text renders).columns ≡ length own
 
-      many_from : (n : ℕ) (own : List (List Text)) → All Many (rows_from is_numbered (positions_of columns) n own)
+      exact : (own : List Text) → length own ≡ places_of content → Many own
+      exact own long = row_columns renders.has_separators look content reach ∙ sym long
+
+      many_from : (n : ℕ) (own : List (List Text)) → All Many (rows_from is_numbered marks (positions_of columns) n own)
       many_from n [] = All-nil Many
       many_from n (first ∷ more) =
-          All-cons Many (row_behind is_numbered (decimal n) (fields_at (positions_of columns) first)) (rows_from is_numbered (positions_of columns) (n + 1) more)
-          (enough false text renders (row_behind is_numbered (decimal n) (fields_at (positions_of columns) first)) (behind-length (decimal n) first)) (many_from (n + 1) more)
+          All-cons Many (row_behind is_numbered (decimal n) (fields_at marks (positions_of columns) first)) (rows_from is_numbered marks (positions_of columns) (n + 1) more)
+          (exact (row_behind is_numbered (decimal n) (fields_at marks (positions_of columns) first)) (behind-length (decimal n) marks first)) (many_from (n + 1) more)
 
       many : All Many fields
       many = by_own names
         where
-          by_own : (own : Option (List Text)) → All Many (all_rows is_numbered (positions_of columns) own rows)
+          by_own : (own : Option (List Text)) → All Many (all_rows is_numbered marks (positions_of columns) own rows)
           by_own None = many_from 1 rows
           by_own (Some own) =
-              All-cons Many (row_behind is_numbered (number_name own) (fields_at (positions_of columns) own)) (rows_from is_numbered (positions_of columns) 1 rows)
-              (enough false text renders (row_behind is_numbered (number_name own) (fields_at (positions_of columns) own)) (behind-length (number_name own) own)) (many_from 1 rows)
+              All-cons Many (row_behind is_numbered (number_name own) (fields_at no_marks (positions_of columns) own)) (rows_from is_numbered marks (positions_of columns) 1 rows)
+              (exact (row_behind is_numbered (number_name own) (fields_at no_marks (positions_of columns) own)) (behind-length (number_name own) no_marks own)) (many_from 1 rows)
 
       by_names : (own : Option (List Text)) → All (All IsUtf8) (option_to_list own ++ rows)
-          → AllZip IsRowFor (all_rows is_numbered (positions_of columns) own rows) (option_to_list (headed_table look is_numbered columns own).header ++ ((headed_table look is_numbered columns own).rows ++ made))
-      by_names None each = are_rows look all.unkept all.table all.uncut columns (is_aligned_in look content) is_numbered 1 rows each
+          → AllZip (IsRowFor sides) (all_rows is_numbered marks (positions_of columns) own rows) (option_to_list (headed_table look is_numbered columns own).header ++ ((headed_table look is_numbered columns own).rows ++ made))
+      by_names None each = are_rows look all.unkept all.table all.uncut columns (is_aligned_in look content) is_numbered marks have 1 rows each
       by_names (Some own) each = (
         is_header look all.unkept all.table all.uncut columns is_numbered own (All-head (All IsUtf8) own rows each),
-        are_rows look all.unkept all.table all.uncut columns (is_aligned_in look content) is_numbered 1 rows (All-tail (All IsUtf8) own rows each),
+        are_rows look all.unkept all.table all.uncut columns (is_aligned_in look content) is_numbered marks have 1 rows (All-tail (All IsUtf8) own rows each),
       )
 
       Plain : RowValue → Type 0
@@ -188,18 +198,18 @@ module _ (look : Look) (all : DrawsAll look) (is_numbered : Bool) (names : Optio
           subst (All Plain) (sym (take-length (table false text renders).rows))
           (subst (All Plain) (sym ((is false text renders).rows ∙ with_rows-rows made (headed_table look is_numbered columns names))) (plain_made names))
 
-      of_base : AllZip IsRowFor fields (header_and_rows (rows_table look (is_aligned_in look content) content))
+      of_base : AllZip (IsRowFor sides) fields (header_and_rows (rows_table look (is_aligned_in look content) content))
       of_base =
-          subst (λ (own : List RowValue). AllZip IsRowFor fields own)
+          subst (λ (own : List RowValue). AllZip (IsRowFor sides) fields own)
           (sym (ap₂ (λ (header : Option RowValue) (own : List RowValue). option_to_list header ++ own) (with_rows-header made (headed_table look is_numbered columns names)) (with_rows-rows made (headed_table look is_numbered columns names)))) (by_names names utf8)
 
-      each : AllZip IsRowFor fields (header_and_rows (table false text renders))
+      each : AllZip (IsRowFor sides) fields (header_and_rows (table false text renders))
       each =
-          subst (AllZip IsRowFor fields)
+          subst (AllZip (IsRowFor sides) fields)
           (sym (ap₂ (λ (header : Option RowValue) (own : List RowValue). option_to_list header ++ own) (is false text renders).header (is false text renders).rows)) of_base
 
   -- that of expanded records
-  module _ (text : Text) (renders : RendersTable true look content text) where
+  module _ (text : Text) (renders : RendersTable true look content text) (expanded : is_table_expanded look content ≡ true) where
     abbrev own_arranged : ArrangedValue
     own_arranged = arranged true text renders
 
@@ -212,23 +222,52 @@ module _ (look : Look) (all : DrawsAll look) (is_numbered : Bool) (names : Optio
     rows_are : (table true text renders).rows ≡ own_rows
     rows_are = (is true text renders).rows ∙ with_rows-rows own_rows (empty_table look)
 
-    by_count : (first n : ℕ) (fields : List (List Text)) → AllZip IsRowFor fields (take n (drop first (table true text renders).rows)) → All (λ (own : List Text). 2 ≤ length own) fields → ShowsRows look false (whole_pairs look.width) fields (terminated_text_of (some_lines own_arranged first n))
-    by_count first zero [] each two = none_shown look false (whole_pairs look.width)
-    by_count first zero (own ∷ fields) each two = absurd each
-    by_count first (suc n) fields each two =
-        inr (shows true text renders first (suc n) false (ap is_some no_header) fields
-        (subst (λ (header : Option RowValue). AllZip IsRowFor fields (option_to_list header ++ take (suc n) (drop first (table true text renders).rows))) (sym no_header) each)
-        (All-weaker (λ (own : List Text). 2 ≤ length own) (λ (own : List Text). length (table true text renders).columns ≤ length own) (enough true text renders) fields two) (λ some. absurd (cc some)) (whole_pairs look.width)
-        (pairs_kept_whole look content renders.has_separators (drawn true text renders).widths first (suc n) all.unkept (drawn true text renders).arranged))
+    -- a part of some rows has a row, so that there are two columns
+    two_columns : (first n : ℕ) (fields : List (List Text)) → AllZip (IsRowFor []) fields (take n (drop first (table true text renders).rows)) → All IsPair fields → All (λ (own : List Text). length (table true text renders).columns ≡ length own) fields
+    two_columns first n [] each two = All-nil (λ (own : List Text). length (table true text renders).columns ≡ length own)
+    two_columns first n (own ∷ fields) each two =
+        All-weaker IsPair (λ (own : List Text). length (table true text renders).columns ≡ length own) (λ own is. pair_columns renders.has_separators look content some ∙ sym is) (own ∷ fields) two
+      where
+        some : ¬ (own_rows ≡ [])
+        some none = subst (AllZip (IsRowFor []) (own ∷ fields)) (ap (λ (rs : List RowValue). take n (drop first rs)) (rows_are ∙ none) ∙ ap (take n) (drop-nil first) ∙ take-nil n) each
+
+    -- its numbers and dates are kept
+    numbers : (first n w : ℕ) → w ≤ 65535 → look.width ≡ Some w → All (KeepsNumbers look w (max 1 (slice_index (drawn true text renders).widths 1))) (take n (drop first (table true text renders).rows))
+    numbers first n w small is =
+        All-take (KeepsNumbers look w width) n (drop first (table true text renders).rows)
+        (All-drop (KeepsNumbers look w width) first (table true text renders).rows
+        (pairs_keep_numbers look content all.unkept all.table expanded renders.has_separators (drawn true text renders).widths no_header (drawn true text renders).arranged w small is))
+      where
+        width : ℕ
+        width = max 1 (slice_index (drawn true text renders).widths 1)
+
+    by_count : (first n : ℕ) (fields : List (List Text)) → AllZip (IsRowFor []) fields (take n (drop first (table true text renders).rows)) → All (HasPlainFields true) (take n (drop first (table true text renders).rows)) → All IsPair fields → ShowsRows look false true [] (whole_pairs look.width) fields (terminated_text_of (some_lines own_arranged first n))
+    by_count first zero [] each plain two = none_shown look false true [] (whole_pairs look.width)
+    by_count first zero (own ∷ fields) each plain two = absurd each
+    by_count first (suc n) fields each plain two =
+        inr (shows true text renders first (suc n) false true (ap is_some no_header) [] fields
+        (subst (λ (header : Option RowValue). AllZip (IsRowFor []) fields (option_to_list header ++ take (suc n) (drop first (table true text renders).rows))) (sym no_header) each)
+        (two_columns first (suc n) fields each two) plain (whole_pairs look.width)
+        (pairs_kept_whole look content renders.has_separators (drawn true text renders).widths first (suc n) all.unkept (drawn true text renders).arranged)
+        (λ names. numbers first (suc n)))
 
     -- a name and a field are two
-    pairs_two : (fields : List Text) → All (λ (own : List Text). 2 ≤ length own) (pairs_at header (positions_of columns) fields)
+    pairs_two : (fields : List Text) → All IsPair (pairs_at header (positions_of columns) fields)
     pairs_two fields =
-        All-map (λ (own : List Text). 2 ≤ length own) (λ position. cleaned false (name_at header position) ∷ cleaned false (field_or_blank fields position) ∷ []) held_positions
-        (All-every (λ position. 2 ≤ length (cleaned false (name_at header position) ∷ cleaned false (field_or_blank fields position) ∷ [])) held_positions (λ position. omega arith))
+        All-map IsPair (λ position. cleaned false (name_at header position) ∷ cleaned false (field_or_blank fields position) ∷ []) held_positions
+        (All-every (λ position. IsPair (cleaned false (name_at header position) ∷ cleaned false (field_or_blank fields position) ∷ [])) held_positions (λ position. refl))
       where
         held_positions : List ℕ
         held_positions = filter (λ position. nat_lt position (length fields)) (positions_of columns)
+
+    -- of which the field isn't in bold
+    plain_pairs : (fields : List Text) → All (HasPlainFields true) (pairs_in look content fields)
+    plain_pairs fields =
+        All-map (HasPlainFields true) row_of (held fields columns)
+        (All-every (λ (column : DrawnColumn). HasPlainFields true (row_of column)) (held fields columns) (λ column. All-cons IsUncoloured (cell_for look None (field_or_blank fields column.position)) [] (record { no_foreground = refl; no_background = refl; no_attributes = refl }) (All-nil IsUncoloured)))
+      where
+        row_of : DrawnColumn → RowValue
+        row_of column = pair_for look (name_at header column.position) (field_or_blank fields column.position)
 
     -- from a record on
     from : (k : ℕ) (front rest : List (List Text)) → length front ≡ k → rows ≡ front ++ rest → AreExpanded (ShowsPairs look header (positions_of columns)) count (k + 1) rest (flat_map (record_text content own_arranged) (range_with_len k (length rest)))
@@ -237,9 +276,7 @@ module _ (look : Look) (all : DrawsAll look) (is_numbered : Bool) (names : Optio
       terminated_text_of (some_lines own_arranged first n),
       flat_map (record_text content own_arranged) (range_with_len (k + 1) (length more)),
       append_assoc (record_line (k + 1) count) _ _,
-      by_count first n (pairs_at header (positions_of columns) fields)
-          (subst (AllZip IsRowFor (pairs_at header (positions_of columns) fields)) (sym (ap (λ (own : List RowValue). take n (drop first own)) rows_are ∙ rows_at look content k front fields more at splits))
-          (are_pairs look all.unkept all.table all.uncut columns header fields columns)) (pairs_two fields),
+      by_count first n (pairs_at header (positions_of columns) fields) (subst (AllZip (IsRowFor []) (pairs_at header (positions_of columns) fields)) (sym rows_of) (are_pairs look all.unkept all.table all.uncut columns header fields columns)) (subst (All (HasPlainFields true)) (sym rows_of) (plain_pairs fields)) (pairs_two fields),
       from (k + 1) (front ++ fields ∷ []) more (omega (arith, length-append front (fields ∷ []), at)) (splits ∙ sym (append_assoc front (fields ∷ []) more)),
     )
       where
@@ -249,12 +286,16 @@ module _ (look : Look) (all : DrawsAll look) (is_numbered : Bool) (names : Optio
         n : ℕ
         n = drawn_fields content (slice_index_or rows k [])
 
+        rows_of : take n (drop first (table true text renders).rows) ≡ pairs_in look content fields
+        rows_of = ap (λ (own : List RowValue). take n (drop first own)) rows_are ∙ rows_at look content k front fields more at splits
+
     pub records_shown : AreExpanded (ShowsPairs look header (positions_of columns)) count 1 rows text
     records_shown = subst (AreExpanded (ShowsPairs look header (positions_of columns)) count 1 rows) (sym (is_text true text renders)) (from 0 [] rows refl refl)
 
 -- ---- outputs
 
-module _ (layout : Layout) (all : DrawsAll layout.look) (known : Option ℕ) (records : List (List Text)) (texts : All AllText records) (output : Text) (made : RendersRecords known layout records output) where
+module _ (layout : Layout) (all : DrawsAll layout.look) (known : Option ℕ) (records : List (List Text)) (texts : All AllText records) (output : Text) (made : RendersRecords known layout records output)
+    (some : 1 ≤ length layout.columns.drawn) (below : AreBelow (names_or_none layout.selection records) (drawn_rows layout.selection records) layout.columns.drawn) where
   abbrev look : Look
   look = layout.look
 
@@ -283,14 +324,36 @@ module _ (layout : Layout) (all : DrawsAll layout.look) (known : Option ℕ) (re
   utf8 = all_drawn (All IsUtf8) layout.selection.has_header layout.selection.limit records (All-weaker AllText (All IsUtf8) text_fields records texts)
 
   abbrev Shows : Bool → Option ℕ → Text → Type 0
-  Shows is_expanded = ShowsFields is_expanded look is_numbered layout.columns.drawn names rows
+  Shows is_expanded = ShowsFields is_expanded look is_numbered layout.columns names rows
+
+  abbrev are : Bool
+  are = is_aligned_in look own
+
+  lined : AreLinedUp look are
+  lined =
+      record {
+        without_width = λ none. ap (λ (width : Option ℕ). look.aligns_decimals && has_room width (unbroken_in own) (rows_table look true own)) none ∙ and_true look.aligns_decimals;
+        unasked = λ no. ap (λ (b : Bool). b && has_room_for look own true) no;
+      }
+    where
+      and_true : (b : Bool) → (b && true) ≡ b
+      and_true true = refl
+      and_true false = refl
 
   by_kind : (is_expanded : Bool) → is_expanded ≡ is_table_expanded look own → (text : Text) → RendersTable is_expanded look own text → Shows is_expanded known text
-  by_kind false kind text renders =
-      subst (λ (ps : List ℕ). ShowsFields false look is_numbered ps names rows known text) positions
-      (rows_shown look all is_numbered names rows columns known text renders utf8 (record { table = all.table; kind = sym kind; unbroken = unbroken-shown layout.columns look.has_sequences all.unkept rows }))
+  by_kind false kind text renders = (
+    are,
+    lined,
+    subst (Rows layout.columns.drawn) (sides-shown layout.columns look.has_sequences all.unkept rows)
+        (subst (λ (ps : List ℕ). Rows ps (own_sides columns)) positions
+        (rows_shown look all is_numbered names rows columns known text renders utf8 (record { table = all.table; kind = sym kind; unbroken = unbroken-shown layout.columns look.has_sequences all.unkept rows }) (reaches_last layout records known own refl some below)
+        (mark_for are layout.columns rows) (marks-shown layout.columns look.has_sequences all.unkept rows are))),
+  )
+    where
+      Rows : List ℕ → List CellAlignment → Type 0
+      Rows ps own = ShowsRows look (is_some names) false (sides_behind is_numbered own) (whole_for look.width look.expansion is_numbered ps rows) (all_rows is_numbered (mark_for are layout.columns rows) ps names rows) text
   by_kind true kind text renders =
-      subst (λ (ps : List ℕ). ShowsFields true look is_numbered ps names rows known text) positions (records_shown look all is_numbered names rows columns known text renders)
+      subst (λ (ps : List ℕ). AreExpanded (ShowsPairs look (unwrap_or names []) ps) known 1 rows text) positions (records_shown look all is_numbered names rows columns known text renders (sym kind))
 
   text : RendersAsTable look own made.text
   text = subst (λ (c : SelectedValue). RendersAsTable look c made.text) same (is_table_text known layout records output made all.table)
@@ -317,11 +380,11 @@ none_of_all MayCount is_count layout =
     (subst (λ (own : List (List Text)). Shows None own is_expanded count []) (sym (no_rows layout.selection)) (by_kind is_expanded count)))
   where
     Shows : Option (List Text) → List (List Text) → Bool → Option ℕ → Text → Type 0
-    Shows names rows is_expanded = ShowsFields is_expanded layout.look layout.selection.is_numbered layout.columns.drawn names rows
+    Shows names rows is_expanded = ShowsFields is_expanded layout.look layout.selection.is_numbered layout.columns names rows
 
     by_kind : (is_expanded : Bool) (count : Option ℕ) → Shows None [] is_expanded count []
     by_kind true count = refl
-    by_kind false count = none_shown layout.look false _
+    by_kind false count = (layout.look.aligns_decimals, record { without_width = λ none. refl; unasked = λ no. no }, none_shown layout.look false false _ _)
 
 -- so of what is written for arguments
 module _ (arguments : List Text) (context : OutputContext) (invocation : Invocation) (input : Text) (records : List (List Text)) (output : Text) (is : IsWritten false arguments context invocation input records output) where
@@ -337,18 +400,18 @@ module _ (arguments : List Text) (context : OutputContext) (invocation : Invocat
       no_fields : ShowsRecords options [] []
       no_fields =
           none_of_all (IsCount options []) (none_below options.selection.has_header)
-          (layout_with options (record { drawn = positions_in options (unwrap_or (names_of options.selection.has_header []) []) (drawn_rows options.selection []); right = []; left = [] }))
+          (layout_with options (columns_asked options (unwrap_or (names_of options.selection.has_header []) []) (drawn_rows options.selection [])))
 
       nothing : records ≡ [] → output ≡ [] → ShowsRecords options records output
       nothing empty no_output = subst (λ (rs : List (List Text)). ShowsRecords options rs output) (sym empty) (subst (ShowsRecords options []) (sym no_output) no_fields)
 
-      IsGood : Option (List Text) → List (List Text) → List ℕ → Type 0
-      IsGood names rows positions = IsWrittenFor (λ is_expanded. ShowsFields is_expanded options.look options.selection.is_numbered positions names rows) options records output
+      IsGood : Option (List Text) → List (List Text) → ColumnsValue → Type 0
+      IsGood names rows columns = IsWrittenFor (λ is_expanded. ShowsFields is_expanded options.look options.selection.is_numbered columns names rows) options records output
 
       drawn_by : (known : Option ℕ) (rs : List (List Text)) → IsDrawnBy false arguments context invocation input records output is known rs → ShowsRecords options records output
       drawn_by known rs by =
           let h = options.selection.has_header in
-          let own : IsGood (names_of h rs) (drawn_rows options.selection rs) by.made.columns.drawn = all_shown (layout_with options by.made.columns) all known rs by.text output by.made.is_output (IsCount options records) by.counted in
-          let chosen = subst (IsGood (names_of h rs) (drawn_rows options.selection rs)) (columns_lemmas.positions options rs by.made.columns by.made.are_chosen) own in
-          subst (λ (names : Option (List Text)). IsGood names (drawn_rows options.selection records) (positions_in options (unwrap_or names []) (drawn_rows options.selection records))) by.names
-          (subst (λ (rows : List (List Text)). IsGood (names_of h rs) rows (positions_in options (unwrap_or (names_of h rs) []) rows)) by.rows chosen)
+          let own : IsGood (names_of h rs) (drawn_rows options.selection rs) by.made.columns = all_shown (layout_with options by.made.columns) all known rs by.text output by.made.is_output (some_position options rs by.made.columns by.made.are_chosen) (are_below options rs by.made.columns by.made.are_chosen) (IsCount options records) by.counted in
+          let chosen = subst (IsGood (names_of h rs) (drawn_rows options.selection rs)) (are_asked options rs by.made.columns by.made.are_chosen) own in
+          subst (λ (names : Option (List Text)). IsGood names (drawn_rows options.selection records) (columns_asked options (unwrap_or names []) (drawn_rows options.selection records))) by.names
+          (subst (λ (rows : List (List Text)). IsGood (names_of h rs) rows (columns_asked options (unwrap_or (names_of h rs) []) rows)) by.rows chosen)

@@ -20,7 +20,7 @@ module _ {A : Type 0} (names : List Text) (count : ℕ) where
   still_faulty fault (word ∷ words) ps is = still_faulty fault words ps is
 
   -- so each word chooses columns
-  found_by : (words : List (String A)) (before ps : List ℕ) → fold step (Ok before) words ≡ Ok ps → ps ≡ before ++ positions_by names count words
+  pub found_by : (words : List (String A)) (before ps : List ℕ) → fold step (Ok before) words ≡ Ok ps → ps ≡ before ++ positions_by names count words
   found_by [] before ps is = let same : before ≡ ps = cc is in sym same ∙ sym (append-nil before)
   found_by (word ∷ words) before ps is = by_word (option_map positions_between (columns_chosen names count (string_bytes word))) (λ own. found_by words (before ++ own) ps) is
     where
@@ -73,3 +73,12 @@ chosen names (Ok ps) (Ok right) (Ok left) columns is = ap (λ (own : ColumnsValu
 chosen names (Ok ps) (Ok right) (Err fault) columns is = absurd (cc is)
 chosen names (Ok ps) (Err fault) left columns is = absurd (cc is)
 chosen names (Err fault) right left columns is = absurd (cc is)
+
+-- so are those at its sides
+pub at_sides : (names : List Text) (kept right left : Result (List ℕ) ColumnFault) (columns : ColumnsValue) → columns_with names kept right left ≡ Ok columns → (right ≡ Ok columns.right) × (left ≡ Ok columns.left)
+at_sides names (Ok ps) (Ok right) (Ok left) columns is =
+    let same = placed names (record { drawn = ps; right = right; left = left }) columns (at_two_sides right left) is in
+    (ap (λ (own : ColumnsValue). Ok own.right) same, ap (λ (own : ColumnsValue). Ok own.left) same)
+at_sides names (Ok ps) (Ok right) (Err fault) columns is = absurd (cc is)
+at_sides names (Ok ps) (Err fault) left columns is = absurd (cc is)
+at_sides names (Err fault) right left columns is = absurd (cc is)

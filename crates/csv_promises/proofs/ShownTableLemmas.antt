@@ -6,6 +6,7 @@ use Rattle.std.proofs.lemmas.List.Elements.{All-append, All-cons, All-nil, All-c
 use Rattle.comfy_parts.proofs.CallerLemmas.{every-parts, every-places, filter_all}
 use Rattle.comfy_parts.specs.CellValue.{ColumnValue, RowValue, is_hidden_column, is_hidden_constraint}
 use Rattle.comfy_parts.specs.Text.{Text}
+use Rattle.comfy_parts.specs.declared.style.cell.CellAlignment.{CellAlignment}
 use Rattle.comfy_table.proofs.BuiltTableLemmas.{IsNewColumn}
 use Rattle.comfy_table.proofs.PartLemmas.{part_has_lines_of_table}
 use Rattle.comfy_table.specs.Drawing.{drawing, infos_of, terminated_text_of}
@@ -21,12 +22,12 @@ use Rattle.csv_tables.proofs.WholeTableLemmas.{IsDrawn, drawn-is}
 use Rattle.csv_tables.specs.Drawn.{SelectedValue, condensed_style, empty_table, output_table, pairs_table, rows_table, separated_table, unbroken_in, is_aligned_in}
 use Rattle.csv_tables.specs.Unbroken.{field_width, has_room, kept_unbroken, given_in, kept_unbroken_fields, may_break, room_beside, room_for_two, with_field_width, with_kept, with_second}
 use Rattle.csv_tables.specs.declared.options.Look.{Look}
-use Rattle.promises.proofs.KeptLemmas.{part_framed, part_plain, part_rows, part_width}
+use Rattle.promises.proofs.KeptLemmas.{part_framed, part_plain, part_width}
 use Rattle.promises.specs.Headline.{IsUncoloured, widest}
 use Rattle.csv_promises.proofs.BoldLemmas.{IsWeighted, weighted_lines}
 use Rattle.csv_promises.proofs.FieldLemmas.{IsRowFor}
 use Rattle.csv_promises.proofs.RecordLemmas.{HasColumns, table_has_columns}
-use Rattle.csv_promises.specs.Fields.{HoldsFields, IsDrawingOf, IsFieldColumn}
+use Rattle.csv_promises.specs.Fields.{HoldsFields, IsDrawingOf, IsFieldColumn, KeepsNumbers, cells_behind_name}
 use Rattle.csv_promises.specs.Harmless.{IsInBold}
 
 -- ---- columns
@@ -64,6 +65,10 @@ second_are_seen : (field : ℕ) (columns : List ColumnValue) → AllByRecursion 
 second_are_seen field [] new = tt
 second_are_seen field (names ∷ []) new = (new_is_seen names new.0, tt)
 second_are_seen field (names ∷ fields ∷ more) new = (new_is_seen names new.0, (refl, new_are_seen more new.1.1))
+
+-- the cells of a row have neither colours nor attributes, but for that of a name
+abbrev pub HasPlainFields : Bool → RowValue → Type 0
+HasPlainFields has_names row = All IsUncoloured (cells_behind_name has_names row)
 
 -- ---- the table that is drawn
 
@@ -148,7 +153,7 @@ module _ (look : Look) (content : SelectedValue) where
         by_lines false same = inr same
 
     columns : All IsFieldColumn made.columns
-    columns = All-weaker IsPaddedColumn IsFieldColumn (λ column own. record { padding = own.padding; no_delimiter = own.no_delimiter }) made.columns (All-from_recursion IsPaddedColumn made.columns padded)
+    columns = All-weaker IsPaddedColumn IsFieldColumn (λ column own. record { padding = own.padding; no_delimiter = own.no_delimiter; no_alignment = own.no_alignment }) made.columns (All-from_recursion IsPaddedColumn made.columns padded)
 
     have_columns : All (HasColumns made) (header_and_rows made)
     have_columns =
@@ -171,21 +176,21 @@ module _ (look : Look) (content : SelectedValue) where
       within : All (Contains made.rows) alone
       within = All-take (Contains made.rows) count (drop first made.rows) (All-drop (Contains made.rows) first made.rows (All-contains_itself made.rows))
 
-      all_hold : (fields : List (List Text)) (rows : List RowValue) → AllZip IsRowFor fields rows → AllZip HoldsFields fields rows
-      all_hold [] [] each = tt
-      all_hold [] (row ∷ rows) each = absurd each
-      all_hold (own ∷ fields) [] each = absurd each
-      all_hold (own ∷ fields) (row ∷ rows) each = (each.0.hold, all_hold fields rows each.1)
+      all_hold : (sides : List CellAlignment) (fields : List (List Text)) (rows : List RowValue) → AllZip (IsRowFor sides) fields rows → AllZip (HoldsFields sides) fields rows
+      all_hold sides [] [] each = tt
+      all_hold sides [] (row ∷ rows) each = absurd each
+      all_hold sides (own ∷ fields) [] each = absurd each
+      all_hold sides (own ∷ fields) (row ∷ rows) each = (each.0.hold, all_hold sides fields rows each.1)
 
-      all_weighted : (fields : List (List Text)) (rows : List RowValue) → AllZip IsRowFor fields rows → All (λ (row : RowValue). All IsWeighted row.cells) rows
-      all_weighted [] [] each = All-nil (λ (row : RowValue). All IsWeighted row.cells)
-      all_weighted [] (row ∷ rows) each = absurd each
-      all_weighted (own ∷ fields) [] each = absurd each
-      all_weighted (own ∷ fields) (row ∷ rows) each = All-cons (λ (r : RowValue). All IsWeighted r.cells) row rows each.0.weighted (all_weighted fields rows each.1)
+      all_weighted : (sides : List CellAlignment) (fields : List (List Text)) (rows : List RowValue) → AllZip (IsRowFor sides) fields rows → All (λ (row : RowValue). All IsWeighted row.cells) rows
+      all_weighted sides [] [] each = All-nil (λ (row : RowValue). All IsWeighted row.cells)
+      all_weighted sides [] (row ∷ rows) each = absurd each
+      all_weighted sides (own ∷ fields) [] each = absurd each
+      all_weighted sides (own ∷ fields) (row ∷ rows) each = All-cons (λ (r : RowValue). All IsWeighted r.cells) row rows each.0.weighted (all_weighted sides fields rows each.1)
 
-      pub part_shows : (has_header : Bool) → is_some made.header ≡ has_header → (fields : List (List Text)) → AllZip IsRowFor fields (header_and_rows part) → All (λ (own : List Text). length made.columns ≤ length own) fields → (has_header ≡ true → All (λ (row : RowValue). All IsUncoloured row.cells) alone)
-          → (whole : List Bool) → ((i : ℕ) → i < length made.columns → slice_get whole i ≡ Some true → widest part i ≤ max 1 (slice_index drawn.widths i)) → IsDrawingOf look has_header whole fields (terminated_text_of (drawing part drawn.widths))
-      part_shows has_header header fields each as_many uncoloured whole wide =
+      pub part_shows : (has_header has_names : Bool) → is_some made.header ≡ has_header → (sides : List CellAlignment) (fields : List (List Text)) → AllZip (IsRowFor sides) fields (header_and_rows part) → All (λ (own : List Text). length made.columns ≡ length own) fields → All (HasPlainFields has_names) alone
+          → (whole : List Bool) → ((i : ℕ) → i < length made.columns → slice_get whole i ≡ Some true → widest part i ≤ max 1 (slice_index drawn.widths i)) → (has_names ≡ true → (w : ℕ) → w ≤ 65535 → look.width ≡ Some w → All (KeepsNumbers look w (max 1 (slice_index drawn.widths 1))) alone) → IsDrawingOf look has_header has_names sides whole fields (terminated_text_of (drawing part drawn.widths))
+      part_shows has_header has_names header sides fields each as_many uncoloured whole wide numbers =
           let plain = no_custom_styling unkept in
           let framed = part_framed made lines drawn plain alone within in
           let both = every-parts (HasColumns made) (option_to_list made.header) made.rows (recursion_from_All (HasColumns made) _ have_columns) in
@@ -196,12 +201,12 @@ module _ (look : Look) (content : SelectedValue) where
             lines = drawing part drawn.widths;
             are = record { joined = refl; unbroken = All-weaker (Contains whole_lines) HasNoBreak (λ line own. All-contains HasNoBreak whole_lines line unbroken own) (drawing part drawn.widths) (part_has_lines_of_table made (infos_of made drawn.widths) first count) };
             table = part;
-            is_table = record { style = style_is; header = header; hold = all_hold fields (header_and_rows part) each; columns = columns; no_delimiter = ap (λ (t : TableValue). t.delimiter) looks; has_columns = few; as_many = as_many; shown = is.shown; no_sequences = plain };
+            is_table = record { style = style_is; header = header; hold = all_hold sides fields (header_and_rows part) each; columns = columns; no_delimiter = ap (λ (t : TableValue). t.delimiter) looks; has_columns = few; as_many = as_many; shown = is.shown; uncoloured = uncoloured; no_sequences = plain };
             framed = framed;
-            in_bold = subst (λ (ls : List Text). AllZip IsInBold ls (drawing part drawn.widths)) (sym (part_plain made lines drawn plain alone within)) (weighted_lines part (ap (λ (t : TableValue). t.style_text_only) looks) drawn.widths (all_weighted fields (header_and_rows part) each));
-            plain_rows = λ some. part_rows made lines drawn plain alone within (uncoloured some);
+            in_bold = subst (λ (ls : List Text). AllZip IsInBold ls (drawing part drawn.widths)) (sym (part_plain made lines drawn plain alone within)) (weighted_lines part (ap (λ (t : TableValue). t.style_text_only) looks) drawn.widths (all_weighted sides fields (header_and_rows part) each));
             unstyled = λ none. framed.unstyled (unstyled none);
             keeps_whole = λ i below is. subst (λ (width : ℕ). widest part i ≤ width) (sym (part_width made lines drawn plain alone within i)) (wide i below is);
+            keeps_numbers = λ names w small is. subst (λ (width : ℕ). All (KeepsNumbers look w width) alone) (sym (part_width made lines drawn plain alone within 1)) (numbers names w small is);
           }
         where
           whole_lines : List Text

@@ -1,23 +1,28 @@
 -- Columns of a drawn table are as wide as their texts.
-use Rattle.std.proofs.Common.{◌≡◌, ◌==◌, ◌≤◌, ◌<◌, ◌&&◌, ℕ, zero, suc, ◌+◌, Bool, true, false, not, List, [], ◌∷◌, ◌++◌, Option, Some, None, drop, length, map, max, filter_map, take, refl, sym, ap, ◌∙◌, subst, arith}
+use Rattle.std.proofs.Common.{◌≡◌, ◌==◌, ◌≤◌, ◌<◌, ◌&&◌, ℕ, zero, suc, ◌+◌, Bool, true, false, not, List, [], ◌∷◌, ◌++◌, Option, Some, None, drop, length, map, max, filter_map, take, refl, sym, ap, ap₂, ◌∙◌, subst, arith}
 use Rattle.std.specs.List.{All, cons_option, enumerate_from, slice_get}
 use Rattle.std.specs.Prelude.{MatchOption, if◌then◌else◌, option_to_list, slice_index, slice_index_or}
 use Rattle.std.proofs.lemmas.Bool.{ne_eqb}
-use Rattle.std.proofs.lemmas.List.Elements.{All-head, All-tail}
+use Rattle.std.proofs.lemmas.List.Elements.{All-cons, All-head, All-nil, All-tail, All-weaker}
+use Rattle.std.proofs.lemmas.List.Sums.{sum_by-cons}
 use Rattle.comfy_parts.proofs.CallerLemmas.{All-same_map}
 use Rattle.comfy_parts.specs.CellValue.{CellValue, ColumnValue, RowValue}
-use Rattle.comfy_parts.specs.Text.{Text, greatest}
+use Rattle.comfy_parts.specs.declared.style.cell.CellAlignment.{CellAlignment}
+use Rattle.comfy_parts.specs.Text.{Text, greatest, measure}
+use Rattle.comfy_parts.specs.declared.style.table_style.TableStyle.{TableStyle}
 use Rattle.comfy_table.specs.Arrangement.{IsArranged, is_full_width, room_beside_borders, width_kept, widths_at}
 use Rattle.comfy_table.specs.Dynamic.{IsDynamicLayout}
 use Rattle.comfy_table.specs.Laws.{NoConstraints}
 use Rattle.comfy_table.specs.Parts.{with_rows_alone}
-use Rattle.comfy_table.specs.TableValue.{TableValue, cell_content_width, column_content_width, shown_columns, table_width}
+use Rattle.comfy_table.specs.TableValue.{TableValue, cell_content_width, column_cells, column_content_width, measured_rows, shown_columns, table_width}
 use Rattle.comfy_table.specs.Widths.{disabled_width, shown_needs}
+use Rattle.csv_tables.proofs.KeptFieldLemmas.{expanded_keeps_whole}
 use Rattle.csv_tables.proofs.KeptWidthLemmas.{auto_keeps_whole}
 use Rattle.csv_tables.proofs.LineLemmas.{Any, any_drawn, kept_setting}
 use Rattle.csv_tables.proofs.SeparatorLemmas.{separated}
 use Rattle.csv_tables.proofs.WholeTableLemmas.{IsDrawn, drawn-is, unconstrained-drawn}
 use Rattle.csv_tables.specs.Columns.{ColumnsValue, drawn_columns, seen}
+use Rattle.csv_tables.specs.Unbroken.{framed_width, is_unbroken, needed_by_names}
 use Rattle.csv_tables.specs.Drawn.{SelectedValue, is_expanded_for, is_table_expanded, output_table, separated_table, unbroken_in}
 use Rattle.csv_tables.specs.declared.options.DrawnColumn.{DrawnColumn}
 use Rattle.csv_tables.specs.declared.options.Expansion.{Expansion}
@@ -26,9 +31,9 @@ use Rattle.csv_tables.specs.declared.options.Look.{Look}
 use Rattle.promises.proofs.PlacedLemmas.{measured_plain}
 use Rattle.promises.proofs.RowLemmas.{width_by_content}
 use Rattle.promises.specs.Headline.{widest}
-use Rattle.csv_promises.proofs.FieldLemmas.{positions_of}
+use Rattle.csv_promises.proofs.FieldLemmas.{own_sides, positions_of}
 use Rattle.csv_promises.proofs.ShownTableLemmas.{has_rows_of, no_custom_styling}
-use Rattle.csv_promises.specs.Fields.{has_numbers, whole_for, whole_pairs}
+use Rattle.csv_promises.specs.Fields.{KeepsNumbers, column_in, has_numbers, mark_for, side_for, whole_for, whole_pairs}
 
 -- the widest text of a column is its content
 pub widest-content : (table : TableValue) → table.custom_styling ≡ false → (i : ℕ) → widest table i ≡ max 1 (column_content_width table i)
@@ -164,6 +169,29 @@ unbroken-shown own keeps none rows =
     all [] = refl
     all (p ∷ ps) = ap (λ (more : List Bool). has_numbers rows p ∷ more) (all ps)
 
+-- and so are their sides
+pub sides-shown : (own : ColumnsValue) (keeps : Bool) → keeps ≡ false → (rows : List (List Text)) → own_sides (drawn_columns own (map (seen keeps) rows)) ≡ map (side_for own rows) own.drawn
+sides-shown own keeps none rows =
+    subst (λ (seen_as : List (List Text)). own_sides (drawn_columns own seen_as) ≡ map (side_for own rows) own.drawn) (sym (ap (λ (k : Bool). map (seen k) rows) none ∙ seen_rows rows)) (all own.drawn)
+  where
+    all : (ps : List ℕ) → own_sides (drawn_columns (record own { drawn = ps }) rows) ≡ map (side_for own rows) ps
+    all [] = refl
+    all (p ∷ ps) = ap (λ (more : List CellAlignment). side_for own rows p ∷ more) (all ps)
+
+-- and their marks
+pub marks-shown : (own : ColumnsValue) (keeps : Bool) → keeps ≡ false → (rows : List (List Text)) (are : Bool) (i : ℕ) (d : DrawnColumn) → slice_get (drawn_columns own (map (seen keeps) rows)) i ≡ Some d → (if are then d.points else None) ≡ mark_for are own rows d.position
+marks-shown own keeps none rows are i d found =
+    by_columns own.drawn i (sym (ap (λ (seen_as : List (List Text)). slice_get (drawn_columns own seen_as) i) (ap (λ (k : Bool). map (seen k) rows) none ∙ seen_rows rows)) ∙ found)
+  where
+    by_asked : (b : Bool) (p : ℕ) → column_in own rows p ≡ d → (if b then d.points else None) ≡ mark_for b own rows d.position
+    by_asked true p same = subst (λ (c : DrawnColumn). c.points ≡ (column_in own rows c.position).points) same refl
+    by_asked false p same = refl
+
+    by_columns : (ps : List ℕ) (i : ℕ) → slice_get (drawn_columns (record own { drawn = ps }) rows) i ≡ Some d → (if are then d.points else None) ≡ mark_for are own rows d.position
+    by_columns [] i own_is = absurd (cc own_is)
+    by_columns (p ∷ ps) zero own_is = by_asked are p (cc own_is)
+    by_columns (p ∷ ps) (suc i) own_is = by_columns ps i own_is
+
 -- what is so of the columns of a table of rows
 pub record AreColumns (look : Look) (content : SelectedValue) : Type 0 where
   pub table : look.is_markdown ≡ false
@@ -202,5 +230,57 @@ module _ (look : Look) (content : SelectedValue) (are : AreColumns look content)
               ap (λ (b : Bool). (if content.is_numbered then not b ∷ [] else []) ++ map (λ (column : DrawnColumn). not b && column.is_unbroken) content.columns) filled
               ∙ ap (λ (more : List Bool). (if content.is_numbered then true ∷ [] else []) ++ more) (are.unbroken ∙ ap (λ (rs : List (List Text)). map (has_numbers rs) positions) some) in
               let kept = auto_keeps_whole w look content are.table wide is own rows_made widths i (has, ap (λ (e : Bool). separated_table has (output_table e look content)) (sym own)) arranged below (ap (λ (bs : List Bool). slice_get bs i) same ∙ found) in
-              let content_fits = kept.content in
-              omega (arith, content_fits)
+              omega (arith, kept)
+
+-- ---- numbers and dates of expanded records
+
+-- what holds of each found element holds of what is found of an element
+found_in : {X Y : Type 0} (P : Y → Type 0) (f : X → Option Y) (xs : List X) → All P (filter_map f xs) → All (λ (x : X). (y : Y) → f x ≡ Some y → P y) xs
+found_in {X} {Y} P f [] each = All-nil (λ (x : X). (y : Y) → f x ≡ Some y → P y)
+found_in {X} {Y} P f (x ∷ xs) each = by_first (f x) refl each (found_in P f xs)
+  where
+    Found : X → Type 0
+    Found x = (y : Y) → f x ≡ Some y → P y
+
+    by_first : (o : Option Y) → f x ≡ o → All P (cons_option o (filter_map f xs)) → (All P (filter_map f xs) → All Found xs) → All Found (x ∷ xs)
+    by_first None none own later = All-cons Found x xs (λ y is. absurd (cc (sym none ∙ is))) (later own)
+    by_first (Some y) some own later = All-cons Found x xs (λ z is. subst P (cc (sym some ∙ is)) (All-head P y (filter_map f xs) own)) (later (All-tail P y (filter_map f xs) own))
+
+-- a line over two columns is no narrower if the first is wider
+wider_name : (style : TableStyle) (a b m : ℕ) → a ≤ b → framed_width style (a ∷ m ∷ []) ≤ framed_width style (b ∷ m ∷ [])
+wider_name style a b m within =
+    let width = λ (content : ℕ). 2 + content in
+    omega (arith, within, sum_by-cons width a (m ∷ []), sum_by-cons width b (m ∷ []))
+
+module _ (look : Look) (content : SelectedValue) (unkept : look.has_sequences ≡ false) (table : look.is_markdown ≡ false) (expanded : is_table_expanded look content ≡ true) (has : Bool) (widths : List ℕ) where
+  abbrev pairs_made : TableValue
+  pairs_made = separated_table has (output_table true look content)
+
+  pub pairs_keep_numbers : pairs_made.header ≡ None → IsArranged pairs_made widths → (w : ℕ) → w ≤ 65535 → look.width ≡ Some w → All (KeepsNumbers look w (max 1 (slice_index widths 1))) pairs_made.rows
+  pairs_keep_numbers no_header arranged w small is =
+      All-weaker (λ (row : RowValue). (cell : CellValue) → slice_get row.cells 1 ≡ Some cell → Stands cell) (KeepsNumbers look w (max 1 (slice_index widths 1)))
+      (λ row own cell found. All-weaker Line Kept kept cell.text_lines (own cell found)) pairs_made.rows
+      (found_in Stands (λ (row : RowValue). slice_get row.cells 1) pairs_made.rows (subst (All Stands) (ap (filter_map (λ (row : RowValue). slice_get row.cells 1)) rows_are) law))
+    where
+      Line : Text → Type 0
+      Line line = is_unbroken line ≡ true → framed_width look.style (needed_by_names (column_content_width pairs_made 0) ∷ measure line ∷ []) ≤ w → measure line ≤ slice_index widths 1
+
+      Stands : CellValue → Type 0
+      Stands cell = All Line cell.text_lines
+
+      Kept : Text → Type 0
+      Kept line = is_unbroken line ≡ true → framed_width look.style (4 ∷ measure line ∷ []) ≤ w → measure line ≤ max 1 (slice_index widths 1)
+
+      kept : (line : Text) → Line line → Kept line
+      kept line own unbroken room =
+          let narrower = wider_name look.style (needed_by_names (column_content_width pairs_made 0)) 4 (measure line) (omega arith) in
+          let whole = own unbroken (omega (arith, room, narrower)) in omega (arith, whole)
+
+      kind : is_expanded_for look content ≡ true
+      kind = ap₂ (λ (m e : Bool). not m && e) table expanded
+
+      law : All Stands (column_cells pairs_made 1)
+      law = expanded_keeps_whole w look content small is kind pairs_made widths (has, ap (λ (e : Bool). separated_table has (output_table e look content)) (sym kind)) arranged
+
+      rows_are : measured_rows pairs_made ≡ pairs_made.rows
+      rows_are = measured_plain pairs_made (no_custom_styling look content true has unkept) ∙ ap (λ (header : Option RowValue). option_to_list header ++ pairs_made.rows) no_header

@@ -12,7 +12,7 @@ use Rattle.csv_tables.specs.Laws.{EachText}
 use Rattle.csv_tables.specs.Markdown.{rule_line}
 use Rattle.csv_tables.specs.MarkdownLines.{parts_between_bars, read_part, without_outer_spaces}
 use Rattle.csv_promises.specs.Counted.{IsCount}
-use Rattle.csv_promises.specs.Fields.{all_rows, positions_in}
+use Rattle.csv_promises.specs.Fields.{all_rows, no_marks, positions_in}
 
 -- a line has these fields: it is cut at its bars, but not at one after a backslash, and in each
 -- part what follows a backslash is meant, and `<br>` is a line break. Spaces at the ends of a part
@@ -34,7 +34,7 @@ pub record IsRule (n : ℕ) (line : Text) : Type 0 where
 -- each with its fields in the columns that options choose, and with its number if that is asked for
 abbrev pub names_and_rows : Options → List (List Text) → List (List Text)
 names_and_rows options records =
-    all_rows options.selection.is_numbered
+    all_rows options.selection.is_numbered no_marks
     (positions_in options (names_or_none options.selection records)
     (drawn_rows options.selection records)) (Some (names_or_none options.selection records))
     (drawn_rows options.selection records)

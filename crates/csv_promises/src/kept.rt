@@ -15,14 +15,20 @@ use std::alloc::Global;
 /// record. Each field, as it is cleaned, is alone in its column, between spaces: whole, or in
 /// slices that end where texts wrap and leave out only spaces. If records are expanded, each is
 /// such a table of names and fields, below a line with its number. If the header is bold, the
-/// sequences that begin and end bold are in its pieces. If not all records are drawn, a line below
-/// them counts them.
+/// sequences that begin and end bold are in its pieces, or in those of the names. If not all
+/// records are drawn, a line below them counts them.
+///
+/// A column is at the right if all of its drawn fields are numbers or say nothing, and one is a
+/// number. `--right` and `--left` override this. In a column at the right with a decimal mark,
+/// spaces behind shorter fractions line up the marks, as it is asked for, but perhaps not under a
+/// width. The fields of expanded records are at the left.
 ///
 /// Under `--expanded auto` no number and no date is split over lines, if records aren't expanded. A
 /// column is at least as wide as its widest text, that of the header included, if all of its fields
 /// are numbers or dates of at most 25 characters, or say nothing. So is the column of record
 /// numbers. If no width is kept to, every column is, under each expansion. A text of more than
-/// 65535 terminal columns counts as one of 65535.
+/// 65535 terminal columns counts as one of 65535. In an expanded record a number or date isn't
+/// split if the width has room for it beside borders, paddings and four terminal columns for names.
 ///
 /// It is `None` if the arguments ask for `--ansi`, Markdown, a height or no drawing, if the whole
 /// input can't be read or drawn so, or if memory runs out.

@@ -34,7 +34,7 @@ use Rattle.csv_tables.proofs.UnbrokenLemmas.{framed_pair}
 use Rattle.csv_tables.proofs.WholeColumnLemmas.{HasTwo, all_shown, both_shown, exactly_two, pairs_are_two}
 use Rattle.csv_tables.proofs.WholeTableLemmas.{IsDrawn, drawn-is, fewer_borders, field_separated}
 use Rattle.csv_tables.specs.Drawn.{SelectedValue, arrangement_for, empty_table, is_expanded_for, output_table, pairs_in, pairs_table, separated_table}
-use Rattle.csv_tables.specs.Laws.{ExpandedKeepsWhole, StandsWhole}
+use Rattle.csv_tables.specs.Laws.{IsDrawnTable}
 use Rattle.csv_tables.specs.Unbroken.{cell_unbroken_width, field_width, framed_width, is_unbroken, kept_unbroken_fields, may_break, needed_by_names, room_beside, room_for_two, unbroken_width, with_content, with_field_width}
 use Rattle.csv_tables.specs.declared.options.Look.{Look}
 
@@ -350,10 +350,10 @@ module _ (w : ℕ) (look : Look) (content : SelectedValue) (small : w ≤ 65535)
     -- so each number and each date has that fits
     abbrev FieldIsWhole : CellValue → Type 0
     FieldIsWhole cell =
-        All (λ (line : Text). is_unbroken line ≡ true → framed_width look.style (needed_by_names (column_content_width table 0) ∷ measure line ∷ []) ≤ w → StandsWhole (slice_index widths 1) line) cell.text_lines
+        All (λ (line : Text). is_unbroken line ≡ true → framed_width look.style (needed_by_names (column_content_width table 0) ∷ measure line ∷ []) ≤ w → measure line ≤ slice_index widths 1) cell.text_lines
 
     fields_are_whole : All FieldIsWhole (column_cells pairs 1)
-    fields_are_whole k default below j other inside unbroken fits = (enough, λ delimiter. stands (slice_index widths 1) delimiter line enough)
+    fields_are_whole k default below j other inside unbroken fits = enough
       where
         cells : List CellValue
         cells = column_cells pairs 1
@@ -402,12 +402,12 @@ module _ (w : ℕ) (look : Look) (content : SelectedValue) (small : w ≤ 65535)
         enough : measure line ≤ slice_index widths 1
         enough = line_wide (measure line) within content_width longest beside
 
-  whole_cells : All (λ (cell : CellValue). All (λ (line : Text). is_unbroken line ≡ true → framed_width look.style (needed_by_names (column_content_width table 0) ∷ measure line ∷ []) ≤ w → StandsWhole (slice_index widths 1) line) cell.text_lines) (column_cells table 1)
+  whole_cells : All (λ (cell : CellValue). All (λ (line : Text). is_unbroken line ≡ true → framed_width look.style (needed_by_names (column_content_width table 0) ∷ measure line ∷ []) ≤ w → measure line ≤ slice_index widths 1) cell.text_lines) (column_cells table 1)
   whole_cells = subst (All IsWhole) (sym (same_cells 1)) (all_cells look (flat_map (pairs_in look content) content.rows) (pairs_are_two look content) IsWhole (λ two. with_both pairs.columns refl two))
     where
       IsWhole : CellValue → Type 0
       IsWhole cell =
-          All (λ (line : Text). is_unbroken line ≡ true → framed_width look.style (needed_by_names (column_content_width table 0) ∷ measure line ∷ []) ≤ w → StandsWhole (slice_index widths 1) line) cell.text_lines
+          All (λ (line : Text). is_unbroken line ≡ true → framed_width look.style (needed_by_names (column_content_width table 0) ∷ measure line ∷ []) ≤ w → measure line ≤ slice_index widths 1) cell.text_lines
 
       with_both : (columns : List ColumnValue) → pairs.columns ≡ columns → length columns ≡ 2 → All IsWhole (column_cells pairs 1)
       with_both [] are two = absurd (omega (arith, two))
@@ -415,5 +415,7 @@ module _ (w : ℕ) (look : Look) (content : SelectedValue) (small : w ≤ 65535)
       with_both (a ∷ b ∷ []) are two = fields_are_whole a b are
       with_both (a ∷ b ∷ c ∷ more) are two = absurd (omega (arith, two))
 
-pub expanded_keeps_whole : (w : ℕ) (look : Look) (content : SelectedValue) → ExpandedKeepsWhole w look content
+-- so does each text line of a field of the table that is drawn of expanded records, as it is measured, that is a number or a date and fits the width beside what the names need
+pub expanded_keeps_whole : (w : ℕ) (look : Look) (content : SelectedValue) → w ≤ 65535 → look.width ≡ Some w → is_expanded_for look content ≡ true → (table : TableValue) (widths : List ℕ) → IsDrawnTable look content table → IsArranged table widths
+    → All (λ (cell : CellValue). All (λ (line : Text). is_unbroken line ≡ true → framed_width look.style (needed_by_names (column_content_width table 0) ∷ measure line ∷ []) ≤ w → measure line ≤ slice_index widths 1) cell.text_lines) (column_cells table 1)
 expanded_keeps_whole w look content small wide expanded table widths (has, made) arranged = whole_cells w look content small wide expanded has table made widths arranged

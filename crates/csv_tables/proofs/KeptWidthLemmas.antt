@@ -1,21 +1,18 @@
 -- Columns that are as wide as their contents are drawn no narrower.
 use Rattle.std.proofs.Common.{◌≡◌, ◌==◌, ◌≤◌, ◌<◌, ◌&&◌, ◌||◌, ℕ, zero, suc, ◌+◌, Bool, true, false, not, cond, List, [], ◌∷◌, ◌++◌, Option, Some, None, find, length, map, max, min, nat_le, nat_lt, option_map, slice_index, unwrap_or, refl, sym, ap, ◌∙◌, subst, arith, eq-zero-or-pos, ⊎_elim}
-use Rattle.std.specs.List.{All, AllByRecursion, cons_option, enumerate_from, range_with_len, slice_get}
+use Rattle.std.specs.List.{AllByRecursion, cons_option, enumerate_from, range_with_len, slice_get}
 use Rattle.std.specs.Prelude.{if◌then◌else◌}
 use Rattle.std.proofs.lemmas.Bool.{eq-eqb, le-leb, ne_eqb}
 use Rattle.std.proofs.lemmas.List.FromFn.{length-map-range_with_len}
-use Rattle.std.proofs.lemmas.List.Elements.{All-from_recursion, All-weaker, recursion_from_All}
+use Rattle.std.proofs.lemmas.List.Elements.{recursion_from_All}
 use Rattle.comfy_parts.proofs.CallerLemmas.{index-places}
-use Rattle.comfy_parts.specs.CellValue.{CellValue, ColumnValue, column_padding}
-use Rattle.comfy_parts.specs.Text.{Text, greatest, measure}
-use Rattle.comfy_parts.specs.Wrapping.{lines_of_text, wrapped}
+use Rattle.comfy_parts.specs.CellValue.{ColumnValue, column_padding}
 use Rattle.comfy_table.proofs.BudgetLemmas.{length-contents_after}
 use Rattle.comfy_table.proofs.BuiltTableLemmas.{IsNewColumn}
 use Rattle.comfy_table.proofs.DrawnWidthLemmas.{dynamic_widths}
-use Rattle.comfy_table.proofs.ThreePlacesLemmas.{every-le-greatest}
 use Rattle.comfy_table.specs.Arrangement.{IsArranged, is_full_width, room_beside_borders, width_kept, widths_at}
 use Rattle.comfy_table.specs.Dynamic.{Claim, Steps, added, all_claims, contents_after, even_columns, fixed_claims, room_left, claim_at, widened}
-use Rattle.comfy_table.specs.TableValue.{TableValue, cell_content_width, column_cells, column_content_width, shown_columns, table_width}
+use Rattle.comfy_table.specs.TableValue.{TableValue, column_content_width, shown_columns, table_width}
 use Rattle.comfy_table.specs.Widths.{ColumnNeeds, even_spread, fixed_by_boundary, needs_of, part_of, shown_needs, without_padding}
 use Rattle.csv_tables.proofs.LineLemmas.{Any, any_built, any_drawn, kept_setting}
 use Rattle.csv_tables.proofs.SeparatorLemmas.{restyled, separated}
@@ -23,7 +20,7 @@ use Rattle.csv_tables.proofs.UnbrokenLemmas.{boundary-some, kept-test}
 use Rattle.csv_tables.proofs.WholeColumnLemmas.{all_shown, leasts-length, leasts_on}
 use Rattle.csv_tables.proofs.WholeTableLemmas.{drawn-is}
 use Rattle.csv_tables.specs.Drawn.{SelectedValue, arrangement_for, empty_table, is_expanded_for, is_expanded_in, is_table_expanded, output_table, rows_table, separated_table, unbroken_in, is_aligned_in}
-use Rattle.csv_tables.specs.Laws.{AutoKeepsWhole, IsWholeColumn, NeverKeepsWhole, UnbrokenColumnsAreWhole}
+use Rattle.csv_tables.specs.Laws.{IsDrawnTable}
 use Rattle.csv_tables.specs.Unbroken.{boundary_for, by_columns, given_at, has_room, kept_unbroken, level_in, name_in, wide_word, with_kept}
 use Rattle.csv_tables.specs.declared.options.DrawnColumn.{DrawnColumn}
 use Rattle.csv_tables.specs.declared.options.Expansion.TheVariants.{Auto}
@@ -154,30 +151,17 @@ kept_arrangement w false = refl
 
 -- ---- columns of numbers and dates
 
--- a text line of a column that is as wide as its content stands on one line
-pub stands_whole : (table : TableValue) (i width : ℕ) → column_content_width table i ≤ width → IsWholeColumn table i width
-stands_whole table i width content =
-    record {
-      content = content;
-      lines =
-          All-weaker (λ (cell : CellValue). cell_content_width cell ≤ column_content_width table i) (λ (cell : CellValue). All StandsWhole cell.text_lines) each_cell (column_cells table i)
-          (All-from_recursion (λ (cell : CellValue). cell_content_width cell ≤ column_content_width table i) (column_cells table i) (every-le-greatest cell_content_width (column_cells table i)));
-    }
-  where
-    StandsWhole : Text → Type 0
-    StandsWhole line = measure line ≤ 65535 → (delimiter : ℕ) → lines_of_text width delimiter line ≡ line ∷ []
+-- those of the table that is drawn are no narrower than their contents
+abbrev pub UnbrokenColumnsAreWhole : Look → SelectedValue → Type 0
+UnbrokenColumnsAreWhole look content =
+    (table : TableValue) (widths : List ℕ) (i : ℕ) → IsDrawnTable look content table
+    → IsArranged table widths → i < length table.columns
+    → slice_get (unbroken_in content) i ≡ Some true
+    → column_content_width table i ≤ slice_index widths i
 
-    each_line : (cell : CellValue) → cell_content_width cell ≤ column_content_width table i → (line : Text) → measure line ≤ greatest (map measure cell.text_lines) → StandsWhole line
-    each_line cell within line most short delimiter = ap (λ (b : Bool). if b then line ∷ [] else wrapped width delimiter line) (le-leb (measure line) width (omega (arith, content, within, most, short)))
-
-    each_cell : (cell : CellValue) → cell_content_width cell ≤ column_content_width table i → All StandsWhole cell.text_lines
-    each_cell cell within =
-        All-weaker (λ (line : Text). measure line ≤ greatest (map measure cell.text_lines)) StandsWhole (each_line cell within) cell.text_lines
-        (All-from_recursion (λ (line : Text). measure line ≤ greatest (map measure cell.text_lines)) cell.text_lines (every-le-greatest measure cell.text_lines))
-
--- where there is room for them, they are whole
+-- if there is room for them, they are so
 room_keeps_whole : (w : ℕ) (look : Look) (content : SelectedValue) → look.width ≡ Some w → has_room (Some w) (unbroken_in content) (rows_table look (is_aligned_in look content) content) ≡ true → is_expanded_for look content ≡ false → UnbrokenColumnsAreWhole look content
-room_keeps_whole w look content wide room none table widths i is_drawn arranged below is = stands_whole table i (slice_index widths i) (subst (λ (t : TableValue). column_content_width t i ≤ slice_index widths i) (sym same) kept)
+room_keeps_whole w look content wide room none table widths i is_drawn arranged below is = subst (λ (t : TableValue). column_content_width t i ≤ slice_index widths i) (sym same) kept
   where
     has : Bool
     has = is_drawn.0
@@ -250,7 +234,8 @@ none_without look content empty table widths i is_drawn arranged below is =
     absurd (none_in content.is_numbered content.columns i
     (subst (λ (b : Bool). slice_get ((if content.is_numbered then not b ∷ [] else []) ++ map (λ (column : DrawnColumn). not b && column.is_unbroken) content.columns) i ≡ Some true) empty is))
 
-pub auto_keeps_whole : (w : ℕ) (look : Look) (content : SelectedValue) → AutoKeepsWhole w look content
+-- under `auto` they are if records aren't expanded
+pub auto_keeps_whole : (w : ℕ) (look : Look) (content : SelectedValue) → look.is_markdown ≡ false → look.width ≡ Some w → look.expansion ≡ Auto → is_expanded_for look content ≡ false → UnbrokenColumnsAreWhole look content
 auto_keeps_whole w look content table wide auto none = by_rows (length content.rows == 0) refl
   where
     rows : TableValue
@@ -265,22 +250,3 @@ auto_keeps_whole w look content table wide auto none = by_rows (length content.r
     by_rows : (b : Bool) → (length content.rows == 0) ≡ b → UnbrokenColumnsAreWhole look content
     by_rows true empty = none_without look content empty
     by_rows false some = room_keeps_whole w look content wide (held (has_room (Some w) whole rows) (ap (λ b. not (b || has_room (Some w) whole rows)) (sym some) ∙ sym test ∙ none)) none
-
-pub never_keeps_whole : (w : ℕ) (look : Look) (content : SelectedValue) → NeverKeepsWhole w look content
-never_keeps_whole w look content table wide never none = by_rows (length content.rows == 0) refl
-  where
-    rows : TableValue
-    rows = rows_table look (is_aligned_in look content) content
-
-    whole : List Bool
-    whole = unbroken_in content
-
-    test : is_expanded_for (record look { expansion = Auto }) content ≡ not ((length content.rows == 0) || has_room (Some w) whole rows)
-    test = ap (λ m. not m && is_expanded_in Auto ((length content.rows == 0) || has_room look.width whole rows)) table ∙ ap (λ o. not ((length content.rows == 0) || has_room o whole rows)) wide
-
-    own : is_expanded_for look content ≡ false
-    own = ap (λ m. not m && is_table_expanded look content) table ∙ ap (λ e. is_expanded_in e ((length content.rows == 0) || has_room look.width whole rows)) never
-
-    by_rows : (b : Bool) → (length content.rows == 0) ≡ b → UnbrokenColumnsAreWhole look content
-    by_rows true empty = none_without look content empty
-    by_rows false some = room_keeps_whole w look content wide (held (has_room (Some w) whole rows) (ap (λ b. not (b || has_room (Some w) whole rows)) (sym some) ∙ sym test ∙ none)) own

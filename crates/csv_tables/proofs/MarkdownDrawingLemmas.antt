@@ -1,12 +1,12 @@
 -- The lines of an output for Markdown give back its records.
-use Rattle.std.proofs.Common.{◌≡◌, ◌<◌, ℕ, ◌+◌, Bool, true, false, List, [], ◌∷◌, ◌++◌, Option, Some, arith, flat_map, length, map, max, append-nil, refl, slice_get, ap, ap₂, sym, ◌∙◌, subst, unwrap_or, None, ◌⊎◌, inl, inr}
+use Rattle.std.proofs.Common.{◌≡◌, ◌<◌, ◌≤◌, ℕ, ◌+◌, Bool, true, false, List, [], ◌∷◌, ◌++◌, Option, Some, arith, flat_map, length, map, max, append-nil, refl, slice_get, ap, ap₂, sym, ◌∙◌, subst, unwrap_or, None, ◌⊎◌, inl, inr}
 use Rattle.std.specs.List.{All, AllZip, enumerate_from, range_with_len}
 use Rattle.std.specs.Str.{IsUtf8}
 use Rattle.std.proofs.lemmas.List.Elements.{All-head, All-nil, All-tail, All-weaker}
 use Rattle.std.proofs.lemmas.Str.{IsUtf8-nil}
 use Rattle.comfy_parts.proofs.CallerLemmas.{All-of_map, IsUtf8-printable}
 use Rattle.comfy_parts.specs.CellValue.{ColumnInfo, RowValue, CellValue}
-use Rattle.comfy_parts.specs.Text.{Text}
+use Rattle.comfy_parts.specs.Text.{Text, measure}
 use Rattle.comfy_parts.specs.declared.style.table_style.ContentLineStyle.{ContentLineStyle}
 use Rattle.comfy_parts.specs.declared.style.table_style.TableStyle.{TableStyle}
 use Rattle.comfy_table.proofs.MeasuredLemmas.{row_measured}
@@ -15,13 +15,13 @@ use Rattle.comfy_table.specs.Drawing.{drawing_of_infos, drawn_header, drawn_row,
 use Rattle.comfy_table.specs.Frame.{content_line, optional_frame_line}
 use Rattle.comfy_table.specs.Laws.{HasNoBreak}
 use Rattle.comfy_table.specs.Pieces.{row_height, row_line, shown_infos}
-use Rattle.comfy_table.specs.TableValue.{TableValue, column_content_width, measured_rows, should_style}
+use Rattle.comfy_table.specs.TableValue.{TableValue, column_content_width, max_content_widths, measured_rows, should_style}
 use Rattle.csv.specs.Records.{AllText}
 use Rattle.csv_tables.specs.Cells.{Shown, counted_from, field_text, row_for, cell_for, columns_within, shown_in, shown_names}
 use Rattle.csv_tables.specs.declared.options.Look.{Look}
 use Rattle.csv_tables.specs.declared.options.Layout.{Layout}
 use Rattle.csv_tables.proofs.BuiltLemmas.{each_content, each_counted, names-length, names_each, row-length, row_each, plain_columns}
-use Rattle.csv_tables.proofs.MarkdownLineLemmas.{IsWhole, gives_back}
+use Rattle.csv_tables.proofs.MarkdownLineLemmas.{GivesBack, IsWhole, gives_back}
 use Rattle.csv_tables.proofs.MarkdownRowLemmas.{FitsAmong, IsOnly, all_fit, first_line, height_of, infos_placed, markdown_row, one_high, one_text_line, only_pieces, pieces_of, placed, IsCellAt, IsShortAt}
 use Rattle.csv_tables.proofs.MarkdownWidthLemmas.{all_columns, by_contents, drawn_for_markdown, headed, header, known, rows_measured, sides-length, table, with_names}
 use Rattle.csv_tables.proofs.FieldControlLemmas.{text_fields}
@@ -29,8 +29,9 @@ use Rattle.csv_tables.proofs.OutputLemmas.{markdown_parts, markdown_unbroken}
 use Rattle.csv_tables.proofs.RowLemmas.{with_rows-rows}
 use Rattle.csv_tables.proofs.StraightLemmas.{IsShort, empty_is_short, short_printable}
 use Rattle.csv_tables.proofs.TextTableLemmas.{EachLine, blank, short_drawn}
-use Rattle.csv_tables.specs.Drawn.{SelectedValue, RendersAsMarkdown, RendersContent, below_first, headed_table, markdown_look, markdown_rule, markdown_style, markdown_table, note_for, sides}
-use Rattle.csv_tables.specs.MarkdownLines.{GivesBack, MarkdownGivesRecordsBack}
+use Rattle.csv_tables.specs.Laws.{EachText}
+use Rattle.csv_tables.specs.Markdown.{rule_line}
+use Rattle.csv_tables.specs.Drawn.{SelectedValue, RendersAsMarkdown, RendersContent, RendersRecords, selected_of, below_first, headed_table, markdown_look, markdown_rule, markdown_style, markdown_table, note_for, sides}
 use Rattle.csv_tables.proofs.ReachedLemmas.{mapped_at, shown-at, unmapped_at}
 
 module _ (look : Look) (content : SelectedValue) (widths : List ℕ) (arranged : IsArranged (markdown_table look content) widths) where
@@ -197,11 +198,34 @@ module _ (look : Look) (content : SelectedValue) (widths : List ℕ) (arranged :
 
 -- ---- outputs
 
+-- an output for Markdown gives back the names, and below its second line each record that is drawn
+-- in one line
+pub record GivesRecordsBack (counted : Option ℕ) (layout : Layout) (records : List (List Text))
+    (output : Text) : Type 0 where
+  pub content : SelectedValue
+  pub is_content : selected_of counted layout records ≡ content
+  pub header : Text
+  pub lines : List Text
+  pub is :
+      output ≡ terminated_text_of (header
+      ∷ rule_line (sides content)
+      (max_content_widths (markdown_table layout.look content))
+      ∷ lines) ++ note_for true layout.selection.limit content.count
+  pub unbroken : All HasNoBreak (header ∷ lines)
+  pub names :
+      GivesBack (shown_names layout.look content.is_numbered content.columns
+      (unwrap_or content.names [])) header
+  pub rows :
+      AllZip (λ row line. GivesBack
+      (shown_in layout.look false content.is_numbered content.columns row) line)
+      (counted_from 1 content.rows) lines
+
 none : AllText []
 unfolding AllText
 none = tt
 
-pub records_are_given_back : (counted : Option ℕ) (layout : Layout) (records : List (List Text)) (output : Text) → MarkdownGivesRecordsBack counted layout records output
+-- so it does if a column is drawn, for fields of every script up to 65535 terminal columns
+pub records_are_given_back : (counted : Option ℕ) (layout : Layout) (records : List (List Text)) (output : Text) → layout.look.is_markdown ≡ true → EachText (λ text. measure text ≤ 65535) layout.look records → All AllText records → (made : RendersRecords counted layout records output) → 0 < length (sides made.content) → GivesRecordsBack counted layout records output
 records_are_given_back counted layout records output is short text made some =
     let look = layout.look in
     let content = made.content in

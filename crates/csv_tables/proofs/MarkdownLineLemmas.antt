@@ -16,7 +16,19 @@ use Rattle.csv_tables.specs.declared.options.Look.{Look}
 use Rattle.csv_records.proofs.ControlLemmas.{cleaned_whole}
 use Rattle.csv_tables.proofs.MarkdownPartLemmas.{part_and_bar, spaced, spaced-read}
 use Rattle.csv_tables.specs.Drawn.{markdown_look, markdown_style}
-use Rattle.csv_tables.specs.MarkdownLines.{GivesBack, parts_between_bars, read_field, read_part}
+use Rattle.csv_tables.specs.MarkdownLines.{parts_between_bars, read_part, without_outer_spaces}
+
+-- ---- what is read back
+
+-- what is to be read of a field: its characters as they are drawn
+abbrev pub read_field : Text → List ℕ
+read_field field = without_outer_spaces (chars (cleaned false field))
+
+-- between its outer bars a line has a part for each text that is shown, and gives it back
+abbrev pub GivesBack : List Shown → Text → Type 0
+GivesBack shown line =
+    map read_part (parts_between_bars (chars line))
+    ≡ [] ∷ (map (λ (s : Shown). read_field s.text) shown ++ [] ∷ [])
 
 -- ---- characters
 

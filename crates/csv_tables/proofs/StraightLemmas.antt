@@ -335,7 +335,7 @@ module _ (visible : Bool) (counted : Option ℕ) (layout : Layout) (records : Li
     pub narrow_lines : (P : ℕ → Type 0) → LineWidthsSatisfy P table headline.widths → All (λ line. P (measure line)) (seen_lines visible lines)
     narrow_lines P counts = seen_all own unkept made.content table lines headline (IsDefaultRowOf (CharactersFit 1)) narrow_known visible seen (λ line. P (measure line)) (counts.straight_lines narrow_table)
 
-  -- where each character has room in its column
+  -- if each character has room in its column
   module _ (fits : CharactersFitEachWidth counted layout records) where
     fitting_known : IsDrawn own IsDefaultRow made.content table
     fitting_known =

@@ -103,15 +103,16 @@ leasts-length kept columns = constrained-length (map at_least kept) columns
 pub record IsPaddedColumn (column : ColumnValue) : Type 0 where
   pub padding : column.padding ≡ (1, 1)
   pub no_delimiter : column.delimiter ≡ None
+  pub no_alignment : column.alignment ≡ None
 
 padded_column : (column : ColumnValue) → IsNewColumn column → IsPaddedColumn column
-padded_column column new = record { padding = new.padding; no_delimiter = new.no_delimiter }
+padded_column column new = record { padding = new.padding; no_delimiter = new.no_delimiter; no_alignment = new.no_alignment }
 
 pub padded_columns : (kept : List ℕ) (columns : List ColumnValue) → AllByRecursion IsNewColumn columns → AllByRecursion IsPaddedColumn (leasts_on kept columns)
 padded_columns [] [] new = tt
 padded_columns [] (column ∷ columns) new = (padded_column column new.0, padded_columns [] columns new.1)
 padded_columns (least ∷ more) [] new = tt
-padded_columns (least ∷ more) (column ∷ columns) new = (record { padding = new.0.padding; no_delimiter = new.0.no_delimiter }, padded_columns more columns new.1)
+padded_columns (least ∷ more) (column ∷ columns) new = (record { padding = new.0.padding; no_delimiter = new.0.no_delimiter; no_alignment = new.0.no_alignment }, padded_columns more columns new.1)
 
 -- ---- names and fields
 
@@ -173,7 +174,7 @@ pairs_have_two look content = two_at_most (flat_map (pairs_in look content) cont
 pub padded_second : (field : ℕ) (columns : List ColumnValue) → AllByRecursion IsNewColumn columns → AllByRecursion IsPaddedColumn (with_second field columns)
 padded_second field [] new = tt
 padded_second field (a ∷ []) new = (padded_column a new.0, tt)
-padded_second field (a ∷ b ∷ more) new = (padded_column a new.0, (record { padding = new.1.0.padding; no_delimiter = new.1.0.no_delimiter }, padded_columns [] more new.1.1))
+padded_second field (a ∷ b ∷ more) new = (padded_column a new.0, (record { padding = new.1.0.padding; no_delimiter = new.1.0.no_delimiter; no_alignment = new.1.0.no_alignment }, padded_columns [] more new.1.1))
 
 module _ (table : TableValue) (field : ℕ) (a b : ColumnValue) (new : AllByRecursion IsNewColumn (a ∷ b ∷ [])) where
   -- both are shown

@@ -1,19 +1,18 @@
 -- What is so of every output.
 -- Source: this library's own.
-use Rattle.std.specs.Prelude.{◌≡◌, ◌⊎◌, ℕ, ◌+◌, ◌<◌, ◌≤◌, Bool, true, false, List, [], ◌∷◌, ◌++◌, Option, Some, None, All, Contains, flat_map, length, map, slice_get, slice_index}
+use Rattle.std.specs.Prelude.{◌≡◌, ◌⊎◌, ℕ, ◌+◌, ◌≤◌, Bool, true, false, List, ◌++◌, Option, Some, None, All, Contains, flat_map, length, map}
 use Rattle.std.specs.List.{range_with_len}
-use Rattle.comfy_parts.specs.CellValue.{CellValue, plain_cell}
+use Rattle.comfy_parts.specs.CellValue.{plain_cell}
 use Rattle.comfy_parts.specs.Columns.{CharactersFit, IsOneColumnStyle, SelectorsAgree}
 use Rattle.comfy_parts.specs.Text.{Text, measure, spaces}
 use Rattle.comfy_parts.specs.VisibleText.{visible_text}
-use Rattle.comfy_parts.specs.Wrapping.{lines_of_text}
 use Rattle.comfy_table.specs.Arrangement.{IsArranged}
 use Rattle.comfy_table.specs.Drawing.{terminated_text_of}
 use Rattle.comfy_table.specs.FittingTables.{CharactersFitColumn}
 use Rattle.comfy_table.specs.Laws.{AreLinesOf, HasNoBreak, HasNoControl, IsStyleWithout, count}
 use Rattle.comfy_table.specs.NewTables.{AreEquallyWide}
 use Rattle.comfy_table.specs.Straight.{EachCell}
-use Rattle.comfy_table.specs.TableValue.{TableValue, column_cells, column_content_width}
+use Rattle.comfy_table.specs.TableValue.{TableValue}
 use Rattle.csv_tables.specs.Cells.{field_text, text_in}
 use Rattle.csv_tables.specs.Fields.{field_or_blank}
 use Rattle.csv_tables.specs.declared.options.DrawnColumn.{DrawnColumn}
@@ -22,10 +21,8 @@ use Rattle.csv_records.specs.Decimals.{byte_of, digits_in, fraction_len, points_
 use Rattle.csv_records.specs.Number.{halves, is_neutral}
 use Rattle.csv_records.specs.declared.decimals.Points.{Points}
 use Rattle.csv_tables.specs.Controls.{HasNothingHarmful, IsHarmlessStyle}
-use Rattle.csv_tables.specs.Drawn.{SelectedValue, RendersRecords, selected_of, is_expanded_for, note_for, output_table, record_line, separated_table, unbroken_in}
-use Rattle.csv_tables.specs.Unbroken.{framed_width, is_unbroken, needed_by_names}
+use Rattle.csv_tables.specs.Drawn.{SelectedValue, RendersRecords, selected_of, is_expanded_for, note_for, output_table, record_line, separated_table}
 use Rattle.csv.specs.Records.{AllText}
-use Rattle.csv_tables.specs.declared.options.Expansion.TheVariants.{Auto, Never}
 use Rattle.csv_tables.specs.declared.options.Look.{Look}
 use Rattle.csv_tables.specs.declared.options.Layout.{Layout}
 
@@ -99,60 +96,6 @@ pub record ArePlainLines (visible : Bool) (look : Look) (records : List (List Te
 -- lines as they are seen
 abbrev pub seen_lines : Bool → List Text → List Text
 seen_lines visible lines = map (visible_of visible) lines
-
--- ---- numbers and dates
-
--- a column is drawn at least as wide as its content, so that each text line of its cells, as it is
--- measured, stands on one line as it is, where that takes no more than 65535 terminal columns
-pub record IsWholeColumn (table : TableValue) (i width : ℕ) : Type 0 where
-  pub content : column_content_width table i ≤ width
-  pub lines :
-      All (λ (cell : CellValue). All (λ (line : Text). measure line ≤ 65535 → (delimiter : ℕ)
-      → lines_of_text width delimiter line ≡ line ∷ []) cell.text_lines)
-      (column_cells table i)
-
--- so are the columns of numbers and dates of the table that is drawn
-abbrev pub UnbrokenColumnsAreWhole : Look → SelectedValue → Type 0
-UnbrokenColumnsAreWhole look content =
-    (table : TableValue) (widths : List ℕ) (i : ℕ) → IsDrawnTable look content table
-    → IsArranged table widths → i < length table.columns
-    → slice_get (unbroken_in content) i ≡ Some true
-    → IsWholeColumn table i (slice_index widths i)
-
--- under `auto` they are where records aren't expanded
-abbrev pub AutoKeepsWhole : ℕ → Look → SelectedValue → Type 0
-AutoKeepsWhole w look content =
-    look.is_markdown ≡ false → look.width ≡ Some w → look.expansion ≡ Auto
-    → is_expanded_for look content ≡ false → UnbrokenColumnsAreWhole look content
-
--- under `never` they are where there is room, so where `auto` wouldn't expand them
-abbrev pub NeverKeepsWhole : ℕ → Look → SelectedValue → Type 0
-NeverKeepsWhole w look content =
-    look.is_markdown ≡ false → look.width ≡ Some w → look.expansion ≡ Never
-    → is_expanded_for (record look { expansion = Auto }) content ≡ false
-    → UnbrokenColumnsAreWhole look content
-
--- a text line stands on one line as it is, in a column that is at least as wide
-abbrev pub StandsWhole : ℕ → Text → Type 0
-StandsWhole width line =
-    (measure line ≤ width) × ((delimiter : ℕ) → lines_of_text width delimiter line ≡ line ∷ [])
-
--- so does each text line of the fields of expanded records, as it is measured, that is a number or
--- a date and fits the width beside what the names need
-abbrev pub UnbrokenFieldsAreWhole : ℕ → Look → SelectedValue → Type 0
-UnbrokenFieldsAreWhole w look content =
-    (table : TableValue) (widths : List ℕ) → IsDrawnTable look content table
-    → IsArranged table widths
-    → All (λ (cell : CellValue). All (λ (line : Text). is_unbroken line ≡ true
-    → framed_width look.style
-    (needed_by_names (column_content_width table 0) ∷ measure line ∷ []) ≤ w
-    → StandsWhole (slice_index widths 1) line) cell.text_lines) (column_cells table 1)
-
--- under each width that can be set
-abbrev pub ExpandedKeepsWhole : ℕ → Look → SelectedValue → Type 0
-ExpandedKeepsWhole w look content =
-    w ≤ 65535 → look.width ≡ Some w → is_expanded_for look content ≡ true
-    → UnbrokenFieldsAreWhole w look content
 
 -- ---- straight edges
 

@@ -4,9 +4,8 @@
 ghost use Rattle.std.specs.Prelude.{Bool, List, Option, ℕ};
 ghost use Rattle.comfy_parts.specs.Text.{Text};
 ghost use Rattle.csv_tables.specs.Drawn.{SelectedValue};
-ghost use Rattle.csv_tables.specs.Laws.{AutoKeepsWhole, ExpandedKeepsWhole, FittingOutputIsStraight, MarkdownOutputIsStraight, MarksStandBelow, NarrowOutputIsStraight, NeverKeepsWhole, OutputHoldsNoControls, OutputIsOne, SpacesAloneAreAdded, WholeOutputIsStraight};
+ghost use Rattle.csv_tables.specs.Laws.{FittingOutputIsStraight, MarkdownOutputIsStraight, MarksStandBelow, NarrowOutputIsStraight, OutputHoldsNoControls, OutputIsOne, SpacesAloneAreAdded, WholeOutputIsStraight};
 ghost use Rattle.csv_tables.specs.Markdown.{IsReadBack};
-ghost use Rattle.csv_tables.specs.MarkdownLines.{MarkdownGivesRecordsBack};
 ghost use Rattle.csv_tables.specs.declared.options.Look.{Look};
 ghost use Rattle.csv_tables.specs.declared.options.Layout.{Layout};
 ghost use Rattle.csv_tables.specs.declared.options.DrawnColumn.{DrawnColumn};
@@ -19,21 +18,6 @@ pub fn decimal_marks_stand_below_each_other()
         (fields : List Text)
         → SpacesAloneAreAdded look is_aligned column fields }
     ensures marks { (fields : List Text) → MarksStandBelow fields }
-{}
-
-/// Under `auto` with a width no number and no date of a column of them is broken over lines, where
-/// records aren't expanded: the column is at least as wide as its content, its name in the header
-/// included, and each line of its texts stands on one line as it is. So it is under `never` at each
-/// width at which `auto` wouldn't expand the records.
-///
-/// Where records are expanded, a number or a date in a field is broken only where it is wider than
-/// the width leaves beside borders, paddings and at most four terminal columns of the names.
-pub fn auto_keeps_numbers_and_dates_whole()
-    ensures auto { (w : ℕ) (look : Look) (content : SelectedValue) → AutoKeepsWhole w look content }
-    ensures never { (w : ℕ) (look : Look) (content : SelectedValue)
-        → NeverKeepsWhole w look content }
-    ensures expanded { (w : ℕ) (look : Look) (content : SelectedValue)
-        → ExpandedKeepsWhole w look content }
 {}
 
 /// All lines of an output take equally many terminal columns: as they are written, where nothing is
@@ -70,16 +54,6 @@ pub fn outputs_are_straight()
 pub fn outputs_hold_no_controls()
     ensures { (counted : Option ℕ) (layout : Layout) (records : List (List Text)) (output : Text)
         → OutputHoldsNoControls counted layout records output }
-{}
-
-/// An output for Markdown has one line for the names, the rule below it, and one for each record
-/// that is drawn; none holds a line feed. Cut at its bars, but not at those after a backslash, and
-/// with what was escaped read back, such a line gives the record's fields as they were cleaned,
-/// less the spaces around them. A column is drawn, and no field is wider than 65535 terminal
-/// columns.
-pub fn markdown_lines_give_back_their_fields()
-    ensures { (counted : Option ℕ) (layout : Layout) (records : List (List Text)) (output : Text)
-        → MarkdownGivesRecordsBack counted layout records output }
 {}
 
 /// What was escaped for Markdown is read back.

@@ -19,6 +19,7 @@ use Rattle.comfy_parts.specs.Text.{AddsOneColumnEach, Text, greatest, measure, s
 use Rattle.comfy_parts.specs.VisibleLines.{CellLine}
 use Rattle.comfy_parts.specs.VisibleText.{closed, visible_bytes, visible_text}
 use Rattle.comfy_parts.specs.Wrapping.{IsWrapped, lines_of_text, wrapped}
+use Rattle.comfy_parts.specs.declared.style.cell.CellAlignment.{CellAlignment}
 use Rattle.comfy_parts.specs.declared.style.table.ContentArrangement.{ContentArrangement}
 use Rattle.comfy_parts.specs.declared.style.table.ContentArrangement.TheVariants as arrangements
 use Rattle.comfy_parts.specs.declared.style.table.ContentArrangement.TheVariants.{Disabled}
@@ -49,8 +50,8 @@ use Rattle.comfy_table.specs.Widths.{ColumnNeeds, disabled_width, needs_of, show
 use Rattle.promises.proofs.DrawnColumnLemmas.{IsWholeAt, columns-drawn, drawn_column, infos-are, whole_at}
 use Rattle.promises.proofs.LevelLemmas.{KeepsLevel, contents_keep, level_keeps, zip_maps}
 use Rattle.promises.proofs.RowLemmas.{height, line_is, piece_in, width_by_content}
-use Rattle.promises.proofs.PieceLemmas.{uncoloured_lines, uncoloured_rows, uncoloured_text}
-use Rattle.promises.specs.Headline.{AreColumnsOf, AreContentLines, AreLinesOfCell, AreLinesOfParts, AreLinesOfRow, AreLinesOfText, AreSpaces, EachShownCell, IsFramedBy, IsFramedDrawing, IsFramedTable, IsHeadline, IsPiece, IsPrintable, framed, lines_in, whole_width, widths_shown, IsUncoloured, is_coloured, is_styled, IsAsWide, HasLinesWithin, room_for_texts}
+use Rattle.promises.proofs.PieceLemmas.{uncoloured_lines, uncoloured_text}
+use Rattle.promises.specs.Headline.{AreColumnsOf, AreContentLines, AreLinesOfCell, AreLinesOfParts, AreLinesOfRow, AreLinesOfText, AreSpaces, EachShownCell, IsFramedBy, IsFramedDrawing, IsFramedTable, IsHeadline, IsPiece, IsPrintable, framed, lines_in, whole_width, widths_shown, IsUncoloured, is_coloured, is_styled, side_in, side_of, IsAsWide, HasLinesWithin, room_for_texts}
 use Rattle.promises.specs.Shown.{IsStyled}
 use Rattle.promises.specs.Shown.IsStyled.{nothing, byte, sequence}
 
@@ -200,7 +201,7 @@ module _ (table : TableValue) (widths : List ℕ) (long : length widths ≡ leng
   info_at p = info_of p.1 (slice_index widths p.0)
 
   -- the piece of a line
-  piece_is : (p : ℕ × ColumnValue) (cell : CellValue) (line : Text) → IsPiece (should_style table && is_coloured (Some cell)) p.1 (content_at p.0) line (piece table cell (info_at p) (as_measured line))
+  piece_is : (p : ℕ × ColumnValue) (cell : CellValue) (line : Text) → IsPiece (should_style table && is_coloured (Some cell)) (side_in (Some cell) p.1) p.1 (content_at p.0) line (piece table cell (info_at p) (as_measured line))
   piece_is p cell line = by_tests (should_style table) table.style_text_only (is_coloured (Some cell)) refl
     where
       m : ℕ
@@ -224,13 +225,13 @@ module _ (table : TableValue) (widths : List ℕ) (long : length widths ≡ leng
       end : IsStyled [] (style_end cell)
       end = keeps_style_end Any IsStyled styled_kept cell
 
-      made : (styles : Bool) (before after whole : Text) → whole ≡ before ++ (line ++ after) → AreSpaces styles left before → AreSpaces styles right after → IsPiece styles p.1 (content_at p.0) line whole
+      made : (styles : Bool) (before after whole : Text) → whole ≡ before ++ (line ++ after) → AreSpaces styles left before → AreSpaces styles right after → IsPiece styles (side_in (Some cell) p.1) p.1 (content_at p.0) line whole
       made styles before after whole drawn front_spaces back_spaces =
           let among = free_before-le (cell_alignment cell (info_at p)) (free_places (info_at p) m) in
-          record { left = left; right = right; before = before; after = after; drawn = drawn; are_spaces = (front_spaces, back_spaces); padded = (omega arith, omega arith); wide = omega (arith, among) }
+          record { left = left; right = right; before = before; after = after; drawn = drawn; are_spaces = (front_spaces, back_spaces); padded = (omega arith, omega arith); wide = omega (arith, among); aligned = refl }
 
       by_tests : (styles text_only coloured : Bool) → is_coloured (Some cell) ≡ coloured
-          → IsPiece (styles && coloured) p.1 (content_at p.0) line (if styles then (if text_only then padded cell (info_at p) m (styled cell line) else styled cell (padded cell (info_at p) m line)) else padded cell (info_at p) m line)
+          → IsPiece (styles && coloured) (side_in (Some cell) p.1) p.1 (content_at p.0) line (if styles then (if text_only then padded cell (info_at p) m (styled cell line) else styled cell (padded cell (info_at p) m line)) else padded cell (info_at p) m line)
       by_tests true true true some =
           made true (spaces left ++ style_begin cell) (style_end cell ++ spaces right) (padded cell (info_at p) m (styled cell line))
           (sym (padded_is (styled cell line))
@@ -249,19 +250,32 @@ module _ (table : TableValue) (widths : List ℕ) (long : length widths ≡ leng
           made false (spaces left) (spaces right) (styled cell (padded cell (info_at p) m line)) (sym (uncoloured_text cell (uncoloured cell none) (padded cell (info_at p) m line)) ∙ sym (padded_is line)) refl refl
       by_tests false text_only coloured some = made false (spaces left) (spaces right) (padded cell (info_at p) m line) (sym (padded_is line)) refl refl
 
-  -- where there is no line
-  blank_is : (styles : Bool) (p : ℕ × ColumnValue) → IsPiece styles p.1 (content_at p.0) [] (blank_piece (info_at p))
-  blank_is styles p =
+  -- if there is no line
+  blank_is : (styles : Bool) (side : CellAlignment) (p : ℕ × ColumnValue) → IsPiece styles side p.1 (content_at p.0) [] (blank_piece (info_at p))
+  blank_is styles side p =
       record {
-        left = p.1.padding.0 + content_at p.0;
-        right = p.1.padding.1;
-        before = spaces (p.1.padding.0 + content_at p.0);
-        after = spaces p.1.padding.1;
-        drawn = sym (spaces-append (p.1.padding.0 + content_at p.0) p.1.padding.1);
-        are_spaces = (spaces_alone styles (p.1.padding.0 + content_at p.0), spaces_alone styles p.1.padding.1);
+        left = left;
+        right = right;
+        before = spaces left;
+        after = spaces right;
+        drawn = sym (spaces-append left right ∙ ap spaces (omega (arith, among)));
+        are_spaces = (spaces_alone styles left, spaces_alone styles right);
         padded = (omega arith, omega arith);
-        wide = omega (arith, measure-nil);
+        wide = omega (arith, among, measure-nil);
+        aligned = refl;
       }
+    where
+      free : ℕ
+      free = content_at p.0 - measure []
+
+      left : ℕ
+      left = p.1.padding.0 + free_before side free
+
+      right : ℕ
+      right = content_at p.0 - free_before side free + p.1.padding.1
+
+      among : free_before side free ≤ content_at p.0
+      among = let within = free_before-le side free in omega (arith, within)
 
   abbrev infos : List ColumnInfo
   infos = infos_of table widths
@@ -282,15 +296,15 @@ module _ (table : TableValue) (widths : List ℕ) (long : length widths ≡ leng
     cut_of row p cell = unwrap_or (option_map (cut_at row p) cell) ([] ∷ [])
 
     piece_at : (row : RowValue) (p : ℕ × ColumnValue) (cell : Option CellValue) (k : ℕ)
-        → IsPiece (should_style table && is_coloured cell) p.1 (content_at p.0) (slice_index_or (cut_of row p cell) k []) (slice_index_or (pieces_of_optional table row (info_at p) cell) k (blank_piece (info_at p)))
-    piece_at row p None zero = blank_is (should_style table && false) p
-    piece_at row p None (suc k) = blank_is (should_style table && false) p
+        → IsPiece (should_style table && is_coloured cell) (side_in cell p.1) p.1 (content_at p.0) (slice_index_or (cut_of row p cell) k []) (slice_index_or (pieces_of_optional table row (info_at p) cell) k (blank_piece (info_at p)))
+    piece_at row p None zero = blank_is (should_style table && false) (side_in None p.1) p
+    piece_at row p None (suc k) = blank_is (should_style table && false) (side_in None p.1) p
     piece_at row p (Some cell) k =
-        subst (λ (lines : List CellLine). IsPiece (should_style table && is_coloured (Some cell)) p.1 (content_at p.0) (slice_index_or (cut_at row p cell) k []) (slice_index_or (map (piece table cell (info_at p)) lines) k (blank_piece (info_at p)))) (sym (row_lines-are row p cell))
+        subst (λ (lines : List CellLine). IsPiece (should_style table && is_coloured (Some cell)) (side_in (Some cell) p.1) p.1 (content_at p.0) (slice_index_or (cut_at row p cell) k []) (slice_index_or (map (piece table cell (info_at p)) lines) k (blank_piece (info_at p)))) (sym (row_lines-are row p cell))
         (by_lines (cut_at row p cell) k)
       where
-        by_lines : (lines : List Text) (k : ℕ) → IsPiece (should_style table && is_coloured (Some cell)) p.1 (content_at p.0) (slice_index_or lines k []) (slice_index_or (map (piece table cell (info_at p)) (map as_measured lines)) k (blank_piece (info_at p)))
-        by_lines [] k = blank_is (should_style table && is_coloured (Some cell)) p
+        by_lines : (lines : List Text) (k : ℕ) → IsPiece (should_style table && is_coloured (Some cell)) (side_in (Some cell) p.1) p.1 (content_at p.0) (slice_index_or lines k []) (slice_index_or (map (piece table cell (info_at p)) (map as_measured lines)) k (blank_piece (info_at p)))
+        by_lines [] k = blank_is (should_style table && is_coloured (Some cell)) (side_in (Some cell) p.1) p
         by_lines (line ∷ lines) zero = piece_is p cell line
         by_lines (line ∷ lines) (suc k) = by_lines lines k
 
@@ -301,11 +315,11 @@ module _ (table : TableValue) (widths : List ℕ) (long : length widths ≡ leng
 
     -- the pieces of some columns
     pieces_are : (border : ContentLineStyle) (row : RowValue) (k : ℕ) (ps : List (ℕ × ColumnValue))
-        → AllZip (λ (p : ℕ × ColumnValue). IsPiece (is_styled table row p) p.1 (content_at p.0) (slice_index_or (lines_in table content_at lines_at row p) k [])) ps (map (piece_in table widths long border row k) ps)
+        → AllZip (λ (p : ℕ × ColumnValue). IsPiece (is_styled (should_style table) row p) (side_of row p) p.1 (content_at p.0) (slice_index_or (lines_in table content_at lines_at row p) k [])) ps (map (piece_in table widths long border row k) ps)
     pieces_are border row k [] = tt
     pieces_are border row k (p ∷ ps) = (piece_at row p (slice_get row.cells p.0) k, pieces_are border row k ps)
 
-    parts_are : (border : ContentLineStyle) (row : RowValue) → AreLinesOfParts (is_styled table row) table content_at (lines_in table content_at lines_at row) border (drawn_row table infos border row)
+    parts_are : (border : ContentLineStyle) (row : RowValue) → AreLinesOfParts (should_style table) table row content_at (lines_in table content_at lines_at row) border (drawn_row table infos border row)
     parts_are border row =
         record {
           as_high = height table widths long border row ∙ (λ i. greatest (map (λ (p : ℕ × ColumnValue). as_many row p (slice_get row.cells p.0) i) (shown_columns table)));
@@ -465,15 +479,6 @@ pub framed-width : (table : TableValue) (widths : List ℕ) (none : table.custom
 unfolding framed_table
 framed-width table widths none long whole styled unstyled i = refl
 
--- without colours its rows are the same
-pub framed-rows : (table : TableValue) (widths : List ℕ) (none : table.custom_styling ≡ false) (long : length widths ≡ length table.columns) (whole : All (λ (row : RowValue). All (IsWholeAt table row) (shown_columns table)) (header_and_rows table)) (styled : AllZip IsStyled (drawing (bare table) widths) (drawing table widths))
-    (unstyled : should_style table ≡ false → drawing table widths ≡ drawing (bare table) widths) → All (λ (row : RowValue). All IsUncoloured row.cells) table.rows
-    → (framed_table table widths none long whole styled unstyled).frame.rows ≡ (framed_table table widths none long whole styled unstyled).is_plain.frame.rows
-unfolding framed_table frame_is plain_frame_is
-framed-rows table widths none long whole styled unstyled each =
-    uncoloured_rows table (infos_of table widths) table.style.content_lines table.rows each
-    ∙ ap (λ (custom : Bool). map (drawn_row (record table { custom_styling = custom; no_tty = true; enforce_styling = false }) (infos_of table widths) table.style.content_lines) table.rows) none
-
 pub headline : (table : TableValue) (lines : List Text) → IsTableDrawing table lines → IsHeadline table lines
 unfolding plain_lines
 headline table lines drawn =
@@ -536,7 +541,7 @@ headline table lines drawn =
     unconstrained_needs : NoConstraints table → All IsUnconstrained (shown_needs table)
     unconstrained_needs free = All-from_recursion IsUnconstrained (shown_needs table) (unconstrained_shown table free)
 
-    -- where a width is kept, the widths are dynamic
+    -- if a width is kept to, the widths are dynamic
     layout : (w : ℕ) → table_width table ≡ Some w → table.arrangement ≢ Disabled → IsDynamicLayout (room_beside_borders table w) (shown_needs table) (is_full_width table.arrangement) (shown_contents table drawn.widths)
     layout w known kept = dynamic_widths table table.arrangement w drawn.widths (keeps table.arrangement kept) refl known drawn.arranged
       where

@@ -17,12 +17,12 @@ use Rattle.comfy_table.specs.Drawing.{drawing, infos_of}
 use Rattle.comfy_table.specs.Headline.{IsTableDrawing}
 use Rattle.comfy_table.specs.Laws.{unstyled}
 use Rattle.comfy_table.specs.Lines.{cell_delimiter, cut_text, cut_to_limit}
-use Rattle.comfy_table.specs.TableValue.{TableValue, cell_content_width, header_and_rows, measured_rows, shown_columns, with_other_rows}
+use Rattle.comfy_table.specs.TableValue.{TableValue, cell_content_width, header_and_rows, measured_rows, should_style, shown_columns, with_other_rows}
 use Rattle.promises.proofs.DrawnColumnLemmas.{IsWholeAt, whole_at}
-use Rattle.promises.proofs.HeadlineLemmas.{bare, framed-plain, framed-rows, framed-width, framed_table, headline, styled_lines}
+use Rattle.promises.proofs.HeadlineLemmas.{bare, framed-plain, framed-width, framed_table, headline, styled_lines}
 use Rattle.promises.proofs.PieceLemmas.{measured-plain, plainly}
 use Rattle.promises.proofs.PlacedLemmas.{measured_plain, placed}
-use Rattle.promises.specs.Headline.{AreContentLines, AreLinesOfCell, AreLinesOfParts, AreLinesOfText, EachShownCell, IsFramedBy, IsFramedTable, IsHeadline, IsPiece, IsUncoloured, framed, is_styled, lines_in, widest}
+use Rattle.promises.specs.Headline.{AreContentLines, AreLinesOfCell, AreLinesOfParts, AreLinesOfText, EachShownCell, IsFramedBy, IsFramedTable, IsHeadline, IsPiece, framed, is_styled, side_of, lines_in, widest}
 use Rattle.promises.specs.Kept.{AreShown, AreSlicesOf, ShowsRow, ShowsWholeRow}
 use Rattle.promises.specs.Shown.{IsStyled}
 use Rattle.promises.specs.Tables.{IsShownWhole}
@@ -64,19 +64,19 @@ module _ (Is : RowValue → Type 0) (Shows Others : ContentLineStyle → RowValu
       by_header (Some row) own (block, shows, made) = (block, gives table.style.header_lines row block (All-head Is row table.rows own) shows, made)
 
 -- lines of parts are lines of equal parts
-module _ (styles : ℕ × ColumnValue → Bool) (table : TableValue) (width : ℕ → ℕ) (parts others : ℕ × ColumnValue → List Text) where
+module _ (styles : Bool) (table : TableValue) (row : RowValue) (width : ℕ → ℕ) (parts others : ℕ × ColumnValue → List Text) where
   abbrev IsSame : ℕ × ColumnValue → Type 0
   IsSame p = parts p ≡ others p
 
   other_pieces : (k : ℕ) (ps : List (ℕ × ColumnValue)) (pieces : List Text) → All IsSame ps
-      → AllZip (λ (p : ℕ × ColumnValue). IsPiece (styles p) p.1 (width p.0) (slice_index_or (parts p) k [])) ps pieces → AllZip (λ (p : ℕ × ColumnValue). IsPiece (styles p) p.1 (width p.0) (slice_index_or (others p) k [])) ps pieces
+      → AllZip (λ (p : ℕ × ColumnValue). IsPiece (is_styled styles row p) (side_of row p) p.1 (width p.0) (slice_index_or (parts p) k [])) ps pieces → AllZip (λ (p : ℕ × ColumnValue). IsPiece (is_styled styles row p) (side_of row p) p.1 (width p.0) (slice_index_or (others p) k [])) ps pieces
   other_pieces k [] [] same zip = tt
   other_pieces k [] (piece ∷ pieces) same zip = absurd zip
   other_pieces k (p ∷ ps) [] same zip = absurd zip
   other_pieces k (p ∷ ps) (piece ∷ pieces) same zip =
-      (subst (λ (part : List Text). IsPiece (styles p) p.1 (width p.0) (slice_index_or part k []) piece) (All-head IsSame p ps same) zip.0, other_pieces k ps pieces (All-tail IsSame p ps same) zip.1)
+      (subst (λ (part : List Text). IsPiece (is_styled styles row p) (side_of row p) p.1 (width p.0) (slice_index_or part k []) piece) (All-head IsSame p ps same) zip.0, other_pieces k ps pieces (All-tail IsSame p ps same) zip.1)
 
-  other_parts : (borders : ContentLineStyle) (block : List Text) → All IsSame (shown_columns table) → AreLinesOfParts styles table width parts borders block → AreLinesOfParts styles table width others borders block
+  other_parts : (borders : ContentLineStyle) (block : List Text) → All IsSame (shown_columns table) → AreLinesOfParts styles table row width parts borders block → AreLinesOfParts styles table row width others borders block
   other_parts borders block same own =
       record {
         as_high =
@@ -190,7 +190,7 @@ module _ (table : TableValue) (width : ℕ → ℕ) (cell_lines : ℕ × ColumnV
             ∙ own_lines (width p.0) (cell_delimiter table p.1.delimiter cell) cell.text_lines lines.0 (texts cell refl) lines.1
 
     shows_whole : (borders : ContentLineStyle) (row : RowValue) (block : List Text) → Fits row → AreContentLines table width cell_lines borders row block → ShowsWholeRow table width borders row block
-    shows_whole borders row block fits own = other_parts (is_styled table row) table width (lines_in table width cell_lines row) (texts_in row) borders block (slices_are_texts row fits) (own.are none)
+    shows_whole borders row block fits own = other_parts (should_style table) table row width (lines_in table width cell_lines row) (texts_in row) borders block (slices_are_texts row fits) (own.are none)
 
     pub whole_shown : (lines : List Text) → IsFramedBy (AreContentLines table width cell_lines) table width lines → AreShown (ShowsWholeRow table) table lines
     whole_shown lines is = (width, frame_gives Fits (AreContentLines table width cell_lines) (ShowsWholeRow table width) shows_whole table width lines rows_fit is)
@@ -217,10 +217,6 @@ module _ (table : TableValue) (lines : List Text) (drawn : IsTableDrawing table 
         (subst (All (λ (row : RowValue). All (IsWholeAt table row) (shown_columns table))) (measured_plain part plain) (measured_part (λ row. All (IsWholeAt table row) (shown_columns table)) (whole_at table lines drawn)))
         (subst (λ (t : TableValue). AllZip IsStyled (drawing t drawn.widths) (drawing part drawn.widths)) same (styled_lines part drawn.widths (measured_part (λ row. All (λ (cell : CellValue). All IsUtf8 cell.text_lines) row.cells) drawn.texts.whole_texts)))
         (λ none. sym (unstyled_drawing part (infos_of part drawn.widths) none plain) ∙ ap (λ (t : TableValue). drawing t drawn.widths) same)
-
-    pub part_rows : All (λ (row : RowValue). All IsUncoloured row.cells) rows → part_framed.frame.rows ≡ part_framed.is_plain.frame.rows
-    unfolding part_framed
-    part_rows each = framed-rows part drawn.widths plain _ _ _ _ each
 
     pub part_plain : part_framed.plain ≡ drawing (plainly part) drawn.widths
     unfolding part_framed

@@ -1,4 +1,4 @@
--- How wide columns without constraints are where a width is kept.
+-- How wide columns without constraints are, if a width is kept to.
 use Rattle.std.proofs.Common.{if◌then◌else◌, ◌≡◌, ◌<◌, ◌≤◌, ℕ, ◌+◌, ◌/◌, ◌==◌, ◌&&◌, Bool, true, false, List, [], ◌∷◌, length, map, max, nat_le, nat_lt, replicate, sum_by, MatchBool, refl, sym, ◌∙◌, subst, arith, eq-zero-or-pos, inl, inr, ◌⊎◌}
 use Rattle.std.specs.List.{All, AllZip}
 use Rattle.std.proofs.Math.Nat.{div-eq_of_lt}

@@ -2,7 +2,7 @@
 use Rattle.std.proofs.Common.{◌≡◌, ℕ, Bool, true, false, List, [], ◌∷◌, ◌++◌, Option, Some, None, append-nil, length, map, refl, sym, ap, ap₂, ◌∙◌, subst, slice_index_or}
 use Rattle.std.specs.List.{All, AllZip, range_with_len, slice_get}
 use Rattle.std.specs.Prelude.{if◌then◌else◌, option_map, option_to_list}
-use Rattle.std.proofs.lemmas.List.Elements.{All-head, All-tail, All-weaker}
+use Rattle.std.proofs.lemmas.List.Elements.{All-head, All-weaker}
 use Rattle.std.proofs.lemmas.Slice.Zip.{AllZip-long}
 use Rattle.comfy_parts.proofs.CallerLemmas.{All-at, All-every, All-others, AllZip-append, AllZip-join_by, AllZip-map, AllZip-map_map, At-or-both}
 use Rattle.comfy_parts.specs.CellValue.{CellValue, ColumnInfo, RowValue, info_width}
@@ -132,11 +132,3 @@ pub uncoloured_lines : (table : TableValue) (widths : List ℕ) → All (λ (row
 uncoloured_lines table widths each none =
     sym (same_lines (drawing (plainly table) widths) (drawing table widths) (drawing_by_pieces (λ (x y : Text). x ≡ y) stays_joined IsUncoloured table (infos_of table widths) (uncoloured_piece table) each))
     ∙ ap (λ (t : TableValue). drawing (plainly t) widths) (sym (measured-plain table none))
-
--- and the rows below the header, where these are
-pub uncoloured_rows : (table : TableValue) (infos : List ColumnInfo) (line : ContentLineStyle) (rows : List RowValue) → All (λ (row : RowValue). All IsUncoloured row.cells) rows → map (drawn_row table infos line) rows ≡ map (drawn_row (plainly table) infos line) rows
-uncoloured_rows table infos line [] each = refl
-uncoloured_rows table infos line (row ∷ rows) each =
-    ap₂ (λ (block : List Text) (blocks : List (List Text)). block ∷ blocks)
-    (sym (same_lines (drawn_row (plainly table) infos line row) (drawn_row table infos line row) (row_kept (λ (x y : Text). x ≡ y) stays_joined IsUncoloured table infos (uncoloured_piece table) line row (All-head (λ (r : RowValue). All IsUncoloured r.cells) row rows each))))
-    (uncoloured_rows table infos line rows (All-tail (λ (r : RowValue). All IsUncoloured r.cells) row rows each))

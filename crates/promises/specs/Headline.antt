@@ -7,6 +7,8 @@ use Rattle.comfy_parts.specs.CellValue.{CellValue, ColumnInfo, ColumnValue, RowV
 use Rattle.comfy_parts.specs.Columns.{AddsOneColumn, CharactersFit}
 use Rattle.comfy_parts.specs.Text.{AddsOneColumnEach, Text, greatest, is_printable_ascii, measure, spaces}
 use Rattle.comfy_parts.specs.Wrapping.{IsWrapped}
+use Rattle.comfy_parts.specs.declared.style.cell.CellAlignment.{CellAlignment}
+use Rattle.comfy_parts.specs.declared.style.cell.CellAlignment.TheVariants.{Left}
 use Rattle.comfy_parts.specs.declared.style.table.ContentArrangement.TheVariants.{Disabled, Dynamic, DynamicFullWidth}
 use Rattle.comfy_table.specs.Arrangement.{is_full_width}
 use Rattle.comfy_parts.specs.declared.style.table_style.ContentLineStyle.{ContentLineStyle}
@@ -14,6 +16,7 @@ use Rattle.comfy_parts.specs.declared.style.table_style.LineStyle.{LineStyle}
 use Rattle.comfy_table.specs.Frame.{border_count, content_line, frame_line, optional_frame_line}
 use Rattle.comfy_table.specs.Laws.{HasSequencesInTextsAlone, LeavesNoneOpen, NoConstraints, count, least_total}
 use Rattle.comfy_table.specs.Lines.{cell_delimiter, cut_text, cut_to_limit, fitting_indicator}
+use Rattle.comfy_table.specs.Pieces.{free_before}
 use Rattle.comfy_table.specs.TableValue.{TableValue, cell_content_width, header_and_rows, measured_table, should_style, shown_columns, table_width}
 use Rattle.promises.specs.Shown.{IsStyled}
 
@@ -52,9 +55,9 @@ AreSpaces true n text = IsStyled (spaces n) text
 AreSpaces false n text = text ≡ spaces n
 
 -- a line between spaces, at least the column's paddings, as wide as the column unless the line
--- is wider
-pub record IsPiece (styles : Bool) (column : ColumnValue) (w : ℕ) (line piece : Text)
-    : Type 0 where
+-- is wider, and at a side of it
+pub record IsPiece (styles : Bool) (side : CellAlignment) (column : ColumnValue) (w : ℕ)
+    (line piece : Text) : Type 0 where
   pub left : ℕ
   pub right : ℕ
   pub before : Text
@@ -63,6 +66,8 @@ pub record IsPiece (styles : Bool) (column : ColumnValue) (w : ℕ) (line piece 
   pub are_spaces : AreSpaces styles left before × AreSpaces styles right after
   pub padded : (column.padding.0 ≤ left) × (column.padding.1 ≤ right)
   pub wide : left + measure line + right ≡ whole_width column (max w (measure line))
+  -- the spaces beyond the paddings are after the line, before it, or half of them, rounded up
+  pub aligned : left ≡ column.padding.0 + free_before side (w - measure line)
 
 -- the whole widths of the shown columns
 abbrev pub widths_shown : TableValue → (ℕ → ℕ) → List ℕ
@@ -73,6 +78,11 @@ widths_shown table width =
 abbrev pub framed : TableValue → (ℕ → ℕ) → LineStyle → List Text
 framed table width line = optional_frame_line table.style line (widths_shown table width)
 
+-- the side at which a cell of a column is drawn
+abbrev pub side_in : Option CellValue → ColumnValue → CellAlignment
+side_in None column = unwrap_or column.alignment Left
+side_in (Some cell) column = unwrap_or cell.alignment (unwrap_or column.alignment Left)
+
 -- whether a cell has a colour or an attribute
 abbrev pub is_coloured : Option CellValue → Bool
 is_coloured None = false
@@ -80,19 +90,23 @@ is_coloured (Some cell) =
     is_some cell.foreground || (is_some cell.background || nat_lt 0 (length cell.attributes))
 
 -- whether styles are written for the cell of a row
-abbrev pub is_styled : TableValue → RowValue → ℕ × ColumnValue → Bool
-is_styled table row p = should_style table && is_coloured (slice_get row.cells p.0)
+abbrev pub is_styled : Bool → RowValue → ℕ × ColumnValue → Bool
+is_styled styles row p = styles && is_coloured (slice_get row.cells p.0)
+
+-- the side at which the cell of a row is drawn: its own, or that of its column, or left
+abbrev pub side_of : RowValue → ℕ × ColumnValue → CellAlignment
+side_of row p = side_in (slice_get row.cells p.0) p.1
 
 -- the lines of a row whose shown columns have these parts: as many as the longest part has, in each
 -- the pieces of the shown columns, side by side between these borders
-pub record AreLinesOfParts (styles : ℕ × ColumnValue → Bool) (table : TableValue) (width : ℕ → ℕ)
+pub record AreLinesOfParts (styles : Bool) (table : TableValue) (row : RowValue) (width : ℕ → ℕ)
     (parts : ℕ × ColumnValue → List Text) (borders : ContentLineStyle) (lines : List Text)
     : Type 0 where
   pub as_high : length lines
       ≡ greatest (map (λ (p : ℕ × ColumnValue). length (parts p)) (shown_columns table))
   pub drawn : EachIndex lines (λ k. (pieces : List Text) × AllZip (λ (p : ℕ × ColumnValue).
-      IsPiece (styles p) p.1 (width p.0) (slice_index_or (parts p) k [])) (shown_columns table)
-      pieces
+      IsPiece (is_styled styles row p) (side_of row p) p.1 (width p.0)
+      (slice_index_or (parts p) k [])) (shown_columns table) pieces
       × (slice_index_or lines k [] ≡ content_line table.style borders pieces))
 
 -- in a table whose columns have these widths, and whose cells these lines
@@ -108,7 +122,7 @@ module _ (table : TableValue) (width : ℕ → ℕ)
   -- the lines of a row without styles
   abbrev pub AreLinesOfRow : ContentLineStyle → RowValue → List Text → Type 0
   AreLinesOfRow borders row lines =
-      AreLinesOfParts (λ p. false) table width (lines_in row) borders lines
+      AreLinesOfParts false table row width (lines_in row) borders lines
 
   -- each line of a row is pieces of the shown columns, side by side between these borders; without
   -- custom styling they are pieces of these lines
@@ -118,7 +132,7 @@ module _ (table : TableValue) (width : ℕ → ℕ)
         × (length pieces ≡ length (shown_columns table))
         × (slice_index_or lines k [] ≡ content_line table.style borders pieces))
     pub are : table.custom_styling ≡ false
-        → AreLinesOfParts (is_styled table row) table width (lines_in row) borders lines
+        → AreLinesOfParts (should_style table) table row width (lines_in row) borders lines
 
 -- the header, if there is one, and all rows, each in lines that show it, between frame lines over
 -- the same widths

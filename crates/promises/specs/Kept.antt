@@ -8,8 +8,8 @@ use Rattle.comfy_parts.specs.Wrapping.{IsSlicesWhere}
 use Rattle.comfy_parts.specs.declared.style.table.ContentArrangement.TheVariants.{Disabled}
 use Rattle.comfy_parts.specs.declared.style.table_style.ContentLineStyle.{ContentLineStyle}
 use Rattle.comfy_table.specs.Lines.{cell_delimiter}
-use Rattle.comfy_table.specs.TableValue.{TableValue, shown_columns}
-use Rattle.promises.specs.Headline.{AreLinesOfParts, IsFramedBy, is_styled}
+use Rattle.comfy_table.specs.TableValue.{TableValue, should_style, shown_columns}
+use Rattle.promises.specs.Headline.{AreLinesOfParts, IsFramedBy}
 use Rattle.promises.specs.Tables.{IsShownWhole}
 
 -- a text line, or slices of it, which leave out nothing but the character d
@@ -25,7 +25,7 @@ module _ (table : TableValue) (width : ℕ → ℕ) where
   pub record ShowsRow (borders : ContentLineStyle) (row : RowValue) (lines : List Text)
       : Type 0 where
     pub slices : ℕ × ColumnValue → List Text
-    pub shown : AreLinesOfParts (is_styled table row) table width slices borders lines
+    pub shown : AreLinesOfParts (should_style table) table row width slices borders lines
     pub are_slices : row.max_height ≡ None
         → All (λ (p : ℕ × ColumnValue). MatchOption (slice_get row.cells p.0) (slices p ≡ [] ∷ [])
         (λ cell. (of_texts : List (List Text))
@@ -36,7 +36,7 @@ module _ (table : TableValue) (width : ℕ → ℕ) where
   -- the lines show a row unchanged: line k of each shown cell's text is in line k
   abbrev pub ShowsWholeRow : ContentLineStyle → RowValue → List Text → Type 0
   ShowsWholeRow borders row lines =
-      AreLinesOfParts (is_styled table row) table width (λ p. unwrap_or
+      AreLinesOfParts (should_style table) table row width (λ p. unwrap_or
       (option_map (λ (cell : CellValue). cell.text_lines) (slice_get row.cells p.0)) ([] ∷ []))
       borders lines
 

@@ -1,14 +1,15 @@
 //! The headline.
 
-ghost use Rattle.std.specs.Prelude.{IfOk};
+ghost use Rattle.std.specs.Prelude.{All, IfOk, IsUtf8};
 ghost use Rattle.promises.specs.Headline.{IsHeadline};
 
 use comfy_table::{Lines, Result, Table};
 
-/// A table draws frame lines, and rows of its shown cells' text lines between spaces and borders. A
-/// row has as many lines as its highest cell. SGR sequences are in these spaces alone, if styles
-/// are written and the cell has a colour or an attribute. With `custom_styling` a text is what is
-/// visible of it, and sequences may be in it. No line leaves one open, if they are in texts alone.
+/// A table draws frame lines, and rows of its shown cells' text lines between spaces and borders,
+/// each at the side of its cell, or of its column. A row has as many lines as its highest cell. SGR
+/// sequences are in these spaces alone, if styles are written and the cell has a colour or an
+/// attribute. With `custom_styling` a text is what is visible of it, and sequences may be in it,
+/// between its characters. No line leaves one open, if they are in texts alone.
 ///
 /// A text line that fits its column is one line, an empty one too. Any other is cut where texts
 /// wrap, which leaves out nothing but delimiters; one of delimiters alone has no line. If
@@ -24,7 +25,8 @@ use comfy_table::{Lines, Result, Table};
 /// width under `Dynamic`, or as borders, paddings and one for each column. Under `DynamicFullWidth`
 /// it counts exactly as many, if a column is shown. Rows of printable ASCII count the same.
 pub fn headline(table: &Table) -> Result<Lines>
-    ensures { IfOk result (λ lines. IsHeadline table.now lines) }
+    ensures drawing { IfOk result (λ lines. IsHeadline table.now lines) }
+    ensures characters { IfOk result (λ lines. All IsUtf8 lines) }
 {
     table.lines()
 }

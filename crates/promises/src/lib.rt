@@ -1,6 +1,6 @@
 //! What users are promised, in their words. Each function calls the libraries and does nothing
-//! else, and its one clause speaks of what the call returns and of the table that was passed. So a
-//! reader needs to believe no definition but those of the clause: how widths are found isn't among
+//! else, and its clauses speak of what the call returns and of the table that was passed. So a
+//! reader needs to believe no definition but those of the clauses: how widths are found isn't among
 //! them.
 #![tactic(auto)]
 

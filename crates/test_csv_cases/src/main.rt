@@ -3,7 +3,6 @@
 #![tactic(auto)]
 
 mod run;
-mod uses;
 
 use case_files::Cases;
 use run::Run;

@@ -1,8 +1,8 @@
 //! A run of csvtable: arguments, an input, and what is known of the process.
 
-use crate::uses::output_for;
 use case_files::{Build, Fault, Result, first_or_empty, push_lines, text};
-use csv_command::{Invocation, OutputContext, parse};
+use csv_command::{CsvError, Invocation, Options, OutputContext, draw, parse};
+use devices::{MemorySink, MemorySource};
 use std::alloc::{AllocError, Global};
 
 // How many bytes an output has at most.
@@ -115,4 +115,17 @@ impl Run {
             Err(_) => String::from_str(self.alloc, "the output isn't UTF-8\n"),
         }
     }
+}
+
+// A sink that holds the output for an input, both in memory.
+fn output_for(
+    alloc: Global,
+    input: &[u8],
+    room: usize,
+    options: &Options,
+) -> std::result::Result<MemorySink, CsvError> {
+    let mut source = MemorySource::new(input, 0);
+    let mut sink = MemorySink::new(alloc, room, 0)?;
+    draw(alloc, &mut source, &mut sink, options)?;
+    Ok(sink)
 }

@@ -1,8 +1,7 @@
 -- Lines that give back fields of a Markdown table, and lines that don't.
-use Rattle.std.proofs.Common.{◌≡◌, ℕ, List, [], ◌∷◌, arith, codes, refl, slice_index_or, ap}
+use Rattle.std.proofs.Common.{◌≡◌, ℕ, [], ◌∷◌, arith, codes, refl}
 use Rattle.std.specs.Str.{chars}
 use lib.Utf8.{encode}
-use Rattle.comfy_parts.specs.Text.{Text}
 use Rattle.csv_promises.specs.MarkdownTable.{HasFields}
 
 -- two fields, and one with a bar and a backslash

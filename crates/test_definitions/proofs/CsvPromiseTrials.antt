@@ -1,36 +1,41 @@
 -- Lines that the promises on files refuse, and records for which one is made.
-use Rattle.std.proofs.Common.{◌≡◌, ◌==◌, ◌&&◌, ◌||◌, zero, suc, ◌⊎◌, inl, inr, ◌≤◌, ℕ, ◌+◌, Bool, List, [], None, Some, Option, ◌∷◌, ◌++◌, arith, codes, append-nil, decimal, length, length-append, drop, map, min, refl, reverse, slice_index_or, sym, ap, ◌∙◌, subst, true, false}
+use Rattle.std.proofs.Common.{◌≡◌, ◌==◌, ◌&&◌, ◌||◌, zero, suc, ◌⊎◌, inl, inr, ◌≤◌, ℕ, Bool, List, [], None, Some, Option, ◌∷◌, ◌++◌, arith, codes, append-nil, length, length-append, drop, map, refl, reverse, slice_index_or, sym, ap, ap₂, ◌∙◌, subst, true, false}
 use Rattle.std.specs.Fmt.{digits}
-use Rattle.std.specs.List.{All, AllByRecursion, list_any, slice_get, slice_split}
+use Rattle.std.specs.List.{All, list_any, slice_get, slice_split}
 use Rattle.std.proofs.lemmas.List.Splits.{slice_split_none}
 use Rattle.std.specs.Prelude.{MatchOption, ◌<◌, encode_utf8_all, if◌then◌else◌}
 use Rattle.std.specs.Str.{NoCharPasses, NonePass, chars}
 use Rattle.std.proofs.lemmas.Bool.{or_parts, true≢false}
 use Rattle.std.proofs.lemmas.List.{append_cancel_right, reverse-append}
 use Rattle.std.proofs.lemmas.Str.{encodes_same}
-use Rattle.std.proofs.lemmas.List.Elements.{All-from_recursion, All-head, All-tail}
+use Rattle.std.proofs.lemmas.List.Elements.{All-head, All-tail}
 use lib.Utf8.{encode}
-use Rattle.comfy_parts.proofs.CallerLemmas.{measure-printable, none_by_characters}
+use Rattle.comfy_parts.proofs.CallerLemmas.{All-none, measure-printable, none_by_characters}
 use Rattle.comfy_parts.proofs.Computing.{wrapping}
-use Rattle.comfy_parts.specs.CellValue.{CellValue, RowValue}
+use Rattle.comfy_parts.specs.CellValue.{CellValue, RowValue, plain_cell, plain_row}
 use Rattle.comfy_parts.specs.Presets.{utf8_full}
-use Rattle.comfy_parts.specs.Text.{Text, is_printable_ascii, measure, spaces}
+use Rattle.comfy_parts.specs.declared.style.cell.CellAlignment.{CellAlignment}
+use Rattle.comfy_parts.specs.declared.style.cell.CellAlignment.TheVariants.{Left, Right}
+use Rattle.comfy_parts.specs.Text.{Text, measure, spaces}
 use Rattle.csv_tables.specs.Cells.{is_blank}
 use Rattle.csv.specs.Records.{field_at}
 use Rattle.ucd_category.proofs.Computing.{ucd_category}
 use Rattle.csv_records.specs.Number.{is_neutral, is_number}
 use Rattle.csv_tables.specs.declared.options.Expansion.{Expansion}
 use Rattle.csv_tables.specs.declared.options.Expansion.TheVariants.{Always, Auto, Never}
+use Rattle.csv_tables.specs.Unbroken.{framed_width, is_unbroken}
+use Rattle.csv_tables.specs.declared.options.Layout.{Layout}
 use Rattle.csv_tables.specs.declared.options.Look.{Look}
 use Rattle.csv_command.specs.declared.arguments.Options.{Options}
 use Rattle.csv_tables.specs.declared.options.RowSeparators.TheVariants.{Styled}
 use Rattle.promises.specs.Shown.{ShowsColumns}
 use Rattle.promises.specs.Tables.{HasCharactersWithin}
+use Rattle.csv_tables.specs.Columns.{ColumnsValue}
 use Rattle.csv_tables.specs.Drawn.{drawn_rows, note_for, record_line}
 use Rattle.comfy_table.specs.Drawing.{terminated_text_of}
 use Rattle.comfy_table.specs.Laws.{AreLinesOf, LeavesNoneOpen}
 use Rattle.csv_promises.specs.Counted.{AreExpanded, DrawsLines, EachDrawnLine, HasEachLine, MayExpand}
-use Rattle.csv_promises.specs.Fields.{HoldsField, HoldsFields, IsDrawingOf, ShowsDrawn, ShowsPairs, ShowsRecords, ShowsRows, StaysAsItIs, all_rows, positions_in, whole_for}
+use Rattle.csv_promises.specs.Fields.{HoldsField, HoldsFields, IsDrawingOf, KeepsNumbers, ShowsAllFields, ShowsDrawn, ShowsFields, ShowsPairs, ShowsRecords, ShowsRows, StaysAsItIs, all_rows, columns_asked, mark_for, no_marks, positions_in, side_at, side_for, sides_behind, sides_for, whole_for}
 use Rattle.csv_promises.specs.Harmless.{IsHarmlessFor, IsInBold, ShowsNothingHarmful}
 use Rattle.csv_promises.specs.Messages.{IsTameLine}
 use Rattle.csv_records.specs.Cleaning.{cleaned, is_harmful, is_replaced}
@@ -39,7 +44,7 @@ use Rattle.csv_promises.specs.Straight.{IsPlainField, IsStraight}
 use Rattle.test_definitions.proofs.ClosedLineTrials.{bold_stays_open}
 use Rattle.test_definitions.proofs.OutputLineTrials.{found, one_line, two_lines}
 use Rattle.test_definitions.proofs.PromiseTrials.{shows_itself}
-use Rattle.test_definitions.proofs.CsvFieldTrials.{IsOneText, begins, dashed, has_line, one_row}
+use Rattle.test_definitions.proofs.CsvFieldTrials.{IsOneText, begins, blank_line, dashed, ends_plain, has_line, one_row}
 use Rattle.test_definitions.proofs.TrialTables.{utf8}
 
 -- ---- straight edges
@@ -48,9 +53,9 @@ use Rattle.test_definitions.proofs.TrialTables.{utf8}
 abbrev pub bold : Look
 bold = record { style = utf8_full; separators = Styled; expansion = Auto; width = None; fills_width = false; max_height = None; has_bold_header = true; aligns_decimals = true; has_sequences = false; is_markdown = false }
 
--- a look without a bold header, in a style whose hyphen no row draws
+-- a look without a bold header and lined up decimal marks, in a style whose hyphen no row draws
 abbrev unbold : Look
-unbold = record bold { has_bold_header = false; style = dashed }
+unbold = record bold { has_bold_header = false; aligns_decimals = false; style = dashed }
 
 -- without a header, with records expanded or not, and a limit
 abbrev pub asked : Expansion → Option ℕ → Options → Options
@@ -136,49 +141,33 @@ no_text_lines (line ∷ lines) are = by_line line are.joined
     by_line [] same = absurd (cc same)
     by_line (b ∷ line) same = absurd (cc same)
 
--- ASCII without spaces and line feeds, of which the first character is given, has one text line
-one_text : (c : ℕ) (rest : Text) → ((c == 0x20) || (c == 0x0A)) ≡ false → list_any (λ b. b == 0x0A) (c ∷ rest) ≡ false → IsOneText (c ∷ rest) (λ n. c ∷ (rest ++ spaces n))
+-- ASCII without line feeds, of which the first character is given and isn't a space, is one text line
+one_text : (c : ℕ) (rest : Text) → ((c == 0x20) || (c == 0x0A)) ≡ false → list_any (λ b. b == 0x0A) (c ∷ rest) ≡ false → IsOneText (c ∷ rest)
 one_text c rest filled unbroken =
     record {
-      one = λ n. ap (λ (b : Bool). slice_split (λ x. x == 0x0A) (if b && is_blank (rest ++ spaces n) then [] else c ∷ (rest ++ spaces n))) filled ∙ slice_split_none (λ b. b == 0x0A) (c ∷ (rest ++ spaces n)) (All-from_recursion (λ b. (b == 0x0A) ≡ false) (c ∷ (rest ++ spaces n)) (each (c ∷ rest) n unbroken));
-      unspaced = λ n more same. let letter : c ≡ 0x20 = cc same in let blank : ((c == 0x20) || (c == 0x0A)) ≡ true = ap (λ (x : ℕ). (x == 0x20) || (x == 0x0A)) letter in absurd (cc (sym blank ∙ filled));
+      one = ap (λ (b : Bool). slice_split (λ x. x == 0x0A) (if b && is_blank rest then [] else c ∷ rest)) filled ∙ slice_split_none (λ b. b == 0x0A) (c ∷ rest) (All-none (λ b. b == 0x0A) (c ∷ rest) unbroken);
+      unspaced = λ more same. let letter : c ≡ 0x20 = cc same in let blank : ((c == 0x20) || (c == 0x0A)) ≡ true = ap (λ (x : ℕ). (x == 0x20) || (x == 0x0A)) letter in absurd (cc (sym blank ∙ filled));
     }
-  where
-    behind : (n : ℕ) → AllByRecursion (λ b. (b == 0x0A) ≡ false) (spaces n)
-    behind zero = tt
-    behind (suc n) = (refl, behind n)
 
-    each : (xs : Text) (n : ℕ) → list_any (λ b. b == 0x0A) xs ≡ false → AllByRecursion (λ b. (b == 0x0A) ≡ false) (xs ++ spaces n)
-    each [] n none = behind n
-    each (x ∷ xs) n none = let both = or_parts (x == 0x0A) (list_any (λ b. b == 0x0A) xs) none in (both.0, each xs n both.1)
-
--- a blank field has an empty one
-blank_text : IsOneText [] (λ n. [])
-blank_text =
-    record {
-      one = λ n. ap (λ (b : Bool). slice_split (λ x. x == 0x0A) (if b then [] else spaces n)) (blank n);
-      unspaced = λ n rest same. cc same;
-    }
-  where
-    blank : (n : ℕ) → is_blank (spaces n) ≡ true
-    blank zero = refl
-    blank (suc n) = blank n
+-- so is a blank field
+blank_text : IsOneText []
+blank_text = record { one = refl; unspaced = λ rest same. cc same }
 
 -- a row has a cell for each field that isn't empty
-some_cell : (c : ℕ) (field : Text) (fields : List Text) (row : RowValue) → HoldsFields ((c ∷ field) ∷ fields) row → ¬ (row.cells ≡ [])
+some_cell : (c : ℕ) (field : Text) (fields : List Text) (row : RowValue) {sides : List CellAlignment} → HoldsFields sides ((c ∷ field) ∷ fields) row → ¬ (row.cells ≡ [])
 unfolding field_at
-some_cell c field fields row hold none = let gone : c ∷ field ≡ [] = subst (λ (cells : List CellValue). MatchOption (slice_get cells 0) (c ∷ field ≡ []) (HoldsField (c ∷ field))) none (hold.each 0) in cc gone
+some_cell c field fields row {sides} hold none = let gone : c ∷ field ≡ [] = subst (λ (cells : List CellValue). MatchOption (slice_get cells 0) (c ∷ field ≡ []) (HoldsField (side_at sides 0) (c ∷ field))) none (hold.each 0) in cc gone
 
-second_cell : (blank : Text) (c : ℕ) (field : Text) (fields : List Text) (row : RowValue) → HoldsFields (blank ∷ (c ∷ field) ∷ fields) row → ¬ (row.cells ≡ [])
+second_cell : (blank : Text) (c : ℕ) (field : Text) (fields : List Text) (row : RowValue) {sides : List CellAlignment} → HoldsFields sides (blank ∷ (c ∷ field) ∷ fields) row → ¬ (row.cells ≡ [])
 unfolding field_at
-second_cell blank c field fields row hold none = let gone : c ∷ field ≡ [] = subst (λ (cells : List CellValue). MatchOption (slice_get cells 1) (c ∷ field ≡ []) (HoldsField (c ∷ field))) none (hold.each 1) in cc gone
+second_cell blank c field fields row {sides} hold none = let gone : c ∷ field ≡ [] = subst (λ (cells : List CellValue). MatchOption (slice_get cells 1) (c ∷ field ≡ []) (HoldsField (side_at sides 1) (c ∷ field))) none (hold.each 1) in cc gone
 
 -- nothing shows no field
-nothing_shows_no_field : (look : Look) → look.style ≡ dashed → look.has_bold_header ≡ false → (rest : List Text) → (whole : List Bool) → ¬ (ShowsRows look false whole ((codes "a" ∷ rest) ∷ []) [])
+nothing_shows_no_field : {has_names : Bool} {sides : List CellAlignment} (look : Look) → look.style ≡ dashed → look.has_bold_header ≡ false → (rest : List Text) → (whole : List Bool) → ¬ (ShowsRows look false has_names sides whole ((codes "a" ∷ rest) ∷ []) [])
 nothing_shows_no_field look style weight rest whole (inl none) = cc none.0
 nothing_shows_no_field look style weight rest whole (inr is) =
     let row = one_row look style weight whole (codes "a" ∷ rest) [] [] no_text_lines is in
-    let some = has_line whole (codes "a") rest [] (λ n. 0x61 ∷ ([] ++ spaces n)) (one_text 0x61 [] refl refl) row (some_cell 0x61 [] rest row.row row.hold) (λ n same. cc same) in
+    let some = has_line whole (codes "a") rest [] (one_text 0x61 [] refl refl) row (some_cell 0x61 [] rest row.row row.hold) (λ same. cc same) in
     absurd (omega (arith, some))
 
 -- the only line of a text
@@ -187,19 +176,19 @@ only line text cut own are = one_line line own (sym cut ∙ found text own are)
 
 -- one row of fields, which this line shows
 abbrev ShowsRow : List Text → Text → Type 0
-ShowsRow fields line = IsDrawingOf unbold false [] (fields ∷ []) (line ++ codes "\n")
+ShowsRow fields line = IsDrawingOf unbold false false [] [] (fields ∷ []) (line ++ codes "\n")
 
 -- an amount isn't shown by another one, whose hyphen a frame could have
 other_amount : ¬ (ShowsRow (codes "12.80" ∷ []) (codes " -12.80 "))
 other_amount is =
     let row = one_row unbold refl refl [] (codes "12.80" ∷ []) (codes " -12.80 " ∷ []) (codes " -12.80 \n") (only (codes " -12.80 ") (codes " -12.80 \n") refl) is in
-    let own = begins [] (codes "12.80") [] (codes " -12.80 ") [] (λ n. 0x31 ∷ (codes "2.80" ++ spaces n)) (one_text 0x31 (codes "2.80") refl refl) row (some_cell 0x31 (codes "2.80") [] row.row row.hold) in
-    by_left own.right own.behind own.others own.tail own.left own.front own.is own.fronts
+    let own = begins [] (codes "12.80") [] (codes " -12.80 ") [] (one_text 0x31 (codes "2.80") refl refl) row (some_cell 0x31 (codes "2.80") [] row.row row.hold) in
+    by_left own.right own.others own.tail own.left own.front own.is own.fronts
   where
-    by_left : (right behind : ℕ) (others tail : Text) (left : ℕ) (front : Text) → codes " -12.80 " ≡ (spaces (suc left) ++ (front ++ spaces (suc right))) ++ others → ¬ (0x31 ∷ (codes "2.80" ++ spaces behind) ≡ front ++ tail)
-    by_left right behind others tail (suc left) front made fronts = let letter : ◌≡◌ {A = ℕ} 0x2D 0x20 = cc made in absurd (omega (arith, letter))
-    by_left right behind others tail zero [] made fronts = let letter : ◌≡◌ {A = ℕ} 0x2D 0x20 = cc made in absurd (omega (arith, letter))
-    by_left right behind others tail zero (x ∷ front) made fronts =
+    by_left : (right : ℕ) (others tail : Text) (left : ℕ) (front : Text) → codes " -12.80 " ≡ (spaces (suc left) ++ (front ++ spaces (suc right))) ++ others → ¬ (codes "12.80" ≡ front ++ tail)
+    by_left right others tail (suc left) front made fronts = let letter : ◌≡◌ {A = ℕ} 0x2D 0x20 = cc made in absurd (omega (arith, letter))
+    by_left right others tail zero [] made fronts = let letter : ◌≡◌ {A = ℕ} 0x2D 0x20 = cc made in absurd (omega (arith, letter))
+    by_left right others tail zero (x ∷ front) made fronts =
         let hyphen : 0x2D ≡ x = cc made in
         let one : 0x31 ≡ x = cc fronts in absurd (omega (arith, hyphen, one))
 
@@ -207,7 +196,7 @@ other_amount is =
 wrong_column : ¬ (ShowsRow ([] ∷ codes "1280" ∷ []) (codes " 1280    "))
 wrong_column is =
     let row = one_row unbold refl refl [] ([] ∷ codes "1280" ∷ []) (codes " 1280    " ∷ []) (codes " 1280    \n") (only (codes " 1280    ") (codes " 1280    \n") refl) is in
-    let own = begins [] [] (codes "1280" ∷ []) (codes " 1280    ") [] (λ n. []) blank_text row (second_cell [] 0x31 (codes "280") [] row.row row.hold) in
+    let own = begins [] [] (codes "1280" ∷ []) (codes " 1280    ") [] blank_text row (second_cell [] 0x31 (codes "280") [] row.row row.hold) in
     by_left own.right own.others own.tail own.left own.front own.is own.fronts
   where
     by_left : (right : ℕ) (others tail : Text) (left : ℕ) (front : Text) → codes " 1280    " ≡ (spaces (suc left) ++ (front ++ spaces (suc right))) ++ others → ¬ (◌≡◌ {A = Text} [] (front ++ tail))
@@ -216,34 +205,68 @@ wrong_column is =
     by_left right others tail zero (x ∷ front) made fronts = cc fronts
 
 -- a number isn't split over lines in a whole column
-split_number : ¬ (IsDrawingOf unbold false (true ∷ []) ((codes "12" ∷ []) ∷ []) (codes " 1 \n 2 \n"))
+split_number : ¬ (IsDrawingOf unbold false false [] (true ∷ []) ((codes "12" ∷ []) ∷ []) (codes " 1 \n 2 \n"))
 split_number is =
     let row = one_row unbold refl refl (true ∷ []) (codes "12" ∷ []) (codes " 1 " ∷ codes " 2 " ∷ []) (codes " 1 \n 2 \n") (λ own are. two_lines (codes " 1 ") (codes " 2 ") own (found (codes " 1 \n 2 \n") own are)) is in
-    let own = begins (true ∷ []) (codes "12") [] (codes " 1 ") (codes " 2 " ∷ []) (λ n. 0x31 ∷ (codes "2" ++ spaces n)) (one_text 0x31 (codes "2") refl refl) row (some_cell 0x31 (codes "2") [] row.row row.hold) in
-    by_left own.right own.behind own.others own.left own.front own.is (own.wide refl)
+    let own = begins (true ∷ []) (codes "12") [] (codes " 1 ") (codes " 2 " ∷ []) (one_text 0x31 (codes "2") refl refl) row (some_cell 0x31 (codes "2") [] row.row row.hold) in
+    by_left own.right own.others own.left own.front own.is (own.whole_front refl short)
   where
-    Wide : ℕ → ℕ → ℕ → Text → Type 0
-    Wide right behind left front = min 65535 (measure (0x31 ∷ (codes "2" ++ spaces behind))) ≤ left + measure front + right
+    short : measure (codes "12") ≤ 65535
+    short = let two = measure-printable (codes "12") refl in omega (arith, two)
 
-    printable : (behind : ℕ) → is_printable_ascii (spaces behind) ≡ true
-    printable zero = refl
-    printable (suc behind) = printable behind
+    by_left : (right : ℕ) (others : Text) (left : ℕ) (front : Text) → codes " 1 " ≡ (spaces (suc left) ++ (front ++ spaces (suc right))) ++ others → ¬ (front ≡ codes "12")
+    by_left right others (suc left) front made whole = let letter : ◌≡◌ {A = ℕ} 0x31 0x20 = cc made in absurd (omega (arith, letter))
+    by_left right others zero front made whole = let same = made ∙ ap (λ (t : Text). (spaces 1 ++ (t ++ spaces (suc right))) ++ others) whole in let letter : ◌≡◌ {A = ℕ} 0x20 0x32 = cc same in absurd (omega (arith, letter))
 
-    long : (behind : ℕ) → 2 ≤ measure (0x31 ∷ (codes "2" ++ spaces behind))
-    long behind = let whole = measure-printable (0x31 ∷ (codes "2" ++ spaces behind)) (printable behind) in omega (arith, whole)
+-- a number isn't at the left of a column that is at the right
+number_at_the_left : ¬ (IsDrawingOf unbold false false (Right ∷ []) [] ((codes "7" ∷ []) ∷ []) (codes " 7  \n"))
+number_at_the_left is =
+    let row = one_row unbold refl refl [] (codes "7" ∷ []) (codes " 7  " ∷ []) (codes " 7  \n") (only (codes " 7  ") (codes " 7  \n") refl) is in
+    let own = begins [] (codes "7") [] (codes " 7  ") [] (one_text 0x37 [] refl refl) row (some_cell 0x37 [] [] row.row row.hold) in
+    by_left own.left own.front own.tail own.fronts (own.is ∙ ap₂ (λ (right : ℕ) (others : Text). (spaces (suc own.left) ++ (own.front ++ spaces (suc right))) ++ others) (own.at_right refl) (own.alone refl))
+  where
+    by_left : (left : ℕ) (front tail : Text) → codes "7" ≡ front ++ tail → ¬ (codes " 7  " ≡ (spaces (suc left) ++ (front ++ spaces 1)) ++ [])
+    by_left (suc left) front tail fronts made = let letter : ◌≡◌ {A = ℕ} 0x37 0x20 = cc made in absurd (omega (arith, letter))
+    by_left zero [] tail fronts made = let letter : ◌≡◌ {A = ℕ} 0x37 0x20 = cc made in absurd (omega (arith, letter))
+    by_left zero (a ∷ []) tail fronts made = cc made
+    by_left zero (a ∷ b ∷ front) tail fronts made = cc fronts
 
-    by_left : (right behind : ℕ) (others : Text) (left : ℕ) (front : Text) → codes " 1 " ≡ (spaces (suc left) ++ (front ++ spaces (suc right))) ++ others → ¬ (Wide right behind left front)
-    by_left right behind others (suc left) front made wide = let letter : ◌≡◌ {A = ℕ} 0x31 0x20 = cc made in absurd (omega (arith, letter))
-    by_left right behind others zero [] made wide = let letter : ◌≡◌ {A = ℕ} 0x31 0x20 = cc made in absurd (omega (arith, letter))
-    by_left zero behind others zero (x ∷ []) made wide =
-        let one : measure (x ∷ []) ≡ 1 = ap (λ (c : ℕ). measure (c ∷ [])) (sym first) ∙ measure-printable (codes "1") refl in
-        omega (arith, one, wide, long behind)
-      where
-        first : 0x31 ≡ x
-        first = cc made
-    by_left (suc right) behind others zero (x ∷ []) made wide = cc made
-    by_left right behind others zero (x ∷ y ∷ []) made wide = cc made
-    by_left right behind others zero (x ∷ y ∷ z ∷ front) made wide = cc made
+-- nor is one without the spaces behind it that line up its decimal mark
+mark_out_of_line : ¬ (IsDrawingOf unbold false false (Right ∷ []) (true ∷ []) ((codes "22  " ∷ []) ∷ []) (codes "   22 \n"))
+mark_out_of_line is =
+    let row = one_row unbold refl refl (true ∷ []) (codes "22  " ∷ []) (codes "   22 " ∷ []) (codes "   22 \n") (only (codes "   22 ") (codes "   22 \n") refl) is in
+    let own = begins (true ∷ []) (codes "22  ") [] (codes "   22 ") [] (one_text 0x32 (codes "2  ") refl refl) row (some_cell 0x32 (codes "2  ") [] row.row row.hold) in
+    let four = measure-printable (codes "22  ") refl in
+    by_left own.left own.right own.others (own.is ∙ ap (λ (front : Text). (spaces (suc own.left) ++ (front ++ spaces (suc own.right))) ++ own.others) (own.whole_front refl (omega (arith, four))))
+  where
+    by_left : (left right : ℕ) (others : Text) → ¬ (codes "   22 " ≡ (spaces (suc left) ++ (codes "22  " ++ spaces (suc right))) ++ others)
+    by_left zero right others made = let letter : ◌≡◌ {A = ℕ} 0x20 0x32 = cc made in absurd (omega (arith, letter))
+    by_left (suc zero) right others made = let letter : ◌≡◌ {A = ℕ} 0x20 0x32 = cc made in absurd (omega (arith, letter))
+    by_left (suc (suc zero)) right others made = cc made
+    by_left (suc (suc (suc left))) right others made = let letter : ◌≡◌ {A = ℕ} 0x32 0x20 = cc made in absurd (omega (arith, letter))
+
+-- those spaces, in a column of numbers at the right, unless the left is asked for
+amounts : List (List Text)
+amounts = (codes "1.5" ∷ []) ∷ (codes "22" ∷ []) ∷ []
+
+first_column : List ℕ → ColumnsValue
+first_column left = record { drawn = 0 ∷ []; right = []; left = left }
+
+lined_up_amounts : all_rows false (mark_for true (first_column []) amounts) (0 ∷ []) None amounts ≡ (codes "1.5" ∷ []) ∷ (codes "22  " ∷ []) ∷ []
+unfolding amounts first_column chars digits encode ucd_category field_at is_neutral is_number
+lined_up_amounts = refl
+
+unasked_amounts : all_rows false (mark_for false (first_column []) amounts) (0 ∷ []) None amounts ≡ amounts
+unfolding amounts first_column chars digits encode ucd_category field_at is_neutral is_number
+unasked_amounts = refl
+
+own_sides : map (λ left. sides_for true (first_column left) amounts) ([] ∷ (0 ∷ []) ∷ []) ≡ (Right ∷ Right ∷ []) ∷ (Right ∷ Left ∷ []) ∷ []
+unfolding amounts first_column chars digits encode ucd_category field_at is_neutral is_number
+own_sides = refl
+
+sides_of_words : sides_for false (first_column []) ((codes "a" ∷ []) ∷ amounts) ≡ Left ∷ []
+unfolding amounts first_column chars digits encode ucd_category field_at is_neutral is_number
+sides_of_words = refl
 
 -- columns of numbers and dates are whole under `auto`, and that of record numbers, if there is a row
 numbers_and_words : List (List Text)
@@ -258,21 +281,50 @@ whole_otherwise : map (λ width. whole_for width Never true (1 ∷ 0 ∷ []) num
 unfolding numbers_and_words
 whole_otherwise = refl
 
+-- two numbers in columns next to each other aren't joined
+joined_numbers : ¬ (ShowsRow (codes "2024" ∷ codes "123" ∷ []) (codes " 2024123 "))
+joined_numbers is =
+    let row = one_row unbold refl refl [] (codes "2024" ∷ codes "123" ∷ []) (codes " 2024123 " ∷ []) (codes " 2024123 \n") (only (codes " 2024123 ") (codes " 2024123 \n") refl) is in
+    let own = begins [] (codes "2024") (codes "123" ∷ []) (codes " 2024123 ") [] (one_text 0x32 (codes "024") refl refl) row (some_cell 0x32 (codes "024") (codes "123" ∷ []) row.row row.hold) in
+    by_left own.right own.tail own.others own.left own.front own.is own.fronts
+  where
+    by_left : (right : ℕ) (tail others : Text) (left : ℕ) (front : Text) → codes " 2024123 " ≡ (spaces (suc left) ++ (front ++ spaces (suc right))) ++ others → ¬ (codes "2024" ≡ front ++ tail)
+    by_left right tail others (suc left) front made fronts = let letter : ◌≡◌ {A = ℕ} 0x32 0x20 = cc made in absurd (omega (arith, letter))
+    by_left right tail others zero [] made fronts = let letter : ◌≡◌ {A = ℕ} 0x32 0x20 = cc made in absurd (omega (arith, letter))
+    by_left right tail others zero (a ∷ []) made fronts = let letter : ◌≡◌ {A = ℕ} 0x30 0x20 = cc made in absurd (omega (arith, letter))
+    by_left right tail others zero (a ∷ b ∷ []) made fronts = let letter : ◌≡◌ {A = ℕ} 0x32 0x20 = cc made in absurd (omega (arith, letter))
+    by_left right tail others zero (a ∷ b ∷ c ∷ []) made fronts = let letter : ◌≡◌ {A = ℕ} 0x34 0x20 = cc made in absurd (omega (arith, letter))
+    by_left right tail others zero (a ∷ b ∷ c ∷ d ∷ []) made fronts = let letter : ◌≡◌ {A = ℕ} 0x31 0x20 = cc made in absurd (omega (arith, letter))
+    by_left right tail others zero (a ∷ b ∷ c ∷ d ∷ e ∷ front) made fronts = cc fronts
+
+-- a record of one blank field has a line of its own, and no other
+blank_line_of : (lines : List Text) (text : Text) → ((own : List Text) → AreLinesOf text own → own ≡ lines) → IsDrawingOf unbold false false [] [] (([] ∷ []) ∷ []) text → length lines ≡ 1
+blank_line_of lines text cut is = blank_line [] lines (one_row unbold refl refl [] ([] ∷ []) lines text cut is)
+
+lost_blank_line : ¬ (ShowsRows unbold false false [] [] (([] ∷ []) ∷ []) [])
+lost_blank_line (inl none) = cc none.0
+lost_blank_line (inr is) = let one = blank_line_of [] [] no_text_lines is in absurd (omega (arith, one))
+
+one_more_blank_line : ¬ (ShowsRows unbold false false [] [] (([] ∷ []) ∷ []) (codes "   \n   \n"))
+one_more_blank_line (inl none) = cc none.0
+one_more_blank_line (inr is) =
+    let one = blank_line_of (codes "   " ∷ codes "   " ∷ []) (codes "   \n   \n") (λ own are. two_lines (codes "   ") (codes "   ") own (found (codes "   \n   \n") own are)) is in absurd (omega (arith, one))
+
 -- and gains no space
 gained_space : ¬ (ShowsRow (codes "therapist" ∷ []) (codes " the rapist "))
 gained_space is =
     let row = one_row unbold refl refl [] (codes "therapist" ∷ []) (codes " the rapist " ∷ []) (codes " the rapist \n") (only (codes " the rapist ") (codes " the rapist \n") refl) is in
-    let own = begins [] (codes "therapist") [] (codes " the rapist ") [] (λ n. 0x74 ∷ (codes "herapist" ++ spaces n)) (one_text 0x74 (codes "herapist") refl refl) row (some_cell 0x74 (codes "herapist") [] row.row row.hold) in
-    by_left own.behind own.tail own.left own.right own.front own.fronts (own.is ∙ ap (λ (t : Text). (spaces (suc own.left) ++ (own.front ++ spaces (suc own.right))) ++ t) (own.alone refl))
+    let own = begins [] (codes "therapist") [] (codes " the rapist ") [] (one_text 0x74 (codes "herapist") refl refl) row (some_cell 0x74 (codes "herapist") [] row.row row.hold) in
+    by_left own.tail own.left own.right own.front own.fronts (own.is ∙ ap (λ (t : Text). (spaces (suc own.left) ++ (own.front ++ spaces (suc own.right))) ++ t) (own.alone refl))
   where
-    by_left : (behind : ℕ) (tail : Text) (left right : ℕ) (front : Text) → 0x74 ∷ (codes "herapist" ++ spaces behind) ≡ front ++ tail → ¬ (codes " the rapist " ≡ (spaces (suc left) ++ (front ++ spaces (suc right))) ++ [])
-    by_left behind tail (suc left) right front fronts made = let letter : ◌≡◌ {A = ℕ} 0x74 0x20 = cc made in absurd (omega (arith, letter))
-    by_left behind tail zero right [] fronts made = let letter : ◌≡◌ {A = ℕ} 0x74 0x20 = cc made in absurd (omega (arith, letter))
-    by_left behind tail zero right (a ∷ []) fronts made = let letter : ◌≡◌ {A = ℕ} 0x68 0x20 = cc made in absurd (omega (arith, letter))
-    by_left behind tail zero right (a ∷ b ∷ []) fronts made = let letter : ◌≡◌ {A = ℕ} 0x65 0x20 = cc made in absurd (omega (arith, letter))
-    by_left behind tail zero zero (a ∷ b ∷ c ∷ []) fronts made = cc made
-    by_left behind tail zero (suc right) (a ∷ b ∷ c ∷ []) fronts made = let letter : ◌≡◌ {A = ℕ} 0x72 0x20 = cc made in absurd (omega (arith, letter))
-    by_left behind tail zero right (a ∷ b ∷ c ∷ d ∷ front) fronts made =
+    by_left : (tail : Text) (left right : ℕ) (front : Text) → codes "therapist" ≡ front ++ tail → ¬ (codes " the rapist " ≡ (spaces (suc left) ++ (front ++ spaces (suc right))) ++ [])
+    by_left tail (suc left) right front fronts made = let letter : ◌≡◌ {A = ℕ} 0x74 0x20 = cc made in absurd (omega (arith, letter))
+    by_left tail zero right [] fronts made = let letter : ◌≡◌ {A = ℕ} 0x74 0x20 = cc made in absurd (omega (arith, letter))
+    by_left tail zero right (a ∷ []) fronts made = let letter : ◌≡◌ {A = ℕ} 0x68 0x20 = cc made in absurd (omega (arith, letter))
+    by_left tail zero right (a ∷ b ∷ []) fronts made = let letter : ◌≡◌ {A = ℕ} 0x65 0x20 = cc made in absurd (omega (arith, letter))
+    by_left tail zero zero (a ∷ b ∷ c ∷ []) fronts made = cc made
+    by_left tail zero (suc right) (a ∷ b ∷ c ∷ []) fronts made = let letter : ◌≡◌ {A = ℕ} 0x72 0x20 = cc made in absurd (omega (arith, letter))
+    by_left tail zero right (a ∷ b ∷ c ∷ d ∷ front) fronts made =
         let blank : 0x20 ≡ d = cc made in
         let letter : 0x72 ≡ d = cc fronts in absurd (omega (arith, blank, letter))
 
@@ -306,6 +358,11 @@ left_open is = by_parts is refl refl
 
 -- ---- expanded records
 
+-- what ends in a space doesn't end in an `m`
+ends_in_m : (line front : Text) → line ≡ front ++ codes "m" → ¬ ((own : Text) × (line ≡ own ++ codes " "))
+ends_in_m line front is (own, ends) =
+    let letter : ◌≡◌ {A = ℕ} 0x6D 0x20 = ap (λ (t : Text). slice_index_or t 0 0) (sym (reverse-append front (codes "m")) ∙ ap reverse (sym is ∙ ends) ∙ reverse-append own (codes " ")) in absurd (omega (arith, letter))
+
 -- one record of a field `a` below a name `a`
 abbrev OneExpanded : Text → Type 0
 OneExpanded = AreExpanded (ShowsPairs unbold (codes "a" ∷ []) (0 ∷ [])) (Some 1) 1 ((codes "a" ∷ []) ∷ [])
@@ -327,9 +384,34 @@ no_name : ¬ (OneExpanded (codes "record 1 of 1\n"))
 unfolding digits field_at
 no_name (own, rest, is, shows, more) = by_own own (ap (drop 14) is) shows
   where
-    by_own : (own : Text) → ◌≡◌ {A = Text} [] (own ++ rest) → ¬ (ShowsRows unbold false (true ∷ true ∷ []) ((cleaned false (codes "a") ∷ cleaned false (codes "a") ∷ []) ∷ []) own)
+    by_own : (own : Text) → ◌≡◌ {A = Text} [] (own ++ rest) → ¬ (ShowsRows unbold false true [] (true ∷ true ∷ []) ((cleaned false (codes "a") ∷ cleaned false (codes "a") ∷ []) ∷ []) own)
     by_own (b ∷ own) same shows = absurd (cc same)
-    by_own [] same shows = nothing_shows_no_field unbold refl refl (cleaned false (codes "a") ∷ []) (true ∷ true ∷ []) (subst (λ (name : Text). ShowsRows unbold false (true ∷ true ∷ []) ((name ∷ cleaned false (codes "a") ∷ []) ∷ []) []) a_stays shows)
+    by_own [] same shows = nothing_shows_no_field unbold refl refl (cleaned false (codes "a") ∷ []) (true ∷ true ∷ []) (subst (λ (name : Text). ShowsRows unbold false true [] (true ∷ true ∷ []) ((name ∷ cleaned false (codes "a") ∷ []) ∷ []) []) a_stays shows)
+
+-- its field isn't in bold, as its name is, and without names no row is
+abbrev bold_names : Look
+bold_names = record unbold { has_bold_header = true }
+
+bold_field : ¬ (IsDrawingOf bold_names false true [] [] ((codes "a" ∷ codes "b" ∷ []) ∷ []) (codes "\u{1b}[1m a \u{1b}[0m\u{1b}[1m b \u{1b}[0m\n"))
+bold_field is =
+    let line = codes "\u{1b}[1m a \u{1b}[0m\u{1b}[1m b \u{1b}[0m" in
+    ends_in_m line (codes "\u{1b}[1m a \u{1b}[0m\u{1b}[1m b \u{1b}[0") refl (ends_plain bold_names refl true [] (codes "a" ∷ codes "b" ∷ []) refl line (codes "\u{1b}[1m a \u{1b}[0m\u{1b}[1m b \u{1b}[0m\n") (only line (codes "\u{1b}[1m a \u{1b}[0m\u{1b}[1m b \u{1b}[0m\n") refl) is)
+
+bold_row : ¬ (IsDrawingOf bold_names false false [] [] ((codes "b" ∷ []) ∷ []) (codes "\u{1b}[1m b \u{1b}[0m\n"))
+bold_row is =
+    let line = codes "\u{1b}[1m b \u{1b}[0m" in
+    ends_in_m line (codes "\u{1b}[1m b \u{1b}[0") refl (ends_plain bold_names refl false [] (codes "b" ∷ []) refl line (codes "\u{1b}[1m b \u{1b}[0m\n") (only line (codes "\u{1b}[1m b \u{1b}[0m\n") refl) is)
+
+-- a date that has room isn't split
+abbrev date_cell : CellValue
+date_cell = plain_cell (codes "2026-05-02")
+
+split_date : ¬ (KeepsNumbers unbold 18 6 (plain_row (plain_cell (codes "day") ∷ date_cell ∷ [])))
+unfolding wrapping chars encode ucd_category is_neutral is_number
+split_date keeps =
+    let room : framed_width dashed (4 ∷ measure (codes "2026-05-02") ∷ []) ≤ 18 = omega arith in
+    let whole : 10 ≤ 6 = All-head (λ line. is_unbroken line ≡ true → framed_width dashed (4 ∷ measure line ∷ []) ≤ 18 → measure line ≤ 6) (codes "2026-05-02") [] (keeps date_cell refl) refl room in
+    omega (arith, whole)
 
 -- nothing stands behind the last record
 text_behind : ¬ (AreExpanded (ShowsPairs unbold [] []) (Some 1) 2 [] (codes " a \n"))
@@ -351,20 +433,43 @@ expanded options = asked Always None options
 abbrev in_rows : Look
 in_rows = record unbold { expansion = Never }
 
-lost_record : (options : Options) → options.columns.chosen.items ≡ [] → options.columns.dropped.items ≡ [] → options.selection.is_numbered ≡ false → ¬ (ShowsRecords (asked Never None options) ((codes "a" ∷ []) ∷ []) [])
+lost_field : (columns : ColumnsValue) (is_numbered : Bool) (count : Option ℕ) → columns.drawn ≡ 0 ∷ [] → is_numbered ≡ false → ¬ (ShowsFields false in_rows is_numbered columns None ((codes "a" ∷ []) ∷ []) count [])
 unfolding field_at
-lost_record options chosen dropped unnumbered is =
-    nothing_shows_no_field in_rows refl refl [] (true ∷ []) (subst (λ (field : Text). ShowsRows in_rows false (true ∷ []) ((field ∷ []) ∷ []) []) a_stays
-    (subst (ShowsRows in_rows false (true ∷ []) ((cleaned false (codes "a") ∷ []) ∷ [])) (sym (is.joined ∙ append-nil is.drawn))
-    (subst (λ (positions : List ℕ). ShowsRows in_rows false (whole_for None Never false positions ((codes "a" ∷ []) ∷ [])) (all_rows false positions None ((codes "a" ∷ []) ∷ [])) is.drawn) first
-    (subst (λ (b : Bool). ShowsRows in_rows false (whole_for None Never b (positions_in (asked Never None options) [] ((codes "a" ∷ []) ∷ [])) ((codes "a" ∷ []) ∷ [])) (all_rows b (positions_in (asked Never None options) [] ((codes "a" ∷ []) ∷ [])) None ((codes "a" ∷ []) ∷ [])) is.drawn) unnumbered
-    (subst (λ (b : Bool). ShowsDrawn b (asked Never None options) None ((codes "a" ∷ []) ∷ []) is.count is.drawn) is.expansion is.draws)))))
+lost_field columns is_numbered count first unnumbered (are, lined, shows) =
+    nothing_shows_no_field in_rows refl refl [] (true ∷ [])
+    (subst (λ (field : Text). Shows false (0 ∷ []) ((field ∷ []) ∷ [])) a_stays
+    (subst (λ (positions : List ℕ). Shows false positions (all_rows false no_marks positions None ((codes "a" ∷ []) ∷ []))) first
+    (subst (λ (b : Bool). Shows b columns.drawn (all_rows b no_marks columns.drawn None ((codes "a" ∷ []) ∷ []))) unnumbered
+    (subst (λ (b : Bool). Shows is_numbered columns.drawn (all_rows is_numbered (mark_for b columns ((codes "a" ∷ []) ∷ [])) columns.drawn None ((codes "a" ∷ []) ∷ []))) (lined.unasked refl) shows))))
   where
+    Shows : Bool → List ℕ → List (List Text) → Type 0
+    Shows b positions rows = ShowsRows in_rows false false (sides_behind b (map (side_for columns ((codes "a" ∷ []) ∷ [])) positions)) (whole_for None Never b positions ((codes "a" ∷ []) ∷ [])) rows []
+
+lost_record : (options : Options) → options.columns.chosen.items ≡ [] → options.columns.dropped.items ≡ [] → options.selection.is_numbered ≡ false → ¬ (ShowsRecords (asked Never None options) ((codes "a" ∷ []) ∷ []) [])
+lost_record options chosen dropped unnumbered is =
+    lost_field columns options.selection.is_numbered is.count first unnumbered
+    (subst (ShowsFields false in_rows options.selection.is_numbered columns None ((codes "a" ∷ []) ∷ []) is.count) (sym (is.joined ∙ append-nil is.drawn))
+    (subst (λ (b : Bool). ShowsDrawn b (asked Never None options) None ((codes "a" ∷ []) ∷ []) is.count is.drawn) is.expansion is.draws))
+  where
+    columns : ColumnsValue
+    columns = columns_asked (asked Never None options) [] ((codes "a" ∷ []) ∷ [])
+
     first : positions_in (asked Never None options) [] ((codes "a" ∷ []) ∷ []) ≡ 0 ∷ []
     first = rw chosen (rw dropped refl)
 
+-- nor is a text that a program in C gives in a row
+-- false: comfy_c::drawn_rows
+abbrev one_column_of : ColumnsValue → Layout
+one_column_of columns = record { columns = columns; look = in_rows; selection = record { has_header = false; is_numbered = false; limit = None } }
+
+lost_text : (MayCount : Option ℕ → Type 0) (columns : ColumnsValue) → columns.drawn ≡ 0 ∷ [] → ¬ (ShowsAllFields MayCount (one_column_of columns) ((codes "a" ∷ []) ∷ []) [])
+lost_text MayCount columns first is =
+    lost_field columns false is.count first refl
+    (subst (ShowsFields false in_rows false columns None ((codes "a" ∷ []) ∷ []) is.count) (sym (is.joined ∙ append-nil is.drawn))
+    (subst (λ (b : Bool). ShowsFields b in_rows false columns None ((codes "a" ∷ []) ∷ []) is.count is.drawn) is.expansion is.draws))
+
 -- fields behind their numbers, and without
-rows_behind_numbers : map (λ is_numbered. all_rows is_numbered (1 ∷ []) (Some (codes "a" ∷ codes "b" ∷ [])) ((codes "x" ∷ codes "y" ∷ []) ∷ (codes "z" ∷ []) ∷ [])) (true ∷ false ∷ [])
+rows_behind_numbers : map (λ is_numbered. all_rows is_numbered no_marks (1 ∷ []) (Some (codes "a" ∷ codes "b" ∷ [])) ((codes "x" ∷ codes "y" ∷ []) ∷ (codes "z" ∷ []) ∷ [])) (true ∷ false ∷ [])
     ≡ ((codes "#" ∷ codes "b" ∷ []) ∷ (codes "1" ∷ codes "y" ∷ []) ∷ (codes "2" ∷ [] ∷ []) ∷ []) ∷ ((codes "b" ∷ []) ∷ (codes "y" ∷ []) ∷ ([] ∷ []) ∷ []) ∷ []
 unfolding chars digits field_at encode
 rows_behind_numbers = refl

@@ -1,5 +1,5 @@
 -- Lines that the promise on a width refuses, lines that it allows, and the columns of frames.
-use Rattle.std.proofs.Common.{◌≡◌, ◌⊎◌, inl, inr, ◌≤◌, ◌+◌, ℕ, Bool, true, false, List, [], ◌∷◌, None, Some, arith, codes, length, refl, slice_index_or, sym, ap, ◌∙◌, subst}
+use Rattle.std.proofs.Common.{◌≡◌, inl, ◌+◌, ℕ, Bool, true, false, List, [], ◌∷◌, None, Some, arith, codes, length, refl, sym, ap, ◌∙◌, subst}
 use Rattle.std.specs.List.{All, slice_split}
 use Rattle.std.specs.Prelude.{◌==◌, String, string_bytes}
 use Rattle.std.proofs.lemmas.List.Elements.{All-from_recursion, All-head}

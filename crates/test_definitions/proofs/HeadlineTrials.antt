@@ -1,8 +1,9 @@
 -- Drawings that are near a headline, and none.
-use Rattle.std.proofs.Common.{◌≡◌, ◌==◌, ◌<◌, ◌≤◌, ℕ, suc, ◌+◌, Bool, true, false, List, [], ◌∷◌, ◌++◌, Option, Some, None, zero, codes, nat_le, inr, ◌⊎◌, length, map, max, take, inl, refl, sym, ap, ap₂, ◌∙◌, subst, arith, append-nil, length-append, slice_index_or}
+use Rattle.std.proofs.Common.{◌≡◌, ◌==◌, ◌<◌, ◌≤◌, ◌-◌, ℕ, suc, ◌+◌, Bool, true, false, List, [], ◌∷◌, ◌++◌, Option, Some, None, zero, codes, nat_le, inr, ◌⊎◌, length, map, max, take, inl, refl, sym, ap, ap₂, ◌∙◌, subst, arith, append-nil, length-append, slice_index_or}
 use Rattle.std.specs.Int.{is_in_range}
 use Rattle.std.specs.Prelude.{if◌then◌else◌, slice_index}
-use Rattle.std.specs.Str.{IsUtf8}
+use Rattle.std.specs.Str.{IsUtf8, chars}
+use Rattle.std.proofs.lemmas.Str.{encodes-chars}
 use Rattle.std.proofs.lemmas.Bool.Decides.{nat_tests}
 use Rattle.promises.proofs.HeadlineLemmas.{lines_of_cell}
 use Rattle.std.specs.List.{All, AllZip, flat_map, join_by, list_all, slice_get}
@@ -22,12 +23,15 @@ use Rattle.comfy_parts.specs.VisibleText.{is_parameter}
 use Rattle.comfy_parts.specs.Wrapping.{wrapped}
 use Rattle.comfy_parts.specs.declared.style.table.ContentArrangement.{ContentArrangement}
 use Rattle.comfy_parts.specs.declared.style.table.ContentArrangement.TheVariants.{Disabled, Dynamic, DynamicFullWidth}
+use Rattle.comfy_parts.specs.declared.style.cell.CellAlignment.TheVariants.{Center, Left, Right}
+use Rattle.comfy_parts.specs.declared.style.cell.CellAlignment.{CellAlignment}
 use Rattle.comfy_table.proofs.CountLemmas.{frame_lines_count}
 use Rattle.comfy_table.specs.Laws.{LeavesNoneOpen, NoConstraints, count, least_total}
 use Rattle.comfy_table.specs.Lines.{cell_delimiter, cell_lines, cut_text, cut_to_limit, fitting_indicator}
 use Rattle.comfy_table.specs.Parts.{ArrangedValue, IsArrangedTable}
+use Rattle.comfy_table.specs.Pieces.{free_before}
 use Rattle.comfy_table.specs.TableValue.{TableValue, ellipsis, header_and_rows, measured_table, new_table, shown_columns, width_or_terminal, with_header, with_rows}
-use Rattle.promises.specs.Headline.{AreColumnsOf, AreContentLines, AreLinesOfRow, AreLinesOfText, EachShownCell, AreLinesOfCell, HasLinesWithin, IsFramedBy, IsHeadline, IsPiece, KeepsToLevel, widest, IsPlainDrawing, IsPrintable, IsUncoloured, lines_in}
+use Rattle.promises.specs.Headline.{AreColumnsOf, AreContentLines, AreLinesOfRow, AreLinesOfText, EachShownCell, AreLinesOfCell, HasLinesWithin, IsFramedBy, IsHeadline, IsPiece, KeepsToLevel, side_in, widest, IsPlainDrawing, IsPrintable, IsUncoloured, lines_in}
 use Rattle.promises.specs.Promises.{KeepsPromises}
 use Rattle.promises.specs.Shown.{IsStyled}
 use Rattle.promises.specs.Straight.{AreStraightWhereCharactersFit}
@@ -69,7 +73,7 @@ pub record IsPadded (w : ℕ) (text line : Text) : Type 0 where
   pub wide : left + measure text + right ≡ 1 + max w (measure text) + 1
 
 -- so is the one piece of a line
-padded_of : (width : ℕ → ℕ) (text line : Text) (pieces : List Text) → AllZip (λ (p : ℕ × ColumnValue). IsPiece false p.1 (width p.0) text) (place ∷ []) pieces → line ≡ join_by (λ (piece : Text). piece) [] pieces ++ [] → IsPadded (width 0) text line
+padded_of : (width : ℕ → ℕ) (text line : Text) (pieces : List Text) → AllZip (λ (p : ℕ × ColumnValue). IsPiece false Left p.1 (width p.0) text) (place ∷ []) pieces → line ≡ join_by (λ (piece : Text). piece) [] pieces ++ [] → IsPadded (width 0) text line
 padded_of width text line [] zip is_line = absurd zip
 padded_of width text line (piece ∷ other ∷ pieces) zip is_line = absurd zip.1
 padded_of width text line (piece ∷ []) zip is_line =
@@ -712,7 +716,7 @@ coloured_inside is = by_rows is.frame.rows is.frame.are_rows (is.frame.drawn ∙
         let width : is.is_plain.framed.width 0 ≡ 2 = let own = width_is true Disabled None ellipsis None (codes "ab" ∷ []) is.plain is.is_plain refl (omega (arith, two)) in omega (arith, own, two) in
         texts_stay true Disabled None ellipsis None (codes "ab" ∷ []) is.plain is.is_plain (All-from_recursion (λ text. measure text ≤ is.is_plain.framed.width 0) (codes "ab" ∷ []) (omega (arith, width, two), tt))
 
-    by_pieces : (w : ℕ) (pieces : List Text) → AllZip (λ (p : ℕ × ColumnValue). IsPiece false p.1 w (codes "ab")) (place ∷ []) pieces → ¬ (codes " a\u{1b}[31mb " ≡ join_by (λ (piece : Text). piece) [] pieces ++ [])
+    by_pieces : (w : ℕ) (pieces : List Text) → AllZip (λ (p : ℕ × ColumnValue). IsPiece false Left p.1 w (codes "ab")) (place ∷ []) pieces → ¬ (codes " a\u{1b}[31mb " ≡ join_by (λ (piece : Text). piece) [] pieces ++ [])
     by_pieces w [] zip made = zip
     by_pieces w (piece ∷ other ∷ pieces) zip made = zip.1
     by_pieces w (piece ∷ []) zip made = no_ab_inside (codes " a\u{1b}[31mb ") refl zip.0.before zip.0.after (made ∙ append-nil (piece ++ []) ∙ append-nil piece ∙ zip.0.drawn)
@@ -725,7 +729,7 @@ coloured_inside is = by_rows is.frame.rows is.frame.are_rows (is.frame.drawn ∙
         let same : codes " a\u{1b}[31mb " ∷ [] ≡ block = made ∙ append-nil (block ++ []) ∙ append-nil block in
         let long = ap length same in
         let own = (each.0.are refl).drawn 0 (omega (arith, long)) in
-        by_pieces (is.is_plain.framed.width 0) own.0 (subst (λ (cut : List Text). AllZip (λ (p : ℕ × ColumnValue). IsPiece false p.1 (is.is_plain.framed.width 0) (slice_index_or cut 0 [])) (place ∷ []) own.0) is_text own.1) (ap (λ (ls : List Text). slice_index_or ls 0 []) same ∙ own.2)
+        by_pieces (is.is_plain.framed.width 0) own.0 (subst (λ (cut : List Text). AllZip (λ (p : ℕ × ColumnValue). IsPiece false Left p.1 (is.is_plain.framed.width 0) (slice_index_or cut 0 [])) (place ∷ []) own.0) is_text own.1) (ap (λ (ls : List Text). slice_index_or ls 0 []) same ∙ own.2)
 
 -- a width that is to be filled isn't left unfilled
 unfilled : ¬ (IsHeadline (wide_cell 8 (codes "ab" ∷ [])) (codes " ab " ∷ []))
@@ -768,3 +772,33 @@ open_line is = bold_stays_open (All-head LeavesNoneOpen (codes "| \u{1b}[1mab |"
 -- nor tears a bold letter apart and conceals what is after it
 torn_line : ¬ (IsHeadline bold_letter (torn_letter ∷ []))
 torn_line is = torn_stays_open (All-head LeavesNoneOpen torn_letter [] (is.closed refl bold_ends_in_text))
+
+-- nor is a letter torn by sequences that are closed at once
+torn_between : Text
+torn_between = codes " \u{1b}[1m" ++ (0xC3 ∷ codes "\u{1b}[0m\u{1b}[1m") ++ (0xA9 ∷ codes "\u{1b}[0m ")
+
+torn_between_sequences : ¬ (All IsUtf8 (torn_between ∷ []))
+unfolding torn_between encode chars
+torn_between_sequences each = let same = encodes-chars torn_between (All-head IsUtf8 torn_between [] each) in let byte : ◌≡◌ {A = ℕ} 0x80 0x1B = ap (λ (t : Text). slice_index t 6) same in absurd (omega (arith, byte))
+
+-- nor is a text at the left, if its cell is at the right, or in the centre
+at_the_left : (side : CellAlignment) → 1 ≤ free_before side 2 → ¬ (IsPiece false side (new_column 0) 3 (codes "a") (codes " a   "))
+at_the_left side some is = by_left is.left is.aligned (is.drawn ∙ ap (λ (before : Text). before ++ (codes "a" ++ is.after)) is.are_spaces.0)
+  where
+    by_left : (left : ℕ) → left ≡ 1 + free_before side (3 - measure (codes "a")) → ¬ (codes " a   " ≡ spaces left ++ (codes "a" ++ is.after))
+    by_left zero own made = absurd (omega (arith, own))
+    by_left (suc zero) own made =
+        let free : 3 - measure (codes "a") ≡ 2 = omega (arith, one.0) in
+        let same = ap (free_before side) free in
+        absurd (omega (arith, own, same, some))
+    by_left (suc (suc left)) own made = let letter : ◌≡◌ {A = ℕ} 0x61 0x20 = cc made in absurd (omega (arith, letter))
+
+right_cell : ¬ (IsPiece false Right (new_column 0) 3 (codes "a") (codes " a   "))
+right_cell = at_the_left Right (omega arith)
+
+centred_cell : ¬ (IsPiece false Center (new_column 0) 3 (codes "a") (codes " a   "))
+centred_cell = at_the_left Center (omega arith)
+
+-- the cell's side goes before its column's
+own_sides : map (λ side. side_in (Some (record (cell_of (codes "a" ∷ [])) { alignment = side })) (record (new_column 0) { alignment = Some Center })) (None ∷ Some Right ∷ Some Left ∷ []) ≡ Center ∷ Right ∷ Left ∷ []
+own_sides = refl

@@ -11,6 +11,7 @@ use Rattle.comfy_parts.specs.Presets.{ascii_full}
 use Rattle.comfy_parts.specs.Text.{IsOnly, Text, measure, spaces}
 use Rattle.comfy_parts.specs.Wrapping.{IsSlicesWhere}
 use Rattle.comfy_parts.specs.declared.style.table_style.ContentLineStyle.{ContentLineStyle}
+use Rattle.comfy_parts.specs.declared.style.cell.CellAlignment.TheVariants.{Left}
 use Rattle.comfy_table.specs.Frame.{content_line, frame_line}
 use Rattle.comfy_table.specs.Lines.{cell_delimiter}
 use Rattle.comfy_table.specs.TableValue.{TableValue, header_and_rows, new_table, shown_columns, with_rows}
@@ -39,7 +40,7 @@ squeezed-three : (xs ys zs : Text) → squeezed (xs ++ (ys ++ zs)) ≡ squeezed 
 squeezed-three xs ys zs = filter-append _ xs (ys ++ zs) ∙ ap (λ (t : Text). squeezed xs ++ t) (filter-append _ ys zs)
 
 -- a piece is its line, and spaces
-pub squeezed-piece : (column : ColumnValue) (w : ℕ) (line piece : Text) → IsPiece false column w line piece → squeezed piece ≡ squeezed line
+pub squeezed-piece : (column : ColumnValue) (w : ℕ) (line piece : Text) → IsPiece false Left column w line piece → squeezed piece ≡ squeezed line
 squeezed-piece column w line piece own =
     ap squeezed own.drawn ∙ squeezed-three own.before line own.after
     ∙ ap₂ (λ (a b : Text). a ++ (squeezed line ++ b)) (ap squeezed own.are_spaces.0 ∙ squeezed-spaces own.left) (ap squeezed own.are_spaces.1 ∙ squeezed-spaces own.right) ∙ append-nil (squeezed line)
@@ -101,7 +102,7 @@ squeezed-line line p q first second is one other =
     by_parts a b = grind (arith, append_assoc, append-nil)
 
 line_of_parts : (width : ℕ → ℕ) (parts : ℕ × ColumnValue → List Text) (first second line : Text) → squeezed (slice_index_or (parts (place 0)) 0 []) ≡ squeezed first → squeezed (slice_index_or (parts (place 1)) 0 []) ≡ squeezed second → (pieces : List Text)
-    → AllZip (λ (p : ℕ × ColumnValue). IsPiece false p.1 (width p.0) (slice_index_or (parts p) 0 [])) (place 0 ∷ place 1 ∷ []) pieces → line ≡ content_line ascii_full ascii_full.content_lines pieces
+    → AllZip (λ (p : ℕ × ColumnValue). IsPiece false Left p.1 (width p.0) (slice_index_or (parts p) 0 [])) (place 0 ∷ place 1 ∷ []) pieces → line ≡ content_line ascii_full ascii_full.content_lines pieces
     → squeezed line ≡ codes "|" ++ (squeezed first ++ (codes "|" ++ (squeezed second ++ codes "|")))
 line_of_parts width parts first second line one other [] zip is = absurd zip
 line_of_parts width parts first second line one other (p ∷ []) zip is = absurd zip.1
@@ -255,18 +256,18 @@ amounts_are_shown = (
 )
   where
     -- a text between a space and others
-    between : (column : ColumnValue) (w right : ℕ) (text : Text) → column.padding ≡ (1, 1) → 1 ≤ right → 1 + measure text + right ≡ 1 + max w (measure text) + 1 → IsPiece false column w text (spaces 1 ++ (text ++ spaces right))
+    between : (column : ColumnValue) (w right : ℕ) (text : Text) → column.padding ≡ (1, 1) → 1 ≤ right → 1 + measure text + right ≡ 1 + max w (measure text) + 1 → IsPiece false Left column w text (spaces 1 ++ (text ++ spaces right))
     between column w right text padding some wide =
         let left : column.padding.0 ≡ 1 = ap (λ (p : ℕ × ℕ). p.0) padding in
         let other : column.padding.1 ≡ 1 = ap (λ (p : ℕ × ℕ). p.1) padding in
-        record { left = 1; right = right; before = spaces 1; after = spaces right; drawn = refl; are_spaces = (refl, refl); padded = (omega (arith, left), omega (arith, other, some)); wide = omega (arith, left, other, wide) }
+        record { left = 1; right = right; before = spaces 1; after = spaces right; drawn = refl; are_spaces = (refl, refl); padded = (omega (arith, left), omega (arith, other, some)); wide = omega (arith, left, other, wide); aligned = omega (arith, left) }
 
-    first : (k : ℕ) → k < 1 → (pieces : List Text) × AllZip (λ (p : ℕ × ColumnValue). IsPiece false p.1 (amount_width p.0) (slice_index_or (unwrap_or (option_map (λ (cell : CellValue). cell.text_lines) (slice_get first_row.cells p.0)) ([] ∷ [])) k [])) (place 0 ∷ place 1 ∷ []) pieces
+    first : (k : ℕ) → k < 1 → (pieces : List Text) × AllZip (λ (p : ℕ × ColumnValue). IsPiece false Left p.1 (amount_width p.0) (slice_index_or (unwrap_or (option_map (λ (cell : CellValue). cell.text_lines) (slice_get first_row.cells p.0)) ([] ∷ [])) k [])) (place 0 ∷ place 1 ∷ []) pieces
         × (slice_index_or (codes "|   | 12.80 |" ∷ []) k [] ≡ content_line ascii_full ascii_full.content_lines pieces)
     first (suc k) below = absurd (omega (arith, below))
     first zero below = (codes "   " ∷ codes " 12.80 " ∷ [], (between (new_column 0) 1 2 [] refl (omega arith) (omega (arith, measures)), (between (new_column 1) 5 1 (codes "12.80") refl (omega arith) (omega (arith, measures)), tt)), refl)
 
-    second : (k : ℕ) → k < 1 → (pieces : List Text) × AllZip (λ (p : ℕ × ColumnValue). IsPiece false p.1 (amount_width p.0) (slice_index_or (unwrap_or (option_map (λ (cell : CellValue). cell.text_lines) (slice_get second_row.cells p.0)) ([] ∷ [])) k [])) (place 0 ∷ place 1 ∷ []) pieces
+    second : (k : ℕ) → k < 1 → (pieces : List Text) × AllZip (λ (p : ℕ × ColumnValue). IsPiece false Left p.1 (amount_width p.0) (slice_index_or (unwrap_or (option_map (λ (cell : CellValue). cell.text_lines) (slice_get second_row.cells p.0)) ([] ∷ [])) k [])) (place 0 ∷ place 1 ∷ []) pieces
         × (slice_index_or (codes "| 7 |       |" ∷ []) k [] ≡ content_line ascii_full ascii_full.content_lines pieces)
     second (suc k) below = absurd (omega (arith, below))
     second zero below = (codes " 7 " ∷ codes "       " ∷ [], (between (new_column 0) 1 1 (codes "7") refl (omega arith) (omega (arith, measures)), (between (new_column 1) 5 6 [] refl (omega arith) (omega (arith, measures)), tt)), refl)

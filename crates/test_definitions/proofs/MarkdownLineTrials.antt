@@ -16,7 +16,8 @@ use Rattle.csv_tables.specs.declared.options.DrawnColumn.{DrawnColumn}
 use Rattle.csv_tables.specs.declared.options.Expansion.TheVariants.{Never}
 use Rattle.csv_tables.specs.declared.options.Look.{Look}
 use Rattle.csv_tables.specs.declared.options.RowSeparators.TheVariants.{Styled}
-use Rattle.csv_tables.specs.MarkdownLines.{GivesBack, parts_between_bars, read_part, without_outer_spaces}
+use Rattle.csv_tables.proofs.MarkdownLineLemmas.{GivesBack}
+use Rattle.csv_tables.specs.MarkdownLines.{parts_between_bars, read_part, without_outer_spaces}
 
 -- a line as its parts are read
 abbrev read : List ℕ → List (List ℕ)
@@ -97,7 +98,6 @@ missing_field_is_given_back : GivesBack (shown (codes "a" ∷ [])) (codes "|  | 
 unfolding wrapping lib.Utf8.encode chars field_at
 missing_field_is_given_back = refl
 
--- false: csv_tables::laws::markdown_lines_give_back_their_fields
 other_order_is_not : ¬ (GivesBack (shown (codes "a" ∷ codes "b" ∷ [])) (codes "| a | b |"))
 unfolding wrapping lib.Utf8.encode chars field_at
 other_order_is_not is = true≢false (ap (λ (parts : List (List ℕ)). slice_index (slice_index_or parts 1 []) 0 == 0x61) is)

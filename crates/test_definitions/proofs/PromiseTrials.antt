@@ -25,9 +25,10 @@ use Rattle.comfy_parts.specs.declared.style.attribute.Attribute.{Attribute}
 use Rattle.comfy_parts.specs.declared.style.attribute.Attribute.TheVariants.{Bold}
 use Rattle.comfy_parts.specs.declared.style.table_style.ContentLineStyle.{ContentLineStyle}
 use Rattle.comfy_parts.specs.declared.style.column.ColumnConstraint.TheVariants.{ContentWidth, Hidden}
+use Rattle.comfy_parts.specs.declared.style.cell.CellAlignment.TheVariants.{Left}
 use Rattle.comfy_table.specs.Frame.{frame_line, optional_frame_line}
 use Rattle.comfy_table.specs.HiddenColumns.{without_hidden}
-use Rattle.comfy_table.specs.TableValue.{cell_content_width, TableValue, header_and_rows, new_table, shown_columns, constrained, with_rows}
+use Rattle.comfy_table.specs.TableValue.{cell_content_width, TableValue, header_and_rows, new_table, should_style, shown_columns, constrained, with_rows}
 use Rattle.promises.specs.Added.{AreSameButForHidden, HasRoomFor, StandsBelowAsWide, Stay, StayWithRow}
 use Rattle.promises.specs.Headline.{IsFramedBy, IsHeadline, IsPiece, is_styled}
 use Rattle.promises.specs.Kept.{AreShown, AreSlicesOf, ShowAllTexts, ShowWholeTexts, ShowsRow, ShowsWholeRow}
@@ -418,24 +419,24 @@ block_is styles cell Shows width lines is = by_rows is.rows is.are_rows (is.draw
     by_rows (block ∷ []) each made = subst (Shows presets.nothing.content_lines (plain_row (cell ∷ []))) (sym (made ∙ append-nil (block ++ []) ∙ append-nil block)) each.0
 
 -- a line of one piece is the piece
-piece_is : (styles : Bool) (w : ℕ) (part line : Text) (pieces : List Text) → AllZip (λ (p : ℕ × ColumnValue). IsPiece styles p.1 w part) (place ∷ []) pieces → line ≡ join_by (λ (piece : Text). piece) [] pieces ++ [] → IsPiece styles (new_column 0) w part line
+piece_is : (styles : Bool) (w : ℕ) (part line : Text) (pieces : List Text) → AllZip (λ (p : ℕ × ColumnValue). IsPiece styles Left p.1 w part) (place ∷ []) pieces → line ≡ join_by (λ (piece : Text). piece) [] pieces ++ [] → IsPiece styles Left (new_column 0) w part line
 piece_is styles w part line [] zip made = absurd zip
 piece_is styles w part line (piece ∷ other ∷ pieces) zip made = absurd zip.1
-piece_is styles w part line (piece ∷ []) zip made = subst (IsPiece styles (new_column 0) w part) (sym (made ∙ append-nil (piece ++ []) ∙ append-nil piece)) zip.0
+piece_is styles w part line (piece ∷ []) zip made = subst (IsPiece styles Left (new_column 0) w part) (sym (made ∙ append-nil (piece ++ []) ∙ append-nil piece)) zip.0
 
 -- a line that shows the word is a piece of it
 word_is : (styles : Bool) (attributes : List Attribute) (line : Text) → AreShown (ShowsRow (cell_table styles (word attributes))) (cell_table styles (word attributes)) (line ∷ [])
-    → (w : ℕ) × IsPiece (is_styled (cell_table styles (word attributes)) (plain_row (word attributes ∷ [])) place) (new_column 0) w (codes "ab") line
+    → (w : ℕ) × IsPiece (is_styled (should_style (cell_table styles (word attributes))) (plain_row (word attributes ∷ [])) place) Left (new_column 0) w (codes "ab") line
 word_is styles attributes line (width, is) = (
   width 0,
-  subst (λ (part : Text). IsPiece (is_styled (cell_table styles (word attributes)) (plain_row (word attributes ∷ [])) place) (new_column 0) (width 0) part line) part_is
-      (piece_is (is_styled (cell_table styles (word attributes)) (plain_row (word attributes ∷ [])) place) (width 0) (slice_index_or (row.slices place) 0 []) line here.0 here.1 here.2),
+  subst (λ (part : Text). IsPiece (is_styled (should_style (cell_table styles (word attributes))) (plain_row (word attributes ∷ [])) place) Left (new_column 0) (width 0) part line) part_is
+      (piece_is (is_styled (should_style (cell_table styles (word attributes))) (plain_row (word attributes ∷ [])) place) (width 0) (slice_index_or (row.slices place) 0 []) line here.0 here.1 here.2),
 )
   where
     row : ShowsRow (cell_table styles (word attributes)) width presets.nothing.content_lines (plain_row (word attributes ∷ [])) (line ∷ [])
     row = block_is styles (word attributes) (ShowsRow (cell_table styles (word attributes)) width) width (line ∷ []) is
 
-    here : (pieces : List Text) × AllZip (λ (p : ℕ × ColumnValue). IsPiece (is_styled (cell_table styles (word attributes)) (plain_row (word attributes ∷ [])) p) p.1 (width p.0) (slice_index_or (row.slices p) 0 [])) (place ∷ []) pieces × (line ≡ join_by (λ (piece : Text). piece) [] pieces ++ [])
+    here : (pieces : List Text) × AllZip (λ (p : ℕ × ColumnValue). IsPiece (is_styled (should_style (cell_table styles (word attributes))) (plain_row (word attributes ∷ [])) p) Left p.1 (width p.0) (slice_index_or (row.slices p) 0 [])) (place ∷ []) pieces × (line ≡ join_by (λ (piece : Text). piece) [] pieces ++ [])
     here = row.shown.drawn 0 (omega arith)
 
     by_slices : (slices : List Text) → length slices ≡ 1 → (of_texts : List (List Text)) → AllZip (AreSlicesOf 0x20) (codes "ab" ∷ []) of_texts → slices ≡ flat_map (λ (of_text : List Text). of_text) of_texts → slices ≡ codes "ab" ∷ []

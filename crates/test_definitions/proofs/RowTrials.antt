@@ -9,6 +9,7 @@ use Rattle.comfy_parts.specs.Presets.{nothing, utf8_full}
 use Rattle.comfy_parts.specs.Text.{Text, measure}
 use Rattle.comfy_parts.specs.declared.style.table.ContentArrangement.{ContentArrangement}
 use Rattle.comfy_parts.specs.declared.style.table.ContentArrangement.TheVariants.{Disabled, Dynamic, DynamicFullWidth}
+use Rattle.comfy_parts.specs.declared.style.cell.CellAlignment.TheVariants.{Left}
 use Rattle.comfy_table.specs.NewTables.{IsShortRow}
 use Rattle.comfy_table.specs.TableValue.{TableValue}
 use Rattle.promises.specs.Headline.{IsPiece}
@@ -79,7 +80,7 @@ torn keeps = let (width, is) = keeps.whole_texts refl short in by_rows width is.
     table : TableValue
     table = table_of nothing Disabled None header []
 
-    by_pieces : (w : ℕ) (pieces : List Text) → AllZip (λ (p : ℕ × ColumnValue). IsPiece false p.1 w (codes "ab")) ((0, new_column 0) ∷ []) pieces → ¬ (codes " a b " ≡ join_by (λ (piece : Text). piece) [] pieces ++ [])
+    by_pieces : (w : ℕ) (pieces : List Text) → AllZip (λ (p : ℕ × ColumnValue). IsPiece false Left p.1 w (codes "ab")) ((0, new_column 0) ∷ []) pieces → ¬ (codes " a b " ≡ join_by (λ (piece : Text). piece) [] pieces ++ [])
     by_pieces w [] zip made = zip
     by_pieces w (piece ∷ other ∷ pieces) zip made = zip.1
     by_pieces w (piece ∷ []) zip made = no_ab_inside (codes " a b ") refl zip.0.before zip.0.after (made ∙ append-nil (piece ++ []) ∙ append-nil piece ∙ zip.0.drawn)

@@ -1,5 +1,5 @@
 -- Which fields aren't broken over lines, and what room their columns need.
-use Rattle.std.proofs.Common.{◌≡◌, ◌≤◌, ℕ, true, false, List, [], ◌∷◌, Option, Some, None, codes, map, refl, arith, slice_index}
+use Rattle.std.proofs.Common.{◌≡◌, ℕ, true, false, List, [], ◌∷◌, Option, Some, None, codes, map, refl}
 use Prim.Native.String.{String}
 use Rattle.std.specs.List.{list_all, list_any}
 use Rattle.std.specs.Str.{chars}
@@ -15,9 +15,7 @@ use Rattle.comfy_parts.specs.declared.style.column.Width.TheVariants.{Fixed}
 use Rattle.csv_tables.specs.Summaries.{column_fields}
 use Rattle.csv_records.specs.Number.{is_neutral, is_number}
 use Rattle.comfy_table.specs.TableValue.{TableValue, new_table, with_header, with_rows}
-use Rattle.comfy_parts.specs.Wrapping.{lines_of_text}
 use Rattle.csv_tables.specs.Drawn.{is_expanded_in}
-use Rattle.csv_tables.specs.Laws.{IsWholeColumn, StandsWhole}
 use Rattle.csv_tables.specs.Unbroken.{by_columns, framed_width, given_in, has_room, is_unbroken, kept_at, kept_unbroken, kept_unbroken_fields, least_width, level_in, may_break, room_beside, room_for_two, shared_at, shared_content, unbroken_width}
 use Rattle.csv_tables.specs.declared.options.Expansion.TheVariants.{Always, Auto, Never}
 
@@ -117,16 +115,6 @@ narrower = refl
 by_word : map (λ expansion. map (is_expanded_in expansion) (true ∷ false ∷ [])) (Always ∷ Never ∷ Auto ∷ []) ≡ (true ∷ true ∷ []) ∷ (false ∷ false ∷ []) ∷ (false ∷ true ∷ []) ∷ []
 by_word = refl
 
--- a column of six for nineteen letters is narrower than its content, and breaks a word of them
--- false: csv_tables::laws::auto_keeps_numbers_and_dates_whole
-narrower_than_its_content : ¬ (IsWholeColumn text 0 (slice_index (6 ∷ []) 0))
-unfolding wrapping
-narrower_than_its_content whole = let is : 19 ≤ 6 = whole.content in omega (arith, is)
-
-broken_over_lines : ¬ (lines_of_text 6 0x20 (codes "letters") ≡ codes "letters" ∷ [])
-unfolding wrapping
-broken_over_lines same = cc same
-
 -- ---- fields of expanded records
 
 -- three borders and four paddings leave 23 of 30; names have four of it, or all of a shorter one
@@ -165,9 +153,3 @@ held = refl
 free : map pair_constraints (Some 20 ∷ Some 24 ∷ None ∷ []) ≡ (None ∷ None ∷ []) ∷ (None ∷ None ∷ []) ∷ (None ∷ None ∷ []) ∷ []
 unfolding wrapping chars lib.Utf8.encode ucd_category is_number is_neutral
 free = refl
-
--- a column of six breaks a date of ten characters
--- false: csv_tables::laws::auto_keeps_numbers_and_dates_whole
-narrower_than_a_date : ¬ (StandsWhole 6 (codes "2026-05-02"))
-unfolding wrapping
-narrower_than_a_date whole = let is : 10 ≤ 6 = whole.0 in omega (arith, is)

@@ -1,6 +1,6 @@
 //! The drawn lines of a table.
 
-ghost use Rattle.std.specs.Prelude.{◌≡◌, IfOk, map, string_bytes};
+ghost use Rattle.std.specs.Prelude.{◌≡◌, All, IfOk, IsUtf8, map, string_bytes};
 ghost use Rattle.std.specs.Iterator.{YieldsFirstBy, item_count};
 ghost use Rattle.comfy_table.specs.Arrangement.{IsDrawingOf};
 ghost use Rattle.comfy_table.specs.Headline.{IsTableDrawing, TerminatesLines, JoinsLines, JoinsTrimmedLines};
@@ -89,6 +89,7 @@ impl Table {
     pub fn lines(&self) -> Result<Lines>
         ensures drawing { IfOk result (λ lines. IsDrawingOf self.now lines) }
         ensures headline { IfOk result (λ lines. IsTableDrawing self.now lines) }
+        ensures characters { IfOk result (λ lines. All IsUtf8 lines) }
     {
         build_table(self)
     }
