@@ -16,7 +16,7 @@ use Rattle.comfy_parts.proofs.WrappingLemmas.{wrapped_is_one}
 use Rattle.comfy_parts.proofs.SequenceLemmas.{sequences_are_taken_out}
 use Rattle.comfy_parts.specs.CellValue.{CellValue, ColumnInfo, ColumnValue, RowValue, info_of, info_width}
 use Rattle.comfy_parts.specs.Text.{AddsOneColumnEach, Text, greatest, measure, spaces}
-use Rattle.comfy_parts.specs.VisibleLines.{CellLine}
+use Rattle.comfy_parts.specs.VisibleLines.{CellLine, line_texts}
 use Rattle.comfy_parts.specs.VisibleText.{closed, visible_bytes, visible_text}
 use Rattle.comfy_parts.specs.Wrapping.{IsWrapped, lines_of_text, wrapped}
 use Rattle.comfy_parts.specs.declared.style.cell.CellAlignment.{CellAlignment}
@@ -49,9 +49,10 @@ use Rattle.comfy_table.specs.TableValue.{TableValue, column_content_width, colum
 use Rattle.comfy_table.specs.Widths.{ColumnNeeds, disabled_width, needs_of, shown_needs}
 use Rattle.promises.proofs.DrawnColumnLemmas.{IsWholeAt, columns-drawn, drawn_column, infos-are, whole_at}
 use Rattle.promises.proofs.LevelLemmas.{KeepsLevel, contents_keep, level_keeps, zip_maps}
+use Rattle.promises.proofs.ResumedLemmas.{resume}
 use Rattle.promises.proofs.RowLemmas.{height, line_is, piece_in, width_by_content}
 use Rattle.promises.proofs.PieceLemmas.{uncoloured_lines, uncoloured_text}
-use Rattle.promises.specs.Headline.{AreColumnsOf, AreContentLines, AreLinesOfCell, AreLinesOfParts, AreLinesOfRow, AreLinesOfText, AreSpaces, EachShownCell, IsFramedBy, IsFramedDrawing, IsFramedTable, IsHeadline, IsPiece, IsPrintable, framed, lines_in, whole_width, widths_shown, IsUncoloured, is_coloured, is_styled, side_in, side_of, IsAsWide, HasLinesWithin, room_for_texts}
+use Rattle.promises.specs.Headline.{AreColumnsOf, AreContentLines, IsBetweenSpaces, ResumeTheirSequences, AreLinesOfCell, AreLinesOfParts, AreLinesOfRow, AreLinesOfText, AreSpaces, EachShownCell, IsFramedBy, IsFramedDrawing, IsFramedTable, IsHeadline, IsPiece, IsPrintable, framed, lines_in, whole_width, widths_shown, IsUncoloured, is_coloured, is_styled, side_in, side_of, IsAsWide, HasLinesWithin, room_for_texts}
 use Rattle.promises.specs.Shown.{IsStyled}
 use Rattle.promises.specs.Shown.IsStyled.{nothing, byte, sequence}
 
@@ -200,55 +201,85 @@ module _ (table : TableValue) (widths : List ℕ) (long : length widths ≡ leng
   abbrev info_at : ℕ × ColumnValue → ColumnInfo
   info_at p = info_of p.1 (slice_index widths p.0)
 
+  -- ---- pieces
+
+  -- what is around the text that is written for a line of a cell
+  module _ (p : ℕ × ColumnValue) (cell : CellValue) (line : CellLine) where
+    abbrev m : ℕ
+    m = measure line.measured
+
+    abbrev left : ℕ
+    left = p.1.padding.0 + free_before (cell_alignment cell (info_at p)) (free_places (info_at p) m)
+
+    abbrev right : ℕ
+    right = free_places (info_at p) m - free_before (cell_alignment cell (info_at p)) (free_places (info_at p) m) + p.1.padding.1
+
+    abbrev piece_by : Bool → Bool → Text
+    piece_by styles text_only = if styles then (if text_only then padded cell (info_at p) m (styled cell line.written) else styled cell (padded cell (info_at p) m line.written)) else padded cell (info_at p) m line.written
+
+    padded_is : (text : Text) → spaces left ++ (text ++ spaces right) ≡ padded cell (info_at p) m text
+    padded_is text = padded-is cell (info_at p) m left right refl refl text
+
+    -- these are spaces, with the sequences of the cell if styles are written
+    record IsAround (before after whole : Text) : Type 0 where
+      drawn : whole ≡ before ++ (line.written ++ after)
+      front : IsStyled (spaces left) before
+      back : IsStyled (spaces right) after
+
+    around : (styles text_only : Bool) → (before : Text) × (after : Text) × IsAround before after (piece_by styles text_only)
+    around true true = (
+      spaces left ++ style_begin cell,
+      style_end cell ++ spaces right,
+      record {
+        drawn =
+            sym (padded_is (styled cell line.written))
+            ∙ ap (λ (t : Text). spaces left ++ t) (append_assoc (style_begin cell) (line.written ++ style_end cell) (spaces right) ∙ ap (λ (t : Text). style_begin cell ++ t) (append_assoc line.written (style_end cell) (spaces right)))
+            ∙ sym (append_assoc (spaces left) (style_begin cell) (line.written ++ (style_end cell ++ spaces right)));
+        front = subst (λ (t : Text). IsStyled t (spaces left ++ style_begin cell)) (append-nil (spaces left)) (styled_both [] (style_begin cell) (styled_same (spaces left)) begin);
+        back = styled_both (spaces right) (spaces right) end (styled_same (spaces right));
+      },
+    )
+      where
+        begin : IsStyled [] (style_begin cell)
+        begin = keeps_style_begin Any IsStyled styled_kept cell
+
+        end : IsStyled [] (style_end cell)
+        end = keeps_style_end Any IsStyled styled_kept cell
+    around true false = (
+      style_begin cell ++ spaces left,
+      spaces right ++ style_end cell,
+      record {
+        drawn =
+            ap (styled cell) (sym (padded_is line.written))
+            ∙ ap (λ (t : Text). style_begin cell ++ t) (append_assoc (spaces left) (line.written ++ spaces right) (style_end cell) ∙ ap (λ (t : Text). spaces left ++ t) (append_assoc line.written (spaces right) (style_end cell)))
+            ∙ sym (append_assoc (style_begin cell) (spaces left) (line.written ++ (spaces right ++ style_end cell)));
+        front = styled_both (spaces left) (spaces left) (keeps_style_begin Any IsStyled styled_kept cell) (styled_same (spaces left));
+        back = subst (λ (t : Text). IsStyled t (spaces right ++ style_end cell)) (append-nil (spaces right)) (styled_both [] (style_end cell) (styled_same (spaces right)) (keeps_style_end Any IsStyled styled_kept cell));
+      },
+    )
+    around false text_only = (spaces left, spaces right, record { drawn = sym (padded_is line.written); front = styled_same (spaces left); back = styled_same (spaces right) })
+
   -- the piece of a line
   piece_is : (p : ℕ × ColumnValue) (cell : CellValue) (line : Text) → IsPiece (should_style table && is_coloured (Some cell)) (side_in (Some cell) p.1) p.1 (content_at p.0) line (piece table cell (info_at p) (as_measured line))
   piece_is p cell line = by_tests (should_style table) table.style_text_only (is_coloured (Some cell)) refl
     where
-      m : ℕ
-      m = measure line
-
-      front : ℕ
-      front = free_before (cell_alignment cell (info_at p)) (free_places (info_at p) m)
-
-      left : ℕ
-      left = p.1.padding.0 + front
-
-      right : ℕ
-      right = free_places (info_at p) m - front + p.1.padding.1
-
-      padded_is : (text : Text) → spaces left ++ (text ++ spaces right) ≡ padded cell (info_at p) m text
-      padded_is text = padded-is cell (info_at p) m left right refl refl text
-
-      begin : IsStyled [] (style_begin cell)
-      begin = keeps_style_begin Any IsStyled styled_kept cell
-
-      end : IsStyled [] (style_end cell)
-      end = keeps_style_end Any IsStyled styled_kept cell
-
-      made : (styles : Bool) (before after whole : Text) → whole ≡ before ++ (line ++ after) → AreSpaces styles left before → AreSpaces styles right after → IsPiece styles (side_in (Some cell) p.1) p.1 (content_at p.0) line whole
+      made : (styles : Bool) (before after whole : Text) → whole ≡ before ++ (line ++ after) → AreSpaces styles (left p cell (as_measured line)) before → AreSpaces styles (right p cell (as_measured line)) after → IsPiece styles (side_in (Some cell) p.1) p.1 (content_at p.0) line whole
       made styles before after whole drawn front_spaces back_spaces =
-          let among = free_before-le (cell_alignment cell (info_at p)) (free_places (info_at p) m) in
-          record { left = left; right = right; before = before; after = after; drawn = drawn; are_spaces = (front_spaces, back_spaces); padded = (omega arith, omega arith); wide = omega (arith, among); aligned = refl }
+          let among = free_before-le (cell_alignment cell (info_at p)) (free_places (info_at p) (measure line)) in
+          record { left = left p cell (as_measured line); right = right p cell (as_measured line); before = before; after = after; drawn = drawn; are_spaces = (front_spaces, back_spaces); padded = (omega arith, omega arith); wide = omega (arith, among); aligned = refl }
 
-      by_tests : (styles text_only coloured : Bool) → is_coloured (Some cell) ≡ coloured
-          → IsPiece (styles && coloured) (side_in (Some cell) p.1) p.1 (content_at p.0) line (if styles then (if text_only then padded cell (info_at p) m (styled cell line) else styled cell (padded cell (info_at p) m line)) else padded cell (info_at p) m line)
-      by_tests true true true some =
-          made true (spaces left ++ style_begin cell) (style_end cell ++ spaces right) (padded cell (info_at p) m (styled cell line))
-          (sym (padded_is (styled cell line))
-          ∙ ap (λ (t : Text). spaces left ++ t) (append_assoc (style_begin cell) (line ++ style_end cell) (spaces right) ∙ ap (λ (t : Text). style_begin cell ++ t) (append_assoc line (style_end cell) (spaces right)))
-          ∙ sym (append_assoc (spaces left) (style_begin cell) (line ++ (style_end cell ++ spaces right))))
-          (subst (λ (t : Text). IsStyled t (spaces left ++ style_begin cell)) (append-nil (spaces left)) (styled_both [] (style_begin cell) (styled_same (spaces left)) begin)) (styled_both (spaces right) (spaces right) end (styled_same (spaces right)))
-      by_tests true false true some =
-          made true (style_begin cell ++ spaces left) (spaces right ++ style_end cell) (styled cell (padded cell (info_at p) m line))
-          (ap (styled cell) (sym (padded_is line))
-          ∙ ap (λ (t : Text). style_begin cell ++ t) (append_assoc (spaces left) (line ++ spaces right) (style_end cell) ∙ ap (λ (t : Text). spaces left ++ t) (append_assoc line (spaces right) (style_end cell)))
-          ∙ sym (append_assoc (style_begin cell) (spaces left) (line ++ (spaces right ++ style_end cell))))
-          (styled_both (spaces left) (spaces left) begin (styled_same (spaces left))) (subst (λ (t : Text). IsStyled t (spaces right ++ style_end cell)) (append-nil (spaces right)) (styled_both [] (style_end cell) (styled_same (spaces right)) end))
+      by_tests : (styles text_only coloured : Bool) → is_coloured (Some cell) ≡ coloured → IsPiece (styles && coloured) (side_in (Some cell) p.1) p.1 (content_at p.0) line (piece_by p cell (as_measured line) styles text_only)
+      by_tests true text_only true some =
+          let all = around p cell (as_measured line) true text_only in
+          made true all.0 all.1 (piece_by p cell (as_measured line) true text_only) all.2.drawn all.2.front all.2.back
       by_tests true true false none =
-          made false (spaces left) (spaces right) (padded cell (info_at p) m (styled cell line)) (sym (ap (padded cell (info_at p) m) (uncoloured_text cell (uncoloured cell none) line)) ∙ sym (padded_is line)) refl refl
+          made false (spaces (left p cell (as_measured line))) (spaces (right p cell (as_measured line))) (piece_by p cell (as_measured line) true true)
+          (sym (ap (padded cell (info_at p) (measure line)) (uncoloured_text cell (uncoloured cell none) line)) ∙ sym (padded_is p cell (as_measured line) line)) refl refl
       by_tests true false false none =
-          made false (spaces left) (spaces right) (styled cell (padded cell (info_at p) m line)) (sym (uncoloured_text cell (uncoloured cell none) (padded cell (info_at p) m line)) ∙ sym (padded_is line)) refl refl
-      by_tests false text_only coloured some = made false (spaces left) (spaces right) (padded cell (info_at p) m line) (sym (padded_is line)) refl refl
+          made false (spaces (left p cell (as_measured line))) (spaces (right p cell (as_measured line))) (piece_by p cell (as_measured line) true false)
+          (sym (uncoloured_text cell (uncoloured cell none) (padded cell (info_at p) (measure line) line)) ∙ sym (padded_is p cell (as_measured line) line)) refl refl
+      by_tests false text_only coloured some =
+          made false (spaces (left p cell (as_measured line))) (spaces (right p cell (as_measured line))) (piece_by p cell (as_measured line) false text_only) (sym (padded_is p cell (as_measured line) line)) refl refl
 
   -- if there is no line
   blank_is : (styles : Bool) (side : CellAlignment) (p : ℕ × ColumnValue) → IsPiece styles side p.1 (content_at p.0) [] (blank_piece (info_at p))
@@ -326,11 +357,62 @@ module _ (table : TableValue) (widths : List ℕ) (long : length widths ≡ leng
           drawn = λ k below. (map (piece_in table widths long border row k) (shown_columns table), pieces_are border row k (shown_columns table), line_is table widths long border row k below);
         }
 
+  -- ---- written lines
+
+  -- the piece of a written line is between spaces
+  written_is : (p : ℕ × ColumnValue) (cell : CellValue) (line : CellLine) → IsBetweenSpaces line.written (piece table cell (info_at p) line)
+  written_is p cell line =
+      let all = around p cell line (should_style table) table.style_text_only in
+      record { left = left p cell line; right = right p cell line; before = all.0; after = all.1; drawn = all.2.drawn; are_spaces = (all.2.front, all.2.back) }
+
+  -- nothing is written if there is no line
+  nothing_written : (p : ℕ × ColumnValue) → IsBetweenSpaces [] (blank_piece (info_at p))
+  nothing_written p =
+      record {
+        left = p.1.padding.0 + content_at p.0;
+        right = p.1.padding.1;
+        before = spaces (p.1.padding.0 + content_at p.0);
+        after = spaces p.1.padding.1;
+        drawn = sym (spaces-append (p.1.padding.0 + content_at p.0) p.1.padding.1);
+        are_spaces = (styled_same (spaces (p.1.padding.0 + content_at p.0)), styled_same (spaces p.1.padding.1));
+      }
+
+  -- the texts that are written of an optional cell
+  abbrev written_of : RowValue → ℕ × ColumnValue → Option CellValue → List Text
+  written_of row p cell = unwrap_or (option_map (λ (own : CellValue). map (λ (line : CellLine). line.written) (row_cell_lines table row (info_at p) own)) cell) ([] ∷ [])
+
+  written_at : (row : RowValue) (p : ℕ × ColumnValue) (cell : Option CellValue) (k : ℕ) → IsBetweenSpaces (slice_index_or (written_of row p cell) k []) (slice_index_or (pieces_of_optional table row (info_at p) cell) k (blank_piece (info_at p)))
+  written_at row p None zero = nothing_written p
+  written_at row p None (suc k) = nothing_written p
+  written_at row p (Some cell) k = by_lines (row_cell_lines table row (info_at p) cell) k
+    where
+      by_lines : (lines : List CellLine) (k : ℕ) → IsBetweenSpaces (slice_index_or (map (λ (line : CellLine). line.written) lines) k []) (slice_index_or (map (piece table cell (info_at p)) lines) k (blank_piece (info_at p)))
+      by_lines [] k = nothing_written p
+      by_lines (line ∷ lines) zero = written_is p cell line
+      by_lines (line ∷ lines) (suc k) = by_lines lines k
+
+  all_written : (borders : ContentLineStyle) (row : RowValue) (k : ℕ) (ps : List (ℕ × ColumnValue)) → AllZip (λ (p : ℕ × ColumnValue). IsBetweenSpaces (slice_index_or (written_of row p (slice_get row.cells p.0)) k [])) ps (map (piece_in table widths long borders row k) ps)
+  all_written borders row k [] = tt
+  all_written borders row k (p ∷ ps) = (written_at row p (slice_get row.cells p.0) k, all_written borders row k ps)
+
+  -- with custom styling they resume their sequences
+  texts_resume : table.custom_styling ≡ true → (row : RowValue) → row.max_height ≡ None → (p : ℕ × ColumnValue) (cell : Option CellValue) → MatchOption cell (written_of row p cell ≡ [] ∷ []) (λ own. ResumeTheirSequences own (written_of row p cell))
+  texts_resume custom row uncut p None = refl
+  texts_resume custom row uncut p (Some cell) =
+      subst (λ (lines : List CellLine). ResumeTheirSequences cell (map (λ (line : CellLine). line.written) lines)) (sym all) (resume (content_at p.0) (cell_delimiter table p.1.delimiter cell) cell)
+    where
+      all : row_cell_lines table row (info_at p) cell ≡ line_texts (content_at p.0) (cell_delimiter table p.1.delimiter cell) cell.text_lines
+      all = ap₂ (λ (b : Bool) (limit : Option ℕ). cut_to_limit (cut_line b (content_at p.0) table.indicator) limit (uncut_lines b (content_at p.0) (cell_delimiter table p.1.delimiter cell) cell)) custom uncut
+
   -- the lines of a row
   content_is : (borders : ContentLineStyle) (row : RowValue) → AreContentLines table content_at lines_at borders row (drawn_row table infos borders row)
   content_is borders row =
       record {
-        pieces = λ k below. (map (piece_in table widths long borders row k) (shown_columns table), length-map (shown_columns table) (piece_in table widths long borders row k), line_is table widths long borders row k below);
+        written = record {
+          texts = λ p. written_of row p (slice_get row.cells p.0);
+          drawn = λ k below. (map (piece_in table widths long borders row k) (shown_columns table), all_written borders row k (shown_columns table), line_is table widths long borders row k below);
+          resumed = λ custom uncut j other below. let p = slice_index_or (shown_columns table) j other in texts_resume custom row uncut p (slice_get row.cells p.0);
+        };
         are = λ none. parts_are none borders row;
       }
 

@@ -10,6 +10,7 @@ pub mod LevelLemmas
 pub mod PieceLemmas
 pub mod PlacedLemmas
 pub mod PromiseLemmas
+mod ResumedLemmas
 pub mod RowLemmas
 pub mod ShownLemmas
 pub mod TableOfRowsLemmas

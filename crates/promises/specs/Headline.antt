@@ -1,11 +1,13 @@
 -- What a table draws: frame lines, and rows of padded lines of its cells' texts.
 -- Source: this library's own.
-use Rattle.std.specs.Prelude.{◌≢◌, ◌-◌, ◌/◌, ◌&&◌, ◌||◌, is_some, nat_lt, ◌≡◌, ◌⊎◌, ℕ, ◌+◌, ◌<◌, ◌≤◌, Bool, true, false, List, Option, [], ◌∷◌, ◌++◌, Some, None, All, EachIndex, MatchOption, filter_map, flat_map, length, map, max, option_map, slice_get, slice_index_or, sum, unwrap_or}
+use Rattle.std.specs.Prelude.{◌≢◌, ◌-◌, ◌/◌, ◌&&◌, ◌||◌, drop, is_some, nat_lt, take, ◌≡◌, ◌⊎◌, ℕ, ◌+◌, ◌<◌, ◌≤◌, Bool, true, false, List, Option, [], ◌∷◌, ◌++◌, Some, None, All, EachIndex, MatchOption, filter_map, flat_map, length, map, max, option_map, slice_get, slice_index_or, sum, unwrap_or}
 use Rattle.std.specs.Int.{is_in_range}
 use Rattle.std.specs.List.{AllZip, enumerate_from, join_by}
 use Rattle.comfy_parts.specs.CellValue.{CellValue, ColumnInfo, ColumnValue, RowValue, info_of}
 use Rattle.comfy_parts.specs.Columns.{AddsOneColumn, CharactersFit}
 use Rattle.comfy_parts.specs.Text.{AddsOneColumnEach, Text, greatest, is_printable_ascii, measure, spaces}
+use Rattle.comfy_parts.specs.VisibleLines.{CellLine, LineStart}
+use Rattle.comfy_parts.specs.VisibleText.{active, open_after, parts, parts_before, visible_text}
 use Rattle.comfy_parts.specs.Wrapping.{IsWrapped}
 use Rattle.comfy_parts.specs.declared.style.cell.CellAlignment.{CellAlignment}
 use Rattle.comfy_parts.specs.declared.style.cell.CellAlignment.TheVariants.{Left}
@@ -43,7 +45,7 @@ EachShownCell P table =
     → slice_get row.cells p.0 ≡ Some cell → P row p cell) (shown_columns table))
     (header_and_rows table)
 
--- ---- the lines of a row
+-- ---- pieces
 
 -- the paddings of a column, and w terminal columns for its content
 abbrev pub whole_width : ColumnValue → ℕ → ℕ
@@ -109,6 +111,59 @@ pub record AreLinesOfParts (styles : Bool) (table : TableValue) (row : RowValue)
       (slice_index_or (parts p) k [])) (shown_columns table) pieces
       × (slice_index_or lines k [] ≡ content_line table.style borders pieces))
 
+-- ---- sequences in texts
+
+-- a written line of a cell shows a part of one of its text lines. Before each visible byte those
+-- sequences are open that are active there in the cell
+pub record ResumesSequences (cell : CellValue) (from : LineStart) (line : CellLine) : Type 0 where
+  pub later : List Text
+  pub in_cell : cell.text_lines ≡ from.earlier ++ from.text ∷ later
+  pub part : take (length line.measured) (drop from.at (visible_text from.text)) ≡ line.measured
+  pub visible : visible_text line.written ≡ line.measured
+  pub resumed : (k : ℕ) → k < length line.measured
+      → open_after (parts_before k (parts line.written))
+      ≡ active from.earlier from.text (from.at + k)
+
+-- each line begins where the one above it ends, or after that: there are as many earlier text
+-- lines, or more, and as many visible bytes before it, unless there are more text lines
+abbrev pub AreInOrder : ℕ → ℕ → List LineStart → List CellLine → Type 0
+AreInOrder earlier at [] lines = Unit {0}
+AreInOrder earlier at (from ∷ starts) [] = Unit {0}
+AreInOrder earlier at (from ∷ starts) (line ∷ lines) =
+    ((earlier < length from.earlier) ⊎ ((earlier ≡ length from.earlier) × (at ≤ from.at)))
+    × AreInOrder (length from.earlier) (from.at + length line.measured) starts lines
+
+-- so are the lines of a cell written, from top to bottom
+abbrev pub ResumeTheirSequences : CellValue → List Text → Type 0
+ResumeTheirSequences cell texts =
+    (starts : List LineStart) × (lines : List CellLine)
+    × AllZip (ResumesSequences cell) starts lines × AreInOrder 0 0 starts lines
+    × (texts ≡ map (λ (line : CellLine). line.written) lines)
+
+-- a text between spaces, which may have SGR sequences among them
+pub record IsBetweenSpaces (text piece : Text) : Type 0 where
+  pub left : ℕ
+  pub right : ℕ
+  pub before : Text
+  pub after : Text
+  pub drawn : piece ≡ before ++ (text ++ after)
+  pub are_spaces : IsStyled (spaces left) before × IsStyled (spaces right) after
+
+-- each line of a row is pieces of the shown columns, side by side between these borders: what is
+-- written of each, between spaces. With custom styling texts resume their sequences, unless the
+-- row has a greatest height
+pub record AreWrittenLines (table : TableValue) (borders : ContentLineStyle) (row : RowValue)
+    (lines : List Text) : Type 0 where
+  pub texts : ℕ × ColumnValue → List Text
+  pub drawn : EachIndex lines (λ k. (pieces : List Text) × AllZip (λ (p : ℕ × ColumnValue).
+      IsBetweenSpaces (slice_index_or (texts p) k [])) (shown_columns table) pieces
+      × (slice_index_or lines k [] ≡ content_line table.style borders pieces))
+  pub resumed : table.custom_styling ≡ true → row.max_height ≡ None
+      → All (λ (p : ℕ × ColumnValue). MatchOption (slice_get row.cells p.0) (texts p ≡ [] ∷ [])
+      (λ cell. ResumeTheirSequences cell (texts p))) (shown_columns table)
+
+-- ---- the lines of a row
+
 -- in a table whose columns have these widths, and whose cells these lines
 module _ (table : TableValue) (width : ℕ → ℕ)
     (cell_lines : ℕ × ColumnValue → CellValue → List Text) where
@@ -124,13 +179,10 @@ module _ (table : TableValue) (width : ℕ → ℕ)
   AreLinesOfRow borders row lines =
       AreLinesOfParts false table row width (lines_in row) borders lines
 
-  -- each line of a row is pieces of the shown columns, side by side between these borders; without
-  -- custom styling they are pieces of these lines
+  -- the lines of a row; without custom styling they are pieces of these lines
   pub record AreContentLines (borders : ContentLineStyle) (row : RowValue) (lines : List Text)
       : Type 0 where
-    pub pieces : EachIndex lines (λ k. (pieces : List Text)
-        × (length pieces ≡ length (shown_columns table))
-        × (slice_index_or lines k [] ≡ content_line table.style borders pieces))
+    pub written : AreWrittenLines table borders row lines
     pub are : table.custom_styling ≡ false
         → AreLinesOfParts (should_style table) table row width (lines_in row) borders lines
 

@@ -9,7 +9,9 @@ use comfy_table::{Lines, Result, Table};
 /// each at the side of its cell, or of its column. A row has as many lines as its highest cell. SGR
 /// sequences are in these spaces alone, if styles are written and the cell has a colour or an
 /// attribute. With `custom_styling` a text is what is visible of it, and sequences may be in it,
-/// between its characters. No line leaves one open, if they are in texts alone.
+/// between its characters. Before each visible byte of a line those are open that are active there
+/// in the cell, unless the row has a `max_height`. No line leaves one open, if they are in texts
+/// alone.
 ///
 /// A text line that fits its column is one line, an empty one too. Any other is cut where texts
 /// wrap, which leaves out nothing but delimiters; one of delimiters alone has no line. If

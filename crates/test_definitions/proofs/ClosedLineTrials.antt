@@ -1,17 +1,20 @@
 -- Lines that leave a sequence open and lines that don't, and the lines of a cell that aren't cut, computed.
-use Rattle.std.proofs.Common.{◌≡◌, ◌≤◌, ◌⊎◌, ℕ, arith, lit≤, inl, inr, true, false, List, [], ◌∷◌, ◌++◌, Some, None, refl, sym, ap, ◌==◌, length}
-use Rattle.std.specs.List.{All}
+use Rattle.std.proofs.Common.{◌≡◌, ◌<◌, ◌≤◌, ◌⊎◌, ℕ, zero, suc, ◌+◌, arith, drop, lit≤, inl, inr, map, true, false, List, [], ◌∷◌, ◌++◌, Some, None, refl, sym, ap, ap₂, ◌∙◌, ◌==◌, length, slice_index_or, take}
+use Rattle.std.specs.List.{All, AllZip}
 use Rattle.std.specs.Prelude.{codes}
 use Rattle.std.proofs.lemmas.List.Elements.{All-cons, All-head, All-nil}
+use Rattle.std.proofs.Math.Seq.{drop-nil}
 use Rattle.std.proofs.lemmas.Bool.{true≢false}
 use Rattle.comfy_parts.proofs.Computing.{wrapping}
 use Rattle.comfy_parts.specs.CellValue.{CellValue, ColumnInfo, ColumnValue, RowValue, new_column, plain_cell, plain_row}
 use Rattle.comfy_parts.specs.Presets.{ascii_full, nothing}
 use Rattle.comfy_parts.specs.Text.{Text}
-use Rattle.comfy_parts.specs.VisibleText.{open_after, parts}
+use Rattle.comfy_parts.specs.VisibleLines.{CellLine, LineStart}
+use Rattle.comfy_parts.specs.VisibleText.{active, open_after, parts, parts_before, visible_text}
 use Rattle.comfy_table.specs.Drawing.{drawing}
 use Rattle.comfy_table.specs.Laws.{HasNoEscape, HasSequencesInTextsAlone, LeavesNoneOpen, uncut_in_row}
 use Rattle.comfy_table.specs.TableValue.{TableValue, column_cells, new_table, visible_cell}
+use Rattle.promises.specs.Headline.{AreInOrder, ResumeTheirSequences, ResumesSequences}
 use Rattle.test_definitions.proofs.TrialTables.{rows_of, utf8, with_paddings}
 
 -- ---- lines
@@ -126,3 +129,76 @@ sequences_cut_nothing = refl
 sequences_are_cut : uncut_in_row (new_table ascii_full) (record three_lines { max_height = Some 1 }) narrow (plain_cell (codes "\u{1b}[1mab\u{1b}[0m")) ≡ 0
 unfolding wrapping
 sequences_are_cut = refl
+
+-- ---- sequences that are resumed
+
+-- the only text line of a cell is the one in which a line begins
+only_text : (text : Text) (earlier : List Text) (own : Text) (later : List Text) → text ∷ [] ≡ earlier ++ own ∷ later → (earlier ≡ []) × (own ≡ text)
+only_text text [] own later same = (refl, sym (cc same))
+only_text text (x ∷ []) own later same = absurd (cc same)
+only_text text (x ∷ y ∷ earlier) own later same = absurd (cc same)
+
+-- the second line of such a cell
+second_line : (text first second : Text) → ((at : ℕ) → take (length (visible_text second)) (drop at (visible_text text)) ≡ visible_text second → length (visible_text first) ≤ at → ¬ (open_after (parts_before 0 (parts second)) ≡ active [] text (at + 0))) → 0 < length (visible_text second)
+    → ¬ (ResumeTheirSequences (record (plain_cell []) { text_lines = text ∷ [] }) (first ∷ second ∷ []))
+second_line text first second none some (starts, lines, zip, order, same) = by_lines starts lines zip order same
+  where
+    by_lines : (starts : List LineStart) (lines : List CellLine) → AllZip (ResumesSequences (record (plain_cell []) { text_lines = text ∷ [] })) starts lines → AreInOrder 0 0 starts lines → ¬ (first ∷ second ∷ [] ≡ map (λ (line : CellLine). line.written) lines)
+    by_lines starts [] zip order same = cc same
+    by_lines starts (a ∷ []) zip order same = cc same
+    by_lines [] (a ∷ b ∷ lines) zip order same = absurd zip
+    by_lines (f ∷ []) (a ∷ b ∷ lines) zip order same = absurd zip.1
+    by_lines (above ∷ from ∷ starts) (a ∷ line ∷ lines) zip order same = none from.at part behind resumed
+      where
+        own : ResumesSequences (record (plain_cell []) { text_lines = text ∷ [] }) from line
+        own = zip.1.0
+
+        written : line.written ≡ second
+        written = ap (λ (ts : List Text). slice_index_or ts 1 []) (sym same)
+
+        upper : a.written ≡ first
+        upper = ap (λ (ts : List Text). slice_index_or ts 0 []) (sym same)
+
+        measured : line.measured ≡ visible_text second
+        measured = sym own.visible ∙ ap visible_text written
+
+        in_cell : (from.earlier ≡ []) × (from.text ≡ text)
+        in_cell = only_text text from.earlier from.text own.later own.in_cell
+
+        above_in_cell : (above.earlier ≡ []) × (above.text ≡ text)
+        above_in_cell = only_text text above.earlier above.text zip.0.later zip.0.in_cell
+
+        part : take (length (visible_text second)) (drop from.at (visible_text text)) ≡ visible_text second
+        part = ap₂ (λ (n : Text) (t : Text). take (length n) (drop from.at (visible_text t))) (sym measured) (sym in_cell.1) ∙ own.part ∙ measured
+
+        behind : length (visible_text first) ≤ from.at
+        behind =
+            let long = ap length (sym zip.0.visible ∙ ap visible_text upper) in
+            elim order.1.0 [ inl less ↦ absurd (omega (arith, less, ap length in_cell.0, ap length above_in_cell.0)) | inr same_text ↦ omega (arith, same_text.1, long) ]
+
+        resumed : open_after (parts_before 0 (parts second)) ≡ active [] text (from.at + 0)
+        resumed =
+            ap (λ (t : Text). open_after (parts_before 0 (parts t))) (sym written) ∙ own.resumed 0 (let long = ap length measured in omega (arith, some, long))
+            ∙ ap₂ (λ (earlier : List Text) (t : Text). active earlier t (from.at + 0)) in_cell.0 in_cell.1
+
+-- the second line of a bold text is bold
+not_resumed : ¬ (ResumeTheirSequences (record (plain_cell []) { text_lines = codes "\u{1b}[1mabcd\u{1b}[0m" ∷ [] }) (codes "\u{1b}[1mab\u{1b}[0m" ∷ codes "cd" ∷ []))
+not_resumed = second_line (codes "\u{1b}[1mabcd\u{1b}[0m") (codes "\u{1b}[1mab\u{1b}[0m") (codes "cd") by_at (omega arith)
+  where
+    by_at : (at : ℕ) → take 2 (drop at (codes "abcd")) ≡ codes "cd" → 2 ≤ at → ¬ ([] ≡ active [] (codes "\u{1b}[1mabcd\u{1b}[0m") (at + 0))
+    by_at zero part behind same = absurd (omega (arith, behind))
+    by_at (suc zero) part behind same = absurd (omega (arith, behind))
+    by_at (suc (suc zero)) part behind same = cc same
+    by_at (suc (suc (suc zero))) part behind same = let none : length (codes "cd") ≡ 1 = ap length (sym part) in absurd (omega (arith, none))
+    by_at (suc (suc (suc (suc at)))) part behind same = let none : ◌≡◌ {A = Text} [] (codes "cd") = sym (ap (take 2) (drop-nil at)) ∙ part in absurd (cc none)
+
+-- and isn't bold, if the second half of the text isn't, though both halves are the same
+resumed_too_far : ¬ (ResumeTheirSequences (record (plain_cell []) { text_lines = codes "\u{1b}[1mab\u{1b}[0mab" ∷ [] }) (codes "\u{1b}[1mab\u{1b}[0m" ∷ codes "\u{1b}[1mab\u{1b}[0m" ∷ []))
+resumed_too_far = second_line (codes "\u{1b}[1mab\u{1b}[0mab") (codes "\u{1b}[1mab\u{1b}[0m") (codes "\u{1b}[1mab\u{1b}[0m") by_at (omega arith)
+  where
+    by_at : (at : ℕ) → take 2 (drop at (codes "abab")) ≡ codes "ab" → 2 ≤ at → ¬ (codes "\u{1b}[1m" ∷ [] ≡ active [] (codes "\u{1b}[1mab\u{1b}[0mab") (at + 0))
+    by_at zero part behind same = absurd (omega (arith, behind))
+    by_at (suc zero) part behind same = absurd (omega (arith, behind))
+    by_at (suc (suc zero)) part behind same = cc same
+    by_at (suc (suc (suc zero))) part behind same = let none : length (codes "ab") ≡ 1 = ap length (sym part) in absurd (omega (arith, none))
+    by_at (suc (suc (suc (suc at)))) part behind same = let none : ◌≡◌ {A = Text} [] (codes "ab") = sym (ap (take 2) (drop-nil at)) ∙ part in absurd (cc none)
