@@ -13,7 +13,7 @@
   of a caller. Each name in backquotes is one of the sources.
 - docs/DIFFERENCES.md: each name that only one of the original and this library has is there (tools/check/new_items.py).
 - Each mutation changes a function that exists.
-- Each definition of specs/ and proofs/ is reached (tools/check/reach.py).
+- Each definition of specs/ and proofs/ is reached, and each function that isn't public is called (tools/check/reach.py).
 - The head comment of each file of specs/ of a library ends with a line that says where its rules come from.
 - No line of src/ and specs/ has more than 100 characters, but `use` lines and `#[tactic(..)]`, which `rt fmt` doesn't break.
 - The crate of documented examples is what the doc comments say.
@@ -28,7 +28,7 @@ import sys
 from definitions import LIBRARIES, PROMISES, TOP, files_of, functions_of, sources_of, text_of
 from mutations import must_fail_of, mutations_of
 from new_items import unlisted
-from reach import unreached
+from reach import uncalled, unreached
 from what_is_believed import updated
 
 sys.path.append(f"{TOP}/tools/make")  # its tools make what is compared here
@@ -240,7 +240,7 @@ def main():
     of_parts = re.findall(r"^pub fn (\w+)", text_of("crates/comfy_parts/src/laws.rt"), re.M)
     wrong += [f"comfy_table::laws doesn't pass on {it}" for it in set(of_parts) ^ set(re.findall(r"\w+", passed_on))]
     wrong += unlisted()
-    wrong += unreached()
+    wrong += [*unreached(), *uncalled()]
     wrong += wrong_lines()
     wrong += [f"{path} doesn't say where its rules come from" for path in without_source()]
     print("\n".join(wrong) or "all agree")

@@ -1,10 +1,12 @@
 #!/usr/bin/env python3
-"""Names the definitions of specs/ and proofs/ that nothing reaches, each with its file and line.
+"""Names the definitions of specs/ and proofs/ that nothing reaches, and the functions that aren't public and that nothing
+calls, each with its file and line.
 
     tools/check/reach.py
 
 These reach what they name: code, the proof files of a function (Answers, Invariants, Proof), trials, the heads of modules,
-and each definition that is reached. A name stands for what its file defines or imports by it.
+and each definition that is reached. A name stands for what its file defines or imports by it. A function is called if its
+name is in its crate before a parenthesis, or between those of a call.
 """
 import glob
 import re
@@ -17,6 +19,8 @@ ROUND = r"\((?:[^()]|\((?:[^()]|\([^()]*\))*\))*\)"
 DECLARING = r"(?:(?:pub|abbrev|unfoldable|opaque|private|instance|record|data|enum|syntax) )*"
 # a definition's first line: its name, and what it takes, up to a colon or the line's end
 BEGINS = re.compile(rf" *{DECLARING}([^\s:(){{}}\[\]]+)(?: (?:{ROUND}|\{{[^}}]*\}}|_))*(?: :(?= |$)|$)")
+# in code, the name of a function that is called, or that is handed to another one
+CALLS = (r"\b(\w+)(?=\(|::<)", r"(?:(?<=[(:])|(?<=[,:=] ))(\w+)(?=[,;)])")
 NO_NAMES = {"use", "module", "mod", "unfolding", "in", "let", "where"}
 ANSWERS = ("Answers.antt", "Invariants.antt", "Proof.antt", "Trials.antt")
 
@@ -100,9 +104,34 @@ def unreached():
     ]
 
 
+def own_functions(path):
+    """The functions of a file that aren't public, each with its line's number. Tests, methods of traits and `main` are left
+    out, which others call."""
+    in_trait, is_test = False, False
+    for number, line in enumerate(code_of(path).split("\n"), 1):
+        if re.match(r"(?:pub )?(?:unsafe )?(?:impl|trait)\b", line):
+            in_trait = line.startswith(("trait", "pub trait")) or re.search(r"\bfor\b", line.split("where")[0]) is not None
+        elif line.startswith("}"):
+            in_trait = False
+        is_test = is_test or line.strip() == "#[test]"
+        begins = re.match(r" *(?:pub\(crate\) )?(?:const )?fn (\w+)", line)
+        if begins and not is_test and not in_trait and begins[1] != "main":
+            yield begins[1], number
+        is_test = is_test and not begins
+
+
+def uncalled():
+    """The functions that aren't public and that nothing calls, as lines."""
+    for folder in glob.glob("crates/*/src", root_dir=TOP):
+        sources = sorted(glob.glob(f"{folder}/**/*.rt", root_dir=TOP, recursive=True))
+        code = re.sub(r"\bfn \w+", "", "\n".join(code_of(it) for it in sources))
+        called = {it for kind in CALLS for it in re.findall(kind, code)}
+        yield from (f"{path}:{number}: nothing calls {name}" for path in sources for name, number in own_functions(path) if name not in called)
+
+
 def main():
-    found = unreached()
-    print("\n".join(found) or "each definition is reached")
+    found = [*unreached(), *uncalled()]
+    print("\n".join(found) or "each definition is reached, and each function called")
     return 1 if found else 0
 
 

@@ -1,8 +1,5 @@
 pub mod ColumnLemmas
 pub mod FirstRowLemmas
-pub mod OneInvocationLemmas
-pub mod OneOutputLemmas
-pub mod OneParseLemmas
 pub mod OutputControlLemmas
 pub mod ProgramLemmas
 pub mod RefusalLemmas

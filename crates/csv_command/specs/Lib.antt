@@ -4,9 +4,7 @@ pub mod Drawn
 pub mod Ending
 pub mod Errors
 pub mod Hints
-pub mod Laws
 pub mod Mistakes
-pub mod OneOutput
 pub mod Program
 pub mod Refusals
 pub mod Rules

@@ -7,7 +7,6 @@ mod drawing;
 mod ending;
 mod error;
 mod hints;
-pub mod laws;
 mod mistakes;
 mod options;
 mod process;

@@ -29,7 +29,7 @@ use Rattle.csv_tables.specs.declared.options.Look.{Look}
 use Rattle.comfy_parts.proofs.CallerLemmas.{All-every}
 use Rattle.csv_promises.proofs.BoldLemmas.{IsWeighted}
 use Rattle.csv_promises.proofs.SpacedLemmas.{cleaned-spaced}
-use Rattle.csv_promises.specs.Fields.{HoldsField, HoldsFields, fields_at, lined_up, no_marks, pairs_at, row_behind, rows_from, side_at, sides_behind}
+use Rattle.csv_promises.specs.Fields.{HoldsField, HoldsFields, fields_at, lined_up, no_marks, pairs_at, row_after_number, rows_from, side_at, sides_after_number}
 
 -- ---- fields at positions
 
@@ -161,7 +161,7 @@ module _ (look : Look) (unkept : look.has_sequences ≡ false) (none : look.is_m
 
   -- behind a number, or without one
   behind : (is_bold is_numbered : Bool) (number : Text) → is_printable_ascii number ≡ true → (sides : List CellAlignment) (fields : List Text) (shown : List Shown) → HoldEach sides fields (cells_for look is_bold shown)
-      → HoldEach (sides_behind is_numbered sides) (row_behind is_numbered number fields) (cells_for look is_bold (shown_number (if is_numbered then Some number else None) ++ shown))
+      → HoldEach (sides_after_number is_numbered sides) (row_after_number is_numbered number fields) (cells_for look is_bold (shown_number (if is_numbered then Some number else None) ++ shown))
   unfolding field_at
   behind is_bold true number printable sides fields shown own zero = cell_holds is_bold (Some Right) number number (cleaned-printable false number printable)
   behind is_bold true number printable sides fields shown own (suc i) = own i
@@ -174,7 +174,7 @@ module _ (look : Look) (unkept : look.has_sequences ≡ false) (none : look.is_m
     name_is_printable [] = refl
     name_is_printable (name ∷ names) = refl
 
-    pub is_header : (is_numbered : Bool) (names : List Text) → All IsUtf8 names → IsRowFor (sides_behind is_numbered (own_sides columns)) (row_behind is_numbered (number_name names) (fields_at no_marks (positions_of columns) names)) (header_for look is_numbered columns names)
+    pub is_header : (is_numbered : Bool) (names : List Text) → All IsUtf8 names → IsRowFor (sides_after_number is_numbered (own_sides columns)) (row_after_number is_numbered (number_name names) (fields_at no_marks (positions_of columns) names)) (header_for look is_numbered columns names)
     is_header is_numbered names utf8 =
         record {
           hold = record {
@@ -185,7 +185,7 @@ module _ (look : Look) (unkept : look.has_sequences ≡ false) (none : look.is_m
           weighted = weighted_cells look.has_bold_header (shown_names look is_numbered columns names);
         }
 
-    pub are_rows : (is_aligned is_numbered : Bool) (marks : ℕ → Option Points) → HaveMarks marks is_aligned columns → (n : ℕ) (rows : List (List Text)) → All (All IsUtf8) rows → AllZip (IsRowFor (sides_behind is_numbered (own_sides columns))) (rows_from is_numbered marks (positions_of columns) n rows) (map (row_for look is_aligned is_numbered columns) (counted_from n rows))
+    pub are_rows : (is_aligned is_numbered : Bool) (marks : ℕ → Option Points) → HaveMarks marks is_aligned columns → (n : ℕ) (rows : List (List Text)) → All (All IsUtf8) rows → AllZip (IsRowFor (sides_after_number is_numbered (own_sides columns))) (rows_from is_numbered marks (positions_of columns) n rows) (map (row_for look is_aligned is_numbered columns) (counted_from n rows))
     are_rows is_aligned is_numbered marks have n [] utf8 = tt
     are_rows is_aligned is_numbered marks have n (fields ∷ rows) utf8 = (
       record {

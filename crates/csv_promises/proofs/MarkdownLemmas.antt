@@ -32,7 +32,7 @@ use Rattle.csv_tables.specs.declared.options.Layout.{Layout}
 use Rattle.csv_tables.specs.declared.options.Look.{Look}
 use Rattle.csv_promises.proofs.ColumnLemmas.{chosen_positions, some_column}
 use Rattle.csv_promises.proofs.WrittenLemmas.{IsDrawnBy, by_extent, own_fields}
-use Rattle.csv_promises.specs.Fields.{all_rows, fields_at, no_marks, positions_in, row_behind, rows_from}
+use Rattle.csv_promises.specs.Fields.{all_rows, fields_at, no_marks, positions_in, row_after_number, rows_from}
 use Rattle.csv_promises.specs.MarkdownTable.{HasFields, IsMarkdownTable, IsRule, IsWrittenAsMarkdown}
 use Rattle.csv_promises.specs.Written.{IsWritten}
 
@@ -55,7 +55,7 @@ module _ (look : Look) where
 
   -- so is a number
   row_read : (is_numbered : Bool) (number : Text) → is_printable_ascii number ≡ true → (shown : List Shown) (fields : List Text) → map read_shown shown ≡ map as_read fields
-      → map read_shown (shown_number (if is_numbered then Some number else None) ++ shown) ≡ map as_read (row_behind is_numbered number fields)
+      → map read_shown (shown_number (if is_numbered then Some number else None) ++ shown) ≡ map as_read (row_after_number is_numbered number fields)
   row_read true number printable shown fields own = ap₂ (λ (a : List ℕ) (rest : List (List ℕ)). a ∷ rest) (ap as_read (cleaned-printable false number printable)) own
   row_read false number printable shown fields own = own
 
@@ -66,9 +66,9 @@ module _ (look : Look) where
   name_is_printable [] = refl
   name_is_printable (name ∷ names) = refl
 
-  header_has : (is_numbered : Bool) (columns : List DrawnColumn) (names : List Text) (line : Text) → GivesBack (shown_names look is_numbered columns names) line → HasFields (row_behind is_numbered (number_name names) (fields_at no_marks (positions_of columns) names)) line
+  header_has : (is_numbered : Bool) (columns : List DrawnColumn) (names : List Text) (line : Text) → GivesBack (shown_names look is_numbered columns names) line → HasFields (row_after_number is_numbered (number_name names) (fields_at no_marks (positions_of columns) names)) line
   header_has is_numbered columns names line =
-      has_fields (shown_names look is_numbered columns names) (row_behind is_numbered (number_name names) (fields_at no_marks (positions_of columns) names)) line
+      has_fields (shown_names look is_numbered columns names) (row_after_number is_numbered (number_name names) (fields_at no_marks (positions_of columns) names)) line
       (row_read is_numbered (number_name names) (name_is_printable names) (shown_fields look false columns names) (fields_at no_marks (positions_of columns) names) (fields_read columns names))
 
   rows_have : (is_numbered : Bool) (columns : List DrawnColumn) (n : ℕ) (rows : List (List Text)) (lines : List Text) → AllZip (λ row line. GivesBack (shown_in look false is_numbered columns row) line) (counted_from n rows) lines
@@ -77,7 +77,7 @@ module _ (look : Look) where
   rows_have is_numbered columns n [] (line ∷ lines) each = absurd each
   rows_have is_numbered columns n (fields ∷ rows) [] each = absurd each
   rows_have is_numbered columns n (fields ∷ rows) (line ∷ lines) (own, more) = (
-    has_fields (shown_in look false is_numbered columns (n, fields)) (row_behind is_numbered (decimal n) (fields_at no_marks (positions_of columns) fields)) line
+    has_fields (shown_in look false is_numbered columns (n, fields)) (row_after_number is_numbered (decimal n) (fields_at no_marks (positions_of columns) fields)) line
         (row_read is_numbered (decimal n) (number_is_printable n) (shown_fields look false columns fields) (fields_at no_marks (positions_of columns) fields) (fields_read columns fields)) own,
     rows_have is_numbered columns (n + 1) rows lines more,
   )
@@ -90,14 +90,14 @@ count_in is_numbered positions = (if is_numbered then 1 else 0) + length positio
 abbrev HasCount : Bool → List ℕ → List Text → Type 0
 HasCount is_numbered positions fields = length fields ≡ count_in is_numbered positions
 
-one_count : (is_numbered : Bool) (positions : List ℕ) (number : Text) (fields : List Text) → HasCount is_numbered positions (row_behind is_numbered number (fields_at no_marks positions fields))
+one_count : (is_numbered : Bool) (positions : List ℕ) (number : Text) (fields : List Text) → HasCount is_numbered positions (row_after_number is_numbered number (fields_at no_marks positions fields))
 one_count true positions number fields = let own : length (fields_at no_marks positions fields) ≡ length positions = length-map positions (λ position. cleaned false (field_or_blank fields position)) in omega (arith, own)
 one_count false positions number fields = let own : length (fields_at no_marks positions fields) ≡ length positions = length-map positions (λ position. cleaned false (field_or_blank fields position)) in omega (arith, own)
 
 rows_count : (is_numbered : Bool) (positions : List ℕ) (n : ℕ) (rows : List (List Text)) → All (HasCount is_numbered positions) (rows_from is_numbered no_marks positions n rows)
 rows_count is_numbered positions n [] = All-nil (HasCount is_numbered positions)
 rows_count is_numbered positions n (fields ∷ rows) =
-    All-cons (HasCount is_numbered positions) (row_behind is_numbered (decimal n) (fields_at no_marks positions fields)) (rows_from is_numbered no_marks positions (n + 1) rows) (one_count is_numbered positions (decimal n) fields) (rows_count is_numbered positions (n + 1) rows)
+    All-cons (HasCount is_numbered positions) (row_after_number is_numbered (decimal n) (fields_at no_marks positions fields)) (rows_from is_numbered no_marks positions (n + 1) rows) (one_count is_numbered positions (decimal n) fields) (rows_count is_numbered positions (n + 1) rows)
 
 -- ---- what is written for arguments
 
@@ -169,7 +169,7 @@ module _ (arguments : List Text) (context : OutputContext) (invocation : Invocat
           let ps = positions_in options (unwrap_or (names_of options.selection.has_header records) []) (drawn_rows options.selection records) in
           let names = unwrap_or (names_of options.selection.has_header records) [] in
           subst (λ (n : ℕ). All (λ (fields : List Text). length fields ≡ n) (rows_for (names_of options.selection.has_header records) (drawn_rows options.selection records))) counted
-          (All-cons (HasCount is_numbered ps) (row_behind is_numbered (number_name names) (fields_at no_marks ps names)) (rows_from is_numbered no_marks ps 1 (drawn_rows options.selection records)) (one_count is_numbered ps (number_name names) names)
+          (All-cons (HasCount is_numbered ps) (row_after_number is_numbered (number_name names) (fields_at no_marks ps names)) (rows_from is_numbered no_marks ps 1 (drawn_rows options.selection records)) (one_count is_numbered ps (number_name names) names)
           (rows_count is_numbered ps 1 (drawn_rows options.selection records)))
 
       table : IsMarkdownTable options records output

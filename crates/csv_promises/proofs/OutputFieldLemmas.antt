@@ -47,7 +47,7 @@ use Rattle.csv_promises.proofs.ShownTableLemmas.{HasPlainFields, HasRowsOf, has_
 use Rattle.csv_promises.proofs.LineLemmas.{may_expand, no_records, no_rows, none_below, nothing_noted}
 use Rattle.csv_promises.proofs.WrittenLemmas.{IsDrawnBy, by_extent}
 use Rattle.csv_promises.specs.Counted.{AreExpanded, IsCount, IsWrittenFor}
-use Rattle.csv_promises.specs.Fields.{AreLinedUp, IsDrawingOf, KeepsNumbers, ShowsAllFields, ShowsFields, fields_at, row_behind, rows_from, ShowsPairs, ShowsRecords, ShowsRows, columns_asked, lined_up, mark_for, no_marks, pairs_at, all_rows, sides_behind, whole_for, whole_pairs}
+use Rattle.csv_promises.specs.Fields.{AreLinedUp, IsDrawingOf, KeepsNumbers, ShowsAllFields, ShowsFields, fields_at, row_after_number, rows_from, ShowsPairs, ShowsRecords, ShowsRows, columns_asked, lined_up, mark_for, no_marks, pairs_at, all_rows, sides_after_number, whole_for, whole_pairs}
 use Rattle.csv_promises.proofs.WholeLemmas.{AreColumns, kept_whole, marks-shown, pairs_keep_numbers, pairs_kept_whole, sides-shown, unbroken-shown, widest-content}
 use Rattle.csv_promises.specs.Written.{IsWritten}
 
@@ -102,7 +102,7 @@ module _ (look : Look) (all : DrawsAll look) (is_numbered : Bool) (names : Optio
 
   -- the table of rows
   abbrev sides : List CellAlignment
-  sides = sides_behind is_numbered (own_sides columns)
+  sides = sides_after_number is_numbered (own_sides columns)
 
   pub rows_shown : (text : Text) → RendersTable false look content text → All (All IsUtf8) (option_to_list names ++ rows) → AreColumns look content → (names ≡ None → reaches columns rows ≡ true) → (marks : ℕ → Option Points) → ((i : ℕ) (d : DrawnColumn) → slice_get columns i ≡ Some d → (if is_aligned_in look content then d.points else None) ≡ marks d.position)
       → ShowsRows look (is_some names) false sides (whole_for look.width look.expansion is_numbered (positions_of columns) rows) (all_rows is_numbered marks (positions_of columns) names rows) text
@@ -135,12 +135,12 @@ module _ (look : Look) (all : DrawsAll look) (is_numbered : Bool) (names : Optio
       headed : is_some (table false text renders).header ≡ is_some names
       headed = ap is_some ((is false text renders).header ∙ with_rows-header made (headed_table look is_numbered columns names)) ∙ by_header names
 
-      behind-length : (number : Text) (at : ℕ → Option Points) (own : List Text) → length (row_behind is_numbered number (fields_at at (positions_of columns) own)) ≡ places_of content
+      behind-length : (number : Text) (at : ℕ → Option Points) (own : List Text) → length (row_after_number is_numbered number (fields_at at (positions_of columns) own)) ≡ places_of content
       behind-length number at own =
           let long : length (fields_at at (positions_of columns) own) ≡ length columns = length-map (positions_of columns) (λ position. lined_up (at position) (field_or_blank own position)) ∙ length-map columns (λ (column : DrawnColumn). column.position) in
           by_number is_numbered long
         where
-          by_number : (b : Bool) → length (fields_at at (positions_of columns) own) ≡ length columns → length (row_behind b number (fields_at at (positions_of columns) own)) ≡ length columns + (if b then 1 else 0)
+          by_number : (b : Bool) → length (fields_at at (positions_of columns) own) ≡ length columns → length (row_after_number b number (fields_at at (positions_of columns) own)) ≡ length columns + (if b then 1 else 0)
           by_number true long = omega (arith, long)
           by_number false long = omega (arith, long)
 
@@ -153,8 +153,8 @@ module _ (look : Look) (all : DrawsAll look) (is_numbered : Bool) (names : Optio
       many_from : (n : ℕ) (own : List (List Text)) → All Many (rows_from is_numbered marks (positions_of columns) n own)
       many_from n [] = All-nil Many
       many_from n (first ∷ more) =
-          All-cons Many (row_behind is_numbered (decimal n) (fields_at marks (positions_of columns) first)) (rows_from is_numbered marks (positions_of columns) (n + 1) more)
-          (exact (row_behind is_numbered (decimal n) (fields_at marks (positions_of columns) first)) (behind-length (decimal n) marks first)) (many_from (n + 1) more)
+          All-cons Many (row_after_number is_numbered (decimal n) (fields_at marks (positions_of columns) first)) (rows_from is_numbered marks (positions_of columns) (n + 1) more)
+          (exact (row_after_number is_numbered (decimal n) (fields_at marks (positions_of columns) first)) (behind-length (decimal n) marks first)) (many_from (n + 1) more)
 
       many : All Many fields
       many = by_own names
@@ -162,8 +162,8 @@ module _ (look : Look) (all : DrawsAll look) (is_numbered : Bool) (names : Optio
           by_own : (own : Option (List Text)) → All Many (all_rows is_numbered marks (positions_of columns) own rows)
           by_own None = many_from 1 rows
           by_own (Some own) =
-              All-cons Many (row_behind is_numbered (number_name own) (fields_at no_marks (positions_of columns) own)) (rows_from is_numbered marks (positions_of columns) 1 rows)
-              (exact (row_behind is_numbered (number_name own) (fields_at no_marks (positions_of columns) own)) (behind-length (number_name own) no_marks own)) (many_from 1 rows)
+              All-cons Many (row_after_number is_numbered (number_name own) (fields_at no_marks (positions_of columns) own)) (rows_from is_numbered marks (positions_of columns) 1 rows)
+              (exact (row_after_number is_numbered (number_name own) (fields_at no_marks (positions_of columns) own)) (behind-length (number_name own) no_marks own)) (many_from 1 rows)
 
       by_names : (own : Option (List Text)) → All (All IsUtf8) (option_to_list own ++ rows)
           → AllZip (IsRowFor sides) (all_rows is_numbered marks (positions_of columns) own rows) (option_to_list (headed_table look is_numbered columns own).header ++ ((headed_table look is_numbered columns own).rows ++ made))
@@ -351,7 +351,7 @@ module _ (layout : Layout) (all : DrawsAll layout.look) (known : Option ℕ) (re
   )
     where
       Rows : List ℕ → List CellAlignment → Type 0
-      Rows ps own = ShowsRows look (is_some names) false (sides_behind is_numbered own) (whole_for look.width look.expansion is_numbered ps rows) (all_rows is_numbered (mark_for are layout.columns rows) ps names rows) text
+      Rows ps own = ShowsRows look (is_some names) false (sides_after_number is_numbered own) (whole_for look.width look.expansion is_numbered ps rows) (all_rows is_numbered (mark_for are layout.columns rows) ps names rows) text
   by_kind true kind text renders =
       subst (λ (ps : List ℕ). AreExpanded (ShowsPairs look (unwrap_or names []) ps) known 1 rows text) positions (records_shown look all is_numbered names rows columns known text renders (sym kind))
 

@@ -27,7 +27,7 @@ use Rattle.promises.specs.Headline.{IsUncoloured, widest}
 use Rattle.csv_promises.proofs.BoldLemmas.{IsWeighted, weighted_lines}
 use Rattle.csv_promises.proofs.FieldLemmas.{IsRowFor}
 use Rattle.csv_promises.proofs.RecordLemmas.{HasColumns, table_has_columns}
-use Rattle.csv_promises.specs.Fields.{HoldsFields, IsDrawingOf, IsFieldColumn, KeepsNumbers, cells_behind_name}
+use Rattle.csv_promises.specs.Fields.{HoldsFields, IsDrawingOf, IsFieldColumn, KeepsNumbers, cells_after_name}
 use Rattle.csv_promises.specs.Harmless.{IsInBold}
 
 -- ---- columns
@@ -68,7 +68,7 @@ second_are_seen field (names ∷ fields ∷ more) new = (new_is_seen names new.0
 
 -- the cells of a row have neither colours nor attributes, but for that of a name
 abbrev pub HasPlainFields : Bool → RowValue → Type 0
-HasPlainFields has_names row = All IsUncoloured (cells_behind_name has_names row)
+HasPlainFields has_names row = All IsUncoloured (cells_after_name has_names row)
 
 -- ---- the table that is drawn
 

@@ -1,4 +1,4 @@
--- Where the fields of records stand in what is written of them.
+-- Where the fields of records are in what is written of them.
 -- Source: this library's own.
 use Rattle.std.specs.Prelude.{◌≡◌, ◌<◌, ◌≤◌, ◌==◌, ℕ, ◌+◌, Bool, true, false, List, [], ◌∷◌, ◌++◌, Option, None, Some, String, All, MatchOption, decimal, drop, filter, flat_map, length, map, nat_lt, option_map, option_to_list, string_bytes, unwrap_or, IsUtf8, chars, if◌then◌else◌, is_some, ◌⊎◌, slice_get}
 use Rattle.std.specs.List.{AllZip, enumerate_from, list_all, list_any, range_with_len}
@@ -55,10 +55,10 @@ pub record IsFieldColumn (column : ColumnValue) : Type 0 where
   pub no_delimiter : column.delimiter ≡ None
   pub no_alignment : column.alignment ≡ None
 
--- the cells of a row behind that of a name, or all
-abbrev pub cells_behind_name : Bool → RowValue → List CellValue
-cells_behind_name true row = drop 1 row.cells
-cells_behind_name false row = row.cells
+-- the cells of a row after that of its name, or all
+abbrev pub cells_after_name : Bool → RowValue → List CellValue
+cells_after_name true row = drop 1 row.cells
+cells_after_name false row = row.cells
 
 -- a table in this look, of rows of fields, of which the first is the header, or none, or the first
 -- field of each is a name; its columns are at these sides. Lines between rows may be left out
@@ -76,7 +76,7 @@ pub record IsTableOf (look : Look) (has_header has_names : Bool) (sides : List C
   pub shown : shown_columns table ≡ enumerate_from 0 table.columns
   -- no cell has a colour or an attribute but those of the header, and those of names
   pub uncoloured :
-      All (λ (row : RowValue). All IsUncoloured (cells_behind_name has_names row)) table.rows
+      All (λ (row : RowValue). All IsUncoloured (cells_after_name has_names row)) table.rows
   pub no_sequences : table.custom_styling ≡ false
 
 -- a width has room for the number or date of a row's second cell, line by line, beside borders,
@@ -124,12 +124,12 @@ abbrev pub side_for : ColumnsValue → List (List Text) → ℕ → CellAlignmen
 side_for columns rows position = unwrap_or (column_in columns rows position).alignment Left
 
 -- the column of record numbers, if there is one, is at the right
-abbrev pub sides_behind : Bool → List CellAlignment → List CellAlignment
-sides_behind is_numbered sides = if is_numbered then Right ∷ sides else sides
+abbrev pub sides_after_number : Bool → List CellAlignment → List CellAlignment
+sides_after_number is_numbered sides = if is_numbered then Right ∷ sides else sides
 
 abbrev pub sides_for : Bool → ColumnsValue → List (List Text) → List CellAlignment
 sides_for is_numbered columns rows =
-    sides_behind is_numbered (map (side_for columns rows) columns.drawn)
+    sides_after_number is_numbered (map (side_for columns rows) columns.drawn)
 
 -- the decimal mark of a column, if marks are lined up
 abbrev pub mark_for : Bool → ColumnsValue → List (List Text) → ℕ → Option Points
@@ -178,7 +178,7 @@ whole_pairs (Some width) = []
 
 -- ---- records
 
--- the field of a column, as it is cleaned, and the spaces behind it that line up its decimal mark
+-- the field of a column, as it is cleaned, and the spaces after it that line up its decimal mark
 abbrev pub lined_up : Option Points → Text → Text
 lined_up None field = cleaned false field
 lined_up (Some points) field = cleaned false field ++ spaces (spaces_behind points field)
@@ -188,17 +188,16 @@ abbrev pub fields_at : (ℕ → Option Points) → List ℕ → List Text → Li
 fields_at marks positions fields =
     map (λ position. lined_up (marks position) (field_or_blank fields position)) positions
 
--- fields behind the number of their record, or behind what stands above the numbers, where there
--- are any
-abbrev pub row_behind : Bool → Text → List Text → List Text
-row_behind is_numbered number fields = if is_numbered then number ∷ fields else fields
+-- fields after the number of their record, or after the sign above the numbers, if there are any
+abbrev pub row_after_number : Bool → Text → List Text → List Text
+row_after_number is_numbered number fields = if is_numbered then number ∷ fields else fields
 
 -- the fields of records, from that of this number on
 abbrev pub rows_from :
     Bool → (ℕ → Option Points) → List ℕ → ℕ → List (List Text) → List (List Text)
 rows_from is_numbered marks positions number [] = []
 rows_from is_numbered marks positions number (fields ∷ rows) =
-    row_behind is_numbered (decimal number) (fields_at marks positions fields)
+    row_after_number is_numbered (decimal number) (fields_at marks positions fields)
     ∷ rows_from is_numbered marks positions (number + 1) rows
 
 -- and the names of the header, if there is one, above them
@@ -206,11 +205,11 @@ abbrev pub all_rows : Bool → (ℕ → Option Points) → List ℕ → Option (
     → List (List Text) → List (List Text)
 all_rows is_numbered marks positions names rows =
     map (λ fields.
-    row_behind is_numbered (number_name fields) (fields_at no_marks positions fields))
+    row_after_number is_numbered (number_name fields) (fields_at no_marks positions fields))
     (option_to_list names) ++ rows_from is_numbered marks positions 1 rows
 
--- those that the record has, each behind the name of its column, which is its number where there is
--- none
+-- those that the record has, each after the name of its column, which is its number if there is no
+-- name
 abbrev pub pairs_at : List Text → List ℕ → List Text → List (List Text)
 pairs_at names positions fields =
     map (λ position. cleaned false (name_at names position)
@@ -228,8 +227,8 @@ positions_by {A} names count words =
     flat_map (λ (word : String A). unwrap_or
     (option_map positions_between (columns_chosen names count (string_bytes word))) []) words
 
--- those of the columns that options choose of a header and rows, all where they name none, less
--- those that they leave out
+-- the columns that options choose of a header and rows, or all if they name none, without those
+-- that they leave out
 abbrev pub positions_in : Options → List Text → List (List Text) → List ℕ
 positions_in options names rows =
     without

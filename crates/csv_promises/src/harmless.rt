@@ -5,7 +5,6 @@ ghost use Rattle.csv_promises.specs.Harmless.{IsHarmlessFor, ShowsNothingHarmful
 ghost use Rattle.csv_promises.specs.Messages.{IsTameLine};
 ghost use Rattle.csv_command.specs.Drawn.{IsDrawnOf};
 
-use csv_command::laws::drawings_hold_no_controls;
 use csv_command::{CsvError, Invocation, Options, OutputContext, Refusal, draw, parse, render_csv};
 use devices::{MemorySink, MemorySource};
 use std::alloc::Global;
@@ -42,7 +41,6 @@ pub fn harmless_output(
 pub fn harmless_drawing(alloc: Global, arguments: &[&str], input: &[u8]) -> Option<String>
     ensures { IfSome result (λ drawing. ShowsNothingHarmful (string_bytes drawing)) }
 {
-    drawings_hold_no_controls();
     render_csv(alloc, arguments, input).ok()
 }
 

@@ -20,7 +20,7 @@ use std::alloc::Global;
 ///
 /// A column is at the right if all of its drawn fields are numbers or say nothing, and one is a
 /// number. `--right` and `--left` override this. In a column at the right with a decimal mark,
-/// spaces behind shorter fractions line up the marks, as it is asked for, but perhaps not under a
+/// spaces after shorter fractions line up the marks, as it is asked for, but perhaps not under a
 /// width. The fields of expanded records are at the left.
 ///
 /// Under `--expanded auto` no number and no date is split over lines, if records aren't expanded. A

@@ -22,7 +22,6 @@ pub mod MarkdownPartLemmas
 pub mod MarkdownRowLemmas
 pub mod MarkdownWidthLemmas
 pub mod MarkedLemmas
-pub mod OneOutputLemmas
 pub mod OutputControlLemmas
 pub mod OutputLemmas
 pub mod ReachedLemmas

@@ -99,9 +99,6 @@ escaped-unescaped is_marked before (c ∷ text) rest =
     by_tests false true feed is = after_backslash c more
     by_tests false false feed is = other-unescaped c more (not_special here before c text 0x5C is refl) (not_special here before c text 0x3C is refl)
 
-pub read_back : (text : List ℕ) → unescaped (escaped text) ≡ text
-read_back text = ap unescaped (sym (append-nil (escaped text))) ∙ escaped-unescaped false None text [] ∙ append-nil text
-
 spaces-unescaped : (n : ℕ) (rest : List ℕ) → unescaped (spaces n ++ rest) ≡ spaces n ++ unescaped rest
 spaces-unescaped zero rest = refl
 spaces-unescaped (suc n) rest = other-unescaped 0x20 (spaces n ++ rest) refl refl ∙ ap (λ (t : List ℕ). 0x20 ∷ t) (spaces-unescaped n rest)

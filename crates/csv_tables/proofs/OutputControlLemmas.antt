@@ -47,7 +47,7 @@ use Rattle.csv_tables.proofs.SeparatorLemmas.{condensed-all, separated}
 use Rattle.csv_tables.proofs.TextTableLemmas.{EachLine, MakesRows, cells_each, pair_each, rows_of_texts, table_of_texts}
 use Rattle.csv_tables.proofs.WholeTableLemmas.{IsDrawn, drawn-is, drawn_plain, drawn_table-is, measured-drawn}
 use Rattle.csv_tables.specs.Drawn.{SelectedValue, RendersAsMarkdown, RendersRecords, RendersAsTable, RendersContent, are_more, condensed_style, markdown_content, markdown_lines, markdown_look, markdown_rule, markdown_table, note_for, output_table, record_line, rows_table, separated_table, sides, is_aligned_in, note_text, record_heading}
-use Rattle.csv_tables.specs.Laws.{HasLines, IsOutputWith, OutputHoldsNoControls}
+use Rattle.csv_tables.specs.Laws.{HasLines, IsOutputWith}
 
 -- ---- rows
 
@@ -442,7 +442,8 @@ table_is_clear counted layout records output look text made drawn_text none =
     output_of_lines IsClear (λ (text : Text). HasNothingHarmful (visible_text text)) clear_of_lines counted layout records output (drawn counted layout records output made drawn_text none) (with_lines counted layout records output made drawn_text none (unbroken_without layout.look.style look))
     (harmless_lines (separated_table has (output_table drawn_text.is_expanded layout.look made.content)) _ drawn_text.drawn.is_arranged.headline (harmless_table layout.look look made.content own drawn_text.is_expanded has))
 
-pub output_without_controls : (counted : Option ℕ) (layout : Layout) (records : List (List Text)) (output : Text) → OutputHoldsNoControls counted layout records output
+-- nothing harmful is visible of an output for records that are text
+pub output_without_controls : (counted : Option ℕ) (layout : Layout) (records : List (List Text)) (output : Text) → IsHarmlessStyle layout.look.style → All AllText records → RendersRecords counted layout records output → HasNothingHarmful (visible_text output)
 output_without_controls counted layout records output look text made = by_markdown layout.look.is_markdown refl made.is_text
   where
     by_markdown : (b : Bool) → layout.look.is_markdown ≡ b → RendersContent b layout.look made.content made.text → HasNothingHarmful (visible_text output)

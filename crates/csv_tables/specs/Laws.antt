@@ -5,7 +5,6 @@ use Rattle.std.specs.List.{range_with_len}
 use Rattle.comfy_parts.specs.CellValue.{plain_cell}
 use Rattle.comfy_parts.specs.Columns.{CharactersFit, IsOneColumnStyle, SelectorsAgree}
 use Rattle.comfy_parts.specs.Text.{Text, measure, spaces}
-use Rattle.comfy_parts.specs.VisibleText.{visible_text}
 use Rattle.comfy_table.specs.Arrangement.{IsArranged}
 use Rattle.comfy_table.specs.Drawing.{terminated_text_of}
 use Rattle.comfy_table.specs.FittingTables.{CharactersFitColumn}
@@ -20,7 +19,7 @@ use Rattle.csv_records.specs.Cleaning.{visible_of}
 use Rattle.csv_records.specs.Decimals.{byte_of, digits_in, fraction_len, points_of, spaces_behind}
 use Rattle.csv_records.specs.Number.{halves, is_neutral}
 use Rattle.csv_records.specs.declared.decimals.Points.{Points}
-use Rattle.csv_tables.specs.Controls.{HasNothingHarmful, IsHarmlessStyle}
+use Rattle.csv_tables.specs.Controls.{IsHarmlessStyle}
 use Rattle.csv_tables.specs.Drawn.{SelectedValue, RendersRecords, selected_of, is_expanded_for, note_for, output_table, record_line, separated_table}
 use Rattle.csv.specs.Records.{AllText}
 use Rattle.csv_tables.specs.declared.options.Look.{Look}
@@ -156,19 +155,3 @@ FittingOutputIsStraight visible counted layout records output =
     → ArePlainLines visible layout.look records → CharactersFitEachWidth counted layout records
     → RendersRecords counted layout records output
     → IsStraightOutput visible counted layout records output
-
--- ---- control characters
-
--- then nothing harmful is visible of an output for records that are text
-abbrev pub OutputHoldsNoControls : Option ℕ → Layout → List (List Text) → Text → Type 0
-OutputHoldsNoControls counted layout records output =
-    IsHarmlessStyle layout.look.style → All AllText records
-    → RendersRecords counted layout records output → HasNothingHarmful (visible_text output)
-
--- ---- one output
-
--- two outputs for the same records are equal
-abbrev pub OutputIsOne : Option ℕ → Layout → List (List Text) → Text → Text → Type 0
-OutputIsOne counted layout records output other =
-    RendersRecords counted layout records output → RendersRecords counted layout records other
-    → output ≡ other

@@ -1,7 +1,7 @@
 -- What makes a table one for Markdown: texts of cells, as characters, and the line below the
 -- header.
 -- Source: this library's own; CommonMark for what is markup, GitHub's tables and links beside it.
-use Rattle.std.specs.Prelude.{ℕ, Bool, true, false, not, ◌≡◌, ◌+◌, ◌==◌, ◌&&◌, ◌||◌, List, [], ◌∷◌, ◌++◌, Option, Some, None, codes, flat_map, slice_get, zip, if◌then◌else◌}
+use Rattle.std.specs.Prelude.{ℕ, Bool, true, false, not, ◌+◌, ◌==◌, ◌&&◌, ◌||◌, List, [], ◌∷◌, ◌++◌, Option, Some, None, codes, flat_map, slice_get, zip, if◌then◌else◌}
 use Rattle.std.specs.Char.Unicode.Alphabetic.{is_alphabetic}
 use Rattle.std.specs.Char.Unicode.Numeric.{is_numeric}
 use Rattle.std.specs.List.{list_any, repeat}
@@ -118,7 +118,3 @@ unescaped (a ∷ b ∷ c ∷ d ∷ rest) =
     if a == 0x5C then b ∷ unescaped (c ∷ d ∷ rest)
     else if a == 0x3C then 0x0A ∷ unescaped rest
     else a ∷ unescaped (b ∷ c ∷ d ∷ rest)
-
--- what was escaped is read back
-abbrev pub IsReadBack : List ℕ → Type 0
-IsReadBack text = unescaped (escaped text) ≡ text

@@ -3,9 +3,7 @@
 
 ghost use Rattle.std.specs.Prelude.{Bool, List, Option, ℕ};
 ghost use Rattle.comfy_parts.specs.Text.{Text};
-ghost use Rattle.csv_tables.specs.Drawn.{SelectedValue};
-ghost use Rattle.csv_tables.specs.Laws.{FittingOutputIsStraight, MarkdownOutputIsStraight, MarksStandBelow, NarrowOutputIsStraight, OutputHoldsNoControls, OutputIsOne, SpacesAloneAreAdded, WholeOutputIsStraight};
-ghost use Rattle.csv_tables.specs.Markdown.{IsReadBack};
+ghost use Rattle.csv_tables.specs.Laws.{FittingOutputIsStraight, MarkdownOutputIsStraight, MarksStandBelow, NarrowOutputIsStraight, SpacesAloneAreAdded, WholeOutputIsStraight};
 ghost use Rattle.csv_tables.specs.declared.options.Look.{Look};
 ghost use Rattle.csv_tables.specs.declared.options.Layout.{Layout};
 ghost use Rattle.csv_tables.specs.declared.options.DrawnColumn.{DrawnColumn};
@@ -45,25 +43,4 @@ pub fn outputs_are_straight()
     ensures characters_fit { (visible : Bool)
         (counted : Option ℕ) (layout : Layout) (records : List (List Text)) (output : Text)
         → FittingOutputIsStraight visible counted layout records output }
-{}
-
-/// Without its SGR sequences an output holds no control character but line feeds, and no character
-/// that turns the direction of text, whatever text the records have, under every width, limit and
-/// height, in Markdown and in bold. No character of the style is one of these. ESC is in those
-/// sequences alone.
-pub fn outputs_hold_no_controls()
-    ensures { (counted : Option ℕ) (layout : Layout) (records : List (List Text)) (output : Text)
-        → OutputHoldsNoControls counted layout records output }
-{}
-
-/// What was escaped for Markdown is read back.
-pub fn escaped_texts_are_read_back()
-    ensures { (text : List ℕ) → IsReadBack text }
-{}
-
-/// Records have one output: two that are drawn of them by the same layout are equal.
-pub fn outputs_are_one()
-    ensures { (counted : Option ℕ) (layout : Layout) (records : List (List Text))
-        (output other : Text)
-        → OutputIsOne counted layout records output other }
 {}

@@ -3,7 +3,7 @@
 ghost use Rattle.std.specs.Prelude.{◌≡◌, All, IfOk, [], unwrap_or};
 ghost use Rattle.csv.specs.Records.{AllText};
 ghost use Rattle.csv_tables.specs.Cells.{columns_within};
-ghost use Rattle.csv_tables.specs.Drawn.{selected_of, drawn_fields, markdown_content, sides};
+ghost use Rattle.csv_tables.specs.Drawn.{selected_of, markdown_content, sides};
 ghost use Rattle.csv_tables.specs.Leasts.{least_positions};
 
 use crate::columns::drawn_columns;
@@ -137,19 +137,6 @@ impl SelectedRecords {
             }
         }
         self.columns.as_slice()
-    }
-
-    /// How many fields of an expanded record are drawn.
-    pub(crate) fn drawn_fields(&self, row: &Record<'_>) -> usize
-        ensures { result ≡ drawn_fields self.now row.now }
-    {
-        let mut count = 0;
-        for column in self.columns_within(row) {
-            if column.position < row.len() {
-                count += 1;
-            }
-        }
-        count
     }
 
     /// The alignment of each column, that of numbers too.

@@ -25,7 +25,7 @@ use Rattle.csv_tables.specs.Fields.{field_or_blank}
 use Rattle.csv_tables.specs.declared.options.Look.{Look}
 use Rattle.promises.proofs.KeptLemmas.{slices_anywhere}
 use Rattle.promises.specs.Headline.{AreContentLines, AreLinesOfCell, AreLinesOfParts, AreLinesOfRow, AreLinesOfText, IsFramedDrawing, IsPiece, IsUncoloured, framed, is_coloured, is_styled, side_in, side_of, lines_in, widths_shown, whole_width}
-use Rattle.csv_promises.specs.Fields.{HoldsField, HoldsFields, IsDrawingOf, IsFieldColumn, cells_behind_name, side_at}
+use Rattle.csv_promises.specs.Fields.{HoldsField, HoldsFields, IsDrawingOf, IsFieldColumn, cells_after_name, side_at}
 
 -- a style with a hyphen, which no line draws where there is no header
 abbrev pub dashed : TableStyle
@@ -392,7 +392,7 @@ ends_plain {sides} look own_style has_names whole fields long line text cut is =
         ++ optional_frame_line s s.bottom_border (widths_shown table width)))) style is.framed.frame.drawn
 
     -- by its last piece
-    by_pieces : (row : RowValue) → All IsUncoloured (cells_behind_name has_names row) → (k : ℕ) (pieces : List Text) → AllZip (λ (p : ℕ × ColumnValue). IsPiece (is_styled (should_style table) row p) (side_of row p) p.1 (width p.0) (slice_index_or (lines_in table width lines_at row p) k [])) (enumerate_from 0 table.columns) pieces
+    by_pieces : (row : RowValue) → All IsUncoloured (cells_after_name has_names row) → (k : ℕ) (pieces : List Text) → AllZip (λ (p : ℕ × ColumnValue). IsPiece (is_styled (should_style table) row p) (side_of row p) p.1 (width p.0) (slice_index_or (lines_in table width lines_at row p) k [])) (enumerate_from 0 table.columns) pieces
         → line ≡ join_by (λ (piece : Text). piece) [] pieces ++ [] → EndsInSpace line
     by_pieces row plain k pieces zip made = by_names has_names table.columns (All-head (λ (own : List Text). length table.columns ≡ length own) fields [] is.is_table.as_many ∙ long) is.is_table.columns plain pieces zip made
       where
@@ -406,7 +406,7 @@ ends_plain {sides} look own_style has_names whole fields long line text cut is =
             none true = refl
             none false = refl
 
-        by_names : (names : Bool) (columns : List ColumnValue) → length columns ≡ (if names then 2 else 1) → All IsFieldColumn columns → All IsUncoloured (cells_behind_name names row) → (pieces : List Text) → Pieces columns pieces → line ≡ join_by (λ (piece : Text). piece) [] pieces ++ [] → EndsInSpace line
+        by_names : (names : Bool) (columns : List ColumnValue) → length columns ≡ (if names then 2 else 1) → All IsFieldColumn columns → All IsUncoloured (cells_after_name names row) → (pieces : List Text) → Pieces columns pieces → line ≡ join_by (λ (piece : Text). piece) [] pieces ++ [] → EndsInSpace line
         by_names false (column ∷ []) one pads own (piece ∷ []) zip made =
             subst EndsInSpace (sym (made ∙ append-nil (piece ++ []) ∙ append-nil piece))
             (plain_piece column (All-head IsFieldColumn column [] pads).padding (width 0) (slice_index_or (lines_in table width lines_at row (0, column)) k []) piece (plain_last 0 column own piece zip.0))
@@ -424,7 +424,7 @@ ends_plain {sides} look own_style has_names whole fields long line text cut is =
         by_names true (column ∷ []) two pads own pieces zip made = absurd (omega (arith, two))
         by_names true (name ∷ column ∷ other ∷ columns) two pads own pieces zip made = absurd (omega (arith, two))
 
-    by_block : (row : RowValue) → All IsUncoloured (cells_behind_name has_names row) → (block : List Text) → line ∷ [] ≡ block → Shows row block → EndsInSpace line
+    by_block : (row : RowValue) → All IsUncoloured (cells_after_name has_names row) → (block : List Text) → line ∷ [] ≡ block → Shows row block → EndsInSpace line
     by_block row plain block same shows =
         let own : AreLinesOfParts (should_style table) table row width (lines_in table width lines_at row) table.style.content_lines (line ∷ []) =
         subst (AreLinesOfParts (should_style table) table row width (lines_in table width lines_at row) table.style.content_lines) (sym same) (shows.are is.is_table.no_sequences) in
@@ -433,7 +433,7 @@ ends_plain {sides} look own_style has_names whole fields long line text cut is =
         (subst (λ (ps : List (ℕ × ColumnValue)). AllZip (λ (p : ℕ × ColumnValue). IsPiece (is_styled (should_style table) row p) (side_of row p) p.1 (width p.0) (slice_index_or (lines_in table width lines_at row p) 0 [])) ps here.0) is.is_table.shown here.1)
         (here.2 ∙ ap (λ (s : TableStyle). content_line s s.content_lines here.0) style)
 
-    by_header : (header : Option RowValue) (rows : List RowValue) → is_some header ≡ false → AllZip (HoldsFields sides) (fields ∷ []) (option_to_list header ++ rows) → All (λ (row : RowValue). All IsUncoloured (cells_behind_name has_names row)) rows
+    by_header : (header : Option RowValue) (rows : List RowValue) → is_some header ≡ false → AllZip (HoldsFields sides) (fields ∷ []) (option_to_list header ++ rows) → All (λ (row : RowValue). All IsUncoloured (cells_after_name has_names row)) rows
         → MatchOption header (is.framed.frame.header ≡ []) (λ row. (block : List Text) × AreContentLines table width lines_at table.style.header_lines row block × (is.framed.frame.header ≡ block ++ framed table width table.style.header_separator)) → AllZip Shows rows is.framed.frame.rows → EndsInSpace line
     by_header (Some header) rows none hold plain own are = absurd (cc none)
     by_header None [] none hold plain own are = absurd hold
@@ -444,5 +444,5 @@ ends_plain {sides} look own_style has_names whole fields long line text cut is =
         by_rows [] is_rows zip = absurd zip
         by_rows (block ∷ other ∷ blocks) is_rows zip = absurd zip.1
         by_rows (block ∷ []) is_rows zip =
-            by_block row (All-head (λ (r : RowValue). All IsUncoloured (cells_behind_name has_names r)) row [] plain) block
+            by_block row (All-head (λ (r : RowValue). All IsUncoloured (cells_after_name has_names r)) row [] plain) block
             (drawn ∙ ap₂ (λ (h : List Text) (bs : List (List Text)). h ++ (join_by (λ (b : List Text). b) [] bs ++ [])) own is_rows ∙ append-nil (block ++ []) ∙ append-nil block) zip.0

@@ -35,7 +35,7 @@ use Rattle.csv_tables.specs.Drawn.{drawn_rows, note_for, record_line}
 use Rattle.comfy_table.specs.Drawing.{terminated_text_of}
 use Rattle.comfy_table.specs.Laws.{AreLinesOf, LeavesNoneOpen}
 use Rattle.csv_promises.specs.Counted.{AreExpanded, DrawsLines, EachDrawnLine, HasEachLine, MayExpand}
-use Rattle.csv_promises.specs.Fields.{HoldsField, HoldsFields, IsDrawingOf, KeepsNumbers, ShowsAllFields, ShowsDrawn, ShowsFields, ShowsPairs, ShowsRecords, ShowsRows, StaysAsItIs, all_rows, columns_asked, mark_for, no_marks, positions_in, side_at, side_for, sides_behind, sides_for, whole_for}
+use Rattle.csv_promises.specs.Fields.{HoldsField, HoldsFields, IsDrawingOf, KeepsNumbers, ShowsAllFields, ShowsDrawn, ShowsFields, ShowsPairs, ShowsRecords, ShowsRows, StaysAsItIs, all_rows, columns_asked, mark_for, no_marks, positions_in, side_at, side_for, sides_after_number, sides_for, whole_for}
 use Rattle.csv_promises.specs.Harmless.{IsHarmlessFor, IsInBold, ShowsNothingHarmful}
 use Rattle.csv_promises.specs.Messages.{IsTameLine}
 use Rattle.csv_records.specs.Cleaning.{cleaned, is_harmful, is_replaced}
@@ -231,7 +231,7 @@ number_at_the_left is =
     by_left zero (a ∷ []) tail fronts made = cc made
     by_left zero (a ∷ b ∷ front) tail fronts made = cc fronts
 
--- nor is one without the spaces behind it that line up its decimal mark
+-- nor is one without the spaces after it that line up its decimal mark
 mark_out_of_line : ¬ (IsDrawingOf unbold false false (Right ∷ []) (true ∷ []) ((codes "22  " ∷ []) ∷ []) (codes "   22 \n"))
 mark_out_of_line is =
     let row = one_row unbold refl refl (true ∷ []) (codes "22  " ∷ []) (codes "   22 " ∷ []) (codes "   22 \n") (only (codes "   22 ") (codes "   22 \n") refl) is in
@@ -443,7 +443,7 @@ lost_field columns is_numbered count first unnumbered (are, lined, shows) =
     (subst (λ (b : Bool). Shows is_numbered columns.drawn (all_rows is_numbered (mark_for b columns ((codes "a" ∷ []) ∷ [])) columns.drawn None ((codes "a" ∷ []) ∷ []))) (lined.unasked refl) shows))))
   where
     Shows : Bool → List ℕ → List (List Text) → Type 0
-    Shows b positions rows = ShowsRows in_rows false false (sides_behind b (map (side_for columns ((codes "a" ∷ []) ∷ [])) positions)) (whole_for None Never b positions ((codes "a" ∷ []) ∷ [])) rows []
+    Shows b positions rows = ShowsRows in_rows false false (sides_after_number b (map (side_for columns ((codes "a" ∷ []) ∷ [])) positions)) (whole_for None Never b positions ((codes "a" ∷ []) ∷ [])) rows []
 
 lost_record : (options : Options) → options.columns.chosen.items ≡ [] → options.columns.dropped.items ≡ [] → options.selection.is_numbered ≡ false → ¬ (ShowsRecords (asked Never None options) ((codes "a" ∷ []) ∷ []) [])
 lost_record options chosen dropped unnumbered is =
@@ -469,10 +469,10 @@ lost_text MayCount columns first is =
     (subst (λ (b : Bool). ShowsFields b in_rows false columns None ((codes "a" ∷ []) ∷ []) is.count is.drawn) is.expansion is.draws))
 
 -- fields behind their numbers, and without
-rows_behind_numbers : map (λ is_numbered. all_rows is_numbered no_marks (1 ∷ []) (Some (codes "a" ∷ codes "b" ∷ [])) ((codes "x" ∷ codes "y" ∷ []) ∷ (codes "z" ∷ []) ∷ [])) (true ∷ false ∷ [])
+rows_after_numbers : map (λ is_numbered. all_rows is_numbered no_marks (1 ∷ []) (Some (codes "a" ∷ codes "b" ∷ [])) ((codes "x" ∷ codes "y" ∷ []) ∷ (codes "z" ∷ []) ∷ [])) (true ∷ false ∷ [])
     ≡ ((codes "#" ∷ codes "b" ∷ []) ∷ (codes "1" ∷ codes "y" ∷ []) ∷ (codes "2" ∷ [] ∷ []) ∷ []) ∷ ((codes "b" ∷ []) ∷ (codes "y" ∷ []) ∷ ([] ∷ []) ∷ []) ∷ []
 unfolding chars digits field_at encode
-rows_behind_numbers = refl
+rows_after_numbers = refl
 
 -- the line below the first of two records counts two, or says that there are more
 abbrev first_of_two : Options → Text → Type 0

@@ -116,7 +116,6 @@ tabs_are_written : visible_text (output (record look { style = with_tabs })) ≡
 unfolding wrapping lib.Utf8.encode chars field_at
 tabs_are_written = refl
 
--- false: csv_tables::laws::outputs_hold_no_controls, csv_command::laws::outputs_hold_no_controls, csv_command::laws::drawings_hold_no_controls
 output_with_tabs_is_harmful : ¬ (HasNothingHarmful (visible_text (output (record look { style = with_tabs }))))
 output_with_tabs_is_harmful none =
     harmful (codes "+\t\t\t\t\t\t\t\t+\n| a      |\n+========+\n| �[2J�J |\n+--------+\n") refl (subst HasNothingHarmful tabs_are_written none)
@@ -126,7 +125,6 @@ output_with_tabs_is_harmful none =
 styles_for_words : IsHarmlessStyle (style_for (Some (codes "UTF8_FULL")))
 styles_for_words = refl
 
--- false: csv_command::laws::named_styles_hold_no_controls
 a_style_with_tabs : ¬ (IsHarmlessStyle with_tabs)
 a_style_with_tabs is = true≢false is
 

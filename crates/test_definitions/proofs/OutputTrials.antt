@@ -17,8 +17,6 @@ use Rattle.csv_tables.specs.declared.options.Look.{Look}
 use Rattle.csv_command.specs.declared.arguments.Options.{Options}
 use Rattle.csv_tables.specs.declared.options.RowSeparators.TheVariants.{Styled}
 use Rattle.csv_tables.specs.Laws.{HasLines, IsOutputWith, IsStraightOutput, seen_lines}
-use Rattle.csv_command.specs.Laws.{AreSameInvocations}
-use Rattle.csv_command.specs.OneOutput.{AreSameOptions}
 
 -- rows are never expanded, and all are drawn
 abbrev look : Look
@@ -66,11 +64,3 @@ two_widths_are_not_straight visible count layout records is =
     let wide : n ≡ 2 = sym (All-head Is first (second ∷ []) all) ∙ two_columns visible in
     let narrow : n ≡ 1 = sym (All-head Is second [] (All-tail Is first (second ∷ []) all)) ∙ one_column visible in
     absurd (omega (arith, wide, narrow))
-
--- false: csv_command::laws::outputs_are_one
-others_are_not_the_same : (options : Options) → ¬ (AreSameOptions (record options { look = look }) (record options { look = record look { fills_width = true } }))
-others_are_not_the_same options is = true≢false (sym (ap (λ (l : Look). l.fills_width) is.look))
-
--- false: csv_command::laws::drawings_are_one
-other_looks_are_not_parsed : (invocation : Invocation) → ¬ (AreSameInvocations (record invocation { options = record invocation.options { look = look } }) (record invocation { options = record invocation.options { look = record look { fills_width = true } } }))
-other_looks_are_not_parsed invocation is = others_are_not_the_same invocation.options is.options

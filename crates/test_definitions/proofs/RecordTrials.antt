@@ -392,7 +392,7 @@ one_record_is_not_none same = cc same
 other_records : ¬ ((more : List (List Text)) × ((codes "b" ∷ []) ∷ [] ≡ ((codes "a" ∷ []) ∷ []) ++ more))
 other_records found = let is : ◌≡◌ {A = ℕ} 0x62 0x61 = cc found.1 in omega (arith, is)
 
--- false: csv_tables::laws::escaped_texts_are_read_back
+-- a line break is read back as one
 line_break_is_read : ¬ (unescaped (codes "<br>") ≡ codes "<br>")
 line_break_is_read same = let is : 0x0A ∷ [] ≡ codes "<br>" = same in cc is
 

@@ -85,7 +85,7 @@ whole options input records long enough none = none 0 long records enough
 lines : map whole_lines (codes "a\nb\nc" ∷ codes "a\n" ∷ codes "ab" ∷ codes "\n\n\r" ∷ []) ≡ codes "a\nb\n" ∷ codes "a\n" ∷ [] ∷ codes "\n\n" ∷ []
 lines = refl
 
--- false: csv_tables::laws::outputs_are_one, csv_command::laws::outputs_are_one
+-- a count that is known isn't drawn as one that isn't
 two_notes : ¬ (note_for false (Some 3) (Some 12) ≡ note_for false (Some 3) None)
 unfolding digits
 two_notes is = let differ : 16 ≡ 32 = ap length is in absurd (omega (arith, differ))
