@@ -35,7 +35,7 @@ use Rattle.csv_tables.specs.Drawn.{drawn_rows, note_for, record_line}
 use Rattle.comfy_table.specs.Drawing.{terminated_text_of}
 use Rattle.comfy_table.specs.Laws.{AreLinesOf, LeavesNoneOpen}
 use Rattle.csv_promises.specs.Counted.{AreExpanded, DrawsLines, EachDrawnLine, HasEachLine, MayExpand}
-use Rattle.csv_promises.specs.Fields.{HoldsField, HoldsFields, IsDrawingOf, KeepsNumbers, ShowsAllFields, ShowsDrawn, ShowsFields, ShowsPairs, ShowsRecords, ShowsRows, StaysAsItIs, all_rows, columns_asked, mark_for, no_marks, positions_in, side_at, side_for, sides_after_number, sides_for, whole_for}
+use Rattle.csv_promises.specs.Fields.{AreLinedUp, HoldsField, HoldsFields, IsDrawingOf, KeepsNumbers, ShowsAllFields, ShowsDrawn, ShowsFields, ShowsPairs, ShowsRecords, ShowsRows, StaysAsItIs, all_rows, columns_asked, mark_for, no_marks, positions_in, side_at, side_for, sides_after_number, sides_for, whole_for}
 use Rattle.csv_promises.specs.Harmless.{IsHarmlessFor, IsInBold, ShowsNothingHarmful}
 use Rattle.csv_promises.specs.Messages.{IsTameLine}
 use Rattle.csv_records.specs.Cleaning.{cleaned, is_harmful, is_replaced}
@@ -268,6 +268,18 @@ sides_of_words : sides_for false (first_column []) ((codes "a" ∷ []) ∷ amoun
 unfolding amounts first_column chars digits encode ucd_category field_at is_neutral is_number
 sides_of_words = refl
 
+-- nor in a column of words, unless the right is asked for
+right_side_of_words : sides_for false (record { drawn = 0 ∷ []; right = 0 ∷ []; left = [] }) ((codes "a" ∷ []) ∷ amounts) ≡ Right ∷ []
+unfolding amounts chars digits encode ucd_category field_at is_neutral is_number
+right_side_of_words = refl
+
+-- without a width marks are lined up if that is asked for, and never if it isn't
+marks_are_left_as_they_are : ¬ (AreLinedUp (record unbold { aligns_decimals = true }) false)
+marks_are_left_as_they_are is = true≢false (sym (is.without_width refl))
+
+marks_are_lined_up_unasked : ¬ (AreLinedUp unbold true)
+marks_are_lined_up_unasked is = true≢false (is.unasked refl)
+
 -- columns of numbers and dates are whole under `auto`, and that of record numbers, if there is a row
 numbers_and_words : List (List Text)
 numbers_and_words = (codes "12" ∷ codes "a" ∷ []) ∷ (codes "2026-05-02" ∷ []) ∷ []
@@ -358,7 +370,7 @@ left_open is = by_parts is refl refl
 
 -- ---- expanded records
 
--- what ends in a space doesn't end in an `m`
+-- a text that ends in a space doesn't end in an `m`
 ends_in_m : (line front : Text) → line ≡ front ++ codes "m" → ¬ ((own : Text) × (line ≡ own ++ codes " "))
 ends_in_m line front is (own, ends) =
     let letter : ◌≡◌ {A = ℕ} 0x6D 0x20 = ap (λ (t : Text). slice_index_or t 0 0) (sym (reverse-append front (codes "m")) ∙ ap reverse (sym is ∙ ends) ∙ reverse-append own (codes " ")) in absurd (omega (arith, letter))
