@@ -11,37 +11,31 @@ use Rattle.std.proofs.lemmas.Str.{IsCharBoundary-from_take}
 use Rattle.std.proofs.lemmas.List.Concat.{flat_map-append}
 use Rattle.comfy_parts.specs.Text.{Text}
 use Rattle.comfy_table.specs.Drawing.{terminated_text_of, text_of}
-use Rattle.comfy_table.specs.Output.{BeginsWith, OutputValue, WriterValue, line_in_text, lines_in_list, with_lines, with_written}
-use Rattle.comfy_table.specs.declared.utils.formatting.output.OutputForm.{OutputForm}
-use Rattle.comfy_table.specs.declared.utils.formatting.output.OutputForm.TheVariants.{Lines, Joined, Trimmed}
+use Rattle.comfy_table.specs.Output.{BeginsWith, with_lines}
 
 -- no lines
-pub with_lines-none : (output : OutputValue) → with_lines [] output ≡ output
-with_lines-none output =
-    ap₂ (λ (lines : List Text) (text : Text). record output { lines = lines; text = text }) (ap (λ (more : List Text). output.lines ++ more) (unlisted output.form) ∙ append-nil output.lines) (append-nil output.text)
-  where
-    unlisted : (form : OutputForm) → lines_in_list form [] ≡ []
-    unlisted Lines = refl
-    unlisted Joined = refl
-    unlisted Trimmed = refl
+pub with_lines-none : {A : Type 0} (of : Text → List A) (kept : List A) → with_lines of [] kept ≡ kept
+with_lines-none of kept = append-nil kept
 
 -- lines and then more lines
-pub with_lines-append : (first more : List Text) (output : OutputValue) → with_lines more (with_lines first output) ≡ with_lines (first ++ more) output
-with_lines-append first more output = grind (arith, append_assoc, flat_map-append)
+pub with_lines-append : {A : Type 0} (of : Text → List A) (first more : List Text) (kept : List A) → with_lines of more (with_lines of first kept) ≡ with_lines of (first ++ more) kept
+with_lines-append of first more kept = append_assoc kept (flat_map of first) (flat_map of more) ∙ ap (λ xs. kept ++ xs) (sym (flat_map-append of first more))
 
-pub written-append : (first more : List Text) (writer : WriterValue) → with_written more (with_written first writer) ≡ with_written (first ++ more) writer
-written-append first more writer = ap (λ (output : OutputValue). record writer { output = output }) (with_lines-append first more writer.output)
+-- lines that are kept as a list of texts
+pub with_lines-listed : (lines : List Text) → with_lines (λ (line : Text). line ∷ []) lines [] ≡ lines
+with_lines-listed [] = refl
+with_lines-listed (line ∷ lines) = ap (λ (more : List Text). line ∷ more) (with_lines-listed lines)
 
--- what begins with a text that more was appended to begins with the text
-pub begins-before : (front more text : Text) → BeginsWith text (front ++ more) → BeginsWith text front
-begins-before front more text known =
-    let rest = drop (length (front ++ more)) text in
-    ap (take (length front)) (sym (take-append-drop (length (front ++ more)) text) ∙ ap (λ (t : Text). t ++ rest) known ∙ append_assoc front more rest)
+-- what begins with a list that more was appended to begins with the list
+pub begins-before : {A : Type 0} (front more list : List A) → BeginsWith list (front ++ more) → BeginsWith list front
+begins-before front more list known =
+    let rest = drop (length (front ++ more)) list in
+    ap (take (length front)) (sym (take-append-drop (length (front ++ more)) list) ∙ ap (λ t. t ++ rest) known ∙ append_assoc front more rest)
     ∙ take-append_seam front (more ++ rest)
 
--- what begins with the text of an output that lines were written to begins with the text before them
-pub begins-before_lines : (lines : List Text) (output : OutputValue) (text : Text) → BeginsWith text (with_lines lines output).text → BeginsWith text output.text
-begins-before_lines lines output text known = begins-before output.text (flat_map (line_in_text output.form) lines) text known
+-- what begins with an output that lines were written to begins with the output before them
+pub begins-before_lines : {A : Type 0} (of : Text → List A) (lines : List Text) (kept list : List A) → BeginsWith list (with_lines of lines kept) → BeginsWith list kept
+begins-before_lines of lines kept list known = begins-before kept (flat_map of lines) list known
 
 -- where a text begins with another it can be cut
 pub begins-split : (front text : Text) (n : ℕ) → IsUtf8 front → IsUtf8 text → n ≡ length front → BeginsWith text front → IsSplitPoint text n

@@ -1,10 +1,10 @@
-//! What stands between a table and its drawn lines.
+//! How a table becomes drawn lines.
 
-ghost use Rattle.std.specs.Prelude.{All, IsUtf8, ◌≡◌, List, IfOk};
+ghost use Rattle.std.specs.Prelude.{All, IsUtf8, ◌≡◌, List, IfOk, OnOk};
 ghost use Rattle.comfy_table.specs.Arrangement.{IsDrawingOf};
 ghost use Rattle.comfy_table.specs.Headline.{IsTableDrawing};
 ghost use Rattle.comfy_parts.specs.Text.{Text};
-ghost use Rattle.comfy_table.specs.Output.{new_output, with_lines};
+ghost use Rattle.comfy_table.specs.Output.{with_lines};
 
 pub mod arrangement;
 pub mod formatting;
@@ -13,7 +13,7 @@ use crate::table::Table;
 use crate::table::output::Lines;
 use comfy_parts::Result;
 pub use comfy_parts::content_split::ColumnDisplayInfo;
-use formatting::{Extent, Output, OutputForm};
+use formatting::{Extent, Output};
 
 /// The drawn lines of a table: arranged, formatted and framed.
 pub fn build_table(table: &Table) -> Result<Lines>
@@ -21,17 +21,16 @@ pub fn build_table(table: &Table) -> Result<Lines>
     ensures headline { IfOk result (λ lines. IsTableDrawing table.now lines) }
     ensures characters { IfOk result (λ lines. All IsUtf8 lines) }
 {
-    let drawing = drawn(table, OutputForm::Lines)?;
-    Ok(Lines::new(drawing.into_lines()))
+    let mut lines: Vec<String> = Vec::new(*table.columns.allocator());
+    draw(table, &mut lines)?;
+    Ok(Lines::new(lines))
 }
 
-// The drawing of a table as a whole.
-pub(crate) fn drawn(table: &Table, form: OutputForm) -> Result<Output>
-    ensures { IfOk result (λ output. (lines : List Text) × IsTableDrawing table.now lines
-        × (output ≡ with_lines lines (new_output form))) }
+// Appends the lines of a table as a whole.
+pub(crate) fn draw<O: Output>(table: &Table, output: &mut O) -> Result<()>
+    ensures { OnOk result ((lines : List Text) × IsTableDrawing table.now lines
+        × (O.kept output.new ≡ with_lines O.kept_of lines (O.kept output.old))) }
 {
     let arranged = table.arranged()?;
-    let mut output = Output::new(*table.columns.allocator(), form);
-    arranged.draw(table.rows.as_slice(), Extent::WHOLE, &mut output)?;
-    Ok(output)
+    arranged.draw(table.rows.as_slice(), Extent::WHOLE, output)
 }

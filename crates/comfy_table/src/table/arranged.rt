@@ -142,13 +142,13 @@ impl<'a, C: Contents> ArrangedTable<'a, C> {
         self.infos.as_slice()
     }
 
-    // Appends the lines of some of the rows. After `OutOfMemory` the text of the output begins with
-    // what it was.
-    pub(crate) fn draw(&self, rows: &[Row], extent: Extent, output: &mut Output) -> Result<()>
-        ensures ok { OnOk result (output.new
-            ≡ with_lines (part_of_drawing self.now.table self.now.infos extent.is_first
-            extent.is_last rows.now) output.old) }
-        ensures err { OnErr result (BeginsWith output.new.text output.old.text) }
+    // Appends the lines of some of the rows. After `OutOfMemory` the output begins with what it
+    // was.
+    pub(crate) fn draw<O: Output>(&self, rows: &[Row], extent: Extent, output: &mut O) -> Result<()>
+        ensures ok { OnOk result (O.kept output.new
+            ≡ with_lines O.kept_of (part_of_drawing self.now.table self.now.infos
+            extent.is_first extent.is_last rows.now) (O.kept output.old)) }
+        ensures err { OnErr result (BeginsWith (O.kept output.new) (O.kept output.old)) }
     {
         let table = self.contents.table();
         let mut writer = Writer::new(table, self.infos.as_slice(), &self.frame)?;

@@ -6,8 +6,8 @@ ghost use Rattle.comfy_table.specs.Arrangement.{IsDrawingOf};
 ghost use Rattle.comfy_table.specs.Headline.{IsTableDrawing, TerminatesLines, JoinsLines, JoinsTrimmedLines};
 
 use crate::table::Table;
-use crate::utils::formatting::OutputForm;
-use crate::utils::{build_table, drawn};
+use crate::utils::formatting::TrimmedText;
+use crate::utils::{build_table, draw};
 use comfy_parts::Result;
 use std::marker::Model;
 use std::vec;
@@ -94,9 +94,8 @@ impl Table {
         build_table(self)
     }
 
-    /// The drawn lines, joined by line feeds. Where neither the style nor the truncation indicator
-    /// holds a line feed, the lines are what stands between these:
-    /// `laws::lines_are_found_in_their_texts`.
+    /// The drawn lines, joined by line feeds. If neither the style nor the truncation indicator has
+    /// a line feed, the lines are the texts between these: `laws::lines_are_found_in_their_texts`.
     ///
     /// ```
     /// let drawing = table.to_text()?;
@@ -104,7 +103,7 @@ impl Table {
     pub fn to_text(&self) -> Result<String>
         ensures { IfOk result (λ text. JoinsLines self.now (string_bytes text)) }
     {
-        let mut text = drawn(self, OutputForm::Joined)?.into_text();
+        let mut text = self.to_terminated_text()?;
         // the last line's line feed
         text.pop();
         Ok(text)
@@ -114,18 +113,21 @@ impl Table {
     pub fn trim_fmt(&self) -> Result<String>
         ensures { IfOk result (λ text. JoinsTrimmedLines self.now (string_bytes text)) }
     {
-        let mut text = drawn(self, OutputForm::Trimmed)?.into_text();
+        let mut lines = TrimmedText::new(*self.columns.allocator());
+        draw(self, &mut lines)?;
+        let mut text = lines.into_text();
         // the last line's line feed
         text.pop();
         Ok(text)
     }
 
-    /// The drawn lines, each followed by a line feed, as a program prints them. Where neither the
-    /// style nor the truncation indicator holds a line feed, the lines are what stands before each
-    /// one.
+    /// The drawn lines, each followed by a line feed, as a program prints them. If neither the style
+    /// nor the truncation indicator has a line feed, the lines are the texts before each one.
     pub fn to_terminated_text(&self) -> Result<String>
         ensures { IfOk result (λ text. TerminatesLines self.now (string_bytes text)) }
     {
-        Ok(drawn(self, OutputForm::Joined)?.into_text())
+        let mut text = String::new(*self.columns.allocator());
+        draw(self, &mut text)?;
+        Ok(text)
     }
 }

@@ -4,17 +4,14 @@ ghost use Rattle.std.specs.Prelude.{◌≡◌, ◌++◌, ◌∷◌, [], IfOk, Is
 ghost use Rattle.comfy_parts.specs.CellValue.{RowValue};
 ghost use Rattle.comfy_table.specs.Drawing.{outer_widths, part_of_drawing, terminated_text_of};
 ghost use Rattle.comfy_table.specs.Gaps.{frame_of};
-ghost use Rattle.comfy_table.specs.Output.{new_output};
 ghost use Rattle.comfy_table.specs.PlainCells.{IsRowOf};
-ghost use Rattle.comfy_table.specs.declared.utils.formatting.output.OutputForm.TheVariants.{Joined};
 
 use crate::table::Table;
 use crate::utils::formatting::plain_cell::PlainCell;
-use crate::utils::formatting::{DrawnFrame, Extent, Output, Writer};
+use crate::utils::formatting::{DrawnFrame, Extent, Writer};
 use comfy_parts::content_split::ColumnDisplayInfo;
 use comfy_parts::{Result, Row};
 use std::marker::Model;
-use std::mem;
 
 /// What draws rows of a table one after another, in the memory of those before.
 /// `ArrangedTable::row_writer` makes it.
@@ -33,7 +30,7 @@ impl<'a> Model for RowWriter<'a> {
 
     ghost Value = { ArrangedValue };
 
-    ghost view = { λ w. record { table = w.writer.table; infos = w.writer.infos } };
+    ghost view = { λ w. w.writer };
 }
 
 impl<'a> RowWriter<'a> {
@@ -57,10 +54,10 @@ impl<'a> RowWriter<'a> {
         self.writer.infos()
     }
 
-    /// Appends the lines of some rows, each followed by a line feed: below the top border and the
-    /// header where the first row is among them, else below the row separator, which stands
-    /// between each two of them; with the bottom border where the last row is among them. After
-    /// `OutOfMemory` the text is as it was.
+    /// Appends the lines of some rows, each followed by a line feed. If the first row of the table
+    /// is among them, the top border and the header are above them, else the row separator. It is
+    /// also between each two of them. If the last row of the table is among them, the bottom border
+    /// is below them. After `OutOfMemory` the text is as it was.
     pub fn push_rows(&mut self, text: &mut String, rows: &[Row], extent: Extent) -> Result<()>
         ensures ok { OnOk result (string_bytes text.new
             ≡ string_bytes text.old ++ terminated_text_of
@@ -70,9 +67,7 @@ impl<'a> RowWriter<'a> {
         ensures kept { self.new ≡ self.old }
     {
         let had = text.len();
-        let mut output = output_after(text);
-        let drawn = self.writer.draw(rows, extent, &mut output);
-        *text = output.into_text();
+        let drawn = self.writer.draw(rows, extent, text);
         if drawn.is_err() {
             text.truncate(had);
         }
@@ -80,9 +75,9 @@ impl<'a> RowWriter<'a> {
     }
 
     /// Appends the line of a row of these cells, as `push_rows` does of one row, whatever its
-    /// greatest height is. Where one of them doesn't fit its column the answer is no, and the text
-    /// is as it was; so it may be where the table has custom styling. After `OutOfMemory` the text
-    /// is as it was.
+    /// greatest height is. If one of them doesn't fit its column, this returns `false`, and it may
+    /// do so if the table has custom styling. The text is then as it was, and so it is after
+    /// `OutOfMemory`.
     pub fn push_cells(
         &mut self,
         text: &mut String,
@@ -99,20 +94,10 @@ impl<'a> RowWriter<'a> {
         ensures kept { self.new ≡ self.old }
     {
         let had = text.len();
-        let mut output = output_after(text);
-        let drawn = self.writer.draw_cells(cells, extent, &mut output);
-        *text = output.into_text();
+        let drawn = self.writer.draw_cells(cells, extent, text);
         if drawn.is_err() {
             text.truncate(had);
         }
         drawn
     }
-}
-
-// An output that goes on with a text, which is taken.
-fn output_after(text: &mut String) -> Output
-    ensures { result ≡ record (new_output Joined) { text = string_bytes text.old } }
-{
-    let empty = String::new(*text.allocator());
-    Output::after(mem::replace(text, empty))
 }

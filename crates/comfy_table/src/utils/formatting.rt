@@ -17,7 +17,7 @@ mod styling;
 
 pub(crate) use drawing::{Extent, Writer};
 pub(crate) use drawn_frame::DrawnFrame;
-pub(crate) use output::{Output, OutputForm};
+pub(crate) use output::{Output, TrimmedText};
 
 /// How texts are measured, cut and wrapped.
 pub mod content_split {

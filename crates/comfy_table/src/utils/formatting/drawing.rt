@@ -7,7 +7,7 @@ ghost use Rattle.comfy_table.specs.DrawnCells.{filled, piece_at};
 ghost use Rattle.comfy_table.specs.Drawing.{drawn_header, drawn_row, drawn_rows, further_rows, lines_above, outer_widths, part_of_drawing, rows_below};
 ghost use Rattle.comfy_table.specs.Gaps.{frame_of, gap_line, row_between};
 ghost use Rattle.comfy_table.specs.Frame.{optional_frame_line};
-ghost use Rattle.comfy_table.specs.Output.{AreSame, BeginsWith, with_lines, with_written};
+ghost use Rattle.comfy_table.specs.Output.{BeginsWith, with_lines};
 ghost use Rattle.comfy_table.specs.Pieces.{shown_infos};
 ghost use Rattle.comfy_table.specs.PlainCells.{IsFitting, IsRowOf};
 
@@ -15,21 +15,20 @@ use crate::table::Table;
 use crate::utils::formatting::borders::optional_frame_line;
 use crate::utils::formatting::drawn_frame::DrawnFrame;
 use crate::utils::formatting::drawn_row::DrawnRow;
-use crate::utils::formatting::output::{Output, OutputForm};
+use crate::utils::formatting::output::Output;
 use crate::utils::formatting::plain_cell::{PlainCell, are_fitting, push_plain_line};
 use crate::utils::formatting::row_gaps::RowGaps;
 use crate::utils::formatting::shown_column::{ShownColumn, shown_infos};
 use comfy_parts::content_split::ColumnDisplayInfo;
 use comfy_parts::{Result, Row};
 use std::marker::Model;
-use std::mem;
 
 /// Which rows of a table some rows are.
 #[derive(Clone, Copy)]
 pub struct Extent {
-    /// Whether the first one is among them, above which the top border and the header stand.
+    /// Whether the first one is among them. The top border and the header are above it.
     pub is_first: bool,
-    /// Whether the last one is among them, below which the bottom border stands.
+    /// Whether the last one is among them. The bottom border is below it.
     pub is_last: bool,
 }
 
@@ -50,26 +49,21 @@ pub struct Writer<'a> {
     columns: Vec<ShownColumn<'a>>,
     // the line that is drawn now
     line: String,
-    output: Output,
 }
 
 impl<'a> Model for Writer<'a> {
     ghost use Rattle.std.specs.Prelude.{◌≡◌};
     ghost use Rattle.comfy_table.specs.Drawing.{outer_widths};
     ghost use Rattle.comfy_table.specs.Gaps.{frame_of};
-    ghost use Rattle.comfy_table.specs.Output.{WriterValue};
+    ghost use Rattle.comfy_table.specs.Parts.{ArrangedValue};
     ghost use Rattle.comfy_table.specs.Pieces.{shown_infos};
 
-    ghost Value = { WriterValue };
+    ghost Value = { ArrangedValue };
 
     ghost invariant = { λ w. (w.columns.items ≡ shown_infos w.infos.now)
         × (w.frame.now ≡ frame_of w.table.now.style (outer_widths w.infos.now)) };
 
-    ghost view = { λ w. record {
-      table = w.table.now;
-      infos = w.infos.now;
-      output = w.output;
-    } };
+    ghost view = { λ w. record { table = w.table.now; infos = w.infos.now } };
 }
 
 impl<'a> Writer<'a> {
@@ -80,8 +74,8 @@ impl<'a> Writer<'a> {
         frame: &'a DrawnFrame,
     ) -> Result<Writer<'a>>
         requires { frame.now ≡ frame_of table.now.style (outer_widths infos.now) }
-        ensures { IfOk result (λ writer. (writer.table ≡ table.now)
-            × (writer.infos ≡ infos.now)) }
+        ensures { IfOk result (λ writer. writer
+            ≡ record { table = table.now; infos = infos.now }) }
     {
         let alloc = *table.columns.allocator();
         Ok(Writer {
@@ -90,7 +84,6 @@ impl<'a> Writer<'a> {
             frame,
             columns: shown_infos(alloc, infos)?,
             line: String::new(alloc),
-            output: Output::new(alloc, OutputForm::Joined),
         })
     }
 
@@ -101,262 +94,257 @@ impl<'a> Writer<'a> {
         self.infos
     }
 
-    /// Appends the lines of these rows to an output. After `OutOfMemory` its text begins with what
-    /// it was.
-    pub fn draw<'r>(&mut self, rows: &'r [Row], extent: Extent, output: &mut Output) -> Result<()>
+    /// Appends the lines of these rows, and those around them, to an output. After `OutOfMemory`
+    /// the output begins with what it was.
+    pub fn draw<'r, O: Output>(
+        &mut self,
+        rows: &'r [Row],
+        extent: Extent,
+        output: &mut O,
+    ) -> Result<()>
     where
         'a: 'r,
-        ensures ok { OnOk result (output.new
-            ≡ with_lines (part_of_drawing self.old.table self.old.infos extent.is_first
-            extent.is_last rows.now) output.old) }
-        ensures err { OnErr result (BeginsWith output.new.text output.old.text) }
-        ensures kept { AreSame self.old self.new }
+        ensures ok { OnOk result (O.kept output.new
+            ≡ with_lines O.kept_of (part_of_drawing self.old.table self.old.infos extent.is_first extent.is_last rows.now) (O.kept output.old)) }
+        ensures err { OnErr result (BeginsWith (O.kept output.new) (O.kept output.old)) }
+        ensures kept { self.new ≡ self.old }
     {
-        mem::swap(&mut self.output, output);
-        let written = self.write(rows, extent);
-        mem::swap(&mut self.output, output);
-        written
+        self.write_rows_below(rows, extent.is_first, output)?;
+        self.write_below(extent.is_last, output)
     }
 
-    /// Appends the lines of a row of these cells, where each is seen to fit its column. Returns
-    /// whether that is so; else nothing is appended. After `OutOfMemory` the text of the output
-    /// begins with what it was.
-    pub fn draw_cells(
+    /// Appends the line of a row of these cells, and the lines around it, if each cell is seen to
+    /// fit its column. Returns whether that is so; else nothing is appended. After `OutOfMemory`
+    /// the output begins with what it was.
+    pub fn draw_cells<O: Output>(
         &mut self,
         cells: &[PlainCell<'_>],
         extent: Extent,
-        output: &mut Output,
+        output: &mut O,
     ) -> Result<bool>
         ensures drawn { IfOk result (λ is. IsTrue is → (row : RowValue) → IsRowOf cells.now row
-            → output.new ≡ with_lines (part_of_drawing self.old.table self.old.infos
-            extent.is_first extent.is_last (row ∷ [])) output.old) }
-        ensures other { IfOk result (λ is. is ≡ false → output.new ≡ output.old) }
-        ensures err { OnErr result (BeginsWith output.new.text output.old.text) }
-        ensures kept { AreSame self.old self.new }
+            → O.kept output.new ≡ with_lines O.kept_of (part_of_drawing self.old.table
+            self.old.infos extent.is_first extent.is_last (row ∷ [])) (O.kept output.old)) }
+        ensures other { IfOk result (λ is. is ≡ false
+            → O.kept output.new ≡ O.kept output.old) }
+        ensures err { OnErr result (BeginsWith (O.kept output.new) (O.kept output.old)) }
+        ensures kept { self.new ≡ self.old }
     {
         let table = self.table;
         if table.custom_styling || !are_fitting(cells, self.columns.as_slice()) {
             return Ok(false);
         }
-        mem::swap(&mut self.output, output);
-        let written = self.write_cells(cells, extent);
-        mem::swap(&mut self.output, output);
-        written?;
+        self.write_cells(cells, extent, output)?;
         Ok(true)
     }
 
-    // The lines of these rows, and those around them.
-    fn write<'r>(&mut self, rows: &'r [Row], extent: Extent) -> Result<()>
-    where
-        'a: 'r,
-        ensures ok { OnOk result (self.new
-            ≡ with_written (part_of_drawing self.old.table self.old.infos extent.is_first
-            extent.is_last rows.now) self.old) }
-        ensures err { OnErr result (BeginsWith self.new.output.text self.old.output.text) }
-        ensures kept { AreSame self.old self.new }
-    {
-        self.write_rows_below(rows, extent.is_first)?;
-        self.write_below(extent.is_last)
-    }
-
     // The lines of these rows, below the top border and the header, or below other rows.
-    fn write_rows_below<'r>(&mut self, rows: &'r [Row], is_first: bool) -> Result<()>
+    fn write_rows_below<'r, O: Output>(
+        &mut self,
+        rows: &'r [Row],
+        is_first: bool,
+        output: &mut O,
+    ) -> Result<()>
     where
         'a: 'r,
-        ensures ok { OnOk result (self.new
-            ≡ with_written (rows_below self.old.table self.old.infos is_first rows.now)
-            self.old) }
-        ensures err { OnErr result (BeginsWith self.new.output.text self.old.output.text) }
-        ensures kept { AreSame self.old self.new }
+        ensures ok { OnOk result (O.kept output.new
+            ≡ with_lines O.kept_of (rows_below self.old.table self.old.infos is_first rows.now) (O.kept output.old)) }
+        ensures err { OnErr result (BeginsWith (O.kept output.new) (O.kept output.old)) }
+        ensures kept { self.new ≡ self.old }
     {
         let table = self.table;
         let mut drawn: DrawnRow<'a, 'r> = DrawnRow::new(*table.columns.allocator());
         if is_first {
-            self.write_above(&mut drawn)?;
-            self.write_rows(&mut drawn, rows)
+            self.write_above(&mut drawn, output)?;
+            self.write_rows(&mut drawn, rows, output)
         } else {
-            self.write_further_rows(&mut drawn, rows)
+            self.write_further_rows(&mut drawn, rows, output)
         }
     }
 
     // The bottom border, below the last row.
-    fn write_below(&mut self, is_last: bool) -> Result<()>
-        ensures ok { OnOk result (self.new
-            ≡ with_written (if is_last
-            then optional_frame_line self.old.table.style self.old.table.style.bottom_border
-            (outer_widths self.old.infos)
-            else []) self.old) }
-        ensures err { OnErr result (BeginsWith self.new.output.text self.old.output.text) }
-        ensures kept { AreSame self.old self.new }
+    fn write_below<O: Output>(&self, is_last: bool, output: &mut O) -> Result<()>
+        ensures ok { OnOk result (O.kept output.new
+            ≡ with_lines O.kept_of (if is_last
+            then optional_frame_line self.now.table.style self.now.table.style.bottom_border
+            (outer_widths self.now.infos)
+            else []) (O.kept output.old)) }
+        ensures err { OnErr result (BeginsWith (O.kept output.new) (O.kept output.old)) }
     {
         let frame = self.frame;
         if is_last {
-            self.write_line(&frame.bottom)
+            push_frame_line(output, &frame.bottom)
         } else {
             Ok(())
         }
     }
 
     // The line of a row of these cells, which fit their columns, and the lines around it.
-    fn write_cells(&mut self, cells: &[PlainCell<'_>], extent: Extent) -> Result<()>
+    fn write_cells<O: Output>(
+        &mut self,
+        cells: &[PlainCell<'_>],
+        extent: Extent,
+        output: &mut O,
+    ) -> Result<()>
         requires unstyled { self.now.table.custom_styling ≡ false }
         requires some { 0 < length (shown_infos self.now.infos) }
         requires fitting { All (IsFitting cells.now) (shown_infos self.now.infos) }
-        ensures ok { OnOk result ((row : RowValue) → IsRowOf cells.now row → self.new
-            ≡ with_written (part_of_drawing self.old.table self.old.infos extent.is_first
-            extent.is_last (row ∷ [])) self.old) }
-        ensures err { OnErr result (BeginsWith self.new.output.text self.old.output.text) }
-        ensures kept { AreSame self.old self.new }
+        ensures ok { OnOk result ((row : RowValue) → IsRowOf cells.now row → O.kept output.new
+            ≡ with_lines O.kept_of (part_of_drawing self.old.table self.old.infos
+            extent.is_first extent.is_last (row ∷ [])) (O.kept output.old)) }
+        ensures err { OnErr result (BeginsWith (O.kept output.new) (O.kept output.old)) }
+        ensures kept { self.new ≡ self.old }
     {
         let frame = self.frame;
         let table = self.table;
         if extent.is_first {
-            self.write_above(&mut DrawnRow::new(*table.columns.allocator()))?;
+            self.write_above(&mut DrawnRow::new(*table.columns.allocator()), output)?;
         } else {
-            self.write_line(&frame.separator)?;
+            push_frame_line(output, &frame.separator)?;
         }
-        self.write_cell_line(cells)?;
-        self.write_below(extent.is_last)
+        self.write_cell_line(cells, output)?;
+        self.write_below(extent.is_last, output)
     }
 
     // The line of a row of these cells, which fit their columns.
-    fn write_cell_line(&mut self, cells: &[PlainCell<'_>]) -> Result<()>
+    fn write_cell_line<O: Output>(&mut self, cells: &[PlainCell<'_>], output: &mut O) -> Result<()>
         requires unstyled { self.now.table.custom_styling ≡ false }
         requires some { 0 < length (shown_infos self.now.infos) }
         requires fitting { All (IsFitting cells.now) (shown_infos self.now.infos) }
-        ensures ok { OnOk result ((row : RowValue) → IsRowOf cells.now row → self.new
-            ≡ with_written (drawn_row self.old.table self.old.infos
-            self.old.table.style.content_lines row) self.old) }
-        ensures err { OnErr result (BeginsWith self.new.output.text self.old.output.text) }
-        ensures kept { AreSame self.old self.new }
+        ensures ok { OnOk result ((row : RowValue) → IsRowOf cells.now row → O.kept output.new
+            ≡ with_lines O.kept_of (drawn_row self.old.table self.old.infos
+            self.old.table.style.content_lines row) (O.kept output.old)) }
+        ensures err { OnErr result (BeginsWith (O.kept output.new) (O.kept output.old)) }
+        ensures kept { self.new ≡ self.old }
     {
         let frame = self.frame;
         self.line.clear();
         let columns = self.columns.as_slice();
         push_plain_line(&mut self.line, &frame.gaps, cells, columns)?;
-        self.output.push_line(self.line.as_str())
+        output.push_line(self.line.as_str())
     }
 
     // The top border and the header.
-    fn write_above<'r>(&mut self, drawn: &mut DrawnRow<'a, 'r>) -> Result<()>
+    fn write_above<'r, O: Output>(
+        &mut self,
+        drawn: &mut DrawnRow<'a, 'r>,
+        output: &mut O,
+    ) -> Result<()>
     where
         'a: 'r,
-        ensures ok { OnOk result (self.new
-            ≡ with_written (lines_above self.old.table self.old.infos) self.old) }
-        ensures err { OnErr result (BeginsWith self.new.output.text self.old.output.text) }
-        ensures kept { AreSame self.old self.new }
+        ensures ok { OnOk result (O.kept output.new
+            ≡ with_lines O.kept_of (lines_above self.old.table self.old.infos) (O.kept output.old)) }
+        ensures err { OnErr result (BeginsWith (O.kept output.new) (O.kept output.old)) }
+        ensures kept { self.new ≡ self.old }
     {
         let frame = self.frame;
-        self.write_line(&frame.top)?;
-        self.write_header(drawn)
+        push_frame_line(output, &frame.top)?;
+        self.write_header(drawn, output)
     }
 
-    // A line of the frame, where it is drawn.
-    fn write_line(&mut self, line: &Option<String>) -> Result<()>
-        ensures ok { OnOk result (self.new
-            ≡ with_written (map string_bytes (option_to_list line.now)) self.old) }
-        ensures err { OnErr result (BeginsWith self.new.output.text self.old.output.text) }
-        ensures kept { AreSame self.old self.new }
-    {
-        if let Some(line) = line {
-            self.output.push_line(line.as_str())?;
-        }
-        Ok(())
-    }
-
-    // The header's lines and the header separator, where there is a header.
-    fn write_header<'r>(&mut self, drawn: &mut DrawnRow<'a, 'r>) -> Result<()>
+    // The header's lines and the header separator, if there is a header.
+    fn write_header<'r, O: Output>(
+        &mut self,
+        drawn: &mut DrawnRow<'a, 'r>,
+        output: &mut O,
+    ) -> Result<()>
     where
         'a: 'r,
-        ensures ok { OnOk result (self.new
-            ≡ with_written (drawn_header self.old.table self.old.infos self.old.table.header)
-            self.old) }
-        ensures err { OnErr result (BeginsWith self.new.output.text self.old.output.text) }
-        ensures kept { AreSame self.old self.new }
+        ensures ok { OnOk result (O.kept output.new
+            ≡ with_lines O.kept_of (drawn_header self.old.table self.old.infos self.old.table.header) (O.kept output.old)) }
+        ensures err { OnErr result (BeginsWith (O.kept output.new) (O.kept output.old)) }
+        ensures kept { self.new ≡ self.old }
     {
         let table = self.table;
         match &table.header {
-            Some(header) => self.write_header_lines(drawn, header),
+            Some(header) => self.write_header_lines(drawn, header, output),
             None => Ok(()),
         }
     }
 
     // The lines of this header, and the header separator.
-    fn write_header_lines<'r>(
+    fn write_header_lines<'r, O: Output>(
         &mut self,
         drawn: &mut DrawnRow<'a, 'r>,
         header: &'r Row,
+        output: &mut O,
     ) -> Result<()>
     where
         'a: 'r,
-        ensures ok { OnOk result (self.new
-            ≡ with_written (drawn_header self.old.table self.old.infos (Some header.now))
-            self.old) }
-        ensures err { OnErr result (BeginsWith self.new.output.text self.old.output.text) }
-        ensures kept { AreSame self.old self.new }
+        ensures ok { OnOk result (O.kept output.new
+            ≡ with_lines O.kept_of (drawn_header self.old.table self.old.infos (Some header.now)) (O.kept output.old)) }
+        ensures err { OnErr result (BeginsWith (O.kept output.new) (O.kept output.old)) }
+        ensures kept { self.new ≡ self.old }
     {
         let table = self.table;
         let style = &table.style;
         let gaps = RowGaps::new(table, &style.header_lines)?;
         let columns = self.columns.as_slice();
         let separator = optional_frame_line(table, &style.header_separator, columns)?;
-        self.write_row(drawn, &gaps, header)?;
-        self.write_line(&separator)
+        self.write_row(drawn, &gaps, header, output)?;
+        push_frame_line(output, &separator)
     }
 
     // The lines of these rows, with the row separator between each two rows.
-    fn write_rows<'r>(&mut self, drawn: &mut DrawnRow<'a, 'r>, rows: &'r [Row]) -> Result<()>
+    fn write_rows<'r, O: Output>(
+        &mut self,
+        drawn: &mut DrawnRow<'a, 'r>,
+        rows: &'r [Row],
+        output: &mut O,
+    ) -> Result<()>
     where
         'a: 'r,
-        ensures ok { OnOk result (self.new
-            ≡ with_written (drawn_rows self.old.table self.old.infos rows.now) self.old) }
-        ensures err { OnErr result (BeginsWith self.new.output.text self.old.output.text) }
-        ensures kept { AreSame self.old self.new }
+        ensures ok { OnOk result (O.kept output.new
+            ≡ with_lines O.kept_of (drawn_rows self.old.table self.old.infos rows.now) (O.kept output.old)) }
+        ensures err { OnErr result (BeginsWith (O.kept output.new) (O.kept output.old)) }
+        ensures kept { self.new ≡ self.old }
     {
         let frame = self.frame;
         match rows.split_first() {
             Some((first, rest)) => {
-                self.write_row(drawn, &frame.gaps, first)?;
-                self.write_further_rows(drawn, rest)
+                self.write_row(drawn, &frame.gaps, first, output)?;
+                self.write_further_rows(drawn, rest, output)
             }
             None => Ok(()),
         }
     }
 
     // The lines of these rows, with the row separator above each of them.
-    fn write_further_rows<'r>(
+    fn write_further_rows<'r, O: Output>(
         &mut self,
         drawn: &mut DrawnRow<'a, 'r>,
         rows: &'r [Row],
+        output: &mut O,
     ) -> Result<()>
     where
         'a: 'r,
-        ensures ok { OnOk result (self.new
-            ≡ with_written (further_rows self.old.table self.old.infos rows.now) self.old) }
-        ensures err { OnErr result (BeginsWith self.new.output.text self.old.output.text) }
-        ensures kept { AreSame self.old self.new }
+        ensures ok { OnOk result (O.kept output.new
+            ≡ with_lines O.kept_of (further_rows self.old.table self.old.infos rows.now) (O.kept output.old)) }
+        ensures err { OnErr result (BeginsWith (O.kept output.new) (O.kept output.old)) }
+        ensures kept { self.new ≡ self.old }
     {
         let frame = self.frame;
         for row in rows {
-            self.write_line(&frame.separator)?;
-            self.write_row(drawn, &frame.gaps, row)?;
+            push_frame_line(output, &frame.separator)?;
+            self.write_row(drawn, &frame.gaps, row, output)?;
         }
         Ok(())
     }
 
     // The lines of a row, in the memory of rows before it.
-    fn write_row<'r>(
+    fn write_row<'r, O: Output>(
         &mut self,
         drawn: &mut DrawnRow<'a, 'r>,
         gaps: &RowGaps,
         row: &'r Row,
+        output: &mut O,
     ) -> Result<()>
     where
         'a: 'r,
-        ensures ok { OnOk result (self.new
-            ≡ with_written (row_between gaps.now self.old.table self.old.infos row.now) self.old) }
-        ensures err { OnErr result (BeginsWith self.new.output.text self.old.output.text) }
-        ensures kept { AreSame self.old self.new }
+        ensures ok { OnOk result (O.kept output.new
+            ≡ with_lines O.kept_of (row_between gaps.now self.old.table self.old.infos row.now) (O.kept output.old)) }
+        ensures err { OnErr result (BeginsWith (O.kept output.new) (O.kept output.old)) }
+        ensures kept { self.new ≡ self.old }
     {
         self.line.clear();
         let columns = self.columns.as_slice();
@@ -364,21 +352,26 @@ impl<'a> Writer<'a> {
         if height == 0 {
             return Ok(());
         }
-        push_row(
-            &mut self.output,
-            &mut self.line,
-            gaps,
-            drawn,
-            columns,
-            height,
-        )
+        push_row(output, &mut self.line, gaps, drawn, columns, height)
     }
 }
 
-// Appends so many lines of a row. The first is drawn in the text already, and each other one is
-// drawn there.
-fn push_row<'a>(
-    output: &mut Output,
+// Appends a line of the frame, if it is drawn.
+fn push_frame_line<O: Output>(output: &mut O, line: &Option<String>) -> Result<()>
+    ensures ok { OnOk result (O.kept output.new
+        ≡ with_lines O.kept_of (map string_bytes (option_to_list line.now)) (O.kept output.old)) }
+    ensures err { OnErr result (BeginsWith (O.kept output.new) (O.kept output.old)) }
+{
+    match line {
+        Some(line) => output.push_line(line.as_str()),
+        None => Ok(()),
+    }
+}
+
+// Appends the first `height` lines of a row. The first is drawn in the text already, and each other
+// one is drawn there.
+fn push_row<'a, O: Output>(
+    output: &mut O,
     text: &mut String,
     gaps: &RowGaps,
     row: &DrawnRow<'a, '_>,
@@ -388,10 +381,10 @@ fn push_row<'a>(
     requires height { 0 < height }
     requires some { 0 < length columns.now }
     requires columns { length row.now ≤ length columns.now }
-    ensures ok { OnOk result (output.new ≡ with_lines (string_bytes text.old
+    ensures ok { OnOk result (O.kept output.new ≡ with_lines O.kept_of (string_bytes text.old
         ∷ map (λ k. gap_line gaps.now (map (piece_at k) (filled columns.now row.now)))
-        (range_with_len 1 (height - 1))) output.old) }
-    ensures err { OnErr result (BeginsWith output.new.text output.old.text) }
+        (range_with_len 1 (height - 1))) (O.kept output.old)) }
+    ensures err { OnErr result (BeginsWith (O.kept output.new) (O.kept output.old)) }
 {
     output.push_line(text.as_str())?;
     for line in 1..height {

@@ -1,99 +1,115 @@
 //! Where drawn lines go.
 
-ghost use Rattle.std.specs.Prelude.{◌≡◌, ◌++◌, ◌∷◌, [], OnErr, OnOk, map, string_bytes};
-ghost use Rattle.comfy_table.specs.Output.{BeginsWith, new_output, with_lines};
-ghost use Rattle.comfy_table.specs.declared.utils.formatting.output.OutputForm.TheVariants.{Joined};
+ghost use Rattle.std.specs.Prelude.{◌≡◌, ◌++◌, ◌∷◌, [], OnErr, OnOk, string_bytes};
+ghost use Rattle.comfy_table.specs.Output.{BeginsWith, with_lines};
 
 use comfy_parts::Result;
 use std::alloc::Global;
 use std::marker::Model;
 
-/// How drawn lines are kept.
-#[derive(Clone, Copy)]
-pub enum OutputForm {
-    /// Each line is a text of its own.
-    Lines,
-    /// All lines stand in one text, each followed by a line feed.
-    Joined,
-    /// All lines stand in one text, each without its trailing white space and followed by a line
-    /// feed.
-    Trimmed,
+/// Where drawn lines go: a list of texts, or one text.
+pub trait Output {
+    ghost use Rattle.std.specs.Prelude.{List};
+    ghost use Rattle.comfy_parts.specs.Text.{Text};
+
+    // what the output consists of
+    ghost Kept: { Type 0 };
+
+    // what is kept so far
+    ghost kept: { Self → List Kept };
+
+    // what is kept of a line
+    ghost kept_of: { Text → List Kept };
+
+    /// Appends a drawn line. After `OutOfMemory` the output begins with what it was.
+    fn push_line(&mut self, line: &str) -> Result<()>
+        ensures ok { OnOk result (kept self.new
+            ≡ with_lines kept_of (line.now ∷ []) (kept self.old)) }
+        ensures err { OnErr result (BeginsWith (kept self.new) (kept self.old)) };
 }
 
-/// The drawn lines so far.
+/// Each line is a text of its own.
+impl Output for Vec<String> {
+    ghost use Rattle.std.specs.Prelude.{◌∷◌, [], map, string_bytes};
+    ghost use Rattle.comfy_parts.specs.Text.{Text};
+
+    ghost Kept = { Text };
+
+    ghost kept = { λ lines. map string_bytes lines.items };
+
+    ghost kept_of = { λ line. line ∷ [] };
+
+    #[inline(always)]
+    fn push_line(&mut self, line: &str) -> Result<()> {
+        let own = String::from_str(*self.allocator(), line)?;
+        self.push(own)?;
+        Ok(())
+    }
+}
+
+/// Each line is followed by a line feed.
+impl Output for String {
+    ghost use Rattle.std.specs.Prelude.{◌++◌, ◌∷◌, [], ℕ, string_bytes};
+
+    ghost Kept = { ℕ };
+
+    ghost kept = { λ text. string_bytes text };
+
+    ghost kept_of = { λ line. line ++ 0x0A ∷ [] };
+
+    #[inline(always)]
+    fn push_line(&mut self, line: &str) -> Result<()> {
+        push_terminated(self, line)
+    }
+}
+
+/// A text of lines without their trailing white space, each followed by a line feed.
 #[derive(Drop)]
-pub struct Output {
-    form: OutputForm,
-    lines: Vec<String>,
+pub struct TrimmedText {
     text: String,
 }
 
-impl Model for Output {
-    ghost use Rattle.std.specs.Prelude.{map, string_bytes};
-    ghost use Rattle.comfy_table.specs.Output.{OutputValue};
+impl Model for TrimmedText {
+    ghost use Rattle.std.specs.Prelude.{string_bytes};
+    ghost use Rattle.comfy_parts.specs.Text.{Text};
 
-    ghost Value = { OutputValue };
+    ghost Value = { Text };
 
-    ghost view = { λ o. record {
-      form = o.form;
-      lines = map string_bytes o.lines.items;
-      text = string_bytes o.text;
-    } };
+    ghost view = { λ t. string_bytes t.text };
 }
 
-impl Output {
-    /// An output without lines. It takes no memory.
-    pub fn new(alloc: Global, form: OutputForm) -> Output
-        ensures { result ≡ new_output form }
+impl TrimmedText {
+    /// No lines. It takes no memory.
+    pub fn new(alloc: Global) -> TrimmedText
+        ensures { result ≡ [] }
     {
-        Output {
-            form,
-            lines: Vec::new(alloc),
+        TrimmedText {
             text: String::new(alloc),
         }
     }
 
-    /// An output that goes on with a text, by lines that are each followed by a line feed. It takes
-    /// no memory.
-    pub fn after(text: String) -> Output
-        ensures { result ≡ record (new_output Joined) { text = string_bytes text } }
-    {
-        Output {
-            form: OutputForm::Joined,
-            lines: Vec::new(*text.allocator()),
-            text,
-        }
-    }
-
-    /// Appends a drawn line. After `OutOfMemory` the one text begins with what it was.
-    #[inline(always)]
-    pub fn push_line(&mut self, line: &str) -> Result<()>
-        ensures ok { OnOk result (self.new ≡ with_lines (line.now ∷ []) self.old) }
-        ensures err { OnErr result (BeginsWith self.new.text self.old.text) }
-    {
-        match self.form {
-            OutputForm::Lines => {
-                let own = String::from_str(*self.lines.allocator(), line)?;
-                self.lines.push(own)?;
-                Ok(())
-            }
-            OutputForm::Joined => push_terminated(&mut self.text, line),
-            OutputForm::Trimmed => push_terminated(&mut self.text, line.trim_end()),
-        }
-    }
-
-    /// The lines that are texts of their own.
-    pub fn into_lines(self) -> Vec<String>
-        ensures { map string_bytes result.items ≡ self.lines }
-    {
-        self.lines
-    }
-
-    /// The one text.
+    /// The text itself.
     pub fn into_text(self) -> String
-        ensures { string_bytes result ≡ self.text }
+        ensures { string_bytes result ≡ self }
     {
-        self.text
+        let TrimmedText { text } = self;
+        text
+    }
+}
+
+impl Output for TrimmedText {
+    ghost use Rattle.std.specs.Prelude.{◌++◌, ◌∷◌, [], ℕ};
+    ghost use Rattle.std.specs.Str.{trim_end};
+
+    ghost Kept = { ℕ };
+
+    ghost kept = { λ text. text };
+
+    ghost kept_of = { λ line. trim_end line ++ 0x0A ∷ [] };
+
+    #[inline(always)]
+    fn push_line(&mut self, line: &str) -> Result<()> {
+        push_terminated(&mut self.text, line.trim_end())
     }
 }
 

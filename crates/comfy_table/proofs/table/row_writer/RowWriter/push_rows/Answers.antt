@@ -7,7 +7,7 @@ use Rattle.comfy_table.proofs.table.row_writer.RowWriter.push_rows.Goals as goal
 pub truncate-requires : goal.truncate-requires
 truncate-requires c within =
     let old = c.args.text.now in
-    let new = c.into_text.result in
+    let new = c.draw-drawn.new.output in
     let size : c.len-had.result ≡ length (string_bytes old) = grind (arith, old.bytes.ok.0) in
     let begins : BeginsWith (string_bytes new) (string_bytes old) = grind arith in
     begins-split (string_bytes old) (string_bytes new) c.len-had.result (IsUtf8-string_bytes old) (IsUtf8-string_bytes new) size begins

@@ -6,5 +6,5 @@ use Rattle.comfy_table.specs.Output.{with_lines}
 use Rattle.comfy_table.proofs.utils.formatting.drawing.push_row.Given as goal
 
 abbrev pub invariant-loop-line : goal.invariant-loop-line
-invariant-loop-line l =
-    l.output ≡ with_lines (map (λ k. gap_line l.gaps (map (piece_at k) (filled l.columns l.row))) (range_with_len 1 (l.line - 1))) l.initial.output
+invariant-loop-line g l =
+    g.O.Output.kept l.output ≡ with_lines g.O.Output.kept_of (map (λ k. gap_line l.gaps (map (piece_at k) (filled l.columns l.row))) (range_with_len 1 (l.line - 1))) (g.O.Output.kept l.initial.output)
