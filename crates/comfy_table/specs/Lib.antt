@@ -1,5 +1,6 @@
 pub mod AddedRows
 pub mod AllWidths
+pub mod ArrangedContents
 pub mod Arrangement
 pub mod CellLines
 pub mod ColorSequences

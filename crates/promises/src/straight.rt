@@ -33,7 +33,7 @@ pub fn straight_whole_lines(table: &Table) -> Result<Lines>
 /// This holds if each character of a shown text has room in its column, as
 /// `characters_fit(line, width)` tests for these columns, the frame is plain (`HasPlainFrame`), no
 /// styles are written, and `custom_styling` is off.
-pub fn straight_fitting_lines(table: &Table) -> Result<(ArrangedTable<'_>, Lines)>
+pub fn straight_fitting_lines(table: &Table) -> Result<(ArrangedTable<&Table>, Lines)>
     ensures { IfOk result (λ drawn. AreStraightWhereCharactersFit table.now drawn.0.infos drawn.1) }
 {
     let arranged = table.arranged()?;

@@ -38,7 +38,7 @@ pub fn lines_over(table: &mut Table, width: u16) -> Result<Lines>
 /// `characters_fit(line, width)` tests for these columns, a column is shown and none of these has a
 /// constraint, the frame is plain (`HasPlainFrame`), no styles are written, and `custom_styling` is
 /// off.
-pub fn fitting_lines_within(table: &Table) -> Result<(ArrangedTable<'_>, Lines)>
+pub fn fitting_lines_within(table: &Table) -> Result<(ArrangedTable<&Table>, Lines)>
     ensures { IfOk result (λ drawn. KeepToWidthWhereCharactersFit table.now drawn.0.infos drawn.1) }
 {
     let arranged = table.arranged()?;

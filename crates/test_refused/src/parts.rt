@@ -14,7 +14,7 @@ pub fn outcome_of(alloc: Global, table: &mut Table, call: &str) -> Result<Outcom
 fn outcome_on(
     alloc: Global,
     table: &Table,
-    arranged: &ArrangedTable,
+    arranged: &ArrangedTable<&Table>,
     call: &str,
 ) -> Result<Outcome> {
     match call {
@@ -24,7 +24,7 @@ fn outcome_on(
     }
 }
 
-fn has_tall_row(table: &Table, arranged: &ArrangedTable) -> Result<bool> {
+fn has_tall_row(table: &Table, arranged: &ArrangedTable<&Table>) -> Result<bool> {
     let rows = table.row_iter().as_slice();
     is_any_taller(table, arranged.infos(), rows, 2)
 }
@@ -32,7 +32,7 @@ fn has_tall_row(table: &Table, arranged: &ArrangedTable) -> Result<bool> {
 const BEFORE: &str = "before\n";
 
 // After a refusal the text is as it was.
-fn outcome_of_pushing(alloc: Global, arranged: &ArrangedTable) -> Result<Outcome> {
+fn outcome_of_pushing(alloc: Global, arranged: &ArrangedTable<&Table>) -> Result<Outcome> {
     let mut text = String::from_str(alloc, BEFORE)?;
     if arranged.push_rows(&mut text, 0, 2).is_ok() {
         return Ok(Outcome::Succeeded);

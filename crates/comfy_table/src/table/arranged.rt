@@ -20,7 +20,8 @@ use std::marker::Model;
 
 /// A table whose widths are found. It is drawn in parts, each some of its rows with header and
 /// borders, all at the widths of the whole table: pages of a large table, or records under each
-/// other. `Table::arranged` makes it.
+/// other. `Table::arranged` makes it of a table, and `ArrangedTable::of_contents` of a table whose
+/// rows are elsewhere.
 ///
 /// Each line of a part is a line of the whole drawing: `laws::parts_have_lines_of_the_table`.
 ///
@@ -42,74 +43,50 @@ use std::marker::Model;
 /// // +----+--------+
 /// ```
 #[derive(Drop)]
-pub struct ArrangedTable<'a, C: Contents = Table> {
-    contents: &'a C,
+pub struct ArrangedTable<C: Contents> {
+    contents: C,
     infos: Vec<ColumnDisplayInfo>,
     frame: DrawnFrame,
 }
 
-impl<'a, C: Contents> Model for ArrangedTable<'a, C> {
+impl<C: Contents> Model for ArrangedTable<C> {
     ghost use Rattle.std.specs.Prelude.{◌≡◌};
     ghost use Rattle.comfy_table.specs.Drawing.{outer_widths};
     ghost use Rattle.comfy_table.specs.Gaps.{frame_of};
-    ghost use Rattle.comfy_table.specs.Parts.{ArrangedValue};
+    ghost use Rattle.comfy_table.specs.ArrangedContents.{ArrangedContents};
 
-    ghost Value = { ArrangedValue };
+    ghost Value = { ArrangedContents C };
 
     ghost invariant = { λ a. a.frame
-        ≡ frame_of (C.whole a.contents.now).style (outer_widths a.infos.items) };
+        ≡ frame_of (C.whole a.contents).style (outer_widths a.infos.items) };
 
-    ghost view = { λ a. record { table = C.whole a.contents.now; infos = a.infos.items } };
+    ghost view = { λ a. record { contents = a.contents; infos = a.infos.items } };
 }
 
 impl Table {
     /// The table as it is now, with the widths of its columns, to be drawn in parts.
-    pub fn arranged(&self) -> Result<ArrangedTable<'_>>
-        ensures { IfOk result (λ arranged. IsArrangedTable self.now arranged) }
+    pub fn arranged(&self) -> Result<ArrangedTable<&Table>>
+        ensures table { IfOk result (λ arranged. arranged.contents.now ≡ self.now) }
+        ensures infos { IfOk result (λ arranged. IsArrangedTable self.now
+            (record { table = self.now; infos = arranged.infos })) }
     {
         look_at_rows(self.rows.as_slice());
         ArrangedTable::of_contents(self)
     }
 }
 
-impl<'a, C: Contents> ArrangedTable<'a, C> {
-    /// A table with the widths of its columns, whose rows may stand elsewhere. Whoever draws it
+impl<C: Contents> ArrangedTable<C> {
+    /// A table with the widths of its columns, whose rows may be elsewhere. The caller who draws it
     /// shows that these are rows: each has texts in its cells.
-    pub fn of_contents(contents: &'a C) -> Result<ArrangedTable<'a, C>>
-        ensures drawing { IfOk result (λ arranged. All IsRow (C.whole contents.now).rows
-            → IsArrangedTable (C.whole contents.now) arranged) }
-        ensures table { IfOk result (λ arranged. arranged.table ≡ C.whole contents.now) }
+    pub fn of_contents(contents: C) -> Result<ArrangedTable<C>>
+        ensures contents { IfOk result (λ arranged. arranged.contents ≡ contents) }
+        ensures drawing { IfOk result (λ arranged. All IsRow (C.whole contents).rows
+            → IsArrangedTable (C.whole contents)
+            (record { table = C.whole contents; infos = arranged.infos })) }
         ensures infos { IfOk result (λ arranged.
-            AreInfosOf (C.whole contents.now) arranged.infos) }
+            AreInfosOf (C.whole contents) arranged.infos) }
     {
-        let infos = ArrangedTable::infos_of(contents)?;
-        ArrangedTable::with_infos(contents, infos)
-    }
-
-    /// What each column of such a table is drawn by.
-    pub fn infos_of(contents: &C) -> Result<Vec<ColumnDisplayInfo>>
-        ensures drawing { IfOk result (λ infos. All IsRow (C.whole contents.now).rows
-            → IsArrangedTable (C.whole contents.now)
-            (record { table = C.whole contents.now; infos = infos.items })) }
-        ensures infos { IfOk result (λ infos. AreInfosOf (C.whole contents.now) infos.items) }
-    {
-        let table = contents.table();
-        look_at_columns(table.columns.as_slice());
-        look_at_header(&table.header);
-        // Read for the proof: what was looked at is known to be UTF-8.
-        let _ = &table.indicator;
-        let infos = arrange(contents)?;
-        Ok(infos)
-    }
-
-    /// The same with infos that were found before, as `into_infos` gives them back.
-    pub fn with_infos(
-        contents: &'a C,
-        infos: Vec<ColumnDisplayInfo>,
-    ) -> Result<ArrangedTable<'a, C>>
-        ensures { IfOk result (λ arranged. arranged
-            ≡ record { table = C.whole contents.now; infos = infos.items }) }
-    {
+        let infos = infos_of(&contents)?;
         let frame = DrawnFrame::new(contents.table(), infos.as_slice())?;
         Ok(ArrangedTable {
             contents,
@@ -118,18 +95,17 @@ impl<'a, C: Contents> ArrangedTable<'a, C> {
         })
     }
 
-    /// What each column is drawn by, to draw other rows later.
-    pub fn into_infos(self) -> Vec<ColumnDisplayInfo>
-        ensures { result.items ≡ self.entry.infos }
+    /// The table that it was made from.
+    pub fn contents(&self) -> &C
+        ensures { result.now ≡ self.now.contents }
     {
-        let ArrangedTable { infos, .. } = self;
-        infos
+        &self.contents
     }
 
     /// What draws rows of the table one after another.
     pub fn row_writer(&self) -> Result<RowWriter<'_>>
-        ensures table { IfOk result (λ writer. with_other_rows self.now.table.rows writer.table
-            ≡ self.now.table) }
+        ensures table { IfOk result (λ writer. with_other_rows
+            (C.whole self.now.contents).rows writer.table ≡ C.whole self.now.contents) }
         ensures infos { IfOk result (λ writer. writer.infos ≡ self.now.infos) }
     {
         RowWriter::new(self.contents.table(), self.infos.as_slice(), &self.frame)
@@ -146,7 +122,7 @@ impl<'a, C: Contents> ArrangedTable<'a, C> {
     // was.
     pub(crate) fn draw<O: Output>(&self, rows: &[Row], extent: Extent, output: &mut O) -> Result<()>
         ensures ok { OnOk result (O.kept output.new
-            ≡ with_lines O.kept_of (part_of_drawing self.now.table self.now.infos
+            ≡ with_lines O.kept_of (part_of_drawing (C.whole self.now.contents) self.now.infos
             extent.is_first extent.is_last rows.now) (O.kept output.old)) }
         ensures err { OnErr result (BeginsWith (O.kept output.new) (O.kept output.old)) }
     {
@@ -156,7 +132,7 @@ impl<'a, C: Contents> ArrangedTable<'a, C> {
     }
 }
 
-impl<'a> ArrangedTable<'a, Table> {
+impl<'a> ArrangedTable<&'a Table> {
     /// Appends a part: the drawing of the table with `count` of its rows alone, from the one at
     /// position `first` on. Each line is followed by a line feed. Rows beyond the last are none, so
     /// a part may have no row, but a header and borders. After `OutOfMemory` the text is as it was.
@@ -167,7 +143,10 @@ impl<'a> ArrangedTable<'a, Table> {
     /// ```
     pub fn push_rows(&self, text: &mut String, first: usize, count: usize) -> Result<()>
         ensures ok { OnOk result (string_bytes text.new
-            ≡ string_bytes text.old ++ part_text self.now first count) }
+            ≡ string_bytes text.old ++ part_text (record {
+              table = self.now.contents.now;
+              infos = self.now.infos;
+            }) first count) }
         ensures err { OnErr result (string_bytes text.new ≡ string_bytes text.old) }
     {
         let table = self.contents;
@@ -176,7 +155,23 @@ impl<'a> ArrangedTable<'a, Table> {
     }
 }
 
-// So many rows from a position on; those beyond the last are none.
+// What each column of such a table is drawn by.
+fn infos_of<C: Contents>(contents: &C) -> Result<Vec<ColumnDisplayInfo>>
+    ensures drawing { IfOk result (λ infos. All IsRow (C.whole contents.now).rows
+        → IsArrangedTable (C.whole contents.now)
+        (record { table = C.whole contents.now; infos = infos.items })) }
+    ensures infos { IfOk result (λ infos. AreInfosOf (C.whole contents.now) infos.items) }
+{
+    let table = contents.table();
+    look_at_columns(table.columns.as_slice());
+    look_at_header(&table.header);
+    // Read for the proof: what was looked at is known to be UTF-8.
+    let _ = &table.indicator;
+    let infos = arrange(contents)?;
+    Ok(infos)
+}
+
+// The first `count` rows from a position on. Rows beyond the last are none.
 fn rows_from(rows: &[Row], first: usize, count: usize) -> &[Row]
     ensures { result.now ≡ take count (drop first rows.now) }
 {

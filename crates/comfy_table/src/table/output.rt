@@ -121,8 +121,8 @@ impl Table {
         Ok(text)
     }
 
-    /// The drawn lines, each followed by a line feed, as a program prints them. If neither the style
-    /// nor the truncation indicator has a line feed, the lines are the texts before each one.
+    /// The drawn lines, each followed by a line feed, as a program prints them. If neither the
+    /// style nor the truncation indicator has a line feed, the lines are the texts before each one.
     pub fn to_terminated_text(&self) -> Result<String>
         ensures { IfOk result (λ text. TerminatesLines self.now (string_bytes text)) }
     {

@@ -54,7 +54,7 @@ fn assert_drawn(rt: &impl Abort, lines: comfy_table::Result<Lines>, wanted: &str
 }
 
 // The table is arranged in 17 terminal columns.
-fn assert_arranged(rt: &impl Abort, arranged: comfy_table::Result<(ArrangedTable<'_>, Lines)>) {
+fn assert_arranged(rt: &impl Abort, arranged: comfy_table::Result<(ArrangedTable<&Table>, Lines)>) {
     let (arranged, lines) = arranged.expect(rt, "memory");
     for info in arranged.infos() {
         assert!(rt; info.content_width == 5);

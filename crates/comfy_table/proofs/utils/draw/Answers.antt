@@ -16,14 +16,14 @@ returns g c =
     let rows = c.as_slice.result.now in
     let known = c.in_ok-arranged.ensures in
     let all : rows ≡ table.rows = search rules in
-    let whole : part_of_drawing c.in_ok-arranged.arranged.table infos true true rows ≡ drawing_of_infos table infos =
-    ap (λ (t : TableValue). part_of_drawing t infos true true rows) known.of_table
+    let whole : part_of_drawing c.in_ok-arranged.arranged.contents.now infos true true rows ≡ drawing_of_infos table infos =
+    ap (λ (t : TableValue). part_of_drawing t infos true true rows) known.table
     ∙ ap (part_of_drawing table infos true true) all
     ∙ part-whole table infos in
     on_ok_weaker c.draw.result
     (λ (drawn : g.O.Output.kept c.draw.new.output ≡ _). (
       drawing_of_infos table infos,
-      known.headline,
+      known.infos.headline,
       drawn ∙ ap (λ (lines : List Text). with_lines kept_of lines had) whole,
     ))
     c.draw.ensures.ok

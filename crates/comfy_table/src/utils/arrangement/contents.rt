@@ -10,8 +10,8 @@ use crate::utils::arrangement::longest::column_longest_line;
 use comfy_parts::Result;
 use comfy_parts::content_split::ColumnDisplayInfo;
 
-/// A table whose rows may stand elsewhere, as its widths see it.
-pub trait Contents {
+/// A table whose rows may be elsewhere, as its widths see it.
+pub trait Contents: Drop {
     /// The table with all of its rows.
     ghost whole: { Self → TableValue };
 
@@ -54,5 +54,27 @@ impl Contents for Table {
         limit: usize,
     ) -> Result<usize> {
         Ok(column_longest_line(self, position, info, limit))
+    }
+}
+
+/// Contents that are elsewhere.
+impl<C: Contents> Contents for &C {
+    ghost whole = { λ contents. C.whole contents.now };
+
+    fn table(&self) -> &Table {
+        (**self).table()
+    }
+
+    fn content_width(&self, position: usize) -> Result<u16> {
+        (**self).content_width(position)
+    }
+
+    fn longest_line(
+        &self,
+        position: usize,
+        info: &ColumnDisplayInfo,
+        limit: usize,
+    ) -> Result<usize> {
+        (**self).longest_line(position, info, limit)
     }
 }

@@ -105,7 +105,8 @@ impl<'a> Writer<'a> {
     where
         'a: 'r,
         ensures ok { OnOk result (O.kept output.new
-            ≡ with_lines O.kept_of (part_of_drawing self.old.table self.old.infos extent.is_first extent.is_last rows.now) (O.kept output.old)) }
+            ≡ with_lines O.kept_of (part_of_drawing self.old.table self.old.infos extent.is_first
+            extent.is_last rows.now) (O.kept output.old)) }
         ensures err { OnErr result (BeginsWith (O.kept output.new) (O.kept output.old)) }
         ensures kept { self.new ≡ self.old }
     {
@@ -148,7 +149,8 @@ impl<'a> Writer<'a> {
     where
         'a: 'r,
         ensures ok { OnOk result (O.kept output.new
-            ≡ with_lines O.kept_of (rows_below self.old.table self.old.infos is_first rows.now) (O.kept output.old)) }
+            ≡ with_lines O.kept_of (rows_below self.old.table self.old.infos is_first rows.now)
+            (O.kept output.old)) }
         ensures err { OnErr result (BeginsWith (O.kept output.new) (O.kept output.old)) }
         ensures kept { self.new ≡ self.old }
     {
@@ -233,7 +235,8 @@ impl<'a> Writer<'a> {
     where
         'a: 'r,
         ensures ok { OnOk result (O.kept output.new
-            ≡ with_lines O.kept_of (lines_above self.old.table self.old.infos) (O.kept output.old)) }
+            ≡ with_lines O.kept_of (lines_above self.old.table self.old.infos)
+            (O.kept output.old)) }
         ensures err { OnErr result (BeginsWith (O.kept output.new) (O.kept output.old)) }
         ensures kept { self.new ≡ self.old }
     {
@@ -251,7 +254,8 @@ impl<'a> Writer<'a> {
     where
         'a: 'r,
         ensures ok { OnOk result (O.kept output.new
-            ≡ with_lines O.kept_of (drawn_header self.old.table self.old.infos self.old.table.header) (O.kept output.old)) }
+            ≡ with_lines O.kept_of (drawn_header self.old.table self.old.infos
+            self.old.table.header) (O.kept output.old)) }
         ensures err { OnErr result (BeginsWith (O.kept output.new) (O.kept output.old)) }
         ensures kept { self.new ≡ self.old }
     {
@@ -272,7 +276,8 @@ impl<'a> Writer<'a> {
     where
         'a: 'r,
         ensures ok { OnOk result (O.kept output.new
-            ≡ with_lines O.kept_of (drawn_header self.old.table self.old.infos (Some header.now)) (O.kept output.old)) }
+            ≡ with_lines O.kept_of (drawn_header self.old.table self.old.infos (Some header.now))
+            (O.kept output.old)) }
         ensures err { OnErr result (BeginsWith (O.kept output.new) (O.kept output.old)) }
         ensures kept { self.new ≡ self.old }
     {
@@ -295,7 +300,8 @@ impl<'a> Writer<'a> {
     where
         'a: 'r,
         ensures ok { OnOk result (O.kept output.new
-            ≡ with_lines O.kept_of (drawn_rows self.old.table self.old.infos rows.now) (O.kept output.old)) }
+            ≡ with_lines O.kept_of (drawn_rows self.old.table self.old.infos rows.now)
+            (O.kept output.old)) }
         ensures err { OnErr result (BeginsWith (O.kept output.new) (O.kept output.old)) }
         ensures kept { self.new ≡ self.old }
     {
@@ -319,7 +325,8 @@ impl<'a> Writer<'a> {
     where
         'a: 'r,
         ensures ok { OnOk result (O.kept output.new
-            ≡ with_lines O.kept_of (further_rows self.old.table self.old.infos rows.now) (O.kept output.old)) }
+            ≡ with_lines O.kept_of (further_rows self.old.table self.old.infos rows.now)
+            (O.kept output.old)) }
         ensures err { OnErr result (BeginsWith (O.kept output.new) (O.kept output.old)) }
         ensures kept { self.new ≡ self.old }
     {
@@ -342,7 +349,8 @@ impl<'a> Writer<'a> {
     where
         'a: 'r,
         ensures ok { OnOk result (O.kept output.new
-            ≡ with_lines O.kept_of (row_between gaps.now self.old.table self.old.infos row.now) (O.kept output.old)) }
+            ≡ with_lines O.kept_of (row_between gaps.now self.old.table self.old.infos row.now)
+            (O.kept output.old)) }
         ensures err { OnErr result (BeginsWith (O.kept output.new) (O.kept output.old)) }
         ensures kept { self.new ≡ self.old }
     {

@@ -9,10 +9,10 @@ pub returns : goal.returns
 returns c =
     let table = c.args.table.now in
     let arranged = c.in_ok-arranged.field-0 in
-    let known : IsArrangedTable table arranged = c.in_ok-arranged.ensures in
+    let known : IsArrangedTable table (record { table = table; infos = arranged.infos }) = c.in_ok-arranged.ensures.infos in
     let count = c.row_count.result in
     let all : length table.rows ≤ count = grind arith in
-    let whole = ap (with_rows_alone 0 count) known.of_table ∙ c.parts_have_lines_of_the_table.ensures.whole table count all in
+    let whole = ap (with_rows_alone 0 count) c.in_ok-arranged.ensures.table ∙ c.parts_have_lines_of_the_table.ensures.whole table count all in
     on_ok_weaker c.push_rows-2.result
     (λ appended. (
       terminated_text_of (drawing_of_infos table arranged.infos),

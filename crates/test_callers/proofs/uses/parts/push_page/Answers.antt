@@ -18,14 +18,14 @@ pub returns : goal.returns
 returns c =
     let table = c.args.table.now in
     let arranged = c.in_ok-arranged.field-0 in
-    let known : IsArrangedTable table arranged = c.in_ok-arranged.ensures in
+    let known : IsArrangedTable table (record { table = table; infos = arranged.infos }) = c.in_ok-arranged.ensures.infos in
     let lines = drawing_of_infos table arranged.infos in
     let part = drawing_of_infos (with_rows_alone c.args.first c.args.count table) arranged.infos in
     let own = c.parts_have_lines_of_the_table.ensures.lines table arranged.infos c.args.first c.args.count in
     on_ok_weaker c.push_rows-2.result
     (λ appended. (
       terminated_text_of part,
-      appended ∙ ap (λ (t : TableValue). string_bytes c.args.text.now ++ terminated_text_of (drawing_of_infos (with_rows_alone c.args.first c.args.count t) arranged.infos)) known.of_table,
+      appended ∙ ap (λ (t : TableValue). string_bytes c.args.text.now ++ terminated_text_of (drawing_of_infos (with_rows_alone c.args.first c.args.count t) arranged.infos)) c.in_ok-arranged.ensures.table,
       λ w dynamic width off plain_texts unbroken free plain enough.
           let few : All (λ line. count line ≤ max w (least_total table)) lines = subst (All (λ line. count line ≤ max w (least_total table))) (sym (known.headline.edges.unstyled_lines off plain_texts)) ((known.headline.known_width.keeps_to_width w free dynamic width).printable_lines (plain known.headline.widths)) in
           let found = c.lines_are_found_in_their_texts.ensures.terminated part (carried HasNoBreak lines part own (known.headline.controls.without_breaks unbroken)) in

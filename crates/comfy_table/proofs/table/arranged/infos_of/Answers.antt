@@ -6,7 +6,7 @@ use Rattle.comfy_table.proofs.OneDrawingLemmas.{arranged_is_one}
 use Rattle.comfy_table.specs.Drawing.{drawing_of_infos, infos_of}
 use Rattle.comfy_table.specs.Headline.{IsTableDrawing}
 use Rattle.comfy_table.specs.TableValue.{KeepsParts, TableValue}
-use Rattle.comfy_table.proofs.table.arranged.ArrangedTable.infos_of.Goals as goal
+use Rattle.comfy_table.proofs.table.arranged.infos_of.Goals as goal
 
 pub returns-clause-drawing : goal.returns-clause-drawing
 returns-clause-drawing g c =

@@ -6,11 +6,11 @@ use Rattle.comfy_table.proofs.OtherRowLemmas.{part-whole, part_same}
 use Rattle.comfy_table.specs.Drawing.{drawing_of_infos, part_of_drawing, terminated_text_of}
 use Rattle.comfy_table.specs.Parts.{with_rows_alone}
 use Rattle.comfy_table.specs.TableValue.{TableValue}
-use Rattle.comfy_table.proofs.table.arranged.ArrangedTable+Table.push_rows.Goals as goal
+use Rattle.comfy_table.proofs.table.arranged.ArrangedTable+ref+Table.push_rows.Goals as goal
 
 pub returns-clause-ok : goal.returns-clause-ok
 returns-clause-ok c =
-    let table = c.args.self.now.table in
+    let table = c.args.self.now.contents.now in
     let infos = c.args.self.now.infos in
     let own = c.in_ok-row_writer.field-0 in
     let rows = c.rows_from-rows.result.now in
