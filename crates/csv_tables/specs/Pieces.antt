@@ -9,6 +9,6 @@ use Rattle.csv_tables.specs.declared.drawn.OpenDrawing.{OpenDrawing}
 abbrev pub rest_of : Option OpenDrawing → Text
 rest_of None = []
 rest_of (Some left) =
-    drawn_next left.contents.rows left.contents.table left.infos.items left.place left.is_first
-    true (drop left.place left.contents.rows.selected.rows)
+    drawn_next left.arranged.contents.rows left.arranged.contents.table left.arranged.infos
+    left.place left.is_first true (drop left.place left.arranged.contents.rows.selected.rows)
     ++ string_bytes left.note

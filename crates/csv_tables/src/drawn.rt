@@ -10,7 +10,6 @@ ghost use Rattle.devices.specs.Pieces.{text_left};
 
 use crate::contents::RowContents;
 use crate::expanded::push_record_line;
-use comfy_parts::content_split::ColumnDisplayInfo;
 use comfy_table::{ArrangedTable, Extent, Result};
 use csv_records::Rows;
 use devices::Pieces;
@@ -40,7 +39,7 @@ impl Model for DrawnRecords {
 
     ghost invariant = { λ d. IfNone d.ready (rest_of d.rest ≡ [])
         × IfSome d.ready (λ piece. 0 < length (string_bytes piece))
-        × IfSome d.rest (λ left. left.place ≤ length left.contents.rows.selected.rows) };
+        × IfSome d.rest (λ left. left.place ≤ length left.arranged.contents.rows.selected.rows) };
 
     ghost view = { λ d. text_left d.ready ++ rest_of d.rest };
 }
@@ -91,11 +90,10 @@ impl Pieces for DrawnRecords {
     }
 }
 
-/// Records that are drawn one after another, and what is written behind them.
+/// Records that are drawn one after another, and the note that is written after them.
 #[derive(Drop)]
 pub(crate) struct OpenDrawing {
-    pub contents: RowContents,
-    pub infos: Vec<ColumnDisplayInfo>,
+    pub arranged: ArrangedTable<RowContents>,
     // the record that is drawn next
     pub place: usize,
     // whether what stands above the records is drawn with it
@@ -106,12 +104,12 @@ pub(crate) struct OpenDrawing {
 // The next piece of a drawing, and what comes behind it.
 fn piece_of(rest: Option<OpenDrawing>) -> Result<(Option<String>, Option<OpenDrawing>)>
     requires { IfSome rest (λ left.
-        left.place ≤ length left.contents.rows.selected.rows) }
+        left.place ≤ length left.arranged.contents.rows.selected.rows) }
     ensures all { IfOk result (λ x. rest_of rest ≡ text_left x.0 ++ rest_of x.1) }
     ensures none { IfOk result (λ x. IfNone x.0 (rest_of x.1 ≡ [])) }
     ensures some { IfOk result (λ x. IfSome x.0 (λ piece. 0 < length (string_bytes piece))) }
     ensures place { IfOk result (λ x. IfSome x.1 (λ left.
-        left.place ≤ length left.contents.rows.selected.rows)) }
+        left.place ≤ length left.arranged.contents.rows.selected.rows)) }
 {
     let mut left = rest;
     while let Some(drawing) = left {
@@ -124,81 +122,76 @@ fn piece_of(rest: Option<OpenDrawing>) -> Result<(Option<String>, Option<OpenDra
     Ok((None, None))
 }
 
-// Appends the lines of the next records, and behind the last one the note. Returns what is left.
+// Appends the lines of the next records, and after the last one the note. Returns the rest of the
+// drawing.
 fn push_next(left: OpenDrawing, text: &mut String) -> Result<Option<OpenDrawing>>
-    requires { left.place ≤ length left.contents.rows.selected.rows }
+    requires { left.place ≤ length left.arranged.contents.rows.selected.rows }
     ensures text { IfOk result (λ rest. string_bytes text.old ++ rest_of (Some left)
         ≡ string_bytes text.new ++ rest_of rest) }
     ensures place { IfOk result (λ rest. IfSome rest (λ more. (left.place < more.place)
-        × (more.place ≤ length more.contents.rows.selected.rows)
-        × (length more.contents.rows.selected.rows
-        ≡ length left.contents.rows.selected.rows))) }
+        × (more.place ≤ length more.arranged.contents.rows.selected.rows)
+        × (length more.arranged.contents.rows.selected.rows
+        ≡ length left.arranged.contents.rows.selected.rows))) }
 {
     let OpenDrawing {
-        contents,
-        infos,
+        arranged,
         place,
         is_first,
         note,
     } = left;
-    let rows = contents.rows.selected.rows().rows_behind(place);
+    let rows = arranged.contents().rows.selected.rows().rows_behind(place);
     let next = rows.first_rows(RECORDS);
     let count = next.len();
     let is_last = count == rows.len();
     let extent = Extent { is_first, is_last };
-    let infos = push_records(text, &contents, infos, place, &next, extent)?;
+    push_records(text, &arranged, place, &next, extent)?;
     if is_last {
         text.push_str(note.as_str())?;
         return Ok(None);
     }
     Ok(Some(OpenDrawing {
-        contents,
-        infos,
+        arranged,
         place: place + count,
         is_first: false,
         note,
     }))
 }
 
-/// Appends the lines of the next records. Returns the infos again.
+/// Appends the lines of the next records, the first of which is at a place.
 pub(crate) fn push_records(
     text: &mut String,
-    contents: &RowContents,
-    infos: Vec<ColumnDisplayInfo>,
+    arranged: &ArrangedTable<RowContents>,
     place: usize,
     next: &Rows<'_>,
     extent: Extent,
-) -> Result<Vec<ColumnDisplayInfo>>
+) -> Result<()>
     requires { place + length next.now < 2 ^ 64 }
-    ensures text { OnOk result (string_bytes text.new ≡ string_bytes text.old
-        ++ drawn_next contents.now.rows contents.now.table infos.items place extent.is_first
-        extent.is_last next.now) }
-    ensures infos { IfOk result (λ found. found.items ≡ infos.items) }
+    ensures { OnOk result (string_bytes text.new ≡ string_bytes text.old
+        ++ drawn_next arranged.now.contents.rows arranged.now.contents.table arranged.now.infos
+        place extent.is_first extent.is_last next.now) }
 {
-    let arranged = ArrangedTable::with_infos(contents, infos)?;
-    if contents.rows.is_expanded {
-        push_expanded(text, contents, &arranged, place, next)?;
+    if arranged.contents().rows.is_expanded {
+        push_expanded(text, arranged, place, next)
     } else {
-        push_rows(text, contents, &arranged, place, next, extent)?;
+        push_rows(text, arranged, place, next, extent)
     }
-    Ok(arranged.into_infos())
 }
 
 // Appends the lines of the rows of some records, the first of which is at a place.
 fn push_rows(
     text: &mut String,
-    contents: &RowContents,
-    arranged: &ArrangedTable<'_, RowContents>,
+    arranged: &ArrangedTable<RowContents>,
     place: usize,
     next: &Rows<'_>,
     extent: Extent,
 ) -> Result<()>
-    requires rows { contents.now.rows.is_expanded ≡ false }
+    requires rows { arranged.now.contents.rows.is_expanded ≡ false }
     requires places { place + length next.now < 2 ^ 64 }
     ensures { OnOk result (string_bytes text.new ≡ string_bytes text.old ++ terminated_text_of
-        (part_of_drawing arranged.now.table arranged.now.infos extent.is_first extent.is_last
-        (rows_from contents.now.rows place next.now))) }
+        (part_of_drawing arranged.now.contents.table arranged.now.infos extent.is_first
+        extent.is_last (rows_from arranged.now.contents.rows place next.now))) }
 {
+    let contents = arranged.contents();
     let mut writer = arranged.row_writer()?;
     let mut cells = Vec::new(contents.rows.selected.alloc);
     let mut at = place;
@@ -220,16 +213,17 @@ fn push_rows(
 // Appends some expanded records, the first of which is at a place.
 fn push_expanded(
     text: &mut String,
-    contents: &RowContents,
-    arranged: &ArrangedTable<'_, RowContents>,
+    arranged: &ArrangedTable<RowContents>,
     place: usize,
     next: &Rows<'_>,
 ) -> Result<()>
-    requires expanded { contents.now.rows.is_expanded ≡ true }
+    requires expanded { arranged.now.contents.rows.is_expanded ≡ true }
     requires places { place + length next.now < 2 ^ 64 }
     ensures { OnOk result (string_bytes text.new ≡ string_bytes text.old
-        ++ expanded_from contents.now.rows arranged.now.table arranged.now.infos place next.now) }
+        ++ expanded_from arranged.now.contents.rows arranged.now.contents.table arranged.now.infos
+        place next.now) }
 {
+    let contents = arranged.contents();
     let mut writer = arranged.row_writer()?;
     let mut at = place;
     for fields in next.iter() {

@@ -23,7 +23,6 @@ use crate::selected::SelectedRecords;
 use crate::separators::{separate_fields, separate_rows};
 use crate::table::markdown_look;
 use crate::unbroken::{keep_unbroken, keep_unbroken_fields};
-use comfy_parts::content_split::ColumnDisplayInfo;
 use comfy_table::{ArrangedTable, Extent, Result};
 use csv_records::Records;
 use devices::joined;
@@ -46,10 +45,8 @@ pub fn drawn_records(
     if look.is_markdown {
         return markdown_records(selected, look, note);
     }
-    let (contents, infos) = arranged_contents(drawn_contents(selected, look)?)?;
     let left = OpenDrawing {
-        contents,
-        infos,
+        arranged: arranged_contents(drawn_contents(selected, look)?)?,
         place: 0,
         is_first: true,
         note,
@@ -84,18 +81,17 @@ pub fn output_of_records(alloc: Global, records: Records, layout: &Layout) -> Re
     text_of_records(alloc, records, Some(below), layout)
 }
 
-// What is drawn of records, and what its columns are drawn by.
-fn arranged_contents(contents: RowContents) -> Result<(RowContents, Vec<ColumnDisplayInfo>)>
-    ensures contents { IfOk result (λ x. x.0 ≡ contents) }
-    ensures rows { IfOk result (λ x.
-        x.0.table.rows ≡ rows_from x.0.rows 0 x.0.rows.selected.rows) }
-    ensures infos { IfOk result (λ x. IsArrangedTable x.0.table
-        (record { table = x.0.table; infos = x.1.items })) }
+// The table that is drawn of records, with the widths of its columns.
+fn arranged_contents(contents: RowContents) -> Result<ArrangedTable<RowContents>>
+    ensures contents { IfOk result (λ arranged. arranged.contents ≡ contents) }
+    ensures rows { contents.table.rows
+        ≡ rows_from contents.rows 0 contents.rows.selected.rows }
+    ensures infos { IfOk result (λ arranged. IsArrangedTable contents.table
+        (record { table = contents.table; infos = arranged.infos })) }
 {
     // Said for the proof: rows are made of whole characters.
     contents.rows.selected.hold_texts();
-    let infos = ArrangedTable::infos_of(&contents)?;
-    Ok((contents, infos))
+    ArrangedTable::of_contents(contents)
 }
 
 // What is drawn of records: a table of rows, or of expanded records.
@@ -178,11 +174,10 @@ fn markdown_records(selected: SelectedRecords, look: &Look, note: String) -> Res
         is_expanded: false,
         is_aligned: false,
     })?;
-    let (contents, infos) = arranged_contents(contents)?;
-    let (beginning, infos) = markdown_beginning(&contents, infos)?;
+    let arranged = arranged_contents(contents)?;
+    let beginning = markdown_beginning(&arranged)?;
     let left = OpenDrawing {
-        contents,
-        infos,
+        arranged,
         place: 0,
         is_first: false,
         note,
@@ -190,20 +185,17 @@ fn markdown_records(selected: SelectedRecords, look: &Look, note: String) -> Res
     DrawnRecords::of_records(beginning, left)
 }
 
-// The header of a table for Markdown, with the line below it, and the infos again.
-fn markdown_beginning(
-    contents: &RowContents,
-    infos: Vec<ColumnDisplayInfo>,
-) -> Result<(String, Vec<ColumnDisplayInfo>)>
-    requires { contents.now.rows.is_expanded ≡ false }
-    ensures text { IfOk result (λ x. All HasNoBreak
-        (part_of_drawing contents.now.table infos.items true false [])
-        → string_bytes x.0 ≡ terminated_text_of
-        (below_first (rule_line (sides contents.now.rows.selected)
-        (max_content_widths contents.now.table))
-        (part_of_drawing contents.now.table infos.items true false []))) }
-    ensures infos { IfOk result (λ x. x.1.items ≡ infos.items) }
+// The header of a table for Markdown, with the line below it.
+fn markdown_beginning(arranged: &ArrangedTable<RowContents>) -> Result<String>
+    requires { arranged.now.contents.rows.is_expanded ≡ false }
+    ensures { IfOk result (λ text. All HasNoBreak
+        (part_of_drawing arranged.now.contents.table arranged.now.infos true false [])
+        → string_bytes text ≡ terminated_text_of
+        (below_first (rule_line (sides arranged.now.contents.rows.selected)
+        (max_content_widths arranged.now.contents.table))
+        (part_of_drawing arranged.now.contents.table arranged.now.infos true false []))) }
 {
+    let contents = arranged.contents();
     let selected = &contents.rows.selected;
     let mut header = String::new(selected.alloc);
     let none = selected.rows().first_rows(0);
@@ -211,9 +203,8 @@ fn markdown_beginning(
         is_first: true,
         is_last: false,
     };
-    let infos = push_records(&mut header, contents, infos, 0, &none, above)?;
-    let text = with_rule(contents, header.as_str())?;
-    Ok((text, infos))
+    push_records(&mut header, arranged, 0, &none, above)?;
+    with_rule(contents, header.as_str())
 }
 
 // The lines of a header, with the line below it.

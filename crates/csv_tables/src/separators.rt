@@ -82,11 +82,12 @@ fn has_tall_row(contents: &RowContents) -> Result<bool>
     requires { contents.now.rows.is_expanded ≡ false }
     ensures { IfOk result (λ is_tall. HasTallRow contents.now.table is_tall) }
 {
-    let infos = ArrangedTable::infos_of(contents)?;
+    let arranged = ArrangedTable::of_contents(contents)?;
+    let infos = arranged.infos();
     let rows = &contents.rows;
     let selected = &rows.selected;
     for (at, fields) in selected.rows().enumerate() {
-        if rows.is_tall(&contents.table, infos.as_slice(), at, &fields)? {
+        if rows.is_tall(&contents.table, infos, at, &fields)? {
             return Ok(true);
         }
     }

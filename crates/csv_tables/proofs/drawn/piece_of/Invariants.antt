@@ -6,12 +6,12 @@ use Rattle.csv_tables.proofs.drawn.piece_of.Given as goal
 -- how many records are left, and one more where the drawing isn't at its end
 abbrev pub left_of : Option OpenDrawing → ℕ
 left_of None = 0
-left_of (Some left) = (length left.contents.rows.selected.rows - left.place) + 1
+left_of (Some left) = (length left.arranged.contents.rows.selected.rows - left.place) + 1
 
 abbrev pub invariant-loop-left : goal.invariant-loop-left
 invariant-loop-left l =
     (rest_of l.initial.left ≡ rest_of l.left)
-    × IfSome l.left (λ left. left.place ≤ length left.contents.rows.selected.rows)
+    × IfSome l.left (λ left. left.place ≤ length left.arranged.contents.rows.selected.rows)
 
 abbrev pub decreases-loop-left : goal.decreases-loop-left
 decreases-loop-left l = left_of l.left

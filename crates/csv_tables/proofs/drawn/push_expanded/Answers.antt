@@ -10,8 +10,8 @@ use Rattle.csv_tables.proofs.drawn.push_expanded.Goals as goal
 
 pub loop-fields-preserved : goal.loop-fields-preserved
 loop-fields-preserved c =
-    let rows = c.args.contents.now.rows in
-    let table = c.args.arranged.now.table in
+    let rows = c.args.arranged.now.contents.rows in
+    let table = c.args.arranged.now.contents.table in
     let infos = c.args.arranged.now.infos in
     let at = c.loop-fields.at in
     let had = c.loop-fields.invariant in

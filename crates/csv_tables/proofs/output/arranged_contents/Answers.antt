@@ -1,4 +1,5 @@
 use Rattle.std.proofs.Common.{◌≡◌, [], All, ap, subst, sym, ◌∙◌}
+use Rattle.std.proofs.lemmas.Result.{IfOk-weaker}
 use Rattle.std.specs.Prelude.{unwrap_or}
 use Rattle.comfy_parts.specs.CellValue.{IsRow}
 use Rattle.csv_tables.proofs.WholeRowLemmas.{rows_whole}
@@ -18,4 +19,4 @@ returns-clause-infos c =
     let names = subst (λ (v : ContentsValue). AllText (unwrap_or v.rows.selected.names [])) c.contents.view_is c.hold_texts.ensures.names in
     let texts = subst (λ (v : ContentsValue). All AllText v.rows.selected.rows) c.contents.view_is c.hold_texts.ensures.rows in
     let whole : All IsRow contents.table.rows = subst (All IsRow) (sym own) (rows_whole rows names 0 rows.selected.rows texts) in
-    c.in_ok-infos.ensures.drawing whole
+    IfOk-weaker c.of_contents.result _ _ (λ arranged drawn. drawn whole) c.of_contents.ensures.drawing

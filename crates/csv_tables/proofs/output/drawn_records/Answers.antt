@@ -3,6 +3,7 @@ use Rattle.std.proofs.lemmas.Result.{IfOk-weaker}
 use Rattle.comfy_parts.specs.Text.{Text}
 use Rattle.csv_tables.proofs.RecordTextLemmas.{renders}
 use Rattle.csv_tables.specs.Contents.{AreDrawnContents, drawn_next}
+use Rattle.csv_tables.specs.ContentsValue.{ContentsValue}
 use Rattle.csv_tables.specs.Drawn.{RendersAsTable, RendersContent, SelectedValue, note_for}
 use Rattle.csv_tables.proofs.output.drawn_records.Goals as goal
 
@@ -27,13 +28,14 @@ returns c =
     let layout = c.args.layout.now in
     let look = layout.look in
     let selected = c.in_ok-selected.selected in
-    let contents = c.in_ok-contents.contents in
-    let text = drawn_next contents.rows contents.table c.in_ok-contents.infos.items 0 true true contents.rows.selected.rows in
-    let made : AreDrawnContents look selected contents = subst (AreDrawnContents look selected) (sym c.in_ok-contents.ensures.contents) c.in_ok-drawn_contents.ensures in
+    let contents = c.in_ok-drawn_contents.field-0 in
+    let arranged = c.in_ok-arranged_contents.field-0 in
+    let text = drawn_next contents.rows contents.table arranged.infos 0 true true contents.rows.selected.rows in
+    let made : AreDrawnContents look selected contents = c.in_ok-drawn_contents.ensures in
     let same : contents.rows.selected ≡ selected = made.drawn.are_contents.selected_is in
     let drawn : RendersAsTable look selected text =
     subst (λ (s : SelectedValue). RendersAsTable look s text) same
-    (renders look contents c.in_ok-contents.infos.items (subst (λ (s : SelectedValue). AreDrawnContents look s contents) (sym same) made) c.in_ok-contents.ensures.infos c.in_ok-contents.ensures.rows) in
+    (renders look contents arranged.infos (subst (λ (s : SelectedValue). AreDrawnContents look s contents) (sym same) made) c.in_ok-arranged_contents.ensures.infos c.in_ok-arranged_contents.ensures.rows) in
     let kind : RendersContent look.is_markdown look selected text = subst (λ b. RendersContent b look selected text) (sym c.if-look.false) drawn in
     let count = ap (λ (s : SelectedValue). s.count) c.in_ok-selected.ensures in
     IfOk-weaker c.of_records.result _ _
@@ -42,6 +44,8 @@ returns c =
       is_content = sym c.in_ok-selected.ensures;
       text = text;
       is_text = kind;
-      joined = is ∙ ap (λ (t : Text). t ++ (text ++ string_bytes c.in_ok-note.note)) c.new-2.ensures.bytes ∙ ap (λ (t : Text). text ++ t) (c.in_ok-note.ensures ∙ ap (note_for look.is_markdown layout.selection.limit) (sym count));
+      joined = is
+          ∙ ap (λ (v : ContentsValue). string_bytes c.new-2.result ++ (drawn_next v.rows v.table arranged.infos 0 true true v.rows.selected.rows ++ string_bytes c.in_ok-note.note)) c.in_ok-arranged_contents.ensures.contents
+          ∙ ap (λ (t : Text). t ++ (text ++ string_bytes c.in_ok-note.note)) c.new-2.ensures.bytes ∙ ap (λ (t : Text). text ++ t) (c.in_ok-note.ensures ∙ ap (note_for look.is_markdown layout.selection.limit) (sym count));
     })
     c.of_records.ensures

@@ -8,5 +8,5 @@ use Rattle.csv_tables.proofs.separators.has_tall_row.Given as goal
 -- none of the rows so far is tall
 abbrev pub invariant-loop-at : goal.invariant-loop-at
 invariant-loop-at l =
-    list_any (nat_lt 1) (map (row_height l.contents.table l.infos.items) (rows_from l.rows (enumerate_count l.at-iterator) (enumerate_source l.at-iterator)))
-    ≡ list_any (nat_lt 1) (map (row_height l.contents.table l.infos.items) l.contents.table.rows)
+    list_any (nat_lt 1) (map (row_height l.contents.table l.infos) (rows_from l.rows (enumerate_count l.at-iterator) (enumerate_source l.at-iterator)))
+    ≡ list_any (nat_lt 1) (map (row_height l.contents.table l.infos) l.contents.table.rows)
