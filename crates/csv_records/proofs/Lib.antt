@@ -7,6 +7,7 @@ pub mod CutLemmas
 pub mod DecimalLemmas
 pub mod DelimiterLemmas
 pub mod EncodingLemmas
+pub mod FieldNumberLemmas
 pub mod FigureLemmas
 pub mod FirstLemmas
 pub mod NotTextLemmas
@@ -22,7 +23,6 @@ pub mod QuoteLemmas
 pub mod ReadTextLemmas
 pub mod RecordLemmas
 pub mod ShownLemmas
-pub mod SimpleLemmas
 pub mod SpacesLemmas
 pub mod TextLemmas
 pub mod WholeLineLemmas

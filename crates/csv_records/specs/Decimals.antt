@@ -4,12 +4,14 @@ use Rattle.std.specs.Prelude.{ℕ, Bool, true, ◌+◌, ◌-◌, ◌==◌, ◌&&
 use Rattle.std.specs.Char.{is_ascii_digit}
 use Rattle.std.specs.List.{list_all, list_any}
 use Rattle.comfy_parts.specs.Text.{Text}
-use Rattle.csv_records.specs.Number.{begins, ends, figure_of, halves, has_groups, is_decimal, is_fraction, is_neutral, is_number, trimmed}
+use Rattle.csv_records.specs.Number.{begins, ends, figure_of, halves, has_groups, is_decimal, is_fraction, is_neutral, is_number, is_written, trimmed}
 use Rattle.csv_records.specs.declared.decimals.ColumnMarks.{ColumnMarks}
 use Rattle.csv_records.specs.declared.decimals.DecimalMark.{DecimalMark}
 use Rattle.csv_records.specs.declared.decimals.DecimalMark.TheVariants.{Comma, Point}
 use Rattle.csv_records.specs.declared.decimals.MarkUse.{MarkUse}
 use Rattle.csv_records.specs.declared.decimals.Points.{Points}
+use Rattle.csv_records.specs.declared.field_number.FieldNumber.{FieldNumber}
+use Rattle.csv_records.specs.declared.field_number.Fraction.{Fraction}
 
 -- ---- one field
 
@@ -46,6 +48,24 @@ abbrev pub fraction_len : Option (Text × Text) → ℕ
 fraction_len None = 0
 fraction_len (Some (whole, rest)) = 1 + length rest
 
+-- both of them for digits and a mark
+abbrev pub fraction_of : Option (Text × Text) → Fraction
+fraction_of parts = record { len = fraction_len parts; is_read = is_read parts }
+
+-- what a field says as a number, by its digits
+abbrev pub number_with : Bool → Bool → Text → FieldNumber
+number_with is_number is_bare digits =
+    record {
+      is_number = is_number;
+      is_decimal = is_number && is_decimal digits;
+      is_bare = is_bare;
+      point = fraction_of (halves 0x2E digits);
+      comma = fraction_of (halves 0x2C digits);
+    }
+
+abbrev pub number_of : Text → FieldNumber
+number_of field = number_with (is_number field) (list_all is_written field) (digits_in field)
+
 -- ---- a column
 
 -- how the digits of a column use a mark
@@ -57,6 +77,15 @@ use_of mark fields =
       longest =
           fold max 0
           (map (λ field. fraction_len (halves (byte_of mark) (digits_in field))) fields);
+    }
+
+-- so with the digits of one field more
+abbrev pub use_with : DecimalMark → MarkUse → Text → MarkUse
+use_with mark this digits =
+    record {
+      is_decided = this.is_decided || decides mark digits;
+      is_read = this.is_read && is_read (halves (byte_of mark) digits);
+      longest = max this.longest (fraction_len (halves (byte_of mark) digits));
     }
 
 abbrev pub marks_of : List Text → ColumnMarks

@@ -19,6 +19,5 @@ pub mod QuoteWalk
 pub mod Quotes
 pub mod Reading
 pub mod Shown
-pub mod Simple
 pub mod Spaces
 pub mod Started

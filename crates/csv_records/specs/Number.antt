@@ -231,6 +231,15 @@ is_inner b = is_ascii_digit b || ((b == 0x2E) || (b == 0x2C))
 abbrev pub is_outer : ℕ → Bool
 is_outer b = not (is_inner b)
 
+-- one of them, or a sign of ASCII
+abbrev pub is_written : ℕ → Bool
+is_written b = is_inner b || ((b == 0x2D) || (b == 0x2B))
+
+-- what follows such a sign, or all
+abbrev pub unsigned : Text → Text
+unsigned [] = []
+unsigned (b ∷ bs) = if (b == 0x2D) || (b == 0x2B) then bs else b ∷ bs
+
 -- what stands before the first of them, from there to the last, and behind it
 abbrev pub front_of : Text → Text
 front_of text = take (prefix_len is_outer text) text

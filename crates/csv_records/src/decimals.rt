@@ -1,17 +1,12 @@
 //! The decimal mark of a column of numbers, so that fractions stand below each other.
 
-ghost use Rattle.std.specs.Prelude.{◌≡◌, ◌<◌, ◌==◌, ◌&&◌, ◌||◌, ◌∷◌, ◌++◌, ℕ, Bool, List, [], chars, false, max, true};
+ghost use Rattle.std.specs.Prelude.{◌≡◌, ◌<◌, ◌==◌, ◌&&◌, ◌||◌, ◌∷◌, ◌++◌, ℕ, Bool, List, [], chars, false, max, not, true};
 ghost use Rattle.std.specs.Char.{is_ascii_digit};
-ghost use Rattle.comfy_parts.specs.Text.{is_printable_ascii};
-ghost use Rattle.csv_records.specs.Number.{back_of, begins, ends, front_of, halves, is_number, trimmed};
-ghost use Rattle.csv_records.specs.Simple.{fraction_in, is_simple};
-ghost use Rattle.csv_records.specs.Decimals.{byte_of, decides, digits_in, fraction_len, has_mark, is_plain, is_read, marks_of, may_be_whole, points_for, spaces_behind};
+ghost use Rattle.csv_records.specs.Number.{begins, ends, halves};
+ghost use Rattle.csv_records.specs.Decimals.{byte_of, decides, digits_in, fraction_len, fraction_of, has_mark, is_plain, is_read, marks_of, may_be_whole, number_of, points_for, spaces_behind, use_with};
 
-use crate::number::{
-    has_groups, is_bare_neutral, is_decimal_number, is_fraction, is_neutral, parts_of, position_of,
-    split_last, trimmed,
-};
-use crate::simple::simple_fraction;
+use crate::field_number::{FieldNumber, Fraction, fraction_len};
+use crate::number::{has_groups, is_bare_neutral, is_neutral, parts_of, split_last, trimmed};
 
 /// A decimal mark.
 #[derive(Clone, Copy, Debug, PartialEq, Eq)]
@@ -76,7 +71,8 @@ impl Points {
             0
         } else {
             let (_, digits, _) = parts_of(text);
-            self.longest.saturating_sub(fraction_len(digits, self.mark))
+            self.longest
+                .saturating_sub(fraction_len(digits, self.mark.byte()))
         }
     }
 }
@@ -92,37 +88,15 @@ impl MarkUse {
         }
     }
 
-    // With the digits of one field more. Those without the mark say nothing of it.
-    fn with(self, digits: &str, mark: DecimalMark) -> MarkUse
-        ensures { result ≡ record {
-          is_decided = self.is_decided || decides mark digits.now;
-          is_read = self.is_read && is_read (halves (byte_of mark) digits.now);
-          longest = max self.longest (fraction_len (halves (byte_of mark) digits.now));
-        } }
+    // Adds what the digits of one field more say. Those without the mark say nothing of it.
+    fn add(&mut self, field: &str, fraction: Fraction, mark: DecimalMark)
+        ensures { fraction ≡ fraction_of (halves (byte_of mark) (digits_in field.now))
+            → self.new ≡ use_with mark self.old (digits_in field.now) }
     {
-        let len = fraction_len(digits, mark);
-        if len == 0 {
-            return self;
-        }
-        MarkUse {
-            is_decided: self.is_decided || decides(digits, mark),
-            is_read: self.is_read && is_fraction(digits, mark.byte()),
-            longest: self.longest.max(len),
-        }
-    }
-
-    // With a field more whose fraction behind the mark has so many characters and can be read.
-    fn with_fraction(self, field: &str, mark: DecimalMark, len: usize) -> MarkUse
-        ensures { result ≡ record {
-          is_decided = self.is_decided || decides mark (digits_in field.now);
-          is_read = self.is_read;
-          longest = max self.longest len;
-        } }
-    {
-        MarkUse {
-            is_decided: self.is_decided || field_decides(field, mark),
-            is_read: self.is_read,
-            longest: len.max(self.longest),
+        if fraction.len > 0 {
+            self.is_decided = self.is_decided || decides(field, fraction);
+            self.is_read = self.is_read && fraction.is_read;
+            self.longest = self.longest.max(fraction.len);
         }
     }
 
@@ -146,56 +120,14 @@ impl ColumnMarks {
         }
     }
 
-    /// What they say with one field more.
-    pub fn with(self, field: &str) -> ColumnMarks
-        ensures { (fields : List (List ℕ)) → self ≡ marks_of fields
-            → result ≡ marks_of (fields ++ field.now ∷ []) }
+    /// Adds what one field more says, by what it says as a number.
+    pub fn add(&mut self, field: &str, number: FieldNumber)
+        ensures { number ≡ number_of field.now → (fields : List (List ℕ))
+            → self.old ≡ marks_of fields → self.new ≡ marks_of (fields ++ field.now ∷ []) }
     {
-        let (front, digits, back) = parts_of(trimmed(field));
-        ColumnMarks {
-            are_plain: self.are_plain && is_plain(field, front, digits, back),
-            point: self.point.with(digits, DecimalMark::Point),
-            comma: self.comma.with(digits, DecimalMark::Comma),
-        }
-    }
-
-    /// Adds one field more where it is a number as most are written: digits behind a sign or
-    /// without one, and a mark and digits or nothing behind them. Returns whether it is one; other
-    /// numbers aren't seen so fast, and are left to `with`.
-    pub fn add_simple(&mut self, field: &str) -> bool
-        ensures number { result ≡ true → is_number field.now ≡ true }
-        ensures plain { result ≡ true → is_plain field.now ≡ true }
-        ensures printable { result ≡ true → is_printable_ascii field.now ≡ true }
-        ensures added { result ≡ true → (fields : List (List ℕ)) → self.old ≡ marks_of fields
-            → self.new ≡ marks_of (fields ++ field.now ∷ []) }
-        ensures other { result ≡ false → self.new ≡ self.old }
-    {
-        match simple_fraction(field.as_bytes()) {
-            Some(fraction) => {
-                self.add_fraction(field, fraction);
-                true
-            }
-            None => false,
-        }
-    }
-
-    // Adds one field more that is a number as most are written, by what stands behind its whole
-    // number.
-    fn add_fraction(&mut self, field: &str, fraction: &[u8])
-        requires simple { is_simple field.now ≡ true }
-        requires fraction { fraction.now ≡ fraction_in field.now }
-        ensures { (fields : List (List ℕ)) → self.old ≡ marks_of fields
-            → self.new ≡ marks_of (fields ++ field.now ∷ []) }
-    {
-        let len = fraction.len();
-        if fraction.is_empty() {
-            return;
-        }
-        if fraction[0] == b'.' {
-            self.point = self.point.with_fraction(field, DecimalMark::Point, len);
-        } else {
-            self.comma = self.comma.with_fraction(field, DecimalMark::Comma, len);
-        }
+        self.are_plain = self.are_plain && is_plain(field, number);
+        self.point.add(field, number.point, DecimalMark::Point);
+        self.comma.add(field, number.comma, DecimalMark::Comma);
     }
 
     /// The decimal mark of the column, where the fields have one.
@@ -220,15 +152,11 @@ impl ColumnMarks {
     }
 }
 
-// A number that ends with a digit and has no exponent, or a field that says nothing; by its digits
-// and what stands around them.
-fn is_plain(field: &str, front: &str, digits: &str, back: &str) -> bool
-    requires front { front.now ≡ front_of (trimmed field.now) }
-    requires digits { digits.now ≡ digits_in field.now }
-    requires back { back.now ≡ back_of (trimmed field.now) }
-    ensures { result ≡ is_plain field.now }
+// A number that ends with a digit and has no exponent, or a field that says nothing.
+fn is_plain(field: &str, number: FieldNumber) -> bool
+    ensures { number ≡ number_of field.now → result ≡ is_plain field.now }
 {
-    ends_with_digit(field) && is_decimal_number(front, digits, back) || is_neutral(field)
+    number.is_decimal && ends_with_digit(field) || is_neutral(field)
 }
 
 fn ends_with_digit(field: &str) -> bool
@@ -237,19 +165,19 @@ fn ends_with_digit(field: &str) -> bool
     matches!(split_last(field), Some((_, c)) if c.is_ascii_digit())
 }
 
-// Whether nothing but a fraction behind this mark can be read in a field.
-fn field_decides(field: &str, mark: DecimalMark) -> bool
-    ensures { result ≡ decides mark (digits_in field.now) }
+// Whether the mark that a field has can be read in no other way than before a fraction.
+fn decides(field: &str, fraction: Fraction) -> bool
+    ensures { result ≡ fraction.is_read && not (may_be_whole (digits_in field.now)) }
 {
-    let (_, digits, _) = parts_of(trimmed(field));
-    decides(digits, mark)
+    fraction.is_read && !may_be_whole(digits_in(field))
 }
 
-// Whether nothing but a fraction behind this mark can be read.
-fn decides(digits: &str, mark: DecimalMark) -> bool
-    ensures { result ≡ decides mark digits.now }
+// The digits of a field, with their marks.
+fn digits_in(field: &str) -> &str
+    ensures { result.now ≡ digits_in field.now }
 {
-    is_fraction(digits, mark.byte()) && !may_be_whole(digits)
+    let (_, digits, _) = parts_of(trimmed(field));
+    digits
 }
 
 // Whether digits may be groups of a whole number.
@@ -263,14 +191,4 @@ fn begins_with_zero(bytes: &[u8]) -> bool
     ensures { result ≡ begins (λ b. b == 0x30) bytes.now }
 {
     matches!(bytes, [b'0', ..])
-}
-
-// How many characters stand behind the whole number: the mark and the digits of the fraction.
-fn fraction_len(digits: &str, mark: DecimalMark) -> usize
-    ensures { result ≡ fraction_len (halves (byte_of mark) digits.now) }
-{
-    match position_of(digits.as_bytes(), mark.byte()) {
-        Some(at) => digits.len() - at,
-        None => 0,
-    }
 }

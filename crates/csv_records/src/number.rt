@@ -36,42 +36,8 @@ const CURRENCY_CODES: [&str; 161] = [
     "YER", "ZAR", "ZMW", "ZWG", "ZWL",
 ];
 
-/// Whether a field is a number: digits, with a sign, a decimal mark, an exponent and groups of
-/// three where it has them, and with one currency, or `%` or a unit of sizes or times; or such a
-/// number without sign in parentheses. Spaces around it don't count. Names such as `0042` are none,
-/// nor are dates, addresses and versions.
-///
-/// ```
-/// is_number("-1_000.5e3")
-/// is_number("($12,50)")
-/// is_number("1.234,56 €")
-/// is_number("EUR -5")
-/// is_number("4 GiB")
-/// ```
-pub fn is_number(field: &str) -> bool
-    ensures { result ≡ is_number field.now }
-{
-    is_bare_number(trimmed(field))
-}
-
-// A number without spaces around it.
-fn is_bare_number(text: &str) -> bool
-    ensures { result ≡ is_bare_number text.now }
-{
-    let (front, figure, back) = parts_of(text);
-    may_stand_around(front, back) && is_figure(figure)
-}
-
-// A number without exponent, by its figure and what stands around it.
-pub(crate) fn is_decimal_number(front: &str, figure: &str, back: &str) -> bool
-    ensures { result ≡ (is_signed front.now back.now || is_enclosed front.now back.now)
-        && (not (is_name figure.now) && is_decimal figure.now) }
-{
-    may_stand_around(front, back) && !is_name(figure.as_bytes()) && is_decimal(figure)
-}
-
-// What may stand around a figure.
-fn may_stand_around(front: &str, back: &str) -> bool
+// Whether these may be around a figure.
+pub(crate) fn may_stand_around(front: &str, back: &str) -> bool
     ensures { result ≡ is_signed front.now back.now || is_enclosed front.now back.now }
 {
     is_signed(front, back) || is_enclosed(front, back)
@@ -150,7 +116,7 @@ fn figure_end(text: &str) -> usize
 }
 
 // A digit or a decimal mark.
-fn is_inner(byte: u8) -> bool
+pub(crate) fn is_inner(byte: u8) -> bool
     ensures { result ≡ is_inner byte }
 {
     byte.is_ascii_digit() || byte == b'.' || byte == b','
@@ -355,14 +321,6 @@ fn is_currency(c: char) -> bool
     }
 }
 
-// A number without sign and unit.
-fn is_figure(text: &str) -> bool
-    ensures { result ≡ is_figure text.now }
-{
-    !is_name(text.as_bytes())
-        && (is_decimal(text) || is_scientific(text, 'e') || is_scientific(text, 'E'))
-}
-
 // Whether `0` and a digit are in front.
 pub(crate) fn is_name(bytes: &[u8]) -> bool
     ensures { result ≡ is_name bytes.now }
@@ -373,8 +331,8 @@ pub(crate) fn is_name(bytes: &[u8]) -> bool
     }
 }
 
-// A decimal, and its exponent behind a letter.
-fn is_scientific(text: &str, letter: char) -> bool
+// A decimal with an exponent after a letter.
+pub(crate) fn is_scientific(text: &str, letter: char) -> bool
     requires { letter < 128 }
     ensures { result ≡ is_scientific (halves letter text.now) }
 {
@@ -392,7 +350,7 @@ fn is_exponent(text: &str) -> bool
 }
 
 // A number without sign, exponent and unit.
-fn is_decimal(text: &str) -> bool
+pub(crate) fn is_decimal(text: &str) -> bool
     ensures { result ≡ is_decimal text.now }
 {
     is_digits(text.as_bytes())

@@ -1,19 +1,18 @@
 -- What fields of columns say together, one field and one record more.
 use Rattle.std.proofs.Common.{◌≡◌, ◌≢◌, ◌<◌, ◌==◌, ◌&&◌, ◌||◌, ℕ, Bool, true, false, zero, suc, List, [], ◌∷◌, ◌++◌, Option, None, Some, append_assoc, append-nil, eqb-true, length, nat_le, take, unwrap_or, arith, refl, sym, ap, ap₂, ◌∙◌}
-use Rattle.std.proofs.lemmas.Bool.{and_parts, eqb-false}
+use Rattle.std.proofs.lemmas.Bool.{eqb-false}
 use Rattle.std.specs.List.{list_all, list_any, slice_index_or}
 use Rattle.std.specs.Prelude.{if◌then◌else◌}
 use Rattle.std.proofs.lemmas.List.Elements.{filter_map-append}
 use Rattle.std.proofs.lemmas.List.Folds.{list_all-append, list_any-append}
-use Rattle.std.proofs.lemmas.Str.{chars-IsAscii}
 use Rattle.std.specs.Str.{chars}
-use Rattle.comfy_parts.proofs.CallerLemmas.{ascii-printable}
-use Rattle.comfy_parts.specs.Text.{Text, is_printable_ascii}
+use Rattle.comfy_parts.specs.Text.{Text}
 use Rattle.csv.specs.Records.{field_at}
 use Rattle.csv_records.proofs.DecimalLemmas.{empty_is_plain, empty_says_nothing as marks_stay}
+use Rattle.csv_records.proofs.FieldNumberLemmas.{bare_characters, bare_is_printable}
 use Rattle.csv_records.specs.Cleaning.{visible_of}
 use Rattle.csv_records.specs.Decimals.{is_plain, marks_of}
-use Rattle.csv_records.specs.Number.{is_neutral, is_number}
+use Rattle.csv_records.specs.Number.{is_neutral, is_number, is_written}
 use Rattle.csv_records.specs.declared.decimals.ColumnMarks.{ColumnMarks}
 use Rattle.csv_tables.proofs.ColumnLemmas.{seen_at}
 use Rattle.csv_tables.specs.Columns.{seen}
@@ -21,7 +20,7 @@ use Rattle.csv_tables.specs.Decimals.{is_narrow, narrow_marks}
 use Rattle.csv_tables.specs.Fields.{field_or_blank}
 use Rattle.csv_tables.specs.Kinds.{column_kind, is_number_kind, is_other_kind, joined_kind, kind_of}
 use Rattle.csv_tables.specs.Summaries.{AreSummaries, column_fields, summary_of}
-use Rattle.csv_tables.specs.Unbroken.{is_of_dates, is_unbroken}
+use Rattle.csv_tables.specs.Unbroken.{is_unbroken}
 use Rattle.csv_tables.specs.declared.summary.ColumnSummary.{ColumnSummary}
 use Rattle.csv_tables.specs.declared.summary.FieldKind.{FieldKind}
 use Rattle.csv_tables.specs.declared.summary.FieldKind.TheVariants.{Neutral, Number, Other}
@@ -130,18 +129,6 @@ same_summary m n kind marks unbroken = ap (λ (k : FieldKind). made_of k m.marks
     made_of : FieldKind → Option ColumnMarks → Bool → ColumnSummary
     made_of kind marks are_unbroken = record { kind = kind; marks = marks; are_unbroken = are_unbroken }
 
--- where fields have marks, all are narrow, and numbers or neutral
-record AreNarrow (fields : List Text) (known : ColumnMarks) : Type 0 where
-  all : (list_all is_narrow fields && list_all is_plain fields) ≡ true
-  same : known ≡ marks_of fields
-
-are_narrow : (fields : List Text) (known : ColumnMarks) → narrow_marks fields ≡ Some known → AreNarrow fields known
-are_narrow fields known is = by_test (list_all is_narrow fields && list_all is_plain fields) refl is
-  where
-    by_test : (t : Bool) → (list_all is_narrow fields && list_all is_plain fields) ≡ t → (if t then Some (marks_of fields) else None) ≡ Some known → AreNarrow fields known
-    by_test true all is = record { all = all; same = sym (ap (λ o. unwrap_or o known) is) }
-    by_test false all is = absurd (cc is)
-
 module _ (fields : List Text) (field : Text) where
   all_with : (p : Text → Bool) (b : Bool) → p field ≡ b → list_all p (fields ++ field ∷ []) ≡ list_all p fields && b
   all_with p b is = list_all-append p fields (field ∷ []) ∙ rw is (by_last b)
@@ -195,73 +182,118 @@ empty_says_nothing fields [] none = same_summary (summary_of fields) (summary_of
     unbroken : list_all is_unbroken (fields ++ [] ∷ []) ≡ list_all is_unbroken fields
     unbroken = all_with fields [] is_unbroken true empty_unbroken ∙ and_true (list_all is_unbroken fields)
 
--- ---- numbers as most are written
+-- ---- columns that aren't of numbers
 
-module _ (fields : List Text) (field : Text) (number : is_number field ≡ true) (plain : is_plain field ≡ true) (printable : is_printable_ascii field ≡ true) where
-  kind_is : kind_of field ≡ Number
-  kind_is = rw number refl
+-- a field that is no number and not neutral isn't plain
+other_is_not_plain : (field : Text) → is_other_kind (kind_of field) ≡ true → is_plain field ≡ false
+other_is_not_plain field other = by_tests (is_number field) refl (is_neutral field) refl
+  where
+    by_tests : (a : Bool) → is_number field ≡ a → (b : Bool) → is_neutral field ≡ b → is_plain field ≡ false
+    by_tests true number b neutral = absurd (cc (sym other ∙ ap (λ (t : Bool). is_other_kind (if t then Number else if is_neutral field then Neutral else Other)) number))
+    by_tests false number true neutral =
+        absurd (cc (sym other ∙ ap₂ (λ (t u : Bool). is_other_kind (if t then Number else if u then Neutral else Other)) number neutral))
+    by_tests false number false neutral = rw (neutral, number) refl
 
-  kind_with : joined_kind (column_kind fields) Number ≡ column_kind (fields ++ field ∷ [])
-  kind_with =
-      let others = any_with fields field (λ f. is_other_kind (kind_of f)) false (ap is_other_kind kind_is) in
-      let numbers = any_with fields field (λ f. is_number_kind (kind_of f)) true (ap is_number_kind kind_is) in
-      by_cases (list_any (λ f. is_other_kind (kind_of f)) fields) (list_any (λ f. is_number_kind (kind_of f)) fields) ∙ sym (rw (others, numbers) refl)
-    where
-      by_cases : (a b : Bool) → joined_kind (if a then Other else if b then Number else Neutral) Number ≡ if a || false then Other else if b || true then Number else Neutral
-      by_cases true b = refl
-      by_cases false true = refl
-      by_cases false false = refl
-
-  module _ (had made : ColumnSummary) (same : had ≡ summary_of fields) (kind : made.kind ≡ joined_kind had.kind Number) (known : ColumnMarks) (marks : had.marks ≡ Some known) where
-    narrow : AreNarrow fields known
-    narrow = are_narrow fields known (sym (ap (λ (s : ColumnSummary). s.marks) same) ∙ marks)
-
-    kinds : made.kind ≡ column_kind (fields ++ field ∷ [])
-    kinds = kind ∙ ap (λ (s : ColumnSummary). joined_kind s.kind Number) same ∙ kind_with
-
-    each : (list_all is_narrow fields ≡ true) × (list_all is_plain fields ≡ true)
-    each = and_parts (list_all is_narrow fields) (list_all is_plain fields) narrow.all
-
-    is_plain_with : list_all is_plain (fields ++ field ∷ []) ≡ true
-    is_plain_with = all_with fields field is_plain true plain ∙ rw each.1 refl
-
-    own : chars field ≡ field
-    own = chars-IsAscii field (ascii-printable field printable)
-
-    -- whether it is short
-    module _ (b : Bool) (short : nat_le (length (chars field)) 25 ≡ b) where
-      narrow_so : nat_le (length field) 25 ≡ b
-      narrow_so = ap (λ (t : Text). nat_le (length t) 25) (sym own) ∙ short
-
-      is_narrow_with : list_all is_narrow (fields ++ field ∷ []) ≡ b
-      is_narrow_with = all_with fields field is_narrow b (rw (narrow_so, printable) (and_true b)) ∙ rw each.0 refl
-
-      own_unbroken : is_unbroken field ≡ b
-      own_unbroken = rw (short, number) (by_dates b (list_all is_of_dates field))
-        where
-          by_dates : (b d : Bool) → (b && (d || true)) ≡ b
-          by_dates true true = refl
-          by_dates true false = refl
-          by_dates false d = refl
-
-      unbroken_with : list_all is_unbroken (fields ++ field ∷ []) ≡ list_all is_unbroken fields && b
-      unbroken_with = all_with fields field is_unbroken b own_unbroken
-
-    pub short_number : (more : ColumnMarks) → nat_le (length (chars field)) 25 ≡ true → (known ≡ marks_of fields → more ≡ marks_of (fields ++ field ∷ [])) → made.marks ≡ Some more → made.are_unbroken ≡ had.are_unbroken
-        → made ≡ summary_of (fields ++ field ∷ [])
-    short_number more short gives is unbroken =
-        let all : (list_all is_narrow (fields ++ field ∷ []) && list_all is_plain (fields ++ field ∷ [])) ≡ true = rw (is_narrow_with true short, is_plain_with) refl in
-        let marks_are : narrow_marks (fields ++ field ∷ []) ≡ Some more =
-        ap (λ (t : Bool). if t then Some (marks_of (fields ++ field ∷ [])) else None) all ∙ ap Some (sym (gives narrow.same)) in
-        same_summary made (summary_of (fields ++ field ∷ [])) kinds (is ∙ sym marks_are)
-        (unbroken ∙ ap (λ (s : ColumnSummary). s.are_unbroken) same ∙ sym (unbroken_with true short ∙ and_true (list_all is_unbroken fields)))
-
-    pub long_number : nat_le (length (chars field)) 25 ≡ false → made.marks ≡ None → made.are_unbroken ≡ false → made ≡ summary_of (fields ++ field ∷ [])
-    long_number long is unbroken =
-        let marks_are : narrow_marks (fields ++ field ∷ []) ≡ None = rw (is_narrow_with false long) refl in
-        same_summary made (summary_of (fields ++ field ∷ [])) kinds (is ∙ sym marks_are)
-        (unbroken ∙ and_false (list_all is_unbroken fields) ∙ sym (unbroken_with false long))
+other_has_no_marks : (fields : List Text) → list_any (λ f. is_other_kind (kind_of f)) fields ≡ true → list_all is_plain fields ≡ false
+other_has_no_marks [] any = absurd (cc any)
+other_has_no_marks (field ∷ fields) any = by_first (is_other_kind (kind_of field)) refl any (other_has_no_marks fields)
+  where
+    by_first : (t : Bool) → is_other_kind (kind_of field) ≡ t → (t || list_any (λ f. is_other_kind (kind_of f)) fields) ≡ true
+        → (list_any (λ f. is_other_kind (kind_of f)) fields ≡ true → list_all is_plain fields ≡ false) → list_all is_plain (field ∷ fields) ≡ false
+    by_first true other some more = ap (λ (b : Bool). b && list_all is_plain fields) (other_is_not_plain field other)
+    by_first false other some more = ap (λ (b : Bool). is_plain field && b) (more some) ∙ by_plain (is_plain field)
       where
-        and_false : (b : Bool) → false ≡ (b && false)
-        and_false true = refl
-        and_false false = refl
+        by_plain : (b : Bool) → (b && false) ≡ false
+        by_plain true = refl
+        by_plain false = refl
+
+no_marks : (fields : List Text) → list_all is_plain fields ≡ false → narrow_marks fields ≡ None
+no_marks fields none = by_narrow (list_all is_narrow fields) (list_all is_plain fields) none
+  where
+    by_narrow : (n p : Bool) → p ≡ false → (if n && p then Some (marks_of fields) else None) ≡ None
+    by_narrow true false is = refl
+    by_narrow false p is = refl
+    by_narrow true true is = absurd (cc is)
+
+pub other_stays : (fields : List Text) (field : Text) (had made : ColumnSummary) → is_other_kind had.kind ≡ true → had ≡ summary_of fields
+    → made.kind ≡ had.kind → made.marks ≡ had.marks → made.are_unbroken ≡ (had.are_unbroken && is_unbroken field)
+    → made ≡ summary_of (fields ++ field ∷ [])
+other_stays fields field had made other same kind marks unbroken =
+    same_summary made (summary_of (fields ++ field ∷ []))
+    (kind ∙ ap (λ (s : ColumnSummary). s.kind) same ∙ is_other ∙ sym (ap (λ (b : Bool). if b then Other else if list_any (λ f. is_number_kind (kind_of f)) (fields ++ field ∷ []) then Number else Neutral) (list_any-append _ fields (field ∷ []) ∙ ap (λ (b : Bool). b || list_any (λ f. is_other_kind (kind_of f)) (field ∷ [])) any)))
+    (marks ∙ ap (λ (s : ColumnSummary). s.marks) same ∙ no_marks fields (other_has_no_marks fields any) ∙ sym (no_marks (fields ++ field ∷ []) (list_all-append is_plain fields (field ∷ []) ∙ ap (λ (b : Bool). b && list_all is_plain (field ∷ [])) (other_has_no_marks fields any))))
+    (unbroken ∙ ap (λ (s : ColumnSummary). s.are_unbroken && is_unbroken field) same ∙ sym (all_with fields field is_unbroken (is_unbroken field) refl))
+  where
+    any : list_any (λ f. is_other_kind (kind_of f)) fields ≡ true
+    any = by_tests (list_any (λ f. is_other_kind (kind_of f)) fields) (list_any (λ f. is_number_kind (kind_of f)) fields) (sym (ap (λ (s : ColumnSummary). is_other_kind s.kind) same) ∙ other)
+      where
+        by_tests : (a b : Bool) → is_other_kind (if a then Other else if b then Number else Neutral) ≡ true → a ≡ true
+        by_tests true b is = refl
+        by_tests false true is = absurd (cc is)
+        by_tests false false is = absurd (cc is)
+
+    is_other : column_kind fields ≡ Other
+    is_other = rw any refl
+
+-- ---- fields of digits and marks alone
+
+pub bare_is_narrow : (field : Text) → list_all is_written field ≡ true → nat_le (length (chars field)) 25 ≡ is_narrow field
+bare_is_narrow field bare = rw (bare_characters field bare, bare_is_printable field bare) (sym (and_true (nat_le (length field) 25)))
+
+-- ---- fields of numbers
+
+module _ (fields : List Text) (field : Text) where
+  kind_with : joined_kind (column_kind fields) (kind_of field) ≡ column_kind (fields ++ field ∷ [])
+  kind_with =
+      let others = any_with fields field (λ f. is_other_kind (kind_of f)) (is_other_kind (kind_of field)) refl in
+      let numbers = any_with fields field (λ f. is_number_kind (kind_of f)) (is_number_kind (kind_of field)) refl in
+      by_cases (list_any (λ f. is_other_kind (kind_of f)) fields) (list_any (λ f. is_number_kind (kind_of f)) fields) (kind_of field)
+      ∙ sym (ap₂ (λ (a b : Bool). if a then Other else if b then Number else Neutral) others numbers)
+    where
+      by_cases : (a b : Bool) (k : FieldKind) → joined_kind (if a then Other else if b then Number else Neutral) k ≡ (if a || is_other_kind k then Other else if b || is_number_kind k then Number else Neutral)
+      by_cases true b k = refl
+      by_cases false true Number = refl
+      by_cases false true Neutral = refl
+      by_cases false true Other = refl
+      by_cases false false Number = refl
+      by_cases false false Neutral = refl
+      by_cases false false Other = refl
+
+  pub number_more : (had made : ColumnSummary) → had ≡ summary_of fields → made.kind ≡ joined_kind had.kind (kind_of field)
+      → made.marks ≡ narrow_marks (fields ++ field ∷ []) → made.are_unbroken ≡ (had.are_unbroken && is_unbroken field)
+      → made ≡ summary_of (fields ++ field ∷ [])
+  number_more had made same kind marks unbroken =
+      same_summary made (summary_of (fields ++ field ∷ []))
+      (kind ∙ ap (λ (s : ColumnSummary). joined_kind s.kind (kind_of field)) same ∙ kind_with) marks
+      (unbroken ∙ ap (λ (s : ColumnSummary). s.are_unbroken && is_unbroken field) same ∙ sym (all_with fields field is_unbroken (is_unbroken field) refl))
+
+  -- why fields have no marks any more
+  pub wide_field : is_narrow field ≡ false → narrow_marks (fields ++ field ∷ []) ≡ None
+  wide_field wide = rw (all_with fields field is_narrow false wide) (by_cases (list_all is_narrow fields) (list_all is_plain (fields ++ field ∷ [])))
+    where
+      by_cases : (n p : Bool) → (if (n && false) && p then Some (marks_of (fields ++ field ∷ [])) else None) ≡ None
+      by_cases true p = refl
+      by_cases false p = refl
+
+  pub other_field : (made : ColumnMarks) → made ≡ marks_of (fields ++ field ∷ []) → made.are_plain ≡ false → narrow_marks (fields ++ field ∷ []) ≡ None
+  other_field made same other = no_marks (fields ++ field ∷ []) (sym (ap (λ (m : ColumnMarks). m.are_plain) same) ∙ other)
+
+  pub none_before : narrow_marks fields ≡ None → narrow_marks (fields ++ field ∷ []) ≡ None
+  none_before none =
+      ap₂ (λ (n p : Bool). if n && p then Some (marks_of (fields ++ field ∷ [])) else None) (all_with fields field is_narrow (is_narrow field) refl) (all_with fields field is_plain (is_plain field) refl)
+      ∙ by_cases (list_all is_narrow fields) (list_all is_plain fields) none (is_narrow field) (is_plain field)
+    where
+      by_cases : (n p : Bool) → (if n && p then Some (marks_of fields) else None) ≡ None → (m q : Bool)
+          → (if (n && m) && (p && q) then Some (marks_of (fields ++ field ∷ [])) else None) ≡ None
+      by_cases true true is m q = absurd (cc is)
+      by_cases false p is m q = refl
+      by_cases true false is true q = refl
+      by_cases true false is false q = refl
+
+-- what marks are, as long as there are any
+pub known_marks : (fields : List Text) (known : ColumnMarks) → narrow_marks fields ≡ Some known → known ≡ marks_of fields
+known_marks fields known is = by_test (list_all is_narrow fields && list_all is_plain fields) is
+  where
+    by_test : (t : Bool) → (if t then Some (marks_of fields) else None) ≡ Some known → known ≡ marks_of fields
+    by_test true is = sym (ap (λ o. unwrap_or o known) is)
+    by_test false is = absurd (cc is)

@@ -3,17 +3,17 @@
 ghost use Rattle.std.specs.Prelude.{◌≡◌, ◌<◌, ◌==◌, ◌++◌, ◌∷◌, ℕ, List, [], IfOk, OnOk, if◌then◌else◌, false, length, map, true};
 ghost use Rattle.std.specs.List.{slice_index_or};
 ghost use Rattle.csv_records.specs.Cleaning.{visible_of};
+ghost use Rattle.csv_records.specs.Decimals.{number_of};
 ghost use Rattle.csv_tables.specs.Columns.{seen};
 ghost use Rattle.csv_tables.specs.Kinds.{is_other_kind, joined_kind, kind_of};
 ghost use Rattle.csv_tables.specs.Unbroken.{is_unbroken};
-ghost use Rattle.csv_tables.specs.declared.summary.FieldKind.TheVariants.{Other};
-ghost use Rattle.csv_tables.specs.Decimals.{narrow_marks};
+ghost use Rattle.csv_tables.specs.Decimals.{is_narrow, narrow_marks};
 ghost use Rattle.csv_tables.specs.Summaries.{AreSummaries, summary_of};
 
 use crate::columns::seen_text;
 use crate::decimals::is_narrow;
 use crate::unbroken::{is_short, is_unbroken};
-use csv_records::{ColumnMarks, Record, Rows, is_neutral, is_number};
+use csv_records::{ColumnMarks, FieldNumber, Record, Rows, is_neutral, number_in};
 use std::alloc::{AllocError, Global};
 
 /// What fields of one column say together.
@@ -65,8 +65,7 @@ impl ColumnSummary {
         Ok(())
     }
 
-    // Adds what one field more says. Many are empty, and say nothing; most fields of columns of
-    // numbers are numbers as most are.
+    // Adds what one field more says. Many are empty, and say nothing.
     fn add_seen(&mut self, field: &str)
         ensures { (fields : List (List ℕ)) → self.old ≡ summary_of fields
             → self.new ≡ summary_of (fields ++ field.now ∷ []) }
@@ -74,43 +73,29 @@ impl ColumnSummary {
         if field.is_empty() {
             return;
         }
-        if !self.add_number(field) {
-            *self = self.with(field);
+        match self.kind {
+            FieldKind::Other => self.add_other(field),
+            _ => self.add_number(field, number_in(field)),
         }
     }
 
-    // Adds what a number as most are written says, together with its marks. Returns whether the
-    // field is one.
-    fn add_number(&mut self, field: &str) -> bool
-        ensures added { result ≡ true → (fields : List (List ℕ)) → self.old ≡ summary_of fields
-            → self.new ≡ summary_of (fields ++ field.now ∷ []) }
-        ensures other { result ≡ false → self.new ≡ self.old }
+    // Adds what one field more says, if a field before it isn't a number.
+    fn add_other(&mut self, field: &str)
+        ensures { is_other_kind self.old.kind ≡ true → (fields : List (List ℕ))
+            → self.old ≡ summary_of fields → self.new ≡ summary_of (fields ++ field.now ∷ []) }
     {
-        let is_added = match &mut self.marks {
-            Some(marks) => marks.add_simple(field),
-            None => false,
-        };
-        if is_added {
-            self.kind = joined_kind(self.kind, FieldKind::Number);
-            if !is_short(field) {
-                self.marks = None;
-                self.are_unbroken = false;
-            }
-        }
-        is_added
+        self.are_unbroken = self.are_unbroken && is_unbroken(field);
     }
 
-    // What they say with one field more.
-    fn with(self, field: &str) -> ColumnSummary
-        ensures { (fields : List (List ℕ)) → self ≡ summary_of fields
-            → result ≡ summary_of (fields ++ field.now ∷ []) }
+    // Adds what one field more says, by what it says as a number.
+    fn add_number(&mut self, field: &str, number: FieldNumber)
+        ensures { number ≡ number_of field.now → (fields : List (List ℕ))
+            → self.old ≡ summary_of fields → self.new ≡ summary_of (fields ++ field.now ∷ []) }
     {
-        let kind = kind_beside(self.kind, field);
-        ColumnSummary {
-            kind: joined_kind(self.kind, kind),
-            marks: marks_with(self.marks, field),
-            are_unbroken: self.are_unbroken && is_unbroken_of(kind, field),
-        }
+        let kind = kind_of(field, number);
+        self.kind = joined_kind(self.kind, kind);
+        self.are_unbroken = self.are_unbroken && is_unbroken_of(kind, field);
+        add_marks(&mut self.marks, field, number);
     }
 
     // Whether no further field changes that.
@@ -202,20 +187,9 @@ fn widen(summaries: &mut Vec<ColumnSummary>, position: usize) -> Result<(), Allo
 
 // ---- one field more
 
-// What a field says of its column, where it may change what fields before it say.
-fn kind_beside(kind: FieldKind, field: &str) -> FieldKind
-    ensures { result ≡ if is_other_kind kind then Other else kind_of field.now }
-{
-    match kind {
-        FieldKind::Other => FieldKind::Other,
-        _ => kind_of(field),
-    }
-}
-
-// Whether a field isn't broken, where a number or a neutral one is known to be that.
+// Whether a field isn't broken. One that is a number or neutral only has to be short.
 fn is_unbroken_of(kind: FieldKind, field: &str) -> bool
-    ensures other { is_other_kind kind ≡ true → result ≡ is_unbroken field.now }
-    ensures known { kind ≡ kind_of field.now → result ≡ is_unbroken field.now }
+    ensures { kind ≡ kind_of field.now → result ≡ is_unbroken field.now }
 {
     match kind {
         FieldKind::Other => is_unbroken(field),
@@ -234,10 +208,11 @@ fn joined_kind(one: FieldKind, other: FieldKind) -> FieldKind
     }
 }
 
-fn kind_of(field: &str) -> FieldKind
-    ensures { result ≡ kind_of field.now }
+// What a field says of its column, by what it says as a number.
+fn kind_of(field: &str, number: FieldNumber) -> FieldKind
+    ensures { number ≡ number_of field.now → result ≡ kind_of field.now }
 {
-    if is_number(field) {
+    if number.is_number {
         FieldKind::Number
     } else if is_neutral(field) {
         FieldKind::Neutral
@@ -246,15 +221,31 @@ fn kind_of(field: &str) -> FieldKind
     }
 }
 
-// The decimal marks of narrow fields that are numbers or neutral, with one more.
-fn marks_with(marks: Option<ColumnMarks>, field: &str) -> Option<ColumnMarks>
-    ensures { (fields : List (List ℕ)) → marks ≡ narrow_marks fields
-        → result ≡ narrow_marks (fields ++ field.now ∷ []) }
+// Adds what one field more says of the decimal mark, as long as all fields are narrow, and numbers
+// or neutral.
+fn add_marks(marks: &mut Option<ColumnMarks>, field: &str, number: FieldNumber)
+    ensures { number ≡ number_of field.now → (fields : List (List ℕ))
+        → marks.old ≡ narrow_marks fields → marks.new ≡ narrow_marks (fields ++ field.now ∷ []) }
 {
-    let marks = marks?.with(field);
-    if marks.are_plain && is_narrow(field) {
-        Some(marks)
+    let are_kept = match marks {
+        Some(marks) => {
+            marks.add(field, number);
+            marks.are_plain && is_narrow_number(field, number)
+        }
+        None => false,
+    };
+    if !are_kept {
+        *marks = None;
+    }
+}
+
+// Whether a field is narrow. Digits and decimal marks are printable ASCII, without a look at each.
+fn is_narrow_number(field: &str, number: FieldNumber) -> bool
+    ensures { number ≡ number_of field.now → result ≡ is_narrow field.now }
+{
+    if number.is_bare {
+        is_short(field)
     } else {
-        None
+        is_narrow(field)
     }
 }

@@ -1,5 +1,5 @@
-use Rattle.std.proofs.Common.{◌≡◌, ◌-◌, ◌∙◌, ap, false, refl, sym, true}
-use Rattle.csv_records.specs.Decimals.{byte_of, digits_in, fraction_len}
+use Rattle.std.proofs.Common.{◌≡◌, ◌-◌, ◌∙◌, ap, ap₂, false, refl, sym, true}
+use Rattle.csv_records.specs.Decimals.{digits_in, fraction_len}
 use Rattle.csv_records.specs.Number.{figure_of, halves, is_bare_neutral, is_neutral}
 use Rattle.csv_records.proofs.decimals.Points.spaces_behind.Goals as goal
 
@@ -14,4 +14,4 @@ unfolding is_neutral
 returns-else-is_bare_neutral c =
     let neutral : is_neutral c.args.field.now ≡ false = ap is_bare_neutral (sym c.trimmed-text.ensures) ∙ sym c.is_bare_neutral.ensures ∙ c.if-is_bare_neutral.false in
     let digits : c.parts_of.result.1.now ≡ digits_in c.args.field.now = c.parts_of.ensures.figure ∙ ap figure_of c.trimmed-text.ensures in
-    c.saturating_sub.ensures ∙ ap (λ n. c.args.self.longest - n) (c.fraction_len.ensures ∙ ap (λ d. fraction_len (halves (byte_of c.args.self.mark) d)) digits) ∙ sym (rw neutral refl)
+    c.saturating_sub.ensures ∙ ap (λ n. c.args.self.longest - n) (c.fraction_len.ensures ∙ ap₂ (λ m d. fraction_len (halves m d)) c.byte.ensures.value digits) ∙ sym (rw neutral refl)
