@@ -138,7 +138,7 @@ module _ (delimiter : ℕ) (has_quotes : Bool) (b : ℕ) where
   step_between st.AfterCr = either (b == 10) (st.StartRecord, act.Skip) (start_record cfg b) (λ is. absurd (cc is)) start_record_between
 
   -- behind a carriage return one reads on as where a record begins
-  step_alike : step cfg st.AfterCr b ≡ step cfg st.StartRecord b
+  pub step_alike : step cfg st.AfterCr b ≡ step cfg st.StartRecord b
   step_alike = by_tests (b == 13) (b == 10)
     where
       by_tests : (returns feeds : Bool) → choice feeds (st.StartRecord, act.Skip) (choice (returns || feeds) (st.StartRecord, act.Skip) (start_field cfg b)) ≡ choice (returns || feeds) (st.StartRecord, act.Skip) (start_field cfg b)

@@ -8,12 +8,14 @@ use Rattle.std.specs.List.{slice_index}
 use Rattle.std.specs.Prelude.{None, Some, if◌then◌else◌}
 use Rattle.memchr.specs.Find.{IsFirstByte, Nowhere, Passes, is_byte}
 use Rattle.comfy_parts.specs.Text.{Text}
-use Rattle.csv.specs.Machine.{in_field, start_field, start_record, step}
+use Rattle.csv.specs.Machine.{ends_with, in_field, start_field, start_record, step}
 use Rattle.csv.specs.Reading.{is_bom, strip_bom}
 use Rattle.csv.specs.declared.parser.Action.{Action}
 use Rattle.csv.specs.declared.parser.Action.TheVariants as act
 use Rattle.csv.specs.declared.parser.State.{State}
+use Rattle.csv.specs.declared.parser.Terminator.TheVariants as term
 use Rattle.csv.specs.declared.parser.State.TheVariants as st
+use Rattle.csv_records.proofs.CountLemmas.{step_alike}
 use Rattle.csv_records.specs.Input.{config_for}
 use Rattle.csv_records.specs.QuoteWalk.{ClosesAt, StaysQuoted, ends_field, is_opening}
 use Rattle.csv_records.specs.Quotes.{IsUnclosed, is_field_start, is_in_quoted_field, state_after}
@@ -42,36 +44,23 @@ module _ (delimiter c : ℕ) where
       by_tests false false true = refl
       by_tests false false false = refl
 
-  -- where the byte is no quote, a record begins as a field goes on
-  outside_record : (c == 0x22) ≡ false → IsOutside (ends_field delimiter c) (start_record (config_for delimiter true) c).0
-  outside_record differs = by_tests (c == delimiter) (c == 13) (c == 10) (c == 0x22) differs
-    where
-      by_tests : (parts returns feeds quotes : Bool) → quotes ≡ false
-          → IsOutside (parts || (returns || feeds)) (choice (returns || feeds) (st.StartRecord, act.Skip) (choice quotes (st.InQuoted, act.Skip) (choice parts (st.StartField, act.EndField) (choice (returns || feeds) ((if returns then st.AfterCr else st.StartRecord), act.EndRecord) (st.InField, act.Copy))))).0
-      by_tests parts returns feeds true differs = absurd (cc differs)
-      by_tests true true feeds false differs = refl
-      by_tests true false true false differs = refl
-      by_tests true false false false differs = refl
-      by_tests false true feeds false differs = refl
-      by_tests false false true false differs = refl
-      by_tests false false false false differs = refl
-
   outside_field : (c == 0x22) ≡ false → IsOutside (ends_field delimiter c) (start_field (config_for delimiter true) c).0
   outside_field differs = rw differs outside
 
-  outside_return : (c == 0x22) ≡ false → IsOutside (ends_field delimiter c) (next st.AfterCr)
-  outside_return differs = by_feed (c == 10) refl
+  -- a record begins as a field does, but for empty lines
+  outside_record : (c == 0x22) ≡ false → IsOutside (ends_field delimiter c) (start_record (config_for delimiter true) c).0
+  outside_record differs = by_line (ends_with term.CRLF c) refl (outside_field differs)
     where
-      by_feed : (feeds : Bool) → (c == 10) ≡ feeds → IsOutside (ends_field delimiter c) (choice feeds (st.StartRecord, act.Skip) (start_record (config_for delimiter true) c)).0
-      by_feed true is = subst (λ (b : ℕ). IsOutside (ends_field delimiter b) st.StartRecord) (sym (eqb-true c 10 is)) at_feed
-        where
-          at_feed : IsOutside (ends_field delimiter 10) st.StartRecord
-          at_feed = by_delimiter (10 == delimiter)
-            where
-              by_delimiter : (parts : Bool) → IsOutside (parts || true) st.StartRecord
-              by_delimiter true = refl
-              by_delimiter false = refl
-      by_feed false is = outside_record differs
+      at_end : (parts : Bool) → IsOutside (parts || true) st.StartRecord
+      at_end true = refl
+      at_end false = refl
+
+      by_line : (ends : Bool) → ends_with term.CRLF c ≡ ends → IsOutside (ends_field delimiter c) (start_field (config_for delimiter true) c).0 → IsOutside (ends_field delimiter c) (choice ends (st.StartRecord, act.Skip) (start_field (config_for delimiter true) c)).0
+      by_line true is more = rw is (at_end (c == delimiter))
+      by_line false is more = more
+
+  outside_return : (c == 0x22) ≡ false → IsOutside (ends_field delimiter c) (next st.AfterCr)
+  outside_return differs = subst (λ (after : State × Action). IsOutside (ends_field delimiter c) after.0) (sym (step_alike delimiter true c)) (outside_record differs)
 
   -- a quote opens a field that begins
   quoted : (s : State) → is_field_start s ≡ true → (c == 0x22) ≡ true → next s ≡ st.InQuoted
@@ -305,18 +294,6 @@ module _ (text : Text) (at : ℕ) (within : at ≤ length text) where
 
   pub no_quote : IsFirstByte (is_byte 0x22) (take (length text - at) (drop at text)) None → HasNoQuotes text at (length text - at)
   no_quote none = no_quotes (length text - at) (subst (λ (n : ℕ). Nowhere (Passes (is_byte 0x22) (take (length text - at) (drop at text))) 0 n) (ap length rest ∙ rest_length) none)
-
--- ---- such quotes stand alone
-
-differs : (s : State) → is_field_start s ≡ true → is_in_quoted_field s ≡ true → ⊥
-differs st.StartRecord starts quoted = cc quoted
-differs st.StartField starts quoted = cc quoted
-differs st.AfterCr starts quoted = cc quoted
-differs st.InField starts quoted = cc quoted
-differs st.InQuoted starts quoted = cc starts
-differs st.AfterQuote starts quoted = cc starts
-differs st.InEscape starts quoted = cc starts
-differs st.InComment starts quoted = cc starts
 
 -- ---- a byte-order mark
 

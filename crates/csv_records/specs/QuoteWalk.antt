@@ -2,12 +2,14 @@
 -- Source: this library's own.
 use Rattle.std.specs.Prelude.{ℕ, zero, suc, Bool, true, false, ◌≡◌, ◌<◌, ◌≤◌, ◌==◌, ◌||◌, length, slice_index, take}
 use Rattle.comfy_parts.specs.Text.{Text}
+use Rattle.csv.specs.Machine.{ends_with}
 use Rattle.csv.specs.declared.parser.State.TheVariants as st
+use Rattle.csv.specs.declared.parser.Terminator.TheVariants as term
 use Rattle.csv_records.specs.Quotes.{is_in_quoted_field, state_after}
 
 -- outside quotes a field ends at such a byte, or a record
 abbrev pub ends_field : ℕ → ℕ → Bool
-ends_field delimiter b = (b == delimiter) || ((b == 0x0D) || (b == 0x0A))
+ends_field delimiter b = (b == delimiter) || ends_with term.CRLF b
 
 -- a quote that stands outside quotes opens a field here: nothing is before it, or what ends a field
 abbrev pub is_opening : ℕ → Text → ℕ → Bool

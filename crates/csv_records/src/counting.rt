@@ -127,8 +127,8 @@ fn in_field(byte: u8, delimiter: u8) -> Option<(State, bool)>
     }
 }
 
-// Whether a line ends at such a byte.
-fn ends_line(byte: u8) -> bool
+// Whether a line ends at a byte.
+pub(crate) fn ends_line(byte: u8) -> bool
     ensures { result ≡ ends_with term.CRLF byte }
 {
     byte == b'\r' || byte == b'\n'

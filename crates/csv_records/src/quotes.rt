@@ -6,6 +6,7 @@ ghost use Rattle.csv.specs.declared.parser.State.TheVariants.{InQuoted};
 ghost use Rattle.csv_records.specs.QuoteWalk.{ClosesAt, StaysQuoted, ends_field, is_opening};
 ghost use Rattle.csv_records.specs.Quotes.{IsUnclosed, state_after};
 
+use crate::counting::ends_line;
 use crate::text::without_mark;
 use memchr::memchr;
 
@@ -58,7 +59,7 @@ fn is_opening(bytes: &[u8], at: usize, delimiter: u8) -> bool
 fn ends_field(byte: u8, delimiter: u8) -> bool
     ensures { result ≡ ends_field delimiter byte }
 {
-    byte == delimiter || byte == b'\r' || byte == b'\n'
+    byte == delimiter || ends_line(byte)
 }
 
 // The place behind the quote that closes those which opened before `from`. Two quotes in a row are
