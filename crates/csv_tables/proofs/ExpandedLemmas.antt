@@ -1,13 +1,10 @@
 -- The rows of expanded records, record by record.
-use Rattle.std.proofs.Common.{◌≡◌, ◌<◌, ◌≤◌, ℕ, Bool, true, false, zero, suc, ◌+◌, List, [], ◌∷◌, ◌++◌, Some, None, append-nil, cond, drop, length, map, nat_lt, take, arith, ap, ◌∙◌}
+use Rattle.std.proofs.Common.{◌≡◌, ◌<◌, ◌≤◌, ℕ, Bool, true, false, zero, suc, List, [], ◌∷◌, Some, None, cond, drop, length, map, nat_lt, arith, ap, ◌∙◌}
 use Rattle.std.specs.List.{slice_index_or}
-use Rattle.std.proofs.lemmas.List.{map-append, take_all}
-use Rattle.std.proofs.lemmas.List.Elements.{filter_more}
 use Rattle.comfy_parts.specs.CellValue.{RowValue}
 use Rattle.comfy_parts.specs.Text.{Text}
 use Rattle.csv.specs.Records.{field_at}
-use Rattle.csv_tables.proofs.ReachedLemmas.{held-reached}
-use Rattle.csv_tables.specs.Cells.{columns_within, has_field, held, pair_for}
+use Rattle.csv_tables.specs.Cells.{held, pair_for}
 use Rattle.csv_tables.specs.Fields.{field_or_blank}
 use Rattle.csv_tables.specs.Columns.{name_at}
 use Rattle.csv_tables.specs.Drawn.{pairs_of}
@@ -28,44 +25,21 @@ has-none [] position is = grind arith
 has-none (f ∷ fs) zero is = absurd (cc is)
 has-none (f ∷ fs) (suc position) is = let rest = has-none fs position is in grind (arith, rest)
 
-module _ (look : Look) (columns : List DrawnColumn) (names fields : List Text) where
-  abbrev pair_of : DrawnColumn → RowValue
-  pair_of column = pair_for look (name_at names column.position) (field_or_blank fields column.position)
+-- the row of a column
+abbrev pair_of : Look → List Text → List Text → DrawnColumn → RowValue
+pair_of look names fields column = pair_for look (name_at names column.position) (field_or_blank fields column.position)
 
-  -- the rows with one column more
-  pub pairs-more : (i : ℕ) (d : DrawnColumn) → i < length columns
-      → pairs_of look (take (i + 1) columns) names fields ≡ pairs_of look (take i columns) names fields ++ map pair_of (cond (has_field fields (slice_index_or columns i d)) (slice_index_or columns i d ∷ []) [])
-  pairs-more i d below =
-      ap (map pair_of) (filter_more (has_field fields) columns i d below)
-      ∙ map-append pair_of (held fields (take i columns)) (cond (has_field fields (slice_index_or columns i d)) (slice_index_or columns i d ∷ []) [])
+-- the rows of columns of which the first has a field
+pub pairs-first : (look : Look) (column : DrawnColumn) (left : List DrawnColumn) (names fields : List Text) (field : Text) → Some field ≡ field_at fields column.position
+    → pairs_of look (column ∷ left) names fields ≡ pair_for look (name_at names column.position) field ∷ pairs_of look left names fields
+pairs-first look column left names fields field is =
+    let own = has-some fields column.position field is in
+    ap (λ (b : Bool). map (pair_of look names fields) (cond b (column ∷ held fields left) (held fields left))) own.0
+    ∙ ap (λ (text : Text). pair_for look (name_at names column.position) text ∷ pairs_of look left names fields) own.1
 
-  -- where the record has its field
-  pub pairs-some : (i : ℕ) (d : DrawnColumn) (field : Text) → i < length columns → Some field ≡ field_at fields (slice_index_or columns i d).position
-      → pairs_of look (take (i + 1) columns) names fields ≡ pairs_of look (take i columns) names fields ++ pair_for look (name_at names (slice_index_or columns i d).position) field ∷ []
-  pairs-some i d field below is =
-      let column = slice_index_or columns i d in
-      let before = pairs_of look (take i columns) names fields in
-      let own = has-some fields column.position field is in
-      pairs-more i d below
-      ∙ ap (λ (b : Bool). before ++ map pair_of (cond b (column ∷ []) [])) own.0
-      ∙ ap (λ (text : Text). before ++ pair_for look (name_at names column.position) text ∷ []) own.1
-
-  -- and where it hasn't
-  pub pairs-none : (i : ℕ) (d : DrawnColumn) → i < length columns → None ≡ field_at fields (slice_index_or columns i d).position
-      → pairs_of look (take (i + 1) columns) names fields ≡ pairs_of look (take i columns) names fields
-  pairs-none i d below is =
-      let column = slice_index_or columns i d in
-      let before = pairs_of look (take i columns) names fields in
-      pairs-more i d below
-      ∙ ap (λ (b : Bool). before ++ map pair_of (cond b (column ∷ []) [])) (has-none fields column.position is)
-      ∙ append-nil before
-
--- all columns up to the last field that a record has
-pub pairs-all : (look : Look) (columns : List DrawnColumn) (names fields : List Text) (n : ℕ) → length (columns_within fields columns) ≤ n
-    → pairs_of look (take n (columns_within fields columns)) names fields ≡ pairs_of look columns names fields
-pairs-all look columns names fields n end =
-    ap (λ (cs : List DrawnColumn). pairs_of look cs names fields) (take_all n (columns_within fields columns) end)
-    ∙ ap (map (pair_of look columns names fields)) (held-reached fields columns)
+-- or has none
+pub pairs-later : (look : Look) (column : DrawnColumn) (left : List DrawnColumn) (names fields : List Text) → None ≡ field_at fields column.position → pairs_of look (column ∷ left) names fields ≡ pairs_of look left names fields
+pairs-later look column left names fields is = ap (λ (b : Bool). map (pair_of look names fields) (cond b (column ∷ held fields left) (held fields left))) (has-none fields column.position is)
 
 -- what is left of a list begins with the element at its place
 pub at_place : {X : Type 0} (xs : List X) (k : ℕ) (x d : X) (rest : List X) → x ∷ rest ≡ drop k xs → (k < length xs) × (slice_index_or xs k d ≡ x) × (rest ≡ drop (suc k) xs)

@@ -3,21 +3,15 @@ use Rattle.std.proofs.Common.{◌≡◌, ◌<◌, ◌≤◌, ◌+◌, ℕ, suc, 
 use Rattle.std.proofs.lemmas.Bool.{cases_lt}
 use Rattle.std.proofs.lemmas.Bool.Decides.{nat_tests}
 use Rattle.std.proofs.lemmas.List.{length-map}
-use Rattle.std.proofs.lemmas.Option.{slice_get-map}
 use Rattle.std.proofs.lemmas.List.Elements.{All-cons, All-filter, All-head, All-nil, All-tail}
 use Rattle.std.specs.List.{enumerate_from, flat_map}
-use Rattle.std.specs.Prelude.{not, option_map}
+use Rattle.std.specs.Prelude.{not}
 use Rattle.comfy_parts.specs.CellValue.{CellValue, ColumnInfo, RowValue}
 use Rattle.comfy_parts.specs.Text.{Text, greatest, measure}
-use Rattle.comfy_parts.specs.declared.style.cell.CellAlignment.{CellAlignment}
 use Rattle.comfy_parts.specs.Wrapping.{lines_of_text}
 use Rattle.comfy_table.specs.Lines.{as_measured, cell_delimiter, cut_line, cut_to_limit, uncut_lines}
-use Rattle.comfy_table.specs.LongestLine.{cell_longest_line, text_longest_line}
 use Rattle.comfy_table.specs.Pieces.{cell_pieces, piece, pieces_at, pieces_of_optional, row_cell_lines, row_height, shown_infos}
-use Rattle.comfy_table.specs.PlainCells.{IsPlainCell, first_line}
 use Rattle.comfy_table.specs.TableValue.{TableValue}
-use Rattle.csv_tables.specs.Cells.{Shown, cell_for, shown_cells}
-use Rattle.csv_tables.specs.declared.options.Look.{Look}
 
 -- one line isn't cut
 uncut : {A : Type 0} (cut : A → A) (limit : Option ℕ) (lines : List A) → length lines ≡ 1 → IfSome limit (λ h. 1 ≤ h) → length (cut_to_limit cut limit lines) ≡ 1
@@ -38,25 +32,6 @@ flat_line t custom row high info cell text texts fits =
     let cut : length (row_cell_lines t row info cell) ≡ 1 = uncut (cut_line t.custom_styling w t.indicator) row.max_height (uncut_lines t.custom_styling w d cell) lines high in
     let pieces = length-map (row_cell_lines t row info cell) (piece t cell info) in
     omega (arith, pieces, cut)
-
--- its longest line is that one
-pub line_longest : (t : TableValue) (info : ColumnInfo) (cell : CellValue) → IsPlainCell cell → measure (first_line cell) ≤ info.content_width → cell_longest_line t info cell ≡ measure (first_line cell)
-line_longest t info cell plain fits =
-    let w = info.content_width in
-    let d = cell_delimiter t info.delimiter cell in
-    let text = first_line cell in
-    let one : lines_of_text w d text ≡ text ∷ [] = grind (arith, nat_tests, fits) in
-    ap (λ (ls : List Text). greatest (map (text_longest_line w d) ls)) plain.one_line ∙ grind (arith, one)
-
--- where the cell of a text is one piece, so is that of a row that shows it
-pub flat_at : (look : Look) (text : Text) (t : TableValue) (row : RowValue) (info : ColumnInfo) → ((alignment : Option CellAlignment) → length (cell_pieces t row info (cell_for look alignment text)) ≤ 1)
-    → (shown : List Shown) (i : ℕ) → Some text ≡ option_map (λ (s : Shown). s.text) (slice_get shown i) → length (pieces_of_optional t row info (slice_get (shown_cells look false shown) i)) ≤ 1
-flat_at look text t row info each shown i is =
-    subst (λ (cell : Option CellValue). length (pieces_of_optional t row info cell) ≤ 1) (sym (slice_get-map (λ (s : Shown). cell_for look s.alignment s.text) shown i)) (by_cases (slice_get shown i) is)
-  where
-    by_cases : (found : Option Shown) → Some text ≡ option_map (λ (s : Shown). s.text) found → length (pieces_of_optional t row info (option_map (λ (s : Shown). cell_for look s.alignment s.text) found)) ≤ 1
-    by_cases None is = absurd (cc is)
-    by_cases (Some s) is = let same : text ≡ s.text = cc is in subst (λ (own : Text). length (cell_pieces t row info (cell_for look s.alignment own)) ≤ 1) same (each s.alignment)
 
 -- ---- all columns
 

@@ -1,12 +1,11 @@
--- Rows of which no cell is made before they are drawn.
-use Rattle.std.proofs.Common.{◌≡◌, ◌+◌, inl, inr, ℕ, Bool, true, false, ◌&&◌, List, [], ◌∷◌, ◌++◌, Some, None, chars, map, decimal, refl, ap, ap₂, subst, sym, ◌∙◌, append-nil, arith}
+-- Rows and cells that aren't made before they are drawn.
+use Rattle.std.proofs.Common.{◌≡◌, ◌+◌, ◌<◌, length, inl, inr, ℕ, Bool, true, false, ◌&&◌, List, [], ◌∷◌, ◌++◌, Some, None, chars, map, decimal, take, zero, suc, refl, ap, ap₂, subst, sym, ◌∙◌, append-nil, arith}
 use Rattle.std.proofs.lemmas.Bool.{or_parts}
 use Rattle.std.proofs.lemmas.List.Folds.{list_all-append}
 use Rattle.std.proofs.lemmas.Str.{encodes-chars}
-use Rattle.std.proofs.lemmas.Simd.{map-map}
 use Rattle.std.proofs.lemmas.Option.{slice_get-map}
-use Rattle.std.specs.List.{list_any}
-use Rattle.std.specs.Prelude.{option_map, slice_get, if◌then◌else◌}
+use Rattle.std.specs.List.{list_any, slice_index_or}
+use Rattle.std.specs.Prelude.{not, option_map, slice_get, unwrap_or, if◌then◌else◌}
 use Rattle.std.specs.Str.{IsUtf8, NonePass}
 use Rattle.comfy_parts.proofs.CallerLemmas.{IsUtf8-printable, none_by_characters}
 use Rattle.comfy_parts.specs.CellValue.{CellValue, plain_cell}
@@ -16,9 +15,12 @@ use Rattle.csv_records.proofs.CleaningLemmas.{drawn_so, none_replaced}
 use Rattle.csv_records.specs.Cleaning.{cleaned, is_replaced}
 use Rattle.csv_tables.proofs.BuiltLemmas.{blank_drawn}
 use Rattle.csv_tables.proofs.ShownLemmas.{shown_behind, spaces_printable}
-use Rattle.csv_tables.specs.Cells.{Shown, cell_for, columns_within, field_text, is_blank, marked, shown_fields, shown_number, text_in, unless_blank}
+use Rattle.csv_tables.specs.Cells.{Shown, cell_for, columns_within, field_text, is_blank, marked, number_of, pair_for, text_in, unless_blank}
 use Rattle.csv_tables.proofs.MarkedLemmas.{marked_stays}
-use Rattle.csv_tables.specs.Contents.{IsKept, made_by, shown_by}
+use Rattle.csv_tables.proofs.ReachedLemmas.{held-reached}
+use Rattle.csv_tables.specs.Columns.{name_at}
+use Rattle.csv_tables.specs.Contents.{IsKept, made_by, pairs_by, rows_at, rows_left, shown_by}
+use Rattle.csv_tables.specs.Fields.{field_or_blank}
 use Rattle.csv_tables.specs.Markdown.{may_be_escaped}
 use Rattle.csv_tables.specs.declared.options.DrawnColumn.{DrawnColumn}
 use Rattle.csv_tables.specs.declared.options.Look.{Look}
@@ -72,16 +74,41 @@ clean_stays look field kept utf8 clean =
 abbrev pub cell_of_column : RecordRows → List Text → DrawnColumn → CellValue
 cell_of_column rows fields column = cell_for rows.look column.alignment (text_in rows.look rows.is_aligned column fields)
 
--- all cells of a row without a number
-pub row_cells : (rows : RecordRows) (at : ℕ) (fields : List Text) → rows.selected.is_numbered ≡ false → map (cell_of_column rows fields) (columns_within fields rows.selected.columns) ≡ (made_by rows at fields).cells
-row_cells rows at fields unnumbered =
-    let columns = columns_within fields rows.selected.columns in
-    sym (ap (λ (b : Bool). map (λ (s : Shown). cell_for rows.look s.alignment s.text) (shown_number (if b then Some (decimal (at + 1)) else None) ++ shown_fields rows.look rows.is_aligned columns fields)) unnumbered
-    ∙ map-map (λ (s : Shown). cell_for rows.look s.alignment s.text) (λ (column : DrawnColumn). record { alignment = column.alignment; text = text_in rows.look rows.is_aligned column fields }) columns)
-
 -- the cell of a column, behind that of the number
 pub cell_behind : (rows : RecordRows) (fields : List Text) (column : DrawnColumn) (at position place : ℕ) → position ≡ place + (if rows.selected.is_numbered then 1 else 0)
     → slice_get (columns_within fields rows.selected.columns) place ≡ Some column → slice_get (made_by rows at fields).cells position ≡ Some (cell_of_column rows fields column)
 cell_behind rows fields column at position place stands found =
     slice_get-map (λ (s : Shown). cell_for rows.look s.alignment s.text) (shown_by rows at fields) position
     ∙ ap (option_map (λ (s : Shown). cell_for rows.look s.alignment s.text)) (shown_behind rows fields column at position place stands found)
+
+-- whether rows are numbered, by the number of one of them
+pub some_number : (is_numbered : Bool) (n number : ℕ) → Some (decimal number) ≡ number_of is_numbered n → is_numbered ≡ true
+some_number true n number is = refl
+some_number false n number is = absurd (cc is)
+
+pub no_number : (is_numbered : Bool) (n : ℕ) → None ≡ number_of is_numbered n → is_numbered ≡ false
+no_number true n is = absurd (cc is)
+no_number false n is = refl
+
+-- an element inside a list is the one at its position
+pub inside : {X : Type 0} (xs : List X) (i : ℕ) (d : X) → i < length xs → slice_get xs i ≡ Some (slice_index_or xs i d)
+inside [] i d within = absurd (omega (arith, within))
+inside (x ∷ xs) zero d within = refl
+inside (x ∷ xs) (suc i) d within = inside xs i d (omega (arith, within))
+
+-- one cell more
+pub take_next : {X : Type 0} (xs : List X) (i : ℕ) (x : X) → slice_get xs i ≡ Some x → take (i + 1) xs ≡ take i xs ++ x ∷ []
+take_next [] i x is = absurd (cc is)
+take_next (y ∷ xs) zero x is = ap (λ t. t ∷ []) (cc is)
+take_next (y ∷ xs) (suc i) x is = let next : suc i + 1 ≡ suc (i + 1) = omega arith in ap (λ n. take n (y ∷ xs)) next ∙ ap (λ ts. y ∷ ts) (take_next xs i x is)
+
+-- ---- rows that are still to come
+
+-- all rows of a record
+pub rows_begin : (rows : RecordRows) (at : ℕ) (fields : List Text)
+    → rows_left rows at fields (not rows.is_expanded) (if rows.is_expanded then columns_within fields rows.selected.columns else []) ≡ rows_at rows at fields
+rows_begin rows at fields = by_kind rows.is_expanded
+  where
+    by_kind : (b : Bool) → rows_left rows at fields (not b) (if b then columns_within fields rows.selected.columns else []) ≡ (if b then pairs_by rows fields else made_by rows at fields ∷ [])
+    by_kind true = ap (map (λ (column : DrawnColumn). pair_for rows.look (name_at (unwrap_or rows.selected.names []) column.position) (field_or_blank fields column.position))) (held-reached fields rows.selected.columns)
+    by_kind false = refl

@@ -64,6 +64,10 @@ abbrev pub drawn_columns : ColumnsValue → List (List Text) → List DrawnColum
 drawn_columns columns rows =
     map (λ (p : ℕ). column_at columns (summary_of (column_fields rows p)) p) columns.drawn
 
--- the name of the column at a position, or its number, counted from 1
+-- this name of the column at a position, or the column's number, counted from 1, if it has none
+abbrev pub name_or_number : Option Text → ℕ → Text
+name_or_number name position = unwrap_or name (decimal (position + 1))
+
+-- the name of the column at a position, or its number
 abbrev pub name_at : List Text → ℕ → Text
-name_at names position = unwrap_or (field_at names position) (decimal (position + 1))
+name_at names position = name_or_number (field_at names position) position

@@ -11,8 +11,6 @@ use Rattle.csv_tables.specs.ContentsValue.{ContentsValue}
 use Rattle.csv_tables.specs.Drawn.{SelectedValue, empty_table, headed_table, is_table_expanded, output_table, pairs_of, pairs_table, record_line, rows_table, separators_in}
 use Rattle.csv_tables.specs.Markdown.{may_be_escaped}
 use Rattle.csv_tables.specs.Separators.{AreRowsSeparated}
-use Rattle.csv_records.specs.Decimals.{spaces_behind}
-use Rattle.csv_records.specs.declared.decimals.Points.{Points}
 use Rattle.csv_tables.specs.declared.options.DrawnColumn.{DrawnColumn}
 use Rattle.csv_tables.specs.declared.options.Look.{Look}
 use Rattle.csv_tables.specs.declared.rows.RecordRows.{RecordRows}
@@ -38,6 +36,12 @@ pairs_by rows fields =
 abbrev pub rows_at : RecordRows → ℕ → List Text → List RowValue
 rows_at rows at fields =
     if rows.is_expanded then pairs_by rows fields else made_by rows at fields ∷ []
+
+-- those that are still to come: that of the whole record, or those of the fields of some columns
+abbrev pub rows_left : RecordRows → ℕ → List Text → Bool → List DrawnColumn → List RowValue
+rows_left rows at fields is_whole columns =
+    (if is_whole then made_by rows at fields ∷ [] else [])
+    ++ pairs_of rows.look columns (unwrap_or rows.selected.names []) fields
 
 -- those of records from a place on
 abbrev pub rows_from : RecordRows → ℕ → List (List Text) → List RowValue
@@ -71,15 +75,6 @@ greatest_at table f rows i = greatest (map (measured_at table f) (cells_at rows 
 -- how many cells the longest of some rows has
 abbrev pub most_cells : List RowValue → ℕ
 most_cells rows = greatest (map (λ (row : RowValue). length row.cells) rows)
-
--- how many spaces a column has behind a field
-abbrev pub spaces_by : Option Points → Text → ℕ
-spaces_by None field = 0
-spaces_by (Some points) field = spaces_behind points field
-
-abbrev pub spaces_in : RecordRows → DrawnColumn → Text → ℕ
-spaces_in rows column field =
-    spaces_by (if rows.is_aligned then column.points else None) field
 
 -- no spaces and no backslashes are added to a clean field with so many spaces behind it, and it
 -- isn't emptied

@@ -8,6 +8,7 @@ pub mod Drawn
 pub mod Fields
 pub mod Kinds
 pub mod Laws
+pub mod LazyRows
 pub mod Leasts
 pub mod Markdown
 pub mod MarkdownLines

@@ -1,10 +1,10 @@
 //! How the cells of drawn columns are aligned, and what is seen of fields.
 
-ghost use Rattle.std.specs.Prelude.{◌≡◌, IfOk, map, string_bytes};
+ghost use Rattle.std.specs.Prelude.{◌≡◌, IfOk, map, option_map, string_bytes};
 ghost use Rattle.std.specs.Cow.{cow_str_bytes};
 ghost use Rattle.comfy_parts.specs.VisibleText.{visible_text};
 ghost use Rattle.csv_records.specs.Cleaning.{visible_of};
-ghost use Rattle.csv_tables.specs.Columns.{alignment_for, column_at, drawn_columns, name_at, points_at, seen};
+ghost use Rattle.csv_tables.specs.Columns.{alignment_for, column_at, drawn_columns, name_at, name_or_number, points_at, seen};
 
 use crate::markdown::is_right;
 use crate::options::DrawnColumn;
@@ -68,7 +68,19 @@ pub fn name_at<'a>(
 ) -> Result<CowStr<'a>, AllocError>
     ensures { IfOk result (λ name. cow_str_bytes name ≡ name_at names.now position) }
 {
-    match names.get(position) {
+    name_or_number(alloc, names.get(position), position)
+}
+
+/// This name of the column at a position, or the column's number, counted from 1, if it has none.
+pub(crate) fn name_or_number<'a>(
+    alloc: Global,
+    name: Option<&'a str>,
+    position: usize,
+) -> Result<CowStr<'a>, AllocError>
+    ensures { IfOk result (λ text. cow_str_bytes text
+        ≡ name_or_number (option_map (λ s. s.now) name.entry) position) }
+{
+    match name {
         Some(name) => Ok(CowStr::Borrowed(name)),
         None => Ok(CowStr::Owned(format!(in alloc; "{}", position as u128 + 1)?)),
     }

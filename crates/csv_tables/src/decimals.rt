@@ -1,11 +1,9 @@
 //! Decimal points below each other.
 
-ghost use Rattle.std.specs.Prelude.{◌≡◌, ◌++◌, IfOk, string_bytes};
+ghost use Rattle.std.specs.Prelude.{◌≡◌, ◌++◌, IfOk};
 ghost use Rattle.std.specs.Cow.{cow_str_bytes};
 ghost use Rattle.csv_tables.specs.Decimals.{has_points, is_narrow, spaced};
 ghost use Rattle.comfy_parts.specs.Text.{spaces};
-ghost use Rattle.csv_records.specs.Cleaning.{visible_of};
-ghost use Rattle.csv_records.specs.Decimals.{spaces_behind};
 
 use crate::columns::seen_text;
 use crate::options::DrawnColumn;
@@ -31,47 +29,39 @@ pub(crate) fn has_points(columns: &[DrawnColumn]) -> bool
     columns.iter().any(|column| column.points.is_some())
 }
 
-/// A field with the spaces behind it that put its mark below those of its column.
-pub(crate) fn spaced<'a>(
+/// How many spaces after a field put its mark below those of its column, by what is seen of the
+/// field; 0 in a column without marks.
+#[inline(always)]
+pub(crate) fn spaces_after(
     alloc: Global,
-    field: &'a str,
-    mark: Option<Points>,
-    has_sequences: bool,
-) -> Result<CowStr<'a>, AllocError>
-    ensures { IfOk result (λ text. cow_str_bytes text ≡ spaced has_sequences mark field.now) }
-{
-    let count = match mark {
-        None => 0,
-        Some(points) => spaces_behind(alloc, points, field, has_sequences)?,
-    };
-    if count == 0 {
-        Ok(CowStr::Borrowed(field))
-    } else {
-        Ok(CowStr::Owned(with_spaces(alloc, field, count)?))
-    }
-}
-
-// How many spaces that are, by what is seen of the field.
-fn spaces_behind(
-    alloc: Global,
-    points: Points,
+    points: Option<Points>,
     field: &str,
     has_sequences: bool,
 ) -> Result<usize, AllocError>
-    ensures { IfOk result (λ count. count
-        ≡ spaces_behind points (visible_of has_sequences field.now)) }
+    ensures { IfOk result (λ count. field.now ++ spaces count
+        ≡ spaced has_sequences points field.now) }
 {
+    let Some(points) = points else {
+        return Ok(0);
+    };
     let field = seen_text(alloc, field, has_sequences)?;
     Ok(points.spaces_behind(field.as_str()))
 }
 
-// A field with so many spaces behind it.
-fn with_spaces(alloc: Global, field: &str, count: usize) -> Result<String, AllocError>
-    ensures { IfOk result (λ text. string_bytes text ≡ field.now ++ spaces count) }
+/// A text with spaces after it.
+pub(crate) fn with_spaces<'a>(
+    alloc: Global,
+    text: &'a str,
+    count: usize,
+) -> Result<CowStr<'a>, AllocError>
+    ensures { IfOk result (λ made. cow_str_bytes made ≡ text.now ++ spaces count) }
 {
-    let mut text = String::from_str(alloc, field)?;
-    for _ in 0..count {
-        text.push(' ')?;
+    if count == 0 {
+        return Ok(CowStr::Borrowed(text));
     }
-    Ok(text)
+    let mut made = String::from_str(alloc, text)?;
+    for _ in 0..count {
+        made.push(' ')?;
+    }
+    Ok(CowStr::Owned(made))
 }

@@ -4,13 +4,14 @@ ghost use Rattle.std.specs.Prelude.{◌≡◌, ◌==◌, ◌<◌, ◌≤◌, ◌
 ghost use Rattle.std.specs.List.{All};
 ghost use Rattle.comfy_parts.specs.CellValue.{IsRow};
 ghost use Rattle.comfy_table.specs.Drawing.{part_of_drawing, terminated_text_of};
-ghost use Rattle.csv_tables.specs.Contents.{drawn_next, expanded_from, rows_from};
+ghost use Rattle.csv_tables.specs.Contents.{drawn_next, expanded_from, fields_text, rows_from};
 ghost use Rattle.csv_tables.specs.Pieces.{rest_of};
 ghost use Rattle.devices.specs.Pieces.{text_left};
 
 use crate::contents::RowContents;
 use crate::expanded::push_record_line;
-use comfy_table::{ArrangedTable, Extent, Result};
+use crate::rows::LazyRows;
+use comfy_table::{ArrangedTable, Extent, PlainCell, Result, RowWriter};
 use csv_records::Rows;
 use devices::Pieces;
 use std::alloc::{AllocError, Global};
@@ -197,9 +198,8 @@ fn push_rows(
     let mut at = place;
     let mut is_first = extent.is_first;
     for fields in next.iter() {
-        contents
-            .rows
-            .push_row(text, &mut writer, &mut cells, at, &fields, is_first)?;
+        let row = contents.rows.whole_row(at, &fields);
+        row.push(text, &mut writer, &mut cells, is_first)?;
         at += 1;
         is_first = false;
     }
@@ -225,11 +225,43 @@ fn push_expanded(
 {
     let contents = arranged.contents();
     let mut writer = arranged.row_writer()?;
+    let mut cells = Vec::new(contents.rows.selected.alloc);
     let mut at = place;
     for fields in next.iter() {
         push_record_line(text, at, contents.rows.selected.count())?;
-        contents.rows.push_pairs(text, &mut writer, &fields)?;
+        push_fields(
+            text,
+            contents.rows.rows_of(at, &fields),
+            &mut writer,
+            &mut cells,
+        )?;
         at += 1;
     }
     Ok(())
+}
+
+// Appends the rows of an expanded record as a table, or nothing if it has none.
+fn push_fields<'r>(
+    text: &mut String,
+    rows: LazyRows<'_, 'r>,
+    writer: &mut RowWriter<'_>,
+    cells: &mut Vec<PlainCell<'r>>,
+) -> Result<()>
+    ensures text { OnOk result (string_bytes text.new ≡ string_bytes text.old
+        ++ fields_text writer.old.table writer.old.infos rows.entry) }
+    ensures kept { writer.new ≡ writer.old }
+{
+    let mut is_first = true;
+    for row in rows {
+        row.push(text, writer, cells, is_first)?;
+        is_first = false;
+    }
+    if is_first {
+        return Ok(());
+    }
+    let end = Extent {
+        is_first: false,
+        is_last: true,
+    };
+    writer.push_rows(text, &[], end)
 }

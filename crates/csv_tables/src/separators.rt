@@ -87,7 +87,7 @@ fn has_tall_row(contents: &RowContents) -> Result<bool>
     let rows = &contents.rows;
     let selected = &rows.selected;
     for (at, fields) in selected.rows().enumerate() {
-        if rows.is_tall(&contents.table, infos, at, &fields)? {
+        if rows.whole_row(at, &fields).is_tall(&contents.table, infos)? {
             return Ok(true);
         }
     }

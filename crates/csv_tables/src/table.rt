@@ -1,35 +1,18 @@
 //! The tables of some records.
 
 ghost use Rattle.std.specs.Prelude.{◌≡◌, ◌+◌, IfOk, decimal, option_map};
-ghost use Rattle.csv_tables.specs.Cells.{number_of, row_for};
+ghost use Rattle.csv_tables.specs.Cells.{number_of};
 ghost use Rattle.csv_tables.specs.Drawn.{arrangement_for, empty_table, headed_table, markdown_look, markdown_style};
 
-use crate::cells::{header_of, row_of};
+use crate::cells::header_of;
 use crate::options::Look;
 use crate::selected::SelectedRecords;
 use comfy_table::presets::ASCII_MARKDOWN;
-use comfy_table::{ContentArrangement, LineStyle, Result, Row, Table, TableStyle};
+use comfy_table::{ContentArrangement, LineStyle, Result, Table, TableStyle};
 use csv_records::Record;
 use std::alloc::Global;
 
 impl SelectedRecords {
-    /// The row of the record at a place.
-    pub(crate) fn row_at(
-        &self,
-        at: usize,
-        fields: &Record<'_>,
-        is_aligned: bool,
-        look: &Look,
-    ) -> Result<Row>
-        ensures { IfOk result (λ row. row
-            ≡ row_for look.now is_aligned self.now.is_numbered self.now.columns
-            (at + 1, fields.now)) }
-    {
-        let columns = self.columns_within(fields);
-        let number = self.number_at(at);
-        row_of(self.alloc, number, fields, columns, is_aligned, look)
-    }
-
     // The number of the row at a place, where rows are numbered.
     pub(crate) fn number_at(&self, at: usize) -> Option<u128>
         ensures { option_map decimal result ≡ number_of self.now.is_numbered (at + 1) }

@@ -9,15 +9,13 @@ ghost use Rattle.csv_tables.specs.Cells.{cell_for};
 ghost use Rattle.csv_tables.specs.Contents.{greatest_at, pairs_by};
 ghost use Rattle.csv_tables.specs.Drawn.{unbroken_in};
 
-use crate::cells::cell_of;
 use crate::contents::RowContents;
-use crate::rows::{RecordRows, unstyled_cell};
 use crate::selected::SelectedRecords;
 use comfy_parts::content_split::measure_text_width;
 use comfy_parts::for_tables::measured_lines;
 use comfy_table::utils::arrangement::helper::count_border_columns;
 use comfy_table::{Cell, Column, ColumnConstraint, Result, Table, Width};
-use csv_records::{Record, is_neutral, is_number};
+use csv_records::{is_neutral, is_number};
 use std::alloc::{AllocError, Global};
 
 // How many characters a field has at most that isn't broken.
@@ -298,46 +296,15 @@ fn field_width(contents: &RowContents, room: u16) -> Result<u16>
     let rows = &contents.rows;
     let mut widest = 0;
     for fields in rows.selected.rows() {
-        widest = record_unbroken_width(rows, &contents.table, &fields, room)?.max(widest);
+        widest = rows
+            .unbroken_width(&contents.table, 0, &fields, 1, room)?
+            .max(widest);
     }
     Ok(widest)
 }
 
-// That of the fields of a record.
-fn record_unbroken_width(
-    rows: &RecordRows,
-    table: &Table,
-    fields: &Record<'_>,
-    room: u16,
-) -> Result<u16>
-    ensures value { IfOk result (λ width. width ≡ greatest_at table.now
-        (cell_unbroken_width room) (pairs_by rows.now fields.now) 1) }
-    ensures within { IfOk result (λ width. width ≤ room) }
-{
-    let selected = &rows.selected;
-    let mut widest = 0;
-    for column in selected.columns_within(fields) {
-        if let Some(field) = fields.get(column.position) {
-            widest = field_unbroken_width(rows, table, field, room)?.max(widest);
-        }
-    }
-    Ok(widest)
-}
-
-// That of a field.
-fn field_unbroken_width(rows: &RecordRows, table: &Table, field: &str, room: u16) -> Result<u16>
-    ensures value { IfOk result (λ width. width ≡ cell_unbroken_width room
-        (measured_cell table.now (cell_for rows.now.look None field.now))) }
-    ensures within { IfOk result (λ width. width ≤ room) }
-{
-    if let Some(_) = unstyled_cell(&rows.look, table, field) {
-        return Ok(unbroken_width(field, room));
-    }
-    let cell = cell_of(rows.selected.alloc, field, None, &rows.look)?;
-    Ok(cell_unbroken_width(table, &cell, room))
-}
-
-fn cell_unbroken_width(table: &Table, cell: &Cell, room: u16) -> u16
+/// The width of the widest number or date among the lines of a cell that has room, or 0.
+pub(crate) fn lines_unbroken_width(table: &Table, cell: &Cell, room: u16) -> u16
     ensures value { result ≡ cell_unbroken_width room (measured_cell table.now cell.now) }
     ensures within { result ≤ room }
 {
@@ -349,8 +316,8 @@ fn cell_unbroken_width(table: &Table, cell: &Cell, room: u16) -> u16
     widest
 }
 
-// The width of a text line that is a number or a date and has room; else nothing.
-fn unbroken_width(line: &str, room: u16) -> u16
+/// The width of a text line that is a number or a date and has room, or 0.
+pub(crate) fn unbroken_width(line: &str, room: u16) -> u16
     ensures value { result ≡ unbroken_width room line.now }
     ensures within { result ≤ room }
 {

@@ -1,10 +1,11 @@
-use Rattle.std.proofs.Common.{rules, ◌≡◌, ◌+◌, ◌++◌, ◌∷◌, List, ap, append_assoc, arith, length, string_bytes, sym, ◌∙◌}
-use Rattle.comfy_parts.specs.CellValue.{ColumnInfo}
+use Rattle.std.proofs.Common.{rules, ◌≡◌, ◌+◌, ◌++◌, ◌∷◌, [], Bool, List, ap, append_assoc, arith, length, string_bytes, sym, ◌∙◌}
+use Rattle.std.specs.Prelude.{if◌then◌else◌}
+use Rattle.comfy_parts.specs.CellValue.{ColumnInfo, RowValue}
 use Rattle.comfy_parts.specs.Text.{Text}
 use Rattle.comfy_table.specs.Parts.{ArrangedValue}
 use Rattle.comfy_table.specs.TableValue.{with_other_rows}
 use Rattle.csv_tables.proofs.PieceLemmas.{fields_as}
-use Rattle.csv_tables.specs.Contents.{expanded_from, fields_text, pairs_by}
+use Rattle.csv_tables.specs.Contents.{expanded_from, fields_text, made_by, pairs_by, rows_at}
 use Rattle.csv_tables.specs.Drawn.{record_line}
 use Rattle.csv_tables.proofs.drawn.push_expanded.Goals as goal
 
@@ -20,13 +21,16 @@ loop-fields-preserved c =
     let x : List Text = c.in-Some.fields in
     let left : List (List Text) = c.next.new.self in
     let is : c.loop-fields.fields-iterator ≡ x ∷ left = search rules in
-    let kept : c.push_pairs.new.writer ≡ writer = search rules in
+    let kept : c.push_fields.new.writer ≡ writer = search rules in
+    let pairs : rows_at rows at x ≡ pairs_by rows x = ap (λ (b : Bool). if b then pairs_by rows x else made_by rows at x ∷ []) c.requires.expanded in
+    let shown : c.rows_of.result ≡ rows_at rows at x = search rules in
     let above = record_line (at + 1) rows.selected.count in
     let made = pairs_by rows x in
     let rest = expanded_from rows table infos (at + 1) left in
     let line : string_bytes c.push_record_line.new.text ≡ before ++ above = search rules in
-    let pushed : string_bytes c.push_pairs.new.text ≡ string_bytes c.push_record_line.new.text ++ fields_text writer.table writer.infos made = search rules in
-    let drawn : string_bytes c.push_pairs.new.text ≡ before ++ (above ++ fields_text table infos made) =
+    let pushed : string_bytes c.push_fields.new.text ≡ string_bytes c.push_record_line.new.text ++ fields_text writer.table writer.infos made =
+    c.in_ok-push_fields.ensures.text ∙ ap (λ (rs : List RowValue). string_bytes c.push_record_line.new.text ++ fields_text writer.table writer.infos rs) (shown ∙ pairs) in
+    let drawn : string_bytes c.push_fields.new.text ≡ before ++ (above ++ fields_text table infos made) =
     pushed
     ∙ ap (λ (t : Text). t ++ fields_text writer.table writer.infos made) line
     ∙ append_assoc before above (fields_text writer.table writer.infos made)

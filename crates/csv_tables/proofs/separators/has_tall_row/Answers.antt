@@ -40,6 +40,7 @@ loop-at-preserved c =
     λ row. sym (height_same c.contents.inside.table (rows_from rows 0 rows.selected.rows) infos row) ∙ ap (λ v. row_height v.table infos row) c.contents.view_is in
     let low : nat_lt 1 (row_height table infos (made_by rows k fields)) ≡ false =
     sym (c.in_ok-is_tall.ensures
+    ∙ ap (λ (row : RowValue). nat_lt 1 (row_height c.contents.inside.table infos row)) c.whole_row.ensures
     ∙ ap (nat_lt 1) (whole (made_by rows c.in-Some.at fields))
     ∙ ap (λ n. nat_lt 1 (row_height table infos (made_by rows n fields))) steps.1) ∙ c.if-branch.false in
     let parts : tests (rows_from rows k (fields ∷ rest)) ≡ tests (rows_from rows (k + 1) rest) =
@@ -63,6 +64,7 @@ returns-then-branch c =
     λ row. sym (height_same c.contents.inside.table (rows_from rows 0 rows.selected.rows) infos row) ∙ ap (λ v. row_height v.table infos row) c.contents.view_is in
     let tall : nat_lt 1 (row_height table infos (made_by rows k fields)) ≡ true =
     sym (c.in_ok-is_tall.ensures
+    ∙ ap (λ (row : RowValue). nat_lt 1 (row_height c.contents.inside.table infos row)) c.whole_row.ensures
     ∙ ap (nat_lt 1) (whole (made_by rows c.in-Some.at fields))
     ∙ ap (λ n. nat_lt 1 (row_height table infos (made_by rows n fields))) steps.1) ∙ c.if-branch.true in
     let found : tests (rows_from rows k (fields ∷ rest)) ≡ true =

@@ -1,0 +1,40 @@
+use Rattle.std.proofs.Common.{◌≡◌, ◌==◌, ℕ, Option, arith, ap, length, max, sym, ◌∙◌}
+use Rattle.std.specs.List.{slice_index_or}
+use Rattle.std.specs.Prelude.{slice_get, if◌then◌else◌}
+use Rattle.comfy_parts.specs.CellValue.{CellValue}
+use Rattle.comfy_table.specs.TableValue.{cell_content_width}
+use Rattle.csv_tables.proofs.ShownLemmas.{all_cells, one_wider}
+use Rattle.csv_tables.specs.Contents.{measured_at}
+use Rattle.csv_tables.proofs.rows.LazyRow.widen.Goals as goal
+
+pub loop-position-preserved : goal.loop-position-preserved
+loop-position-preserved c =
+    let cells = c.args.self.now.cells in
+    let of : Option CellValue → ℕ = measured_at c.args.table.now cell_content_width in
+    let f : ℕ → ℕ = λ i. of (slice_get cells i) in
+    let k = c.loop-position.position in
+    let had = c.loop-position.invariant in
+    let grown = c.in_ok-widen_at.ensures in
+    let width : c.in_ok-width.width ≡ f k = c.in_ok-width.ensures ∙ sym (ap of c.in_ok-cell_at.ensures) in (
+      λ i.
+          grown.each i ∙ ap (λ n. max (slice_index_or c.loop-position.widths.items i 0) (if i == k then n else 0)) width
+          ∙ ap (λ n. max n (if i == k then f k else 0)) (had.0 i)
+          ∙ one_wider (slice_index_or c.args.widths.now.items i 0) f i k,
+      let count = grown.count in
+          let so = had.1 in
+          omega (arith, count, so),
+    )
+
+pub returns-clause-each : goal.returns-clause-each
+returns-clause-each c = λ i.
+    let cells = c.args.self.now.cells in
+    let long = c.len-position-end.ensures.count in
+    let all : length cells ≡ c.loop-position.position = omega (arith, long, c.loop-position-test.false, c.loop-position.auto.position-end) in
+    c.loop-position.invariant.0 i ∙ ap (max (slice_index_or c.args.widths.now.items i 0)) (all_cells c.args.table.now cells c.loop-position.position i all)
+
+pub returns-clause-count : goal.returns-clause-count
+returns-clause-count c =
+    let cells = c.args.self.now.cells in
+    let long = c.len-position-end.ensures.count in
+    let all : length cells ≡ c.loop-position.position = omega (arith, long, c.loop-position-test.false, c.loop-position.auto.position-end) in
+    c.loop-position.invariant.1 ∙ ap (max (length c.args.widths.now.items)) (sym all)

@@ -1,0 +1,22 @@
+-- Private: rows that aren't made yet.
+-- Source: this library's own.
+use Rattle.std.specs.Prelude.{◌≡◌, ⊤, option_map}
+use Rattle.comfy_parts.specs.CellValue.{RowValue}
+use Rattle.csv_tables.specs.Cells.{columns_within, pair_for}
+use Rattle.csv_tables.specs.Columns.{name_or_number}
+use Rattle.csv_tables.specs.Contents.{made_by}
+use Rattle.csv_tables.specs.declared.rows.RecordRows.{RecordRows}
+use Rattle.csv_tables.specs.declared.rows.RowSource.{RowSource}
+use Rattle.csv_tables.specs.declared.rows.RowSource.TheVariants.{Field, Record}
+
+-- the row of a record, or of a name and a field
+abbrev pub row_by : RecordRows → RowSource → RowValue
+row_by rows (Record at fields columns) = made_by rows at fields.now
+row_by rows (Field position name field) =
+    pair_for rows.look (name_or_number (option_map (λ s. s.now) name) position) field.now
+
+-- a record's columns are those up to the last one of which it has the field
+abbrev pub IsSourceIn : RecordRows → RowSource → Type 0
+IsSourceIn rows (Record at fields columns) =
+    columns.now ≡ columns_within fields.now rows.selected.columns
+IsSourceIn rows (Field position name field) = ⊤
