@@ -26,7 +26,7 @@ import re
 import sys
 
 from definitions import LIBRARIES, PROMISES, TOP, files_of, functions_of, sources_of, text_of
-from mutations import must_fail_of, mutations_of
+from mutations import mutations_of
 from new_items import unlisted
 from reach import uncalled, unreached
 from what_is_believed import updated
@@ -53,7 +53,7 @@ NOT_OURS = {
 
 def mutated_in(crate):
     """The functions that a crate's mutations are named after."""
-    found = mutations_of(f"{TOP}/crates/{crate}") + must_fail_of(f"{TOP}/crates/{crate}")
+    found = mutations_of(f"{TOP}/crates/{crate}") + mutations_of(f"{TOP}/crates/{crate}", "must-fail")
     return {it.name.split("__")[0] for it in found}
 
 

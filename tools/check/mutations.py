@@ -1,21 +1,20 @@
 #!/usr/bin/env python3
-"""Tries the mutations crates/CRATE/mutations/**/*.txt, many in one check, and says which of them the prover refuses.
+"""Tries the mutations crates/CRATE/mutations/*.edit, many in one check, and says which of them the prover refuses.
 
     tools/check/mutations.py [--must-fail] [--jobs N] [--list] [--only TEXT] [CRATE]..
 
-mutations/PATH.txt has those of src/PATH.rt, in the order of its functions, each in this form:
+A file is named FUNCTION__WHAT_IS_WRONG.edit. Its form is that of `rt must-fail`:
 
-    # FUNCTION__WHAT_IS_WRONG
+    file: src/PATH.rt
     old: TEXT
     new: TEXT
 
-The old text, a line or a part of one, stands exactly once in the file; the new one takes its place. More such pairs may
-follow. A line `file: src/OTHER.rt` above a pair says that it and those below it are of another file. Empty lines part
-mutations.
+The old text, a line or a part of one, is exactly once in the file; the new one takes its place. More such pairs may
+follow, each with a line `file:` of its own if it is of another file.
 
-With no CRATE it tries those of every crate; with --must-fail those of must-fail/*.edit too, whose form is that of
-`rt must-fail`. With --only it tries those whose label, the file and the name as they are printed, has TEXT in it. With
---list it tries none, and prints those that don't stand once and those whose name stands twice in the crate.
+With no CRATE it tries those of every crate; with --must-fail those of must-fail/ too. With --only it tries those whose
+label, the source file and the name as they are printed, has TEXT in it. With --list it tries none, and prints those that
+can't be applied and those whose name is in both folders of the crate.
 
 It works on a copy of the crate and of the crates below it, with what earlier checks kept in their out/, so `rt check` in
 the crate's folder beforehand saves time. A check tries mutations of different functions together: each function's line
@@ -23,9 +22,9 @@ says whether it is proved. A function that only calls a mutated one is tried aga
 so is tried by itself.
 
 It prints a line for each mutation: refused, SURVIVED (the crate is proved with it), STALE (no goal is left unproved: it
-fails only because an answer that was written by hand names what it takes away, so it shows nothing of a clause), DOES NOT
-STAND ONCE (a text of it is missing, or stands more than once), or CANNOT BE READ (what it makes doesn't compile). It ends
-with 1 unless every mutation is refused, or, with --list, stands once under a name of its own.
+fails only because an answer that was written by hand names what it takes away, so it shows nothing of a clause), CANNOT
+BE APPLIED (a text of it is missing, or is there more than once), or CANNOT BE READ (what it makes doesn't compile). It
+ends with 1 unless every mutation is refused, or, with --list, can be applied and has a name of its own.
 """
 import argparse
 import glob
@@ -42,15 +41,15 @@ TRIES = 5  # checks that a function may be hidden in by those it calls, before i
 # what a check says of an answer that names what a mutation takes away
 STALE = r"has no field|has no `|is not in scope|is not a field|was not admitted"
 FUNCTION = r"^[ \t]*(?:pub(?:\(\w+\))? )?(?:const )?fn (\w+)"
-FORM = r"# \w+__\w+\n(?:(?:file: \S+\n)?old: .+\nnew:.*\n)+\n*"  # a mutation in a file of mutations/
+FORM = r"file: \S+\n(?:(?:file: \S+\n)?old: .+\nnew:.*\n)+"  # of an edit
 
 
 class Mutation:
-    """Pairs of texts: the old one stands once in a file of the crate, and the new one takes its place."""
+    """Pairs of texts: the old one is once in a file of the crate, and the new one takes its place."""
 
-    def __init__(self, label, name, lines, file, crate):
-        self.label, self.name, self.pairs, self.tries, self.is_alone = label, name, [], 0, False
-        old = ""
+    def __init__(self, name, lines, crate):
+        self.name, self.pairs, self.tries, self.is_alone = name, [], 0, False
+        file = old = ""
         for line in lines.split("\n"):
             word, _, text = line.partition(":")
             text = text.removeprefix(" ")
@@ -60,18 +59,19 @@ class Mutation:
                 old = text
             elif word == "new":
                 self.pairs.append((file, old, text))
-        self.function = function_at(crate, *self.pairs[0][:2]) if self.pairs else None
+        self.label = f"{os.path.basename(crate)}/{self.pairs[0][0]} {name}"
+        self.function = function_at(crate, *self.pairs[0][:2])
         self.lines = lines_at(crate, *self.pairs[0][:2]) if self.function else None
 
     def applied(self, crate, texts):
-        """The texts with this mutation, or None where an old text doesn't stand in them exactly once."""
+        """The texts with this mutation, or None if an old text isn't in them exactly once."""
         made = dict(texts)
         for file, old, new in self.pairs:
             text = made[file] if file in made else text_of(f"{crate}/{file}")
             if text.count(old) != 1:
                 return None
             made[file] = text.replace(old, new)
-        return made if self.pairs else None
+        return made
 
 
 def text_of(path):
@@ -81,27 +81,14 @@ def text_of(path):
         return file.read()
 
 
-def mutations_of(crate):
-    """The mutations of a crate's folder mutations/."""
+def mutations_of(crate, folder="mutations"):
+    """The mutations of a crate's folder, a file each."""
     found = []
-    for path in sorted(glob.glob(f"{crate}/mutations/**/*.txt", recursive=True)):
-        text, label = text_of(path) + "\n", os.path.relpath(path, f"{TOP}/crates")
-        end = re.match(f"(?:{FORM})*", text).end()
-        if end < len(text):
-            line = text.count("\n", 0, end) + 1
-            sys.exit(f"{label}:{line}: not of the form that the head of tools/check/mutations.py gives")
-        file = "src/" + os.path.relpath(path, f"{crate}/mutations").removesuffix(".txt") + ".rt"
-        parts = re.split(r"^# (\w+)\n", text, flags=re.M)[1:]
-        found += [Mutation(f"{label} {name}", name, lines, file, crate) for name, lines in zip(parts[::2], parts[1::2])]
-    return found
-
-
-def must_fail_of(crate):
-    """The mutations of a crate's folder must-fail/, a file each."""
-    found = []
-    for path in sorted(glob.glob(f"{crate}/must-fail/*.edit")):
-        name = os.path.basename(path).removesuffix(".edit")
-        found.append(Mutation(os.path.relpath(path, f"{TOP}/crates"), name, text_of(path), "", crate))
+    for path in sorted(glob.glob(f"{crate}/{folder}/*.edit")):
+        text, name = text_of(path), os.path.basename(path).removesuffix(".edit")
+        if not re.fullmatch(FORM, text) or not re.fullmatch(r"\w+__\w+", name):
+            sys.exit(f"{path}: not of the form that the head of tools/check/mutations.py gives")
+        found.append(Mutation(name, text, crate))
     return found
 
 
@@ -242,7 +229,7 @@ def tried(crate, waiting, jobs):
     """Tries a crate's mutations, and prints what comes of each: how many are refused, and stale."""
     missing = [it for it in waiting if it.applied(crate, {}) is None]
     for it in missing:
-        print(f"{it.label}: DOES NOT STAND ONCE", flush=True)
+        print(f"{it.label}: CANNOT BE APPLIED", flush=True)
     found, waiting, calls = [], [it for it in waiting if it not in missing], {}
     with tempfile.TemporaryDirectory(prefix="mutations-") as room:
         copy = copied(os.path.basename(crate), room)
@@ -265,29 +252,29 @@ def tried(crate, waiting, jobs):
 
 
 def listed(crate, found):
-    """Prints the mutations of a crate that don't stand once, or not under a name of their own, and returns how many."""
+    """Prints the mutations of a crate that can't be applied or have no name of their own, and returns how many."""
     names = [it.name for it in found]
-    wrong = [f"{it.label}: DOES NOT STAND ONCE" for it in found if it.applied(crate, {}) is None]
-    wrong += [f"{it.label}: ITS NAME STANDS TWICE" for it in found if names.count(it.name) > 1]
+    wrong = [f"{it.label}: CANNOT BE APPLIED" for it in found if it.applied(crate, {}) is None]
+    wrong += [f"{it.label}: ITS NAME IS THERE TWICE" for it in found if names.count(it.name) > 1]
     for line in wrong:
         print(line)
     return len(wrong)
 
 
 def main():
-    parser = argparse.ArgumentParser(description="Tries the mutations crates/CRATE/mutations/**/*.txt, many in one check.")
+    parser = argparse.ArgumentParser(description="Tries the mutations crates/CRATE/mutations/*.edit, many in one check.")
     parser.add_argument("--must-fail", action="store_true", help="try those of must-fail/ too")
     parser.add_argument("--jobs", type=int, help="how many functions a check may prove side by side")
-    parser.add_argument("--list", action="store_true", help="try none, and print those that don't stand once")
+    parser.add_argument("--list", action="store_true", help="try none, and print those that can't be applied")
     parser.add_argument("--only", default="", metavar="TEXT", help="only those whose label has TEXT in it")
-    parser.add_argument("crate", nargs="*", help="a crate's name (all crates, where none is given)")
+    parser.add_argument("crate", nargs="*", help="a crate's name (all crates, if none is given)")
     options = parser.parse_args()
     count = refused = stale = faults = 0
     for name in options.crate or sorted(os.listdir(f"{TOP}/crates")):
         crate = f"{TOP}/crates/{name}"
         if not os.path.isdir(crate):
             parser.error(f"there is no crate {name}")
-        found = mutations_of(crate) + (must_fail_of(crate) if options.must_fail else [])
+        found = mutations_of(crate) + (mutations_of(crate, "must-fail") if options.must_fail else [])
         found = [it for it in found if options.only in it.label]
         count += len(found)
         if options.list:
