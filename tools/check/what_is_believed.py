@@ -53,9 +53,14 @@ def named(word, path):
     return path, name, module.endswith(".TheVariants")
 
 
+def read(text):
+    """A text without comments, and without the names of its clauses."""
+    return re.sub(r"\b(ensures\*?|requires) \w+ \{", r"\1 {", re.sub(r"(--|//).*", "", text))
+
+
 def below(one):
     """The files and names on which a definition stands; on an enum where it names a variant."""
-    text = re.sub(r"(--|//).*", "", f"{one.head}\n{one.text}")
+    text = read(f"{one.head}\n{one.text}")
     found = [named(word, one.path) for word in dict.fromkeys(re.findall(WORD, text))]
     for local, (module, name) in imports_of(one.path).items():
         if not name and path_of(module).endswith(".antt"):
@@ -69,7 +74,7 @@ def below(one):
 
 def members_below(one):
     """The ghost members of traits that a function or a member names, with those of all impls."""
-    for name in re.findall(rf"\b[A-Z]\w*\.(\w+)|({WORD})", one.text):
+    for name in re.findall(rf"\b[A-Z]\w*\.(\w+)|({WORD})", read(one.text)):
         ones = members().get("".join(name), [])
         if any(" trait " in f" {it.head}" for it in ones):
             yield from ones
