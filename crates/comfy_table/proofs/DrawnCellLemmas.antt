@@ -1,13 +1,12 @@
 -- The lines of a row are made of the cells that its shown columns draw.
-use Rattle.std.proofs.Common.{◌≡◌, ℕ, zero, suc, Bool, true, false, List, Option, Some, None, length, map, refl, ap, ◌∙◌, sym, slice_index_or, unwrap_or}
+use Rattle.std.proofs.Common.{◌≡◌, ℕ, Bool, true, false, List, Option, Some, length, map, refl, ap, ◌∙◌, sym, slice_index_or, unwrap_or}
 use Rattle.std.specs.List.{range_with_len, slice_get}
 use Rattle.std.specs.Prelude.{option_map, if◌then◌else◌}
 use Rattle.comfy_parts.proofs.CallerLemmas.{index-map}
 use Rattle.comfy_parts.specs.CellValue.{CellValue, RowValue, ColumnInfo}
 use Rattle.comfy_parts.specs.Text.{Text, greatest}
 use Rattle.std.proofs.lemmas.Simd.{map-map}
-use Rattle.comfy_table.specs.CellLines.{line_at}
-use Rattle.comfy_table.specs.DrawnCells.{DrawnCell, drawn_cell, greatest_height, piece_at, piece_with, pieces_of_content, styles_of}
+use Rattle.comfy_table.specs.DrawnCells.{DrawnCell, drawn_cell, greatest_height, piece_at, piece_with, styles_of}
 use Rattle.comfy_table.specs.DrawnLines.{DrawnLine, drawn_line}
 use Rattle.comfy_table.specs.Gaps.{RowGapsValue, gap_line, row_between}
 use Rattle.comfy_table.specs.Pieces.{blank_piece, padded, pieces_of_optional, row_cell_lines, row_height, row_lines, text_piece, shown_infos}
@@ -32,25 +31,18 @@ where_written table cell info line = by_settings (should_style table) table.styl
     by_settings false text_only = refl
 
 -- the pieces of a cell that a row has, with its lines
-pub content_pieces : (table : TableValue) (row : RowValue) (info : ColumnInfo) (o : Option CellValue) (cell : CellValue) (content : Option (CellValue × List DrawnLine)) → o ≡ Some cell → content ≡ Some (cell, map drawn_line (row_cell_lines table row info cell))
-    → pieces_of_content (styles_of table) info content ≡ pieces_of_optional table row info o
-content_pieces table row info o cell content found are =
-    ap (pieces_of_content (styles_of table) info) are
+pub cell_pieces_are : (table : TableValue) (row : RowValue) (info : ColumnInfo) (o : Option CellValue) (cell : CellValue) (lines : List DrawnLine) → o ≡ Some cell → lines ≡ map drawn_line (row_cell_lines table row info cell)
+    → map (piece_with (styles_of table) cell info) lines ≡ pieces_of_optional table row info o
+cell_pieces_are table row info o cell lines found are =
+    ap (map (piece_with (styles_of table) cell info)) are
     ∙ (λ i. map (λ line. where_written table cell info line i) (map drawn_line (row_cell_lines table row info cell)))
     ∙ map-map _ drawn_line (row_cell_lines table row info cell)
     ∙ ap (pieces_of_optional table row info) (sym found)
 
 -- the piece in a line, by the line
-pub piece_in : (styles : Styles) (info : ColumnInfo) (content : Option (CellValue × List DrawnLine)) (k : ℕ)
-    → slice_index_or (pieces_of_content styles info content) k (blank_piece info) ≡ unwrap_or (option_map (λ (p : CellValue × DrawnLine). piece_with styles p.0 info p.1) (line_at k content)) (blank_piece info)
-piece_in styles info None zero = refl
-piece_in styles info None (suc k) = refl
-piece_in styles info (Some content) k = index-map _ content.1 k (blank_piece info) ∙ by_line (slice_get content.1 k)
-  where
-    by_line : (o : Option DrawnLine) → unwrap_or (option_map (piece_with styles content.0 info) o) (blank_piece info)
-        ≡ unwrap_or (option_map (λ (p : CellValue × DrawnLine). piece_with styles p.0 info p.1) (option_map (λ line. (content.0, line)) o)) (blank_piece info)
-    by_line None = refl
-    by_line (Some line) = refl
+pub piece_in : (styles : Styles) (cell : CellValue) (info : ColumnInfo) (lines : List DrawnLine) (k : ℕ)
+    → slice_index_or (map (piece_with styles cell info) lines) k (blank_piece info) ≡ unwrap_or (option_map (piece_with styles cell info) (slice_get lines k)) (blank_piece info)
+piece_in styles cell info lines k = index-map (piece_with styles cell info) lines k (blank_piece info)
 
 -- the lines of a row, cell by cell
 pub drawn_lines : (table : TableValue) (infos : List ColumnInfo) (row : RowValue) (cells : List DrawnCell) → cells ≡ map (drawn_cell table row) (shown_infos infos)

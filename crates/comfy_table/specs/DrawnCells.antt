@@ -30,9 +30,11 @@ piece_with RoundTexts cell info line = padded cell info line.columns (styled cel
 piece_with RoundPieces cell info line = styled cell (padded cell info line.columns line.written)
 
 -- the pieces of a cell with these lines; a missing cell is one blank_piece
-abbrev pub pieces_of_content : Styles → ColumnInfo → Option (CellValue × List DrawnLine) → List Text
+abbrev pub pieces_of_content : Styles → ColumnInfo → Option (CellValue × List DrawnLine)
+    → List Text
 pieces_of_content styles info None = blank_piece info ∷ []
-pieces_of_content styles info (Some content) = map (piece_with styles content.0 info) content.1
+pieces_of_content styles info (Some content) =
+    map (piece_with styles content.0 info) content.1
 
 -- a shown column with its position in a row
 abbrev pub drawn_cell : TableValue → RowValue → ℕ × ColumnInfo → DrawnCell

@@ -24,12 +24,13 @@ pub mod NewTables
 pub mod Output
 pub mod Parts
 pub mod Pieces
-pub mod PlainCells
 pub mod Predicate
+pub mod RowCells
 pub mod Straight
 pub mod Styling
 pub mod TableLaws
 pub mod TableLoans
 pub mod TableReference
 pub mod TableValue
+pub mod TextStyles
 pub mod Widths

@@ -26,8 +26,8 @@ pub use table::row_writer::RowWriter;
 pub use table::terminal::Terminal;
 pub use utils::arrangement::contents::Contents;
 pub use utils::formatting::drawing::Extent;
-pub use utils::formatting::drawn_cell::is_any_taller;
-pub use utils::formatting::plain_cell::PlainCell;
+pub use utils::formatting::row_cell::{RowCell, TextCell};
+pub use utils::formatting::text_style::TextStyle;
 
 /// A row of values of several types, as an array of their cells: of each value that a cell can be
 /// made of (`IntoCell`). It stands in a function that returns a `Result`.

@@ -2,31 +2,22 @@
 
 use crate::fixtures::fill_worked;
 use crate::outcome::{Outcome, succeeded};
-use comfy_table::{ArrangedTable, Result, Table, is_any_taller};
+use comfy_table::{ArrangedTable, Cell, Extent, Result, RowCell, Table, TextCell};
 use std::alloc::Global;
 
 /// What came of the call of this name on a new table that `fill_worked` fills.
 pub fn outcome_of(alloc: Global, table: &mut Table, call: &str) -> Result<Outcome> {
     fill_worked(alloc, table)?;
-    outcome_on(alloc, table, &table.arranged()?, call)
+    outcome_on(alloc, &table.arranged()?, call)
 }
 
-fn outcome_on(
-    alloc: Global,
-    table: &Table,
-    arranged: &ArrangedTable<&Table>,
-    call: &str,
-) -> Result<Outcome> {
+fn outcome_on(alloc: Global, arranged: &ArrangedTable<&Table>, call: &str) -> Result<Outcome> {
     match call {
-        "is_any_taller" => Ok(Outcome::of(succeeded(has_tall_row(table, arranged)))),
         "push_rows" => outcome_of_pushing(alloc, arranged),
+        "push_cells" => outcome_of_pushing_cells(alloc, arranged),
+        "height_of_cells" => outcome_of_height(alloc, arranged),
         _ => Ok(Outcome::Unknown),
     }
-}
-
-fn has_tall_row(table: &Table, arranged: &ArrangedTable<&Table>) -> Result<bool> {
-    let rows = table.row_iter().as_slice();
-    is_any_taller(table, arranged.infos(), rows, 2)
 }
 
 const BEFORE: &str = "before\n";
@@ -39,4 +30,45 @@ fn outcome_of_pushing(alloc: Global, arranged: &ArrangedTable<&Table>) -> Result
     }
     let differs = text.as_str() != BEFORE;
     Ok(Outcome::refused(differs.then_some("the text")))
+}
+
+// A row of cells of which none fits its column: a text, a `Cell`, and a number before spaces.
+fn cells(alloc: Global) -> Result<Vec<RowCell<'static>>> {
+    let mut cells = Vec::new(alloc);
+    if let Some(text) = TextCell::of_line("a long text that is wrapped", None, None) {
+        cells.push(RowCell::Lent(text))?;
+    }
+    let made = Cell::new(alloc, "a text\nof two lines")?;
+    cells.push(RowCell::Made(Box::new(alloc, made)?))?;
+    if let Some(number) = TextCell::of_printable("1234.5", 40, None, None) {
+        cells.push(RowCell::Lent(number))?;
+    }
+    Ok(cells)
+}
+
+// The row is drawn below others. After a refusal the text is as it was.
+fn outcome_of_pushing_cells(alloc: Global, arranged: &ArrangedTable<&Table>) -> Result<Outcome> {
+    let cells = cells(alloc)?;
+    let mut text = String::from_str(alloc, BEFORE)?;
+    let mut writer = arranged.row_writer()?;
+    let extent = Extent {
+        is_first: false,
+        is_last: true,
+    };
+    if writer
+        .push_cells(&mut text, cells.as_slice(), Some(2), extent)
+        .is_ok()
+    {
+        return Ok(Outcome::Succeeded);
+    }
+    let differs = text.as_str() != BEFORE;
+    Ok(Outcome::refused(differs.then_some("the text")))
+}
+
+fn outcome_of_height(alloc: Global, arranged: &ArrangedTable<&Table>) -> Result<Outcome> {
+    let cells = cells(alloc)?;
+    let height = arranged
+        .row_writer()?
+        .height_of_cells(cells.as_slice(), None);
+    Ok(Outcome::of(succeeded(height)))
 }

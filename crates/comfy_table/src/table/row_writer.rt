@@ -1,19 +1,19 @@
 //! Rows of a table that are drawn one after another.
 
-ghost use Rattle.std.specs.Prelude.{◌≡◌, ◌++◌, ◌∷◌, [], IfOk, IsTrue, OnErr, OnOk, false, string_bytes};
-ghost use Rattle.comfy_parts.specs.CellValue.{RowValue};
+ghost use Rattle.std.specs.Prelude.{◌≡◌, ◌++◌, ◌∷◌, [], IfOk, OnErr, OnOk, map, string_bytes};
 ghost use Rattle.comfy_table.specs.Drawing.{outer_widths, part_of_drawing, terminated_text_of};
 ghost use Rattle.comfy_table.specs.Gaps.{frame_of};
-ghost use Rattle.comfy_table.specs.PlainCells.{IsRowOf};
+ghost use Rattle.comfy_table.specs.Pieces.{row_height};
+ghost use Rattle.comfy_table.specs.RowCells.{cell_of, row_with};
 
 use crate::table::Table;
-use crate::utils::formatting::plain_cell::PlainCell;
+use crate::utils::formatting::row_cell::RowCell;
 use crate::utils::formatting::{DrawnFrame, Extent, Writer};
 use comfy_parts::content_split::ColumnDisplayInfo;
 use comfy_parts::{Result, Row};
 use std::marker::Model;
 
-/// What draws rows of a table one after another, in the memory of those before.
+/// A writer of rows of a table, one after another, in the memory of those before.
 /// `ArrangedTable::row_writer` makes it.
 ///
 /// ```
@@ -74,30 +74,36 @@ impl<'a> RowWriter<'a> {
         drawn
     }
 
-    /// Appends the line of a row of these cells, as `push_rows` does of one row, whatever its
-    /// greatest height is. If one of them doesn't fit its column, this returns `false`, and it may
-    /// do so if the table has custom styling. The text is then as it was, and so it is after
-    /// `OutOfMemory`.
+    /// Appends the lines of a row of these cells, as `push_rows` does of one row. At most `limit`
+    /// lines are drawn of it; 0 counts as 1. After `OutOfMemory` the text is as it was.
     pub fn push_cells(
         &mut self,
         text: &mut String,
-        cells: &[PlainCell<'_>],
+        cells: &[RowCell<'_>],
+        limit: Option<usize>,
         extent: Extent,
-    ) -> Result<bool>
-        ensures drawn { IfOk result (λ is. IsTrue is → (row : RowValue) → IsRowOf cells.now row
-            → string_bytes text.new ≡ string_bytes text.old ++ terminated_text_of
+    ) -> Result<()>
+        ensures ok { OnOk result (string_bytes text.new
+            ≡ string_bytes text.old ++ terminated_text_of
             (part_of_drawing self.old.table self.old.infos extent.is_first extent.is_last
-            (row ∷ []))) }
-        ensures other { IfOk result (λ is. is ≡ false
-            → string_bytes text.new ≡ string_bytes text.old) }
+            (row_with (map cell_of cells.now) limit ∷ []))) }
         ensures err { OnErr result (string_bytes text.new ≡ string_bytes text.old) }
         ensures kept { self.new ≡ self.old }
     {
         let had = text.len();
-        let drawn = self.writer.draw_cells(cells, extent, text);
+        let drawn = self.writer.draw_cells(cells, limit, extent, text);
         if drawn.is_err() {
             text.truncate(had);
         }
         drawn
+    }
+
+    /// How many lines a row of these cells has, of which at most `limit` are drawn; 0 counts as 1.
+    /// In a table without visible columns it has none.
+    pub fn height_of_cells(&self, cells: &[RowCell<'_>], limit: Option<usize>) -> Result<usize>
+        ensures { IfOk result (λ height. height ≡ row_height self.now.table self.now.infos
+            (row_with (map cell_of cells.now) limit)) }
+    {
+        self.writer.height_of_cells(cells, limit)
     }
 }

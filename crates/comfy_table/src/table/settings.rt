@@ -1,6 +1,6 @@
 //! The settings of a table. Only the indicator takes memory.
 
-ghost use Rattle.std.specs.Prelude.{◌≡◌, Some, true, IfOk, OnOk, OnErr};
+ghost use Rattle.std.specs.Prelude.{◌≡◌, Some, true, IfOk, OnOk, OnErr, unwrap_or};
 ghost use Rattle.std.specs.Borrow.{sem};
 ghost use Rattle.comfy_table.specs.TableReference.{reference_of};
 ghost use Rattle.comfy_table.specs.Lines.{cell_delimiter};
@@ -170,9 +170,17 @@ impl Table {
     pub(crate) fn delimiter_of(&self, cell: &Cell, column_delimiter: Option<char>) -> char
         ensures { result ≡ cell_delimiter self.now column_delimiter cell.now }
     {
-        if let Some(delimiter) = cell.cell_delimiter() {
-            return delimiter;
+        match cell.cell_delimiter() {
+            Some(delimiter) => delimiter,
+            None => self.delimiter_in(column_delimiter),
         }
+    }
+
+    // The character at which the texts of a cell without a delimiter may break, in a column with
+    // this one.
+    pub(crate) fn delimiter_in(&self, column_delimiter: Option<char>) -> char
+        ensures { result ≡ unwrap_or column_delimiter (unwrap_or self.now.delimiter 0x20) }
+    {
         match column_delimiter {
             Some(delimiter) => delimiter,
             None => self.delimiter.unwrap_or(' '),

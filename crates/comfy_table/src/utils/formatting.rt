@@ -10,10 +10,11 @@ mod drawn_row;
 mod gap;
 mod output;
 mod piece;
-pub(crate) mod plain_cell;
+pub(crate) mod row_cell;
 mod row_gaps;
 mod shown_column;
 mod styling;
+pub(crate) mod text_style;
 
 pub(crate) use drawing::{Extent, Writer};
 pub(crate) use drawn_frame::DrawnFrame;

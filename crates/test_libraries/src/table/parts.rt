@@ -1,7 +1,7 @@
 //! Tables drawn in parts: all at the widths of the whole table, each with header and borders.
 
 use crate::support::{assert_given, table_of};
-use comfy_table::{ColumnConstraint, ContentArrangement, Extent, Row, Table, is_any_taller};
+use comfy_table::{ColumnConstraint, ContentArrangement, Extent, Row, RowCell, RowWriter, Table};
 use std::alloc::{Alloc, Global};
 use std::process::Abort;
 
@@ -174,16 +174,28 @@ fn hide(table: &mut Table, count: usize) {
     }
 }
 
-fn is_taller(rt: &impl Abort, table: &Table, lines: usize) -> bool {
-    let arranged = table.arranged().expect(rt, "memory");
-    let rows = table.row_iter().as_slice();
-    is_any_taller(table, arranged.infos(), rows, lines).expect(rt, "memory")
+// The height of a row that is listed as cells.
+fn height_of(rt: &(impl Abort + Alloc<A = Global>), writer: &RowWriter<'_>, row: &Row) -> usize {
+    let mut cells = Vec::new(rt.alloc());
+    for cell in row.cell_iter() {
+        let copy = cell.clone().expect(rt, "memory");
+        let boxed = Box::new(rt.alloc(), copy).expect(rt, "memory");
+        cells.push(RowCell::Made(boxed)).expect(rt, "memory");
+    }
+    writer
+        .height_of_cells(cells.as_slice(), row.height_limit())
+        .expect(rt, "memory")
 }
 
 // The highest row is drawn in so many lines.
-fn assert_greatest_height(rt: &impl Abort, table: &Table, lines: usize) {
-    assert!(rt; !is_taller(rt, table, lines));
-    assert!(rt; lines == 0 || is_taller(rt, table, lines - 1));
+fn assert_greatest_height(rt: &(impl Abort + Alloc<A = Global>), table: &Table, lines: usize) {
+    let arranged = table.arranged().expect(rt, "memory");
+    let writer = arranged.row_writer().expect(rt, "memory");
+    let mut height = 0;
+    for row in table.row_iter() {
+        height = height_of(rt, &writer, row).max(height);
+    }
+    assert_eq!(rt; height, lines);
 }
 
 #[test]

@@ -5,9 +5,11 @@ ghost use Rattle.comfy_parts.specs.Text.{greatest, measure};
 ghost use Rattle.comfy_parts.specs.Wrapping.{wrapped};
 ghost use Rattle.comfy_table.specs.Lines.{longest_line, longest_line_at};
 ghost use Rattle.comfy_table.specs.LongestLine.{cell_longest_line, text_longest_line};
+ghost use Rattle.comfy_table.specs.RowCells.{cell_of};
 ghost use Rattle.comfy_table.specs.TableValue.{measured_cell};
 
 use crate::table::Table;
+use crate::utils::formatting::row_cell::{RowCell, TextCell};
 use comfy_parts::content_split::{ColumnDisplayInfo, wrapped_lines};
 use comfy_parts::{Cell, Result};
 
@@ -69,6 +71,43 @@ impl Table {
         }
         longest
     }
+}
+
+impl<'a> RowCell<'a> {
+    /// The longest line of the cell, in terminal columns, if it is wrapped in a column of this
+    /// content width. Only a text with spaces after it that doesn't fit takes memory for this.
+    pub fn longest_line(&self, table: &Table, info: &ColumnDisplayInfo) -> Result<usize>
+        ensures { IfOk result (λ longest. longest ≡ cell_longest_line table.now info.now
+            (measured_cell table.now (cell_of self.now))) }
+    {
+        match self {
+            RowCell::Lent(cell) => cell_text_longest_line(cell, table, info),
+            RowCell::Made(cell) => Ok(table.cell_longest_line(cell, info)),
+        }
+    }
+}
+
+// The longest line of the cell of a text.
+fn cell_text_longest_line(
+    cell: &TextCell<'_>,
+    table: &Table,
+    info: &ColumnDisplayInfo,
+) -> Result<usize>
+    ensures { IfOk result (λ longest. longest
+        ≡ cell_longest_line table.now info.now (measured_cell table.now cell.now)) }
+{
+    let columns = cell.columns();
+    let width = usize::from(info.content_width);
+    if columns <= width {
+        return Ok(columns);
+    }
+    let delimiter = table.delimiter_in(info.delimiter);
+    let (text, after) = cell.line();
+    if after == 0 {
+        return Ok(text_longest_line(text, columns, info, delimiter));
+    }
+    let spaced = cell.spaced(*table.columns.allocator())?;
+    Ok(text_longest_line(spaced.as_str(), columns, info, delimiter))
 }
 
 // The longest line of a text line that takes so many columns.

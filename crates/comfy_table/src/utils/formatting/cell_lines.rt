@@ -1,26 +1,28 @@
 //! The lines of a cell in its row: its text lines wrapped at the column's width, and cut to the
 //! row's height.
 
-ghost use Rattle.std.specs.Prelude.{◌≡◌, ◌++◌, ◌∷◌, ◌&&◌, [], false, IfOk, IfSome, OnOk, Some, map, option_map, string_bytes};
+ghost use Rattle.std.specs.Prelude.{◌≡◌, ◌≤◌, ◌++◌, ◌∷◌, ◌&&◌, [], false, IfOk, IfSome, OnOk, length, map, option_map, slice_get, string_bytes};
 ghost use Rattle.std.specs.List.{list_any};
 ghost use Rattle.comfy_parts.specs.Columns.{IsApart};
 ghost use Rattle.comfy_parts.specs.Text.{measure};
 ghost use Rattle.comfy_parts.specs.VisibleText.{has_escape};
 ghost use Rattle.comfy_parts.specs.Wrapping.{lines_of_text, wrapped};
-ghost use Rattle.comfy_table.specs.CellLines.{line_at, lines_of};
+ghost use Rattle.comfy_table.specs.CellLines.{lines_of};
 ghost use Rattle.comfy_table.specs.DrawnLines.{drawn_line, drawn_text, with_texts};
 ghost use Rattle.comfy_table.specs.Lines.{as_measured, cell_delimiter, cell_lines, cut_line, cut_text, fitting_indicator, uncut_lines};
-ghost use Rattle.comfy_table.specs.Pieces.{row_cell_lines};
-ghost use Rattle.comfy_table.specs.TableValue.{measured_cell};
+ghost use Rattle.comfy_table.specs.RowCells.{cell_in, lines_within};
+ghost use Rattle.comfy_table.specs.TableValue.{TableValue, measured_cell};
 
 use crate::table::Table;
+use crate::utils::formatting::gap::few_spaces;
+use crate::utils::formatting::row_cell::{CellSource, TextCell};
 use crate::utils::formatting::styling::push_reset;
 use comfy_parts::content_split::{
     ColumnDisplayInfo, adds_one_column, leaves_sequence_open, measure_text_width, split_long_word,
     wrapped_lines,
 };
 use comfy_parts::for_tables::{has_escape, needs_no_rewrite, written_lines};
-use comfy_parts::{Cell, Result, Row};
+use comfy_parts::{Cell, Result};
 use std::alloc::Global;
 use std::borrow::CowStr;
 use std::marker::Model;
@@ -59,6 +61,17 @@ impl<'a> Line<'a> {
         }
     }
 
+    // The same line, with a text of its own.
+    fn copied<'b>(&self, alloc: Global) -> Result<Line<'b>>
+        ensures { IfOk result (λ line. line ≡ self.now) }
+    {
+        Ok(Line {
+            columns: self.columns,
+            text: CowStr::Owned(self.written(alloc)?),
+            end: "",
+        })
+    }
+
     // The whole text that is written.
     fn written(&self, alloc: Global) -> Result<String>
         ensures { IfOk result (λ text. string_bytes text ≡ self.now.written) }
@@ -67,60 +80,63 @@ impl<'a> Line<'a> {
     }
 }
 
-/// A cell of a row and its lines, from the top.
+/// The lines of a cell of a row, from the top.
 #[derive(Drop)]
 pub enum CellLines<'a> {
-    // no cell stands in the column
-    Missing,
-    // the columns and the text of one text line that fits and is written as it is
-    Single(&'a Cell, usize, &'a str),
-    Multiple(&'a Cell, Vec<Line<'a>>),
+    // the columns and the two parts of the text of one line that fits
+    Single(usize, &'a str, &'a str),
+    Multiple(Vec<Line<'a>>),
 }
 
 impl<'a> CellLines<'a> {
-    /// A line by its position, counted from 0: the cell, the line's terminal columns, and the two
-    /// parts of the text that is written for it.
-    pub fn get(&self, position: usize) -> Option<(&Cell, usize, &str, &str)>
-        ensures { option_map (λ line. (
-          line.0.now,
-          record {
-            columns = line.1;
-            written = line.2.now ++ line.3.now;
-          },
-        )) result ≡ line_at position (lines_of self.now) }
+    /// How many lines there are.
+    pub fn len(&self) -> usize
+        ensures { result ≡ length (lines_of self.now) }
     {
         match self {
-            CellLines::Missing => None,
-            CellLines::Single(cell, columns, text) => {
-                (position == 0).then_some((*cell, *columns, *text, ""))
+            CellLines::Single(_, _, _) => 1,
+            CellLines::Multiple(lines) => lines.len(),
+        }
+    }
+
+    /// A line by its position, counted from 0: its terminal columns, and the two parts of the text
+    /// that is written for it.
+    pub fn get(&self, position: usize) -> Option<(usize, &str, &str)>
+        ensures { option_map (λ line. record {
+          columns = line.0;
+          written = line.1.now ++ line.2.now;
+        }) result ≡ slice_get (lines_of self.now) position }
+    {
+        match self {
+            CellLines::Single(columns, text, end) => {
+                (position == 0).then_some((*columns, *text, *end))
             }
-            CellLines::Multiple(cell, lines) => {
+            CellLines::Multiple(lines) => {
                 let line = lines.get(position)?;
-                Some((*cell, line.columns, line.text.as_str(), line.end))
+                Some((line.columns, line.text.as_str(), line.end))
             }
         }
     }
 }
 
-/// The lines of a cell in its row. One text line that fits and is written as it is needs no list.
-/// Others stand in one of the spare lists, if there is one.
+/// The lines of a cell in a row of at most `limit` lines. One text line that fits and is written as
+/// it is needs no list. Others are in one of the spare lists, if there is one.
 pub fn row_cell_lines<'a>(
     table: &'a Table,
-    row: &Row,
-    cell: &'a Cell,
+    limit: Option<usize>,
+    cell: CellSource<'a>,
     info: &ColumnDisplayInfo,
     spare: &mut Vec<Vec<Line<'a>>>,
 ) -> Result<CellLines<'a>>
+    requires { IfSome limit (λ lines. 1 ≤ lines) }
     ensures { IfOk result (λ lines. lines_of lines
-        ≡ Some (cell.now, map drawn_line (row_cell_lines table.now row.now info.now cell.now))) }
+        ≡ map drawn_line (lines_within table.now limit info.now (cell_in cell.entry))) }
 {
-    // the clause of a limit says that it is at least 1
-    let _limit = row.height_limit();
-    if let Some((columns, text)) = only_line(table, cell, info) {
-        return Ok(CellLines::Single(cell, columns, text));
+    if let Some((columns, text, end)) = only_line(table, cell, info) {
+        return Ok(CellLines::Single(columns, text, end));
     }
-    let lines = listed_lines(table, row, cell, info, empty_list(spare))?;
-    Ok(CellLines::Multiple(cell, lines))
+    let lines = listed_lines(table, limit, cell, info, empty_list(spare))?;
+    Ok(CellLines::Multiple(lines))
 }
 
 // A list without lines, in the memory of a spare one.
@@ -132,8 +148,52 @@ fn empty_list<'a>(spare: &mut Vec<Vec<Line<'a>>>) -> Vec<Line<'a>>
     list
 }
 
+/// The columns and the two parts of the text of a cell's one line, if it fits and is written as it
+/// is.
+#[inline(always)]
+pub fn only_line<'a>(
+    table: &Table,
+    cell: CellSource<'a>,
+    info: &ColumnDisplayInfo,
+) -> Option<(usize, &'a str, &'a str)>
+    ensures { IfSome result (λ line. record {
+      columns = line.0;
+      written = line.1.now ++ line.2.now;
+    } ∷ [] ≡ map drawn_line (uncut_lines table.now.custom_styling info.now.content_width
+        (cell_delimiter table.now info.now.delimiter (cell_in cell.entry)) (cell_in cell.entry))) }
+{
+    match cell {
+        CellSource::Line(cell) => fitting_text(cell, info),
+        CellSource::Own(cell) => {
+            let (columns, text) = fitting_line(table, cell, info)?;
+            Some((columns, text, ""))
+        }
+    }
+}
+
+// The columns of a text that fits, the text, and the spaces after it. More spaces than are copied
+// at once are none of them.
+#[inline(always)]
+fn fitting_text<'a>(
+    cell: &TextCell<'a>,
+    info: &ColumnDisplayInfo,
+) -> Option<(usize, &'a str, &'static str)>
+    ensures { IfSome result (λ line. (table : TableValue) → record {
+      columns = line.0;
+      written = line.1.now ++ line.2.now;
+    } ∷ [] ≡ map drawn_line (uncut_lines table.custom_styling info.now.content_width
+        (cell_delimiter table info.now.delimiter cell.now) cell.now)) }
+{
+    let (text, after) = cell.line();
+    if cell.columns() > usize::from(info.content_width) {
+        return None;
+    }
+    let end = few_spaces(after)?;
+    Some((cell.columns(), text, end))
+}
+
 // The columns and the text of a cell's one text line, if it fits and is written as it is.
-fn only_line<'a>(
+fn fitting_line<'a>(
     table: &Table,
     cell: &'a Cell,
     info: &ColumnDisplayInfo,
@@ -167,17 +227,17 @@ fn is_custom_styled(table: &Table, cell: &Cell) -> bool
 #[inline(never)]
 fn listed_lines<'a>(
     table: &'a Table,
-    row: &Row,
-    cell: &'a Cell,
+    limit: Option<usize>,
+    cell: CellSource<'a>,
     info: &ColumnDisplayInfo,
     list: Vec<Line<'a>>,
 ) -> Result<Vec<Line<'a>>>
     requires { list.items ≡ [] }
     ensures { IfOk result (λ lines. lines.items
-        ≡ map drawn_line (row_cell_lines table.now row.now info.now cell.now)) }
+        ≡ map drawn_line (lines_within table.now limit info.now (cell_in cell.entry))) }
 {
-    let measured = cell_lines(table, cell, info, list)?;
-    let height = row.height_limit().unwrap_or(measured.len());
+    let measured = measured_lines(table, cell, info, list)?;
+    let height = limit.unwrap_or(measured.len());
     if measured.len() <= height {
         return uncut_lines(table, cell, info, measured);
     }
@@ -190,7 +250,71 @@ fn listed_lines<'a>(
 }
 
 // The lines of a cell in a column as they are measured, in an empty list: each text line as it is
-// where it fits, else wrapped.
+// if it fits, else wrapped.
+fn measured_lines<'a>(
+    table: &Table,
+    cell: CellSource<'a>,
+    info: &ColumnDisplayInfo,
+    list: Vec<Line<'a>>,
+) -> Result<Vec<Line<'a>>>
+    requires { list.items ≡ [] }
+    ensures { IfOk result (λ lines. lines.items
+        ≡ map drawn_text (cell_lines info.now.content_width
+        (cell_delimiter table.now info.now.delimiter (cell_in cell.entry))
+        (measured_cell table.now (cell_in cell.entry)))) }
+{
+    match cell {
+        CellSource::Line(cell) => text_lines(table, cell, info, list),
+        CellSource::Own(cell) => cell_lines(table, cell, info, list),
+    }
+}
+
+// The lines of a text in a column, in an empty list.
+fn text_lines<'a>(
+    table: &Table,
+    cell: &TextCell<'a>,
+    info: &ColumnDisplayInfo,
+    mut lines: Vec<Line<'a>>,
+) -> Result<Vec<Line<'a>>>
+    requires { lines.items ≡ [] }
+    ensures { IfOk result (λ lines. lines.items
+        ≡ map drawn_text (cell_lines info.now.content_width
+        (cell_delimiter table.now info.now.delimiter cell.now)
+        (measured_cell table.now cell.now))) }
+{
+    let delimiter = table.delimiter_in(info.delimiter);
+    let (text, after) = cell.line();
+    if after == 0 {
+        push_lines(&mut lines, text, cell.columns(), info, delimiter)?;
+    } else {
+        push_spaced(&mut lines, cell, info, delimiter)?;
+    }
+    Ok(lines)
+}
+
+// Appends the lines of a text with spaces after it, each with a text of its own.
+#[inline(never)]
+fn push_spaced<'a>(
+    lines: &mut Vec<Line<'a>>,
+    cell: &TextCell<'_>,
+    info: &ColumnDisplayInfo,
+    delimiter: char,
+) -> Result<()>
+    ensures { OnOk result (lines.new.items
+        ≡ lines.old.items ++ map drawn_text
+        (cell_lines info.now.content_width delimiter cell.now)) }
+{
+    let alloc = *lines.allocator();
+    let spaced = cell.spaced(alloc)?;
+    let mut lent = Vec::new(alloc);
+    push_lines(&mut lent, spaced.as_str(), cell.columns(), info, delimiter)?;
+    for line in &lent {
+        lines.push(line.copied(alloc)?)?;
+    }
+    Ok(())
+}
+
+// The lines of a cell that is made, in an empty list.
 fn cell_lines<'a>(
     table: &Table,
     cell: &'a Cell,
@@ -251,6 +375,31 @@ fn push_wrapped<'a>(
 // Lines of a cell as they are measured, with what is written for each.
 #[inline(always)]
 fn uncut_lines<'a>(
+    table: &Table,
+    cell: CellSource<'_>,
+    info: &ColumnDisplayInfo,
+    measured: Vec<Line<'a>>,
+) -> Result<Vec<Line<'a>>>
+    requires { measured.items ≡ map drawn_text
+        (cell_lines info.now.content_width
+        (cell_delimiter table.now info.now.delimiter (cell_in cell))
+        (measured_cell table.now (cell_in cell))) }
+    ensures { IfOk result (λ lines. lines.items
+        ≡ map drawn_line (uncut_lines table.now.custom_styling info.now.content_width
+        (cell_delimiter table.now info.now.delimiter (cell_in cell.entry)) (cell_in cell.entry))) }
+{
+    match cell {
+        CellSource::Line(cell) => {
+            // its clause says that there is no ESC, so each line is written as it is measured
+            let _ = cell.line();
+            Ok(measured)
+        }
+        CellSource::Own(cell) => written_cell_lines(table, cell, info, measured),
+    }
+}
+
+// Lines of a cell that is made as they are measured, with what is written for each.
+fn written_cell_lines<'a>(
     table: &Table,
     cell: &Cell,
     info: &ColumnDisplayInfo,

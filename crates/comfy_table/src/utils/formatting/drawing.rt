@@ -1,22 +1,22 @@
 //! The lines of a table, in their order.
 
-ghost use Rattle.std.specs.Prelude.{◌≡◌, ◌<◌, ◌≤◌, ◌-◌, ◌∷◌, [], IfOk, IsTrue, OnErr, OnOk, Some, false, if◌then◌else◌, length, map, string_bytes, option_to_list};
-ghost use Rattle.std.specs.List.{All, range_with_len};
-ghost use Rattle.comfy_parts.specs.CellValue.{RowValue};
+ghost use Rattle.std.specs.Prelude.{◌≡◌, ◌<◌, ◌≤◌, ◌-◌, ◌∷◌, [], IfOk, OnErr, OnOk, Some, if◌then◌else◌, length, map, string_bytes, option_to_list};
+ghost use Rattle.std.specs.List.{range_with_len};
 ghost use Rattle.comfy_table.specs.DrawnCells.{filled, piece_at};
 ghost use Rattle.comfy_table.specs.Drawing.{drawn_header, drawn_row, drawn_rows, further_rows, lines_above, outer_widths, part_of_drawing, rows_below};
 ghost use Rattle.comfy_table.specs.Gaps.{frame_of, gap_line, row_between};
 ghost use Rattle.comfy_table.specs.Frame.{optional_frame_line};
 ghost use Rattle.comfy_table.specs.Output.{BeginsWith, with_lines};
-ghost use Rattle.comfy_table.specs.Pieces.{shown_infos};
-ghost use Rattle.comfy_table.specs.PlainCells.{IsFitting, IsRowOf};
+ghost use Rattle.comfy_table.specs.Pieces.{row_height, shown_infos};
+ghost use Rattle.comfy_table.specs.RowCells.{cell_of, row_in, row_with};
 
 use crate::table::Table;
 use crate::utils::formatting::borders::optional_frame_line;
+use crate::utils::formatting::drawn_cell::row_height;
 use crate::utils::formatting::drawn_frame::DrawnFrame;
 use crate::utils::formatting::drawn_row::DrawnRow;
 use crate::utils::formatting::output::Output;
-use crate::utils::formatting::plain_cell::{PlainCell, are_fitting, push_plain_line};
+use crate::utils::formatting::row_cell::{RowCell, RowSource};
 use crate::utils::formatting::row_gaps::RowGaps;
 use crate::utils::formatting::shown_column::{ShownColumn, shown_infos};
 use comfy_parts::content_split::ColumnDisplayInfo;
@@ -114,29 +114,61 @@ impl<'a> Writer<'a> {
         self.write_below(extent.is_last, output)
     }
 
-    /// Appends the line of a row of these cells, and the lines around it, if each cell is seen to
-    /// fit its column. Returns whether that is so; else nothing is appended. After `OutOfMemory`
-    /// the output begins with what it was.
-    pub fn draw_cells<O: Output>(
+    /// Appends the lines of a row of these cells, which has at most `limit` lines, and those around
+    /// it, to an output. After `OutOfMemory` the output begins with what it was.
+    pub fn draw_cells<'r, O: Output>(
         &mut self,
-        cells: &[PlainCell<'_>],
+        cells: &'r [RowCell<'r>],
+        limit: Option<usize>,
         extent: Extent,
         output: &mut O,
-    ) -> Result<bool>
-        ensures drawn { IfOk result (λ is. IsTrue is → (row : RowValue) → IsRowOf cells.now row
-            → O.kept output.new ≡ with_lines O.kept_of (part_of_drawing self.old.table
-            self.old.infos extent.is_first extent.is_last (row ∷ [])) (O.kept output.old)) }
-        ensures other { IfOk result (λ is. is ≡ false
-            → O.kept output.new ≡ O.kept output.old) }
+    ) -> Result<()>
+    where
+        'a: 'r,
+        ensures ok { OnOk result (O.kept output.new
+            ≡ with_lines O.kept_of (part_of_drawing self.old.table self.old.infos extent.is_first
+            extent.is_last (row_with (map cell_of cells.now) limit ∷ [])) (O.kept output.old)) }
         ensures err { OnErr result (BeginsWith (O.kept output.new) (O.kept output.old)) }
         ensures kept { self.new ≡ self.old }
     {
+        self.write_row_below(RowSource::Listed(cells, limit), extent.is_first, output)?;
+        self.write_below(extent.is_last, output)
+    }
+
+    /// How many lines a row of these cells has, of which at most `limit` are drawn. Without columns
+    /// it has none.
+    pub fn height_of_cells(&self, cells: &[RowCell<'_>], limit: Option<usize>) -> Result<usize>
+        ensures { IfOk result (λ height. height ≡ row_height self.now.table self.now.infos
+            (row_with (map cell_of cells.now) limit)) }
+    {
+        let row = RowSource::Listed(cells, limit);
+        row_height(row, self.columns.as_slice(), self.table)
+    }
+
+    // The lines of a row, below the top border and the header, or below another row.
+    fn write_row_below<'r, O: Output>(
+        &mut self,
+        row: RowSource<'r>,
+        is_first: bool,
+        output: &mut O,
+    ) -> Result<()>
+    where
+        'a: 'r,
+        ensures ok { OnOk result (O.kept output.new
+            ≡ with_lines O.kept_of (rows_below self.old.table self.old.infos is_first
+            (row_in row.entry ∷ [])) (O.kept output.old)) }
+        ensures err { OnErr result (BeginsWith (O.kept output.new) (O.kept output.old)) }
+        ensures kept { self.new ≡ self.old }
+    {
+        let frame = self.frame;
         let table = self.table;
-        if table.custom_styling || !are_fitting(cells, self.columns.as_slice()) {
-            return Ok(false);
+        let mut drawn: DrawnRow<'a, 'r> = DrawnRow::new(*table.columns.allocator());
+        if is_first {
+            self.write_above(&mut drawn, output)?;
+        } else {
+            push_frame_line(output, &frame.separator)?;
         }
-        self.write_cells(cells, extent, output)?;
-        Ok(true)
+        self.write_row(&mut drawn, &frame.gaps, row, output)
     }
 
     // The lines of these rows, below the top border and the header, or below other rows.
@@ -179,51 +211,6 @@ impl<'a> Writer<'a> {
         } else {
             Ok(())
         }
-    }
-
-    // The line of a row of these cells, which fit their columns, and the lines around it.
-    fn write_cells<O: Output>(
-        &mut self,
-        cells: &[PlainCell<'_>],
-        extent: Extent,
-        output: &mut O,
-    ) -> Result<()>
-        requires unstyled { self.now.table.custom_styling ≡ false }
-        requires some { 0 < length (shown_infos self.now.infos) }
-        requires fitting { All (IsFitting cells.now) (shown_infos self.now.infos) }
-        ensures ok { OnOk result ((row : RowValue) → IsRowOf cells.now row → O.kept output.new
-            ≡ with_lines O.kept_of (part_of_drawing self.old.table self.old.infos
-            extent.is_first extent.is_last (row ∷ [])) (O.kept output.old)) }
-        ensures err { OnErr result (BeginsWith (O.kept output.new) (O.kept output.old)) }
-        ensures kept { self.new ≡ self.old }
-    {
-        let frame = self.frame;
-        let table = self.table;
-        if extent.is_first {
-            self.write_above(&mut DrawnRow::new(*table.columns.allocator()), output)?;
-        } else {
-            push_frame_line(output, &frame.separator)?;
-        }
-        self.write_cell_line(cells, output)?;
-        self.write_below(extent.is_last, output)
-    }
-
-    // The line of a row of these cells, which fit their columns.
-    fn write_cell_line<O: Output>(&mut self, cells: &[PlainCell<'_>], output: &mut O) -> Result<()>
-        requires unstyled { self.now.table.custom_styling ≡ false }
-        requires some { 0 < length (shown_infos self.now.infos) }
-        requires fitting { All (IsFitting cells.now) (shown_infos self.now.infos) }
-        ensures ok { OnOk result ((row : RowValue) → IsRowOf cells.now row → O.kept output.new
-            ≡ with_lines O.kept_of (drawn_row self.old.table self.old.infos
-            self.old.table.style.content_lines row) (O.kept output.old)) }
-        ensures err { OnErr result (BeginsWith (O.kept output.new) (O.kept output.old)) }
-        ensures kept { self.new ≡ self.old }
-    {
-        let frame = self.frame;
-        self.line.clear();
-        let columns = self.columns.as_slice();
-        push_plain_line(&mut self.line, &frame.gaps, cells, columns)?;
-        output.push_line(self.line.as_str())
     }
 
     // The top border and the header.
@@ -286,7 +273,7 @@ impl<'a> Writer<'a> {
         let gaps = RowGaps::new(table, &style.header_lines)?;
         let columns = self.columns.as_slice();
         let separator = optional_frame_line(table, &style.header_separator, columns)?;
-        self.write_row(drawn, &gaps, header, output)?;
+        self.write_row(drawn, &gaps, RowSource::Whole(header), output)?;
         push_frame_line(output, &separator)
     }
 
@@ -308,7 +295,7 @@ impl<'a> Writer<'a> {
         let frame = self.frame;
         match rows.split_first() {
             Some((first, rest)) => {
-                self.write_row(drawn, &frame.gaps, first, output)?;
+                self.write_row(drawn, &frame.gaps, RowSource::Whole(first), output)?;
                 self.write_further_rows(drawn, rest, output)
             }
             None => Ok(()),
@@ -333,7 +320,7 @@ impl<'a> Writer<'a> {
         let frame = self.frame;
         for row in rows {
             push_frame_line(output, &frame.separator)?;
-            self.write_row(drawn, &frame.gaps, row, output)?;
+            self.write_row(drawn, &frame.gaps, RowSource::Whole(row), output)?;
         }
         Ok(())
     }
@@ -343,13 +330,13 @@ impl<'a> Writer<'a> {
         &mut self,
         drawn: &mut DrawnRow<'a, 'r>,
         gaps: &RowGaps,
-        row: &'r Row,
+        row: RowSource<'r>,
         output: &mut O,
     ) -> Result<()>
     where
         'a: 'r,
         ensures ok { OnOk result (O.kept output.new
-            ≡ with_lines O.kept_of (row_between gaps.now self.old.table self.old.infos row.now)
+            ≡ with_lines O.kept_of (row_between gaps.now self.old.table self.old.infos (row_in row.entry))
             (O.kept output.old)) }
         ensures err { OnErr result (BeginsWith (O.kept output.new) (O.kept output.old)) }
         ensures kept { self.new ≡ self.old }

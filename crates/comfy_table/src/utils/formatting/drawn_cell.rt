@@ -1,17 +1,17 @@
 //! The cells of a row as the shown columns draw them.
 
-ghost use Rattle.std.specs.Prelude.{◌≡◌, IfOk, length, map, nat_lt};
-ghost use Rattle.std.specs.List.{list_any};
+ghost use Rattle.std.specs.Prelude.{◌≡◌, ◌∷◌, [], IfOk, IfSome, length, map};
 ghost use Rattle.comfy_table.specs.DrawnCells.{drawn_cell, greatest_height, piece_at, styles_of};
-ghost use Rattle.comfy_table.specs.Pieces.{row_height};
+ghost use Rattle.comfy_table.specs.Pieces.{pieces_at};
+ghost use Rattle.comfy_table.specs.RowCells.{row_in};
 
 use crate::table::Table;
-use crate::table::column_cells::cell_at;
-use crate::utils::formatting::cell_lines::{CellLines, Line, row_cell_lines};
+use crate::utils::formatting::cell_lines::{CellLines, Line, only_line, row_cell_lines};
 use crate::utils::formatting::piece::{Piece, Styles};
+use crate::utils::formatting::row_cell::{CellSource, RowSource};
 use crate::utils::formatting::shown_column::{ShownColumn, shown_infos};
 use comfy_parts::content_split::ColumnDisplayInfo;
-use comfy_parts::{Cell, Result, Row};
+use comfy_parts::{Result, Row};
 use std::alloc::Global;
 use std::marker::Model;
 
@@ -24,18 +24,19 @@ const KEPT_LINES: usize = 256;
 pub struct DrawnCell<'a, 'r> {
     styles: Styles,
     info: &'a ColumnDisplayInfo,
-    lines: CellLines<'r>,
+    // the cell and its lines, or none if no cell is in the column
+    cell: Option<(CellSource<'r>, CellLines<'r>)>,
 }
 
 impl<'a, 'r> Model for DrawnCell<'a, 'r> {
-    ghost use Rattle.comfy_table.specs.CellLines.{lines_of};
+    ghost use Rattle.comfy_table.specs.CellLines.{cell_with_lines};
     ghost use Rattle.comfy_table.specs.DrawnCells.{DrawnCell, pieces_of_content};
 
     ghost Value = { DrawnCell };
 
     ghost view = { λ d. record {
       info = d.info.now;
-      pieces = pieces_of_content d.styles d.info.now (lines_of d.lines);
+      pieces = pieces_of_content d.styles d.info.now (cell_with_lines d.cell);
     } };
 }
 
@@ -44,9 +45,9 @@ impl<'a, 'r> DrawnCell<'a, 'r> {
     pub fn height(&self) -> usize
         ensures { result ≡ length self.now.pieces }
     {
-        match &self.lines {
-            CellLines::Missing | CellLines::Single(_, _, _) => 1,
-            CellLines::Multiple(_, lines) => lines.len(),
+        match &self.cell {
+            Some((_, lines)) => lines.len(),
+            None => 1,
         }
     }
 
@@ -54,9 +55,12 @@ impl<'a, 'r> DrawnCell<'a, 'r> {
     pub fn piece_at(&self, line: usize) -> Piece<'_>
         ensures { result ≡ piece_at line self.now }
     {
-        match self.lines.get(line) {
-            Some((cell, columns, text, end)) => {
-                Piece::new(self.styles, cell, self.info, columns, text, end)
+        let Some((cell, lines)) = &self.cell else {
+            return Piece::blank(self.info);
+        };
+        match lines.get(line) {
+            Some((columns, text, end)) => {
+                Piece::new(self.styles, *cell, self.info, columns, text, end)
             }
             None => Piece::blank(self.info),
         }
@@ -66,7 +70,7 @@ impl<'a, 'r> DrawnCell<'a, 'r> {
 /// Takes a cell that isn't drawn any more. The list of its lines is kept, unless it is long.
 #[inline(always)]
 pub fn take_list<'r>(cell: DrawnCell<'_, 'r>, spare: &mut Vec<Vec<Line<'r>>>) -> Result<()> {
-    if let CellLines::Multiple(_, lines) = cell.lines
+    if let Some((_, CellLines::Multiple(lines))) = cell.cell
         && lines.capacity() <= KEPT_LINES
     {
         spare.push(lines)?;
@@ -83,12 +87,13 @@ pub fn drawn_cells<'a, 'r>(
     ensures { IfOk result (λ cells. cells.items
         ≡ map (drawn_cell table.now row.now) columns.now) }
 {
+    let source = RowSource::Whole(row);
     let alloc = *table.columns.allocator();
     let styles = Styles::of(table);
     let mut spare = Vec::new(alloc);
     let mut cells = Vec::new(alloc);
     for column in columns {
-        cells.push(drawn_cell(row, column, table, styles, &mut spare)?)?;
+        cells.push(drawn_cell(source, column, table, styles, &mut spare)?)?;
     }
     Ok(cells)
 }
@@ -104,73 +109,72 @@ pub fn greatest_height(cells: &[DrawnCell]) -> usize
     height
 }
 
-/// Whether one of these rows is drawn in more lines than these. No row behind the first such one is
-/// looked at.
-pub fn is_any_taller(
-    table: &Table,
-    infos: &[ColumnDisplayInfo],
-    rows: &[Row],
-    lines: usize,
-) -> Result<bool>
-    ensures { IfOk result (λ is. is
-        ≡ list_any (nat_lt lines) (map (row_height table.now infos.now) rows.now)) }
-{
-    let alloc = *table.columns.allocator();
-    let columns = shown_infos(alloc, infos)?;
-    let mut spare = Vec::new(alloc);
-    for row in rows {
-        if row_height(row, columns.as_slice(), table, &mut spare)? > lines {
-            return Ok(true);
-        }
-    }
-    Ok(false)
-}
-
-// The height of a row in these columns. The lines of its cells stand in spare lists, if there are
-// any.
-fn row_height<'r>(
-    row: &'r Row,
-    columns: &[ShownColumn<'_>],
-    table: &'r Table,
-    spare: &mut Vec<Vec<Line<'r>>>,
-) -> Result<usize>
+/// The height of a row in these columns: that of its highest cell.
+pub fn row_height(row: RowSource<'_>, columns: &[ShownColumn<'_>], table: &Table) -> Result<usize>
     ensures { IfOk result (λ height. height
-        ≡ greatest_height (map (drawn_cell table.now row.now) columns.now)) }
+        ≡ greatest_height (map (drawn_cell table.now (row_in row.entry)) columns.now)) }
 {
     let styles = Styles::of(table);
+    let mut spare = Vec::new(*table.columns.allocator());
     let mut height = 0;
     for column in columns {
-        let cell = drawn_cell(row, column, table, styles, spare)?;
-        height = cell.height().max(height);
-        take_list(cell, spare)?;
+        if only_piece(row, column, table, styles).is_some() {
+            height = height.max(1);
+        } else {
+            let cell = drawn_cell(row, column, table, styles, &mut spare)?;
+            height = cell.height().max(height);
+            take_list(cell, &mut spare)?;
+        }
     }
     Ok(height)
 }
 
-/// A shown column with the cell that stands at its position in a row. Its lines may stand in a
-/// spare list.
+/// The piece of a cell in its column, if it has one line, which fits and is written as it is, or if
+/// no cell is there. Most cells are drawn by this, without a list and without a `DrawnCell`.
+#[inline(always)]
+pub fn only_piece<'r>(
+    row: RowSource<'r>,
+    column: &ShownColumn<'_>,
+    table: &'r Table,
+    styles: Styles,
+) -> Option<Piece<'r>>
+    requires { styles ≡ styles_of table.now }
+    ensures { IfSome result (λ piece. piece ∷ []
+        ≡ pieces_at table.now (row_in row.entry) column.now) }
+{
+    let info = column.info;
+    // the clause of a limit says that it is at least 1
+    let _limit = row.height_limit();
+    let Some(cell) = row.cell_at(column.position) else {
+        return Some(Piece::blank(info));
+    };
+    let (columns, text, end) = only_line(table, cell, info)?;
+    Some(Piece::new(styles, cell, info, columns, text, end))
+}
+
+/// A shown column with the cell at its position in a row. Its lines may be in a spare list.
 pub fn drawn_cell<'a, 'r>(
-    row: &'r Row,
+    row: RowSource<'r>,
     column: &ShownColumn<'a>,
     table: &'r Table,
     styles: Styles,
     spare: &mut Vec<Vec<Line<'r>>>,
 ) -> Result<DrawnCell<'a, 'r>>
     requires { styles ≡ styles_of table.now }
-    ensures { IfOk result (λ cell. cell ≡ drawn_cell table.now row.now column.now) }
+    ensures { IfOk result (λ cell. cell ≡ drawn_cell table.now (row_in row.entry) column.now) }
 {
     let info = column.info;
-    let Some(cell) = cell_at(row, column.position) else {
+    let Some(cell) = row.cell_at(column.position) else {
         return Ok(DrawnCell {
             styles,
             info,
-            lines: CellLines::Missing,
+            cell: None,
         });
     };
-    let lines = row_cell_lines(table, row, cell, info, spare)?;
+    let lines = row_cell_lines(table, row.height_limit(), cell, info, spare)?;
     Ok(DrawnCell {
         styles,
         info,
-        lines,
+        cell: Some((cell, lines)),
     })
 }

@@ -3,14 +3,16 @@
 ghost use Rattle.std.specs.Prelude.{◌≡◌, ◌++◌, ◌<◌, ◌≤◌, [], IfOk, OnOk, length, map, string_bytes};
 ghost use Rattle.comfy_table.specs.DrawnCells.{AreFurther, drawn_cell, filled, greatest_height, piece_at, with_further};
 ghost use Rattle.comfy_table.specs.Gaps.{gap_line};
+ghost use Rattle.comfy_table.specs.RowCells.{row_in};
 
 use crate::table::Table;
 use crate::utils::formatting::cell_lines::Line;
-use crate::utils::formatting::drawn_cell::{DrawnCell, drawn_cell, take_list};
+use crate::utils::formatting::drawn_cell::{DrawnCell, drawn_cell, only_piece, take_list};
 use crate::utils::formatting::piece::{Piece, Styles};
+use crate::utils::formatting::row_cell::RowSource;
 use crate::utils::formatting::row_gaps::RowGaps;
 use crate::utils::formatting::shown_column::ShownColumn;
-use comfy_parts::{Result, Row};
+use comfy_parts::Result;
 use std::alloc::Global;
 use std::marker::Model;
 
@@ -51,17 +53,17 @@ impl<'a, 'r> DrawnRow<'a, 'r> {
         &mut self,
         text: &mut String,
         gaps: &RowGaps,
-        row: &'r Row,
+        row: RowSource<'r>,
         columns: &[ShownColumn<'a>],
         table: &'r Table,
     ) -> Result<usize>
         ensures further { OnOk result
-            (AreFurther self.new (map (drawn_cell table.now row.now) columns.now)) }
+            (AreFurther self.new (map (drawn_cell table.now (row_in row.entry)) columns.now)) }
         ensures line { 0 < length columns.now → OnOk result (string_bytes text.new
             ≡ string_bytes text.old ++ gap_line gaps.now
-            (map (piece_at 0) (map (drawn_cell table.now row.now) columns.now))) }
+            (map (piece_at 0) (map (drawn_cell table.now (row_in row.entry)) columns.now))) }
         ensures height { IfOk result (λ height. height
-            ≡ greatest_height (map (drawn_cell table.now row.now) columns.now)) }
+            ≡ greatest_height (map (drawn_cell table.now (row_in row.entry)) columns.now)) }
     {
         self.clear()?;
         let styles = Styles::of(table);
@@ -69,11 +71,18 @@ impl<'a, 'r> DrawnRow<'a, 'r> {
         let mut free = 0;
         let mut height = 0;
         for column in columns {
-            let cell = drawn_cell(row, column, table, styles, &mut self.spare)?;
-            free = cell.piece_at(0).push(text, gap, free)?;
+            if self.further.is_empty()
+                && let Some(piece) = only_piece(row, column, table, styles)
+            {
+                free = piece.push(text, gap, free)?;
+                height = height.max(1);
+            } else {
+                let cell = drawn_cell(row, column, table, styles, &mut self.spare)?;
+                free = cell.piece_at(0).push(text, gap, free)?;
+                height = cell.height().max(height);
+                self.keep(cell)?;
+            }
             gap = gaps.junction();
-            height = cell.height().max(height);
-            self.keep(cell)?;
         }
         gaps.push_end(text, free)?;
         Ok(height)

@@ -1,6 +1,6 @@
 //! A border between spaces, which are copied along with it.
 
-ghost use Rattle.std.specs.Prelude.{◌≡◌, ◌++◌, IfOk, OnOk, string_bytes};
+ghost use Rattle.std.specs.Prelude.{◌≡◌, ◌++◌, IfOk, IfSome, OnOk, string_bytes};
 ghost use Rattle.comfy_parts.specs.Text.{spaces};
 ghost use Rattle.comfy_table.specs.Gaps.{drawn_character};
 
@@ -95,6 +95,18 @@ pub fn push_spaces(text: &mut String, count: usize) -> Result<()>
     let (front, _) = run.split_at(left);
     text.push_str(front)?;
     Ok(())
+}
+
+/// This many spaces, if they are copied at once.
+pub fn few_spaces(count: usize) -> Option<&'static str>
+    ensures { IfSome result (λ few. few.now ≡ spaces count) }
+{
+    let run = run_of_spaces();
+    if count > run.len() {
+        return None;
+    }
+    let (front, _) = run.split_at(count);
+    Some(front)
 }
 
 // As many spaces as are copied at once.

@@ -6,14 +6,18 @@ ghost use Rattle.comfy_parts.specs.declared.style.cell.CellAlignment.TheVariants
 ghost use Rattle.comfy_table.specs.DrawnCells.{piece_with, styles_of};
 ghost use Rattle.comfy_table.specs.Gaps.{spaced};
 ghost use Rattle.comfy_table.specs.Pieces.{blank_piece, cell_alignment, free_before};
+ghost use Rattle.comfy_table.specs.RowCells.{cell_in};
 ghost use Rattle.comfy_table.specs.Styling.{styled};
+ghost use Rattle.comfy_table.specs.TextStyles.{styling};
 
 use crate::table::Table;
 use crate::utils::formatting::gap::{Gap, push_spaces};
+use crate::utils::formatting::row_cell::CellSource;
 use crate::utils::formatting::styling::{push_style_begin, push_style_end};
+use crate::utils::formatting::text_style::TextStyle;
+use comfy_parts::Result;
 use comfy_parts::content_split::ColumnDisplayInfo;
 use comfy_parts::style::CellAlignment;
-use comfy_parts::{Cell, Result};
 use std::marker::Model;
 
 /// Where a table writes the colours and attributes of its cells.
@@ -52,18 +56,20 @@ pub struct Piece<'a> {
     end: &'a str,
     right: usize,
     // the cell whose styles are written, and the spaces between them and the text
-    styles: Option<(&'a Cell, (usize, usize))>,
+    styles: Option<(CellSource<'a>, (usize, usize))>,
 }
 
 impl<'a> Model for Piece<'a> {
     ghost use Rattle.std.specs.Prelude.{◌++◌, option_map};
     ghost use Rattle.comfy_parts.specs.Text.{Text};
     ghost use Rattle.comfy_table.specs.Gaps.{spaced, styled_text};
+    ghost use Rattle.comfy_table.specs.RowCells.{cell_in};
 
     ghost Value = { Text };
 
     ghost view = { λ p. spaced (p.left, p.right)
-        (styled_text (option_map (λ s. (s.0.now, s.1)) p.styles) (p.text.now ++ p.end.now)) };
+        (styled_text (option_map (λ s. (cell_in s.0, s.1)) p.styles)
+        (p.text.now ++ p.end.now)) };
 }
 
 impl<'a> Piece<'a> {
@@ -71,25 +77,25 @@ impl<'a> Piece<'a> {
     /// columns.
     pub fn new(
         styles: Styles,
-        cell: &'a Cell,
+        cell: CellSource<'a>,
         info: &ColumnDisplayInfo,
         columns: usize,
         text: &'a str,
         end: &'a str,
     ) -> Piece<'a>
-        ensures { result ≡ piece_with styles cell.now info.now
+        ensures { result ≡ piece_with styles (cell_in cell.entry) info.now
             (record { columns = columns; written = text.now ++ end.now }) }
     {
-        let (left, right) = spaces_beside(cell, info, columns);
+        let (left, right) = spaces_around(cell.alignment(), info, columns);
         match styles {
-            Styles::RoundTexts if has_styles(cell) => Piece {
+            Styles::RoundTexts if cell.has_style() => Piece {
                 left,
                 text,
                 end,
                 right,
                 styles: Some((cell, (0, 0))),
             },
-            Styles::RoundPieces if has_styles(cell) => Piece {
+            Styles::RoundPieces if cell.has_style() => Piece {
                 left: 0,
                 text,
                 end,
@@ -135,7 +141,7 @@ impl<'a> Piece<'a> {
     {
         if let Some((cell, beside)) = self.styles {
             gap.push(line, free, self.left)?;
-            push_styled(line, self.text, self.end, cell, beside)?;
+            push_styled(line, self.text, self.end, &cell.style(), beside)?;
             return Ok(self.right);
         }
         gap.push(line, free, self.left)?;
@@ -147,46 +153,26 @@ impl<'a> Piece<'a> {
     }
 }
 
-// Whether the cell has a colour or an attribute.
-fn has_styles(cell: &Cell) -> bool
-    ensures background { result ≡ false → cell.now.background ≡ None }
-    ensures foreground { result ≡ false → cell.now.foreground ≡ None }
-    ensures attributes { result ≡ false → cell.now.attributes ≡ [] }
-{
-    cell.background().is_some() || cell.foreground().is_some() || !cell.attributes().is_empty()
-}
-
-// Appends a text in two parts between spaces, in the styles of a cell. Most tables write none.
+// Appends a text in two parts between spaces, in styles. Most tables write none.
 #[inline(never)]
 fn push_styled(
     line: &mut String,
     text: &str,
     end: &str,
-    cell: &Cell,
+    style: &TextStyle<'_>,
     beside: (usize, usize),
 ) -> Result<()>
     ensures { OnOk result (string_bytes line.new
-        ≡ string_bytes line.old ++ styled cell.now (spaced beside (text.now ++ end.now))) }
+        ≡ string_bytes line.old
+        ++ styled (styling style.now) (spaced beside (text.now ++ end.now))) }
 {
     let (left, right) = beside;
-    push_style_begin(line, cell)?;
+    push_style_begin(line, style)?;
     push_spaces(line, left)?;
     line.push_str(text)?;
     line.push_str(end)?;
     push_spaces(line, right)?;
-    push_style_end(line, cell)
-}
-
-// The spaces before and after a line of a cell of this measure.
-fn spaces_beside(cell: &Cell, info: &ColumnDisplayInfo, width: usize) -> (usize, usize)
-    ensures left { result.0 ≡ info.now.padding.0
-        + free_before (cell_alignment cell.now info.now) (info.now.content_width - width) }
-    ensures right { result.1 ≡ info.now.content_width - width
-        - free_before (cell_alignment cell.now info.now) (info.now.content_width - width)
-        + info.now.padding.1 }
-{
-    let own = cell.cell_alignment();
-    spaces_around(own, info, width)
+    push_style_end(line, style)
 }
 
 /// The spaces before and after a line of this measure, with this alignment or else that of the

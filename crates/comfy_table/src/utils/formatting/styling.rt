@@ -3,10 +3,12 @@
 ghost use Rattle.std.specs.Prelude.{◌≡◌, ◌++◌, OnOk, codes, filter, flat_map, string_bytes};
 ghost use Rattle.comfy_parts.specs.VisibleText.{reset};
 ghost use Rattle.comfy_table.specs.ColorSequences.{color_sequence};
+ghost use Rattle.comfy_table.specs.TextStyles.{styling};
 ghost use Rattle.comfy_table.specs.Styling.{sequence, color_code, attribute_code, has_attribute, attribute_sequences, style_begin, style_end};
 
+use crate::utils::formatting::text_style::TextStyle;
+use comfy_parts::Result;
 use comfy_parts::style::{Attribute, Color};
-use comfy_parts::{Cell, Result};
 
 // All attributes, in the order in which they are written.
 const ALL_ATTRIBUTES: [Attribute; 28] = [
@@ -40,27 +42,29 @@ const ALL_ATTRIBUTES: [Attribute; 28] = [
     Attribute::NotOverLined,
 ];
 
-/// Appends what stands before a styled text: background, foreground, attributes. A cell without any
-/// leaves the text as it is.
-pub(crate) fn push_style_begin(line: &mut String, cell: &Cell) -> Result<()>
-    ensures { OnOk result (string_bytes line.new ≡ string_bytes line.old ++ style_begin cell.now) }
+/// Appends the sequences before a styled text: background, foreground, attributes. If there are
+/// none, the line stays as it is.
+pub(crate) fn push_style_begin(line: &mut String, style: &TextStyle<'_>) -> Result<()>
+    ensures { OnOk result (string_bytes line.new
+        ≡ string_bytes line.old ++ style_begin (styling style.now)) }
 {
-    push_color(line, cell.background(), "\u{1b}[48;", "\u{1b}[49m")?;
-    push_color(line, cell.foreground(), "\u{1b}[38;", "\u{1b}[39m")?;
-    push_attributes(line, cell.attributes())
+    push_color(line, style.background, "\u{1b}[48;", "\u{1b}[49m")?;
+    push_color(line, style.foreground, "\u{1b}[38;", "\u{1b}[39m")?;
+    push_attributes(line, style.attributes)
 }
 
-/// Appends what stands after a styled text.
-pub(crate) fn push_style_end(line: &mut String, cell: &Cell) -> Result<()>
-    ensures { OnOk result (string_bytes line.new ≡ string_bytes line.old ++ style_end cell.now) }
+/// Appends the sequences after a styled text.
+pub(crate) fn push_style_end(line: &mut String, style: &TextStyle<'_>) -> Result<()>
+    ensures { OnOk result (string_bytes line.new
+        ≡ string_bytes line.old ++ style_end (styling style.now)) }
 {
-    if !cell.attributes().is_empty() {
+    if !style.attributes.is_empty() {
         return push_reset(line);
     }
-    if cell.background().is_some() {
+    if style.background.is_some() {
         line.push_str("\u{1b}[49m")?;
     }
-    if cell.foreground().is_some() {
+    if style.foreground.is_some() {
         line.push_str("\u{1b}[39m")?;
     }
     Ok(())

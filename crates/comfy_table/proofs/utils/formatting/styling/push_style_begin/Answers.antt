@@ -1,9 +1,9 @@
-use Rattle.std.proofs.Common.{rules, ◌≡◌, ◌++◌, ℕ, List, Option, append_assoc, ap, ◌∙◌}
+use Rattle.std.proofs.Common.{rules, ◌≡◌, ◌++◌, ℕ, List, Option, append_assoc, refl}
 use Rattle.std.proofs.lemmas.Result.{on_ok_weaker}
 use Rattle.std.specs.Prelude.{Result, OnOk, codes}
 use Rattle.comfy_parts.specs.declared.style.color.Color.{Color}
 use Rattle.comfy_table.specs.ColorSequences.{color_sequence}
-use Rattle.comfy_table.specs.Styling.{background_code, foreground_code, attribute_sequences, optional_sequence}
+use Rattle.comfy_table.specs.Styling.{background_code, foreground_code, optional_sequence}
 use Rattle.comfy_table.proofs.utils.formatting.styling.push_style_begin.Goals as goal
 
 -- three texts that are appended in turn
@@ -24,6 +24,6 @@ foreground color = search rules
 pub returns : goal.returns
 returns c =
     appended _ _ _ _ _ _ _ _ _ _ _ c.in_ok-push_color.ensures c.in_ok-push_color-2.ensures c.push_attributes.ensures
-    (background c.background.result ∙ ap (optional_sequence background_code) c.background.ensures)
-    (foreground c.foreground.result ∙ ap (optional_sequence foreground_code) c.foreground.ensures)
-    (ap attribute_sequences c.attributes.ensures)
+    (background c.args.style.now.background)
+    (foreground c.args.style.now.foreground)
+    refl

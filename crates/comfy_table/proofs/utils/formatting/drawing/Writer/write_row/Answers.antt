@@ -9,23 +9,24 @@ use Rattle.comfy_table.specs.DrawnCells.{drawn_cell, filled, piece_at}
 use Rattle.comfy_table.specs.Gaps.{gap_line, row_between}
 use Rattle.comfy_table.specs.Output.{with_lines}
 use Rattle.comfy_table.specs.Parts.{ArrangedValue}
+use Rattle.comfy_table.specs.RowCells.{row_in}
 use Rattle.comfy_table.proofs.utils.formatting.drawing.Writer.write_row.Goals as goal
 
 pub push_row-requires-clause-some : goal.push_row-requires-clause-some
 push_row-requires-clause-some g c =
-    some-columns c.self.inside.table.now c.args.row.now c.as_slice-columns.result.now c.in_ok-height.height c.in_ok-height.ensures.height (omega (arith, c.if-height-eq0.false))
+    some-columns c.self.inside.table.now (row_in c.args.row) c.as_slice-columns.result.now c.in_ok-height.height c.in_ok-height.ensures.height (omega (arith, c.if-height-eq0.false))
 
 pub push_row-requires-clause-columns : goal.push_row-requires-clause-columns
 push_row-requires-clause-columns g c =
-    let few = further-few c.push_first_line.new.self (map (drawn_cell c.self.inside.table.now c.args.row.now) c.as_slice-columns.result.now) c.in_ok-height.ensures.further in
-    omega (arith, few, length-map c.as_slice-columns.result.now (drawn_cell c.self.inside.table.now c.args.row.now))
+    let few = further-few c.push_first_line.new.self (map (drawn_cell c.self.inside.table.now (row_in c.args.row)) c.as_slice-columns.result.now) c.in_ok-height.ensures.further in
+    omega (arith, few, length-map c.as_slice-columns.result.now (drawn_cell c.self.inside.table.now (row_in c.args.row)))
 
 pub returns-then-height-eq0-clause-ok : goal.returns-then-height-eq0-clause-ok
 returns-then-height-eq0-clause-ok g c =
     let kept_of = g.O.Output.kept_of in
     let had = g.O.Output.kept c.args.output.now in
     let gaps = c.args.gaps.now in
-    let row = c.args.row.now in
+    let row = row_in c.args.row in
     let table = c.self.inside.table.now in
     let none = none-between table row gaps c.as_slice-columns.result.now c.self.inside.infos.now c.in_ok-height.height (c.as_slice-columns.ensures.value ∙ c.self.invariant.0) c.in_ok-height.ensures.height c.if-height-eq0.true in
     sym (with_lines-none kept_of had)
@@ -37,7 +38,7 @@ returns-clause-ok g c =
     let kept_of = g.O.Output.kept_of in
     let had = g.O.Output.kept c.args.output.now in
     let gaps = c.args.gaps.now in
-    let row = c.args.row.now in
+    let row = row_in c.args.row in
     let table = c.self.inside.table.now in
     let infos = c.self.inside.infos.now in
     let columns = c.as_slice-columns.result.now in

@@ -1,0 +1,245 @@
+//! Cells that are drawn without a row being made of them.
+
+ghost use Rattle.std.specs.Prelude.{◌≡◌, ◌≤◌, ◌++◌, ◌∷◌, [], IfOk, IfSome, None, false, map, option_map, slice_get, string_bytes, true};
+ghost use Rattle.std.specs.List.{list_any};
+ghost use Rattle.comfy_parts.specs.Text.{is_printable_ascii, measure, spaces};
+ghost use Rattle.comfy_parts.specs.VisibleText.{has_escape};
+ghost use Rattle.comfy_table.specs.RowCells.{cell_in, cell_of, row_in};
+ghost use Rattle.comfy_table.specs.TableValue.{cell_content_width, measured_cell};
+ghost use Rattle.comfy_table.specs.TextStyles.{style_alone, styling, text_cell};
+
+use crate::table::Table;
+use crate::table::column_cells::cell_at;
+use crate::utils::formatting::gap::push_spaces;
+use crate::utils::formatting::text_style::TextStyle;
+use comfy_parts::content_split::{is_printable, measure_text_width};
+use comfy_parts::style::CellAlignment;
+use comfy_parts::{Cell, Result, Row};
+use std::alloc::Global;
+use std::marker::Model;
+
+/// A text of one line that is drawn as a cell, with spaces after it. It has no escape sequence, and
+/// takes no memory.
+#[derive(Drop)]
+pub struct TextCell<'a> {
+    text: &'a str,
+    // how many spaces are after the text
+    after: usize,
+    // the terminal columns of both
+    columns: usize,
+    alignment: Option<CellAlignment>,
+    style: Option<&'a TextStyle<'a>>,
+}
+
+impl<'a> Model for TextCell<'a> {
+    ghost use Rattle.std.specs.Prelude.{◌≡◌, ◌≤◌, ◌++◌, ◌∷◌, [], false, option_map};
+    ghost use Rattle.comfy_parts.specs.CellValue.{CellValue, plain_cell};
+    ghost use Rattle.comfy_parts.specs.Text.{measure, spaces};
+    ghost use Rattle.comfy_parts.specs.VisibleText.{has_escape};
+    ghost use Rattle.comfy_table.specs.TextStyles.{text_cell};
+
+    ghost Value = { CellValue };
+
+    ghost invariant = { λ c. ((plain_cell (c.text.now ++ spaces c.after)).text_lines
+        ≡ (c.text.now ++ spaces c.after) ∷ [])
+        × (has_escape (c.text.now ++ spaces c.after) ≡ false)
+        × (c.columns ≡ measure (c.text.now ++ spaces c.after))
+        × (c.after ≤ c.columns) };
+
+    ghost view = { λ c. text_cell c.alignment (option_map (λ style. style.now) c.style)
+        (c.text.now ++ spaces c.after) };
+}
+
+impl<'a> TextCell<'a> {
+    /// The cell of printable ASCII and some spaces after it; none for any other text.
+    #[inline(always)]
+    pub fn of_printable(
+        text: &'a str,
+        after: usize,
+        alignment: Option<CellAlignment>,
+        style: Option<&'a TextStyle<'a>>,
+    ) -> Option<TextCell<'a>>
+        ensures cell { IfSome result (λ cell. cell ≡ text_cell alignment
+            (option_map (λ style. style.now) style.entry) (text.now ++ spaces after)) }
+        ensures printable { IfSome result (λ cell. is_printable_ascii text.now ≡ true) }
+    {
+        if !is_printable(text.as_bytes()) {
+            return None;
+        }
+        let columns = text.len().checked_add(after)?;
+        Some(TextCell {
+            text,
+            after,
+            columns,
+            alignment,
+            style,
+        })
+    }
+
+    /// The cell of a text; none for a text of several lines, or one with ESC.
+    pub fn of_line(
+        text: &'a str,
+        alignment: Option<CellAlignment>,
+        style: Option<&'a TextStyle<'a>>,
+    ) -> Option<TextCell<'a>>
+        ensures { IfSome result (λ cell. cell ≡ text_cell alignment
+            (option_map (λ style. style.now) style.entry) text.now) }
+    {
+        let bytes = text.as_bytes();
+        if bytes.contains(&b'\n') || bytes.contains(&0x1B) {
+            return None;
+        }
+        Some(TextCell {
+            text,
+            after: 0,
+            columns: measure_text_width(text),
+            alignment,
+            style,
+        })
+    }
+
+    /// The text, and how many spaces are after it.
+    #[inline(always)]
+    pub fn line(&self) -> (&'a str, usize)
+        ensures line { self.now.text_lines ≡ (result.0.now ++ spaces result.1) ∷ [] }
+        ensures delimiter { self.now.delimiter ≡ None }
+        ensures clear { list_any has_escape self.now.text_lines ≡ false }
+    {
+        (self.text, self.after)
+    }
+
+    /// The text with the spaces after it.
+    pub fn spaced(&self, alloc: Global) -> Result<String>
+        ensures { IfOk result (λ text. self.now.text_lines ≡ string_bytes text ∷ []) }
+    {
+        let mut spaced = String::from_str(alloc, self.text)?;
+        push_spaces(&mut spaced, self.after)?;
+        Ok(spaced)
+    }
+
+    /// The terminal columns of the text and the spaces after it.
+    #[inline(always)]
+    pub fn columns(&self) -> usize
+        ensures columns { map measure self.now.text_lines ≡ result ∷ [] }
+        ensures clear { list_any has_escape self.now.text_lines ≡ false }
+    {
+        self.columns
+    }
+
+    // The alignment, if it has one.
+    #[inline(always)]
+    fn alignment(&self) -> Option<CellAlignment>
+        ensures { result ≡ self.now.alignment }
+    {
+        self.alignment
+    }
+
+    // The colours and the attributes.
+    fn style(&self) -> TextStyle<'a>
+        ensures { styling result ≡ style_alone self.now }
+    {
+        match self.style {
+            Some(style) => *style,
+            None => TextStyle::none(),
+        }
+    }
+}
+
+/// A cell of a row that is drawn without a `Row` (`RowWriter::push_cells`).
+#[derive(Drop)]
+pub enum RowCell<'a> {
+    /// A text that is lent.
+    Lent(TextCell<'a>),
+    /// A cell that had to be made: of a text that isn't there yet, of several lines, or with escape
+    /// sequences.
+    Made(Box<Cell>),
+}
+
+impl<'a> RowCell<'a> {
+    /// The greatest measure of its text lines in a table, in terminal columns: at least 1, and at
+    /// most 65535.
+    #[inline(always)]
+    pub fn content_width(&self, table: &Table) -> u16
+        ensures { result ≡ cell_content_width (measured_cell table.now (cell_of self.now)) }
+    {
+        match self {
+            RowCell::Lent(cell) => cell.columns().clamp(1, 65535) as u16,
+            RowCell::Made(cell) => table.cell_content_width(cell),
+        }
+    }
+}
+
+/// A cell that is drawn, wherever it comes from.
+#[derive(Clone, Copy)]
+pub(crate) enum CellSource<'r> {
+    Line(&'r TextCell<'r>),
+    Own(&'r Cell),
+}
+
+impl<'r> CellSource<'r> {
+    /// The alignment, if it has one.
+    #[inline(always)]
+    pub fn alignment(self) -> Option<CellAlignment>
+        ensures { result ≡ (cell_in self.entry).alignment }
+    {
+        match self {
+            CellSource::Line(cell) => cell.alignment(),
+            CellSource::Own(cell) => cell.cell_alignment(),
+        }
+    }
+
+    /// The colours and the attributes.
+    pub fn style(self) -> TextStyle<'r>
+        ensures { styling result ≡ style_alone (cell_in self.entry) }
+    {
+        match self {
+            CellSource::Line(cell) => cell.style(),
+            CellSource::Own(cell) => TextStyle::of(cell),
+        }
+    }
+
+    /// Whether it has a colour or an attribute.
+    pub fn has_style(self) -> bool
+        ensures background { result ≡ false → (cell_in self.entry).background ≡ None }
+        ensures foreground { result ≡ false → (cell_in self.entry).foreground ≡ None }
+        ensures attributes { result ≡ false → (cell_in self.entry).attributes ≡ [] }
+    {
+        let style = self.style();
+        style.background.is_some() || style.foreground.is_some() || !style.attributes.is_empty()
+    }
+}
+
+/// A row that is drawn: one that is made, or some cells and their greatest height.
+#[derive(Clone, Copy)]
+pub(crate) enum RowSource<'r> {
+    Whole(&'r Row),
+    Listed(&'r [RowCell<'r>], Option<usize>),
+}
+
+impl<'r> RowSource<'r> {
+    /// The cell at a position, if there is one.
+    #[inline(always)]
+    pub fn cell_at(self, position: usize) -> Option<CellSource<'r>>
+        ensures { option_map cell_in result ≡ slice_get (row_in self.entry).cells position }
+    {
+        match self {
+            RowSource::Whole(row) => Some(CellSource::Own(cell_at(row, position)?)),
+            RowSource::Listed(cells, _) => Some(match cells.get(position)? {
+                RowCell::Lent(cell) => CellSource::Line(cell),
+                RowCell::Made(cell) => CellSource::Own(cell),
+            }),
+        }
+    }
+
+    /// The greatest height of the row, at least 1.
+    #[inline(always)]
+    pub fn height_limit(self) -> Option<usize>
+        ensures limit { result ≡ (row_in self.entry).max_height }
+        ensures at_least_one { IfSome result (λ lines. 1 ≤ lines) }
+    {
+        match self {
+            RowSource::Whole(row) => row.height_limit(),
+            RowSource::Listed(_, limit) => limit.map(|lines| lines.max(1)),
+        }
+    }
+}
