@@ -8,7 +8,6 @@ pub mod DecimalLawLemmas
 mod ExpandedLemmas
 pub mod FieldControlLemmas
 pub mod FieldLemmas
-mod FlatLemmas
 mod PieceLemmas
 mod PlainRowLemmas
 pub mod FittingLemmas

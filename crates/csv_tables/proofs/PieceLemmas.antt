@@ -9,7 +9,8 @@ use Rattle.comfy_parts.specs.CellValue.{ColumnInfo, RowValue}
 use Rattle.comfy_parts.specs.Text.{Text}
 use Rattle.comfy_table.specs.Drawing.{drawn_row, outer_widths, part_of_drawing, terminated_text_of}
 use Rattle.comfy_table.specs.Frame.{optional_frame_line}
-use Rattle.comfy_table.proofs.OtherRowLemmas.{part_same}
+use Rattle.comfy_table.proofs.OtherRowLemmas.{height_same, part_same}
+use Rattle.comfy_table.specs.Pieces.{row_height}
 use Rattle.comfy_table.specs.TableValue.{TableValue, with_other_rows}
 use Rattle.csv_tables.specs.Contents.{drawn_next, expanded_from, expanded_record, fields_text, made_by, pairs_by, rows_at, rows_from}
 use Rattle.csv_tables.specs.declared.rows.RecordRows.{RecordRows}
@@ -85,6 +86,9 @@ module _ (table : TableValue) (infos : List ColumnInfo) where
 module _ (own table : TableValue) (infos : List ColumnInfo) (is : with_other_rows table.rows own ≡ table) where
   pub part_as : (is_first is_last : Bool) (rows : List RowValue) → part_of_drawing own infos is_first is_last rows ≡ part_of_drawing table infos is_first is_last rows
   part_as is_first is_last rows = sym (part_same own table.rows infos is_first is_last rows) ∙ ap (λ (t : TableValue). part_of_drawing t infos is_first is_last rows) is
+
+  pub height_as : (row : RowValue) → row_height own infos row ≡ row_height table infos row
+  height_as row = sym (height_same own table.rows infos row) ∙ ap (λ (t : TableValue). row_height t infos row) is
 
   pub fields_as : (rows : List RowValue) → fields_text own infos rows ≡ fields_text table infos rows
   fields_as [] = refl

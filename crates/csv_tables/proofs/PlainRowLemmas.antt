@@ -1,43 +1,38 @@
 -- Rows and cells that aren't made before they are drawn.
-use Rattle.std.proofs.Common.{◌≡◌, ◌+◌, ◌<◌, length, inl, inr, ℕ, Bool, true, false, ◌&&◌, List, [], ◌∷◌, ◌++◌, Some, None, chars, map, decimal, take, zero, suc, refl, ap, ap₂, subst, sym, ◌∙◌, append-nil, arith}
-use Rattle.std.proofs.lemmas.Bool.{or_parts}
+use Rattle.std.proofs.Common.{◌≡◌, ◌+◌, ◌<◌, length, inl, inr, ℕ, Bool, true, false, ◌&&◌, List, [], ◌∷◌, ◌++◌, Option, Some, None, chars, map, decimal, take, zero, suc, refl, ap, ap₂, subst, sym, ◌∙◌, append-nil, arith}
+use Rattle.std.proofs.lemmas.List.{map-append}
 use Rattle.std.proofs.lemmas.List.Folds.{list_all-append}
-use Rattle.std.proofs.lemmas.Str.{encodes-chars}
 use Rattle.std.proofs.lemmas.Option.{slice_get-map}
 use Rattle.std.specs.List.{list_any, slice_index_or}
 use Rattle.std.specs.Prelude.{not, option_map, slice_get, unwrap_or, if◌then◌else◌}
-use Rattle.std.specs.Str.{IsUtf8, NonePass}
-use Rattle.comfy_parts.proofs.CallerLemmas.{IsUtf8-printable, none_by_characters}
-use Rattle.comfy_parts.specs.CellValue.{CellValue, plain_cell}
+use Rattle.std.specs.Str.{IsUtf8}
+use Rattle.comfy_parts.proofs.CallerLemmas.{IsUtf8-printable}
+use Rattle.comfy_parts.specs.CellValue.{CellValue, RowValue, plain_cell}
 use Rattle.comfy_parts.specs.Text.{Text, is_printable_ascii, spaces}
-use Rattle.comfy_table.proofs.PlainLineLemmas.{one_line}
+use Rattle.comfy_parts.specs.declared.style.cell.CellAlignment.{CellAlignment}
+use Rattle.comfy_parts.specs.declared.style.cell.CellAlignment.TheVariants.{Right}
+use Rattle.comfy_table.specs.RowCells.{row_with}
 use Rattle.csv_records.proofs.CleaningLemmas.{drawn_so, none_replaced}
 use Rattle.csv_records.specs.Cleaning.{cleaned, is_replaced}
 use Rattle.csv_tables.proofs.BuiltLemmas.{blank_drawn}
 use Rattle.csv_tables.proofs.ShownLemmas.{shown_behind, spaces_printable}
-use Rattle.csv_tables.specs.Cells.{Shown, cell_for, columns_within, field_text, is_blank, marked, number_of, pair_for, text_in, unless_blank}
+use Rattle.csv_tables.specs.Cells.{Shown, cell_for, columns_within, field_text, is_blank, marked, number_of, pair_for, shown_cells, shown_fields, shown_number, text_in, unless_blank, with_weight}
 use Rattle.csv_tables.proofs.MarkedLemmas.{marked_stays}
 use Rattle.csv_tables.proofs.ReachedLemmas.{held-reached}
 use Rattle.csv_tables.specs.Columns.{name_at}
 use Rattle.csv_tables.specs.Contents.{IsKept, made_by, pairs_by, rows_at, rows_left, shown_by}
 use Rattle.csv_tables.specs.Fields.{field_or_blank}
+use Rattle.csv_tables.specs.LazyRows.{row_by}
 use Rattle.csv_tables.specs.Markdown.{may_be_escaped}
 use Rattle.csv_tables.specs.declared.options.DrawnColumn.{DrawnColumn}
 use Rattle.csv_tables.specs.declared.options.Look.{Look}
 use Rattle.csv_tables.specs.declared.rows.RecordRows.{RecordRows}
+use Rattle.csv_tables.specs.declared.rows.RowSource.{RowSource}
+use Rattle.csv_tables.specs.declared.rows.RowSource.TheVariants.{Field, Record}
 
 -- ---- texts that are what their cells have
 
--- no character passes
-none_pass : (p : ℕ → Bool) (cs : List ℕ) → list_any p cs ≡ false → NonePass p cs
-none_pass p [] none = tt
-none_pass p (c ∷ cs) none = let each = or_parts (p c) (list_any p cs) none in (each.0, none_pass p cs each.1)
-
--- a text of which no character is replaced is one line
-pub clean_line : (text : Text) → IsUtf8 text → list_any is_replaced (chars text) ≡ false → (plain_cell text).text_lines ≡ text ∷ []
-clean_line text utf8 clean = one_line text (none_by_characters is_replaced 0x0A (omega arith) refl text (chars text, encodes-chars text utf8, none_pass is_replaced (chars text) clean))
-
--- it is what its cell has, where it is kept
+-- a text of which no character is replaced is what its cell has, if it is kept
 stays_if : (look : Look) (field : Text) (n : ℕ) → IsKept look field n → IsUtf8 (field ++ spaces n) → list_any is_replaced (chars (field ++ spaces n)) ≡ false → field_text look (field ++ spaces n) ≡ field ++ spaces n
 stays_if look field n kept utf8 clean = by_kind kept
   where
@@ -90,6 +85,12 @@ pub no_number : (is_numbered : Bool) (n : ℕ) → None ≡ number_of is_numbere
 no_number true n is = absurd (cc is)
 no_number false n is = refl
 
+-- the cell of a number, at the beginning of its row
+pub cell_of_number : (rows : RecordRows) (fields : List Text) (at number : ℕ) → Some (decimal number) ≡ number_of rows.selected.is_numbered (at + 1)
+    → slice_get (made_by rows at fields).cells 0 ≡ Some (cell_for rows.look (Some Right) (decimal number))
+cell_of_number rows fields at number is =
+    ap (λ (text : Option Text). slice_get (shown_cells rows.look false (shown_number text ++ shown_fields rows.look rows.is_aligned (columns_within fields rows.selected.columns) fields)) 0) (sym is)
+
 -- an element inside a list is the one at its position
 pub inside : {X : Type 0} (xs : List X) (i : ℕ) (d : X) → i < length xs → slice_get xs i ≡ Some (slice_index_or xs i d)
 inside [] i d within = absurd (omega (arith, within))
@@ -101,6 +102,39 @@ pub take_next : {X : Type 0} (xs : List X) (i : ℕ) (x : X) → slice_get xs i 
 take_next [] i x is = absurd (cc is)
 take_next (y ∷ xs) zero x is = ap (λ t. t ∷ []) (cc is)
 take_next (y ∷ xs) (suc i) x is = let next : suc i + 1 ≡ suc (i + 1) = omega arith in ap (λ n. take n (y ∷ xs)) next ∙ ap (λ ts. y ∷ ts) (take_next xs i x is)
+
+-- one cell more in a list of cells
+pub pushed_cell : {X : Type 0} (cell : X → CellValue) (new old : List X) (x : X) → new ≡ old ++ x ∷ [] → map cell new ≡ map cell old ++ cell x ∷ []
+pushed_cell cell new old x is = ap (map cell) is ∙ map-append cell old (x ∷ [])
+
+-- the cell of a text, in bold or as it is
+pub weighted : (is_bold : Bool) (alignment : Option CellAlignment) (text : Text) (styled : CellValue) → styled ≡ with_weight is_bold (plain_cell [])
+    → record styled {
+      text_lines = (plain_cell text).text_lines;
+      alignment = alignment;
+    } ≡ with_weight is_bold (record (plain_cell text) { alignment = alignment })
+weighted is_bold alignment text styled is = ap with_text is ∙ by_weight is_bold
+  where
+    with_text : CellValue → CellValue
+    with_text cell = record cell {
+      text_lines = (plain_cell text).text_lines;
+      alignment = alignment;
+    }
+
+    by_weight : (b : Bool) → with_text (with_weight b (plain_cell [])) ≡ with_weight b (record (plain_cell text) { alignment = alignment })
+    by_weight true = refl
+    by_weight false = refl
+
+-- ---- rows
+
+-- the greatest height of a row is that which is wanted
+pub limited_row : (rows : RecordRows) (source : RowSource) → row_by rows source ≡ row_with (row_by rows source).cells rows.look.max_height
+limited_row rows (Record at fields columns) = refl
+limited_row rows (Field position name field) = refl
+
+-- a row is that of its cells
+pub listed_row : (row : RowValue) (cells : List CellValue) (limit : Option ℕ) → cells ≡ row.cells → row ≡ row_with row.cells limit → row_with cells limit ≡ row
+listed_row row cells limit all limited = ap (λ (own : List CellValue). row_with own limit) all ∙ sym limited
 
 -- ---- rows that are still to come
 

@@ -1,7 +1,13 @@
 -- Fields that aren't broken, as they are seen.
-use Rattle.std.proofs.Common.{◌≡◌, ◌&&◌, ◌||◌, Bool, true, false, refl, ◌≤◌, ◌+◌, ◌-◌, ◌*◌, ℕ, zero, suc, [], ◌∷◌, arith, length}
+use Rattle.std.proofs.Common.{◌≡◌, ◌&&◌, ◌||◌, Bool, true, false, refl, ◌≤◌, ◌+◌, ◌-◌, ◌*◌, ℕ, zero, suc, List, [], ◌∷◌, ap, arith, length, map}
+use Rattle.std.specs.List.{list_any}
 use Rattle.std.specs.Str.{chars, chars_after, continuation_len, lead_bits}
-use Rattle.comfy_parts.specs.Text.{Text}
+use Rattle.comfy_parts.specs.CellValue.{CellValue}
+use Rattle.comfy_parts.specs.Text.{Text, greatest}
+use Rattle.comfy_parts.specs.VisibleText.{has_escape}
+use Rattle.comfy_table.proofs.RowCellLemmas.{clear_measured}
+use Rattle.comfy_table.specs.TableValue.{TableValue, measured_cell}
+use Rattle.csv_tables.specs.Unbroken.{cell_unbroken_width, unbroken_width}
 
 -- a text has no more characters than bytes
 few_after : (n c : ℕ) (bs : Text) → length (chars_after n c bs) ≤ 1 + length bs
@@ -24,3 +30,11 @@ last a b c one none = rw (one, none) refl
 
 pub none : (a b c : Bool) → a ≡ false → false ≡ a && (b || c)
 none a b c is = rw is refl
+
+-- the width of a cell of one text line without escape sequences is that of its text
+pub of_one_line : (table : TableValue) (room : ℕ) (cell : CellValue) (text : Text) → cell.text_lines ≡ text ∷ [] → list_any has_escape cell.text_lines ≡ false
+    → unbroken_width room text ≡ cell_unbroken_width room (measured_cell table cell)
+of_one_line table room cell text one clear =
+    let measured = ap (cell_unbroken_width room) (clear_measured table cell clear) in
+    let lines = ap (λ (ls : List Text). greatest (map (unbroken_width room) ls)) one in
+    omega (arith, measured, lines)

@@ -1,4 +1,4 @@
--- Private: rows that aren't made yet.
+-- Private: rows whose cells are made or lent when they are asked for.
 -- Source: this library's own.
 use Rattle.std.specs.Prelude.{◌≡◌, ⊤, option_map}
 use Rattle.comfy_parts.specs.CellValue.{RowValue}

@@ -1,202 +1,236 @@
-//! Cells that aren't made yet, and the header.
+//! Cells of texts that aren't cleaned yet, and the header.
 
-ghost use Rattle.std.specs.Prelude.{◌≡◌, ◌≤◌, ◌++◌, ◌∷◌, [], IfOk, IfSome, IsTrue, OnOk, Some, chars, false, if◌then◌else◌, length, max, option_map, string_bytes};
+ghost use Rattle.std.specs.Prelude.{◌≡◌, ◌++◌, ◌∷◌, [], IfOk, IfSome, None, OnOk, Some, chars, decimal, false, if◌then◌else◌, map, option_map, string_bytes};
 ghost use Rattle.std.specs.Cow.{cow_str_bytes};
 ghost use Rattle.std.specs.List.{list_any};
-ghost use Rattle.std.specs.Option.{option_or};
-ghost use Rattle.comfy_parts.specs.CellValue.{RowValue, plain_cell, with_cell};
+ghost use Rattle.comfy_parts.specs.CellValue.{plain_cell, with_cell};
 ghost use Rattle.comfy_parts.specs.Text.{spaces};
-ghost use Rattle.comfy_table.specs.LongestLine.{cell_longest_line};
-ghost use Rattle.comfy_table.specs.Pieces.{cell_pieces};
-ghost use Rattle.comfy_table.specs.TableValue.{cell_content_width, measured_cell};
+ghost use Rattle.comfy_parts.specs.declared.style.cell.CellAlignment.TheVariants.{Right};
+ghost use Rattle.comfy_table.specs.RowCells.{cell_of};
+ghost use Rattle.comfy_table.specs.TextStyles.{styled_by, text_cell};
 ghost use Rattle.csv_records.specs.Cleaning.{is_replaced};
-ghost use Rattle.csv_tables.specs.Cells.{cell_for, cut, field_text, header_for, is_blank, number_name, shown_cells, shown_fields, shown_number, with_weight};
+ghost use Rattle.csv_tables.specs.Cells.{cell_for, field_text, header_for, is_blank, number_name, shown_cells, shown_fields, shown_number, with_weight};
+ghost use Rattle.csv_tables.specs.Columns.{name_or_number};
 ghost use Rattle.csv_tables.specs.Contents.{IsKept};
 ghost use Rattle.csv_tables.specs.Decimals.{spaced};
-ghost use Rattle.csv_tables.specs.Unbroken.{cell_unbroken_width};
 
+use crate::columns::name_or_number;
 use crate::decimals::{spaces_after, with_spaces};
 use crate::markdown::{escaped, may_be_escaped};
 use crate::options::{DrawnColumn, Look};
-use crate::unbroken::{lines_unbroken_width, unbroken_width};
-use comfy_parts::content_split::ColumnDisplayInfo;
 use comfy_parts::for_tables::printable_cell;
 use comfy_parts::style::{Attribute, CellAlignment};
 use comfy_parts::{Cell, Cells, IntoRow, Result, Row};
-use comfy_table::{PlainCell, Table};
+use comfy_table::{RowCell, TextCell, TextStyle};
 use csv_records::{Record, cleaned, is_clean_line};
 use std::alloc::{AllocError, Global};
 use std::borrow::CowStr;
-use std::marker::Model;
 
-/// A cell that isn't made yet: a text that isn't cleaned yet, and how it is drawn. Its value is the
-/// cell that `made` returns. Most cells are measured and drawn without being made.
-#[derive(Drop)]
-pub(crate) struct LazyCell<'r> {
-    text: CowStr<'r>,
-    // how many spaces line up its decimal mark
+const BOLD: &TextStyle<'static> = &TextStyle {
+    foreground: None,
+    background: None,
+    attributes: &[Attribute::Bold],
+};
+
+/// The cell of a text that isn't cleaned yet, with spaces after it. The text is lent if it is drawn
+/// as it is, on one line; else a cell is made.
+#[inline(always)]
+pub(crate) fn row_cell<'r>(
+    alloc: Global,
+    text: &'r str,
     after: usize,
     alignment: Option<CellAlignment>,
     is_bold: bool,
-    look: &'r Look,
+    look: &Look,
+) -> Result<RowCell<'r>>
+    ensures { IfOk result (λ cell. cell_of cell
+        ≡ with_weight is_bold (cell_for look.now alignment (text.now ++ spaces after))) }
+{
+    if let Some(cell) = lent_cell(text, after, alignment, style_of(is_bold), look) {
+        return Ok(RowCell::Lent(cell));
+    }
+    boxed_cell(alloc, text, after, alignment, is_bold, look)
 }
 
-impl<'r> Model for LazyCell<'r> {
-    ghost use Rattle.std.specs.Prelude.{◌++◌};
-    ghost use Rattle.std.specs.Cow.{cow_str_bytes};
-    ghost use Rattle.comfy_parts.specs.CellValue.{CellValue};
-    ghost use Rattle.comfy_parts.specs.Text.{spaces};
-    ghost use Rattle.csv_tables.specs.Cells.{cell_for, with_weight};
-
-    ghost Value = { CellValue };
-
-    ghost view = { λ c. with_weight c.is_bold
-        (cell_for c.look.now c.alignment (cow_str_bytes c.text ++ spaces c.after)) };
+/// The cell of a field in its column, whose decimal mark is lined up if `is_aligned`.
+#[inline(always)]
+pub(crate) fn field_cell<'r>(
+    alloc: Global,
+    field: &'r str,
+    column: &DrawnColumn,
+    is_aligned: bool,
+    look: &Look,
+) -> Result<RowCell<'r>>
+    ensures { IfOk result (λ cell. cell_of cell ≡ cell_for look.now column.now.alignment
+        (spaced look.now.has_sequences (if is_aligned then column.now.points else None)
+        field.now)) }
+{
+    let after = spaces_of(alloc, field, column, is_aligned, look)?;
+    row_cell(alloc, field, after, column.alignment, false, look)
 }
 
-impl<'r> LazyCell<'r> {
-    /// The cell of a text.
-    #[inline(always)]
-    pub fn new(
-        text: CowStr<'r>,
-        alignment: Option<CellAlignment>,
-        is_bold: bool,
-        look: &'r Look,
-    ) -> LazyCell<'r>
-        ensures { result
-            ≡ with_weight is_bold (cell_for look.now alignment (cow_str_bytes text.entry)) }
-    {
-        LazyCell {
-            text,
-            after: 0,
-            alignment,
-            is_bold,
-            look,
+/// Appends the cell of a field in its column, whose decimal mark is lined up if `is_aligned`.
+#[inline(always)]
+pub(crate) fn push_field<'r>(
+    cells: &mut Vec<RowCell<'r>>,
+    alloc: Global,
+    field: &'r str,
+    column: &DrawnColumn,
+    is_aligned: bool,
+    look: &Look,
+) -> Result<()>
+    ensures { OnOk result (map cell_of cells.new.items ≡ map cell_of cells.old.items
+        ++ cell_for look.now column.now.alignment
+        (spaced look.now.has_sequences (if is_aligned then column.now.points else None)
+        field.now) ∷ []) }
+{
+    let after = spaces_of(alloc, field, column, is_aligned, look)?;
+    push_text(cells, alloc, field, after, column.alignment, false, look)
+}
+
+/// Appends the cell of a text that isn't cleaned yet, with spaces after it, as `row_cell` returns
+/// it.
+#[inline(always)]
+pub(crate) fn push_text<'r>(
+    cells: &mut Vec<RowCell<'r>>,
+    alloc: Global,
+    text: &'r str,
+    after: usize,
+    alignment: Option<CellAlignment>,
+    is_bold: bool,
+    look: &Look,
+) -> Result<()>
+    ensures { OnOk result (map cell_of cells.new.items ≡ map cell_of cells.old.items
+        ++ with_weight is_bold (cell_for look.now alignment (text.now ++ spaces after)) ∷ []) }
+{
+    if let Some(cell) = lent_cell(text, after, alignment, style_of(is_bold), look) {
+        cells.push(RowCell::Lent(cell))?;
+        return Ok(());
+    }
+    push_made(cells, alloc, text, after, alignment, is_bold, look)
+}
+
+/// Appends the cell of the name of a column, or of its number if it has none.
+#[inline(always)]
+pub(crate) fn push_name<'r>(
+    cells: &mut Vec<RowCell<'r>>,
+    alloc: Global,
+    name: Option<&'r str>,
+    position: usize,
+    look: &Look,
+) -> Result<()>
+    ensures { OnOk result (map cell_of cells.new.items ≡ map cell_of cells.old.items
+        ++ with_weight look.now.has_bold_header (cell_for look.now None
+        (name_or_number (option_map (λ s. s.now) name.entry) position)) ∷ []) }
+{
+    match name {
+        Some(name) => push_text(cells, alloc, name, 0, None, look.has_bold_header, look),
+        None => {
+            cells.push(name_cell(alloc, None, position, look)?)?;
+            Ok(())
         }
     }
+}
 
-    /// The cell of a field in its column, whose decimal mark is lined up if `is_aligned`.
-    #[inline(always)]
-    pub fn of_field(
-        alloc: Global,
-        field: &'r str,
-        column: &DrawnColumn,
-        is_aligned: bool,
-        look: &'r Look,
-    ) -> Result<LazyCell<'r>>
-        ensures { IfOk result (λ cell. cell ≡ cell_for look.now column.now.alignment
-            (spaced look.now.has_sequences (if is_aligned then column.now.points else None)
-            field.now)) }
-    {
-        let points = if is_aligned { column.points } else { None };
-        Ok(LazyCell {
-            text: CowStr::Borrowed(field),
-            after: spaces_after(alloc, points, field, look.has_sequences)?,
-            alignment: column.alignment,
-            is_bold: false,
-            look,
-        })
-    }
+// The number of spaces that line up the decimal mark of a field, if `is_aligned`.
+#[inline(always)]
+fn spaces_of(
+    alloc: Global,
+    field: &str,
+    column: &DrawnColumn,
+    is_aligned: bool,
+    look: &Look,
+) -> std::result::Result<usize, AllocError>
+    ensures { IfOk result (λ count. field.now ++ spaces count
+        ≡ spaced look.now.has_sequences (if is_aligned then column.now.points else None)
+        field.now) }
+{
+    let points = if is_aligned { column.points } else { None };
+    spaces_after(alloc, points, field, look.has_sequences)
+}
 
-    /// The cell as the line that it is, if the text is lent and is drawn as it is, on one line and
-    /// not in bold.
-    #[inline(always)]
-    pub fn lent(&self) -> Option<PlainCell<'r>>
-        ensures { IfSome result (λ cell. cell ≡ self.now) }
-    {
-        match &self.text {
-            CowStr::Borrowed(text) if !self.is_bold => {
-                plain_cell(self.look, *text, self.after, self.alignment)
-            }
-            _ => None,
-        }
-    }
+// Appends the cell of a text with spaces after it, made with a text of its own.
+#[inline(never)]
+fn push_made(
+    cells: &mut Vec<RowCell<'_>>,
+    alloc: Global,
+    text: &str,
+    after: usize,
+    alignment: Option<CellAlignment>,
+    is_bold: bool,
+    look: &Look,
+) -> Result<()>
+    ensures { OnOk result (map cell_of cells.new.items ≡ map cell_of cells.old.items
+        ++ with_weight is_bold (cell_for look.now alignment (text.now ++ spaces after)) ∷ []) }
+{
+    cells.push(boxed_cell(alloc, text, after, alignment, is_bold, look)?)?;
+    Ok(())
+}
 
-    // The line of the cell, but for bold, if its text is one line that is measured as it is.
-    #[inline(always)]
-    fn line(&self, table: &Table) -> Option<PlainCell<'_>>
-        ensures cell { IfSome result (λ cell.
-            record cell { attributes = self.now.attributes } ≡ self.now) }
-        ensures unstyled { IfSome result (λ cell. table.now.custom_styling ≡ false) }
-    {
-        if table.has_custom_styling() {
-            return None;
-        }
-        plain_cell(self.look, self.text.as_str(), self.after, self.alignment)
-    }
+/// The cell of a record's number, at the right.
+#[inline(never)]
+pub(crate) fn number_cell<'r>(alloc: Global, number: u128, look: &Look) -> Result<RowCell<'r>>
+    ensures { IfOk result (λ cell.
+        cell_of cell ≡ cell_for look.now (Some Right) (decimal number)) }
+{
+    let text = format!(in alloc; "{number}")?;
+    let right = Some(CellAlignment::Right);
+    boxed_cell(alloc, text.as_str(), 0, right, false, look)
+}
 
-    /// The content width, in terminal columns.
-    #[inline(always)]
-    pub fn content_width(&self, alloc: Global, table: &Table) -> Result<u16>
-        ensures { IfOk result (λ width. width
-            ≡ cell_content_width (measured_cell table.now self.now)) }
-    {
-        match self.line(table) {
-            Some(line) => Ok(line.content_width()),
-            None => Ok(table.cell_content_width(&self.made(alloc)?)),
-        }
+/// The cell of the name of a column, or of its number if it has none.
+pub(crate) fn name_cell<'r>(
+    alloc: Global,
+    name: Option<&'r str>,
+    position: usize,
+    look: &Look,
+) -> Result<RowCell<'r>>
+    ensures { IfOk result (λ cell. cell_of cell
+        ≡ with_weight look.now.has_bold_header (cell_for look.now None
+        (name_or_number (option_map (λ s. s.now) name.entry) position))) }
+{
+    let is_bold = look.has_bold_header;
+    match name_or_number(alloc, name, position)? {
+        CowStr::Borrowed(name) => row_cell(alloc, name, 0, None, is_bold, look),
+        CowStr::Owned(number) => boxed_cell(alloc, number.as_str(), 0, None, is_bold, look),
     }
+}
 
-    /// The longest line of the cell as it is wrapped in a column, in terminal columns.
-    pub fn longest_line(
-        &self,
-        alloc: Global,
-        table: &Table,
-        info: &ColumnDisplayInfo,
-    ) -> Result<usize>
-        ensures { IfOk result (λ longest. longest
-            ≡ cell_longest_line table.now info.now (measured_cell table.now self.now)) }
-    {
-        if let Some(line) = self.line(table) {
-            let columns = line.columns();
-            if columns <= usize::from(info.content_width) {
-                return Ok(columns);
-            }
-        }
-        Ok(table.cell_longest_line(&self.made(alloc)?, info))
-    }
+// The cell of such a text, made with a text of its own, as a cell of a row.
+#[inline(never)]
+fn boxed_cell<'r>(
+    alloc: Global,
+    text: &str,
+    after: usize,
+    alignment: Option<CellAlignment>,
+    is_bold: bool,
+    look: &Look,
+) -> Result<RowCell<'r>>
+    ensures { IfOk result (λ cell. cell_of cell
+        ≡ with_weight is_bold (cell_for look.now alignment (text.now ++ spaces after))) }
+{
+    let cell = made_cell(alloc, text, after, alignment, is_bold, look)?;
+    Ok(RowCell::Made(Box::new(alloc, cell)?))
+}
 
-    /// The width of the widest number or date among the cell's lines that has room, in terminal
-    /// columns, or 0.
-    pub fn unbroken_width(&self, alloc: Global, table: &Table, room: u16) -> Result<u16>
-        ensures value { IfOk result (λ width. width
-            ≡ cell_unbroken_width room (measured_cell table.now self.now)) }
-        ensures within { IfOk result (λ width. width ≤ room) }
-    {
-        let text = self.text.as_str();
-        if self.after == 0 && !table.has_custom_styling() {
-            if let Some(_) = plain_cell(self.look, text, 0, self.alignment) {
-                return Ok(unbroken_width(text, room));
-            }
-        }
-        Ok(lines_unbroken_width(table, &self.made(alloc)?, room))
+// The cell of such a text, made with a text of its own.
+fn made_cell(
+    alloc: Global,
+    text: &str,
+    after: usize,
+    alignment: Option<CellAlignment>,
+    is_bold: bool,
+    look: &Look,
+) -> Result<Cell>
+    ensures { IfOk result (λ cell. cell
+        ≡ with_weight is_bold (cell_for look.now alignment (text.now ++ spaces after))) }
+{
+    let text = with_spaces(alloc, text, after)?;
+    let cell = cleaned_cell(alloc, text.as_str(), alignment, look)?;
+    if is_bold {
+        return cell.add_attribute(Attribute::Bold);
     }
-
-    /// Whether the cell is seen to be one line that fits a column. A cell that isn't may be one,
-    /// too.
-    #[inline(always)]
-    pub fn is_flat(&self, table: &Table, info: &ColumnDisplayInfo) -> bool
-        ensures { IsTrue result → (row : RowValue) → IfSome row.max_height (λ h. 1 ≤ h)
-            → length (cell_pieces table.now row info.now self.now) ≤ 1 }
-    {
-        match self.line(table) {
-            Some(line) => line.columns() <= usize::from(info.content_width),
-            None => false,
-        }
-    }
-
-    /// The cell, with a text of its own.
-    #[inline(never)]
-    pub fn made(&self, alloc: Global) -> Result<Cell>
-        ensures { IfOk result (λ cell. cell ≡ self.now) }
-    {
-        let text = with_spaces(alloc, self.text.as_str(), self.after)?;
-        let cell = cell_of(alloc, text.as_str(), self.alignment, self.look)?;
-        if self.is_bold {
-            return cell.add_attribute(Attribute::Bold);
-        }
-        Ok(cell)
-    }
+    Ok(cell)
 }
 
 /// The row of the header: the name of the numbers, if there are any, and the names of columns.
@@ -256,25 +290,8 @@ fn add_name(
     ensures { OnOk result (row.new ≡ with_cell
         (with_weight look.now.has_bold_header (cell_for look.now alignment name.now)) row.old) }
 {
-    let cell = LazyCell::new(
-        CowStr::Borrowed(name),
-        alignment,
-        look.has_bold_header,
-        look,
-    );
-    row.try_add_cell(cell.made(alloc)?)
-}
-
-/// A row with the greatest height that is wanted.
-pub(crate) fn cut(mut row: Row, look: &Look) -> Row
-    ensures { result ≡ record row {
-      max_height = option_or (option_map (max 1) look.now.max_height) row.max_height;
-    } }
-{
-    if let Some(lines) = look.max_height {
-        row.max_height(lines);
-    }
-    row
+    let cell = made_cell(alloc, name, 0, alignment, look.has_bold_header, look)?;
+    row.try_add_cell(cell)
 }
 
 // The name of the numbers.
@@ -285,7 +302,12 @@ fn number_name(names: &Record<'_>) -> &'static str
 }
 
 // The cell of a text. Printable ASCII needs no cleaning.
-fn cell_of(alloc: Global, text: &str, alignment: Option<CellAlignment>, look: &Look) -> Result<Cell>
+fn cleaned_cell(
+    alloc: Global,
+    text: &str,
+    alignment: Option<CellAlignment>,
+    look: &Look,
+) -> Result<Cell>
     ensures { IfOk result (λ cell. cell ≡ cell_for look.now alignment text.now) }
 {
     if !look.is_markdown && !is_blank(text.as_bytes()) {
@@ -316,43 +338,57 @@ fn field_text(alloc: Global, field: &str, look: &Look) -> Result<String>
     }
 }
 
-// The cell of a field with spaces after it, if it is one line as it is. Most fields are printable
+// The style of a text in bold, or none.
+#[inline(always)]
+fn style_of(is_bold: bool) -> Option<&'static TextStyle<'static>>
+    ensures { styled_by (option_map (λ style. style.now) result)
+        ≡ with_weight is_bold (plain_cell []) }
+{
+    if is_bold { Some(BOLD) } else { None }
+}
+
+// The cell of a text with spaces after it, if it is one line as it is. Most texts are printable
 // ASCII.
 #[inline(always)]
-fn plain_cell<'r>(
-    look: &Look,
-    field: &'r str,
+fn lent_cell<'r>(
+    text: &'r str,
     after: usize,
     alignment: Option<CellAlignment>,
-) -> Option<PlainCell<'r>>
-    ensures cell { IfSome result (λ cell. cell
-        ≡ cell_for look.now alignment (field.now ++ spaces after)) }
-    ensures line { IfSome result (λ cell. cell.text_lines ≡ (field.now ++ spaces after) ∷ []) }
+    style: Option<&'r TextStyle<'r>>,
+    look: &Look,
+) -> Option<TextCell<'r>>
+    ensures { IfSome result (λ cell. cell
+        ≡ text_cell alignment (option_map (λ style. style.now) style.entry)
+        (field_text look.now (text.now ++ spaces after))) }
 {
-    if is_changed(look, field, after) {
+    if is_changed(look, text, after) {
         return None;
     }
-    if let Some(cell) = PlainCell::of_printable(field, after, alignment) {
+    if let Some(cell) = TextCell::of_printable(text, after, alignment, style) {
         return Some(cell);
     }
     if after > 0 {
         return None;
     }
-    let cell = clean_cell(field, alignment)?;
+    let cell = clean_cell(text, alignment, style)?;
     Some(cell)
 }
 
 // The cell of a text that is one line, and of which no character is replaced.
 #[inline(never)]
-fn clean_cell(field: &str, alignment: Option<CellAlignment>) -> Option<PlainCell<'_>>
+fn clean_cell<'r>(
+    text: &'r str,
+    alignment: Option<CellAlignment>,
+    style: Option<&'r TextStyle<'r>>,
+) -> Option<TextCell<'r>>
     ensures cell { IfSome result (λ cell. cell
-        ≡ record (plain_cell field.now) { alignment = alignment }) }
-    ensures clean { IfSome result (λ cell. list_any is_replaced (chars field.now) ≡ false) }
+        ≡ text_cell alignment (option_map (λ style. style.now) style.entry) text.now) }
+    ensures clean { IfSome result (λ cell. list_any is_replaced (chars text.now) ≡ false) }
 {
-    if !is_clean_line(field) {
+    if !is_clean_line(text) {
         return None;
     }
-    let cell = PlainCell::of_line(field, alignment)?;
+    let cell = TextCell::of_line(text, alignment, style)?;
     Some(cell)
 }
 

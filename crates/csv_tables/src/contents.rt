@@ -84,8 +84,9 @@ fn content_widths(rows: &RecordRows, table: &Table) -> Result<Vec<u16>>
 {
     let mut widths = table.column_max_content_widths()?;
     let selected = &rows.selected;
+    let mut cells = Vec::new(selected.alloc);
     for (at, fields) in selected.rows().enumerate() {
-        rows.widen(&mut widths, table, at, &fields)?;
+        rows.widen(&mut widths, table, at, &fields, &mut cells)?;
     }
     Ok(widths)
 }

@@ -11,7 +11,7 @@ ghost use Rattle.devices.specs.Pieces.{text_left};
 use crate::contents::RowContents;
 use crate::expanded::push_record_line;
 use crate::rows::LazyRows;
-use comfy_table::{ArrangedTable, Extent, PlainCell, Result, RowWriter};
+use comfy_table::{ArrangedTable, Extent, Result, RowCell, RowWriter};
 use csv_records::Rows;
 use devices::Pieces;
 use std::alloc::{AllocError, Global};
@@ -245,7 +245,7 @@ fn push_fields<'r>(
     text: &mut String,
     rows: LazyRows<'_, 'r>,
     writer: &mut RowWriter<'_>,
-    cells: &mut Vec<PlainCell<'r>>,
+    cells: &mut Vec<RowCell<'r>>,
 ) -> Result<()>
     ensures text { OnOk result (string_bytes text.new ≡ string_bytes text.old
         ++ fields_text writer.old.table writer.old.infos rows.entry) }

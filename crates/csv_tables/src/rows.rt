@@ -1,6 +1,6 @@
-//! The rows of records, before they are made.
+//! The rows of records, whose cells are made or lent when they are asked for.
 
-ghost use Rattle.std.specs.Prelude.{◌≡◌, ◌<◌, ◌≤◌, ◌+◌, ◌++◌, ◌==◌, ◌∷◌, [], ℕ, false, IfNone, IfOk, IfSome, IsTrue, List, OnOk, Some, if◌then◌else◌, length, max, nat_lt, option_map, slice_get, string_bytes};
+ghost use Rattle.std.specs.Prelude.{◌≡◌, ◌<◌, ◌≤◌, ◌+◌, ◌++◌, ◌==◌, ◌∷◌, [], ℕ, false, IfNone, IfOk, IfSome, List, OnOk, Some, if◌then◌else◌, length, map, max, nat_lt, option_map, slice_get, string_bytes};
 ghost use Rattle.std.specs.Iterator.{YieldsFirstBy, item_count};
 ghost use Rattle.std.specs.List.{slice_index_or};
 ghost use Rattle.comfy_parts.specs.Text.{Text};
@@ -8,26 +8,25 @@ ghost use Rattle.comfy_table.specs.LongestLine.{cell_longest_line};
 ghost use Rattle.comfy_table.specs.TableValue.{cell_content_width};
 ghost use Rattle.comfy_table.specs.Drawing.{part_of_drawing, terminated_text_of};
 ghost use Rattle.comfy_table.specs.Pieces.{row_height};
-ghost use Rattle.comfy_table.specs.PlainCells.{IsRowOf};
-ghost use Rattle.csv_tables.specs.Cells.{columns_within, pair_for};
+ghost use Rattle.comfy_table.specs.RowCells.{cell_of, row_with};
+ghost use Rattle.csv_tables.specs.Cells.{columns_within, pair_for, shown_cells, shown_fields};
 ghost use Rattle.csv_tables.specs.Columns.{name_at, name_or_number};
 ghost use Rattle.csv_tables.specs.Contents.{greatest_at, headed_by, made_by, measured_at, most_cells, rows_at};
 ghost use Rattle.csv_tables.specs.Drawn.{pairs_of};
 ghost use Rattle.csv_tables.specs.Unbroken.{cell_unbroken_width};
 ghost use Rattle.csv_tables.specs.declared.options.Look.{Look};
 
-use crate::cells::{LazyCell, cut};
-use crate::columns::name_or_number;
+use crate::cells::{
+    field_cell, name_cell, number_cell, push_field, push_name, push_text, row_cell,
+};
 use crate::options::{DrawnColumn, Look};
 use crate::selected::SelectedRecords;
 use crate::table::empty_table;
+use crate::unbroken::cell_unbroken_width;
 use comfy_parts::content_split::ColumnDisplayInfo;
-use comfy_parts::style::CellAlignment;
-use comfy_parts::{Cells, IntoRow};
-use comfy_table::{Extent, PlainCell, Result, Row, RowWriter, Table, is_any_taller};
+use comfy_table::{Extent, Result, RowCell, RowWriter, Table};
 use csv_records::Record;
 use std::alloc::{AllocError, Global};
-use std::borrow::CowStr;
 use std::marker::Model;
 
 /// The rows of records: one for each record, or one for each field of expanded records.
@@ -84,13 +83,15 @@ impl RecordRows {
         }
     }
 
-    /// Lets widths have room for the rows of the record at a place.
-    pub fn widen(
-        &self,
+    /// Lets widths have room for the rows of the record at a place. `cells` is memory that is used
+    /// again.
+    pub fn widen<'r>(
+        &'r self,
         widths: &mut Vec<u16>,
         table: &Table,
         at: usize,
-        fields: &Record<'_>,
+        fields: &Record<'r>,
+        cells: &mut Vec<RowCell<'r>>,
     ) -> Result<()>
         ensures each { OnOk result ((i : ℕ) → slice_index_or widths.new.items i 0
             ≡ max (slice_index_or widths.old.items i 0) (greatest_at table.now
@@ -99,7 +100,7 @@ impl RecordRows {
             ≡ max (length widths.old.items) (most_cells (rows_at self.now at fields.now))) }
     {
         for row in self.rows_of(at, fields) {
-            row.widen(widths, table)?;
+            row.widen(widths, table, cells)?;
         }
         Ok(())
     }
@@ -168,24 +169,80 @@ impl RecordRows {
         fields: &Record<'r>,
         columns: &[DrawnColumn],
         position: usize,
-    ) -> Result<LazyCell<'r>>
+    ) -> Result<RowCell<'r>>
         requires columns { columns.now ≡ columns_within fields.now self.now.selected.columns }
         requires within { position < length (made_by self.now at fields.now).cells }
-        ensures { IfOk result (λ cell.
-            slice_get (made_by self.now at fields.now).cells position ≡ Some cell) }
+        ensures { IfOk result (λ cell. slice_get (made_by self.now at fields.now).cells position
+            ≡ Some (cell_of cell)) }
     {
         let selected = &self.selected;
         let mut place = position;
         if let Some(number) = selected.number_at(at) {
             if position == 0 {
-                let number = CowStr::Owned(format!(in selected.alloc; "{number}")?);
-                return Ok(LazyCell::new(number, Some(CellAlignment::Right), false, &self.look));
+                return number_cell(selected.alloc, number, &self.look);
             }
             place = position - 1;
         }
         let column = &columns[place];
         let field = fields.get(column.position).unwrap_or("");
-        LazyCell::of_field(selected.alloc, field, column, self.is_aligned, &self.look)
+        field_cell(selected.alloc, field, column, self.is_aligned, &self.look)
+    }
+
+    // Appends the cells of the row of the record at a place.
+    #[inline(always)]
+    fn push_record<'r>(
+        &'r self,
+        cells: &mut Vec<RowCell<'r>>,
+        at: usize,
+        fields: &Record<'r>,
+        columns: &[DrawnColumn],
+    ) -> Result<()>
+        requires { columns.now ≡ columns_within fields.now self.now.selected.columns }
+        ensures { OnOk result (map cell_of cells.new.items
+            ≡ map cell_of cells.old.items ++ (made_by self.now at fields.now).cells) }
+    {
+        let selected = &self.selected;
+        if let Some(number) = selected.number_at(at) {
+            cells.push(number_cell(selected.alloc, number, &self.look)?)?;
+        }
+        self.push_fields(cells, fields, columns)
+    }
+
+    // Appends the cells of the fields of these columns.
+    #[inline(always)]
+    fn push_fields<'r>(
+        &'r self,
+        cells: &mut Vec<RowCell<'r>>,
+        fields: &Record<'r>,
+        columns: &[DrawnColumn],
+    ) -> Result<()>
+        ensures { OnOk result (map cell_of cells.new.items ≡ map cell_of cells.old.items
+            ++ shown_cells self.now.look false
+            (shown_fields self.now.look self.now.is_aligned columns.now fields.now)) }
+    {
+        let alloc = self.alloc();
+        for column in columns {
+            let field = fields.get(column.position).unwrap_or("");
+            push_field(cells, alloc, field, column, self.is_aligned, &self.look)?;
+        }
+        Ok(())
+    }
+
+    // Appends the cells of the row of one field.
+    fn push_pair<'r>(
+        &'r self,
+        cells: &mut Vec<RowCell<'r>>,
+        column: usize,
+        name: Option<&'r str>,
+        field: &'r str,
+    ) -> Result<()>
+        ensures { OnOk result (map cell_of cells.new.items ≡ map cell_of cells.old.items
+            ++ (pair_for self.now.look
+            (name_or_number (option_map (λ s. s.now) name.entry) column) field.now).cells) }
+    {
+        let alloc = self.alloc();
+        push_name(cells, alloc, name, column, &self.look)?;
+        push_text(cells, alloc, field, 0, None, false, &self.look)
     }
 
     // The cell at a position of the row of one field: the name of its column, or the field.
@@ -195,18 +252,16 @@ impl RecordRows {
         name: Option<&'r str>,
         field: &'r str,
         position: usize,
-    ) -> Result<LazyCell<'r>>
+    ) -> Result<RowCell<'r>>
         requires { position < 2 }
         ensures { IfOk result (λ cell. slice_get (pair_for self.now.look
             (name_or_number (option_map (λ s. s.now) name.entry) column) field.now).cells position
-            ≡ Some cell) }
+            ≡ Some (cell_of cell)) }
     {
-        let look = &self.look;
         if position == 0 {
-            let name = name_or_number(self.selected.alloc, name, column)?;
-            Ok(LazyCell::new(name, None, look.has_bold_header, look))
+            name_cell(self.alloc(), name, column, &self.look)
         } else {
-            Ok(LazyCell::new(CowStr::Borrowed(field), None, false, look))
+            row_cell(self.alloc(), field, 0, None, false, &self.look)
         }
     }
 }
@@ -290,7 +345,7 @@ enum RowSource<'c, 'r> {
     Field(usize, Option<&'r str>, &'r str),
 }
 
-/// A row that isn't made yet. Its value is the row that `made` returns.
+/// A row whose cells are made or lent when they are asked for. Its value is the row.
 #[derive(Drop)]
 pub(crate) struct LazyRow<'c, 'r> {
     rows: &'r RecordRows,
@@ -312,8 +367,7 @@ impl<'c, 'r> LazyRow<'c, 'r> {
     // How many cells it has.
     #[inline(always)]
     fn len(&self) -> usize
-        ensures count { result ≡ length self.now.cells }
-        ensures height { IfSome self.now.max_height (λ h. 1 ≤ h) }
+        ensures { result ≡ length self.now.cells }
     {
         match &self.source {
             RowSource::Record(_, _, columns) => self.rows.cell_count(*columns),
@@ -321,11 +375,18 @@ impl<'c, 'r> LazyRow<'c, 'r> {
         }
     }
 
+    // The greatest number of lines that are drawn of it; 0 counts as 1.
+    fn height_limit(&self) -> Option<usize>
+        ensures { self.now ≡ row_with self.now.cells result }
+    {
+        self.rows.look.max_height
+    }
+
     // The cell at a position.
     #[inline(always)]
-    fn cell_at(&self, position: usize) -> Result<LazyCell<'r>>
+    fn cell_at(&self, position: usize) -> Result<RowCell<'r>>
         requires { position < length self.now.cells }
-        ensures { IfOk result (λ cell. slice_get self.now.cells position ≡ Some cell) }
+        ensures { IfOk result (λ cell. slice_get self.now.cells position ≡ Some (cell_of cell)) }
     {
         match &self.source {
             RowSource::Record(at, fields, columns) => {
@@ -337,26 +398,13 @@ impl<'c, 'r> LazyRow<'c, 'r> {
         }
     }
 
-    /// The row, with cells of its own.
-    fn made(&self) -> Result<Row>
-        ensures { IfOk result (λ row. row ≡ self.now) }
-    {
-        let mut row = Cells(Vec::with_capacity(self.rows.alloc(), self.len())?).into_row(
-            self.rows.alloc(),
-        )?;
-        for position in 0..self.len() {
-            row.try_add_cell(self.cell_at(position)?.made(self.rows.alloc())?)?;
-        }
-        Ok(cut(row, &self.rows.look))
-    }
-
     /// Appends the lines of the row, below the top border and the header if it is the first, else
     /// below the row separator. `cells` is memory that is used again.
     pub fn push(
         &self,
         text: &mut String,
         writer: &mut RowWriter<'_>,
-        cells: &mut Vec<PlainCell<'r>>,
+        cells: &mut Vec<RowCell<'r>>,
         is_first: bool,
     ) -> Result<()>
         ensures text { OnOk result (string_bytes text.new ≡ string_bytes text.old
@@ -368,54 +416,41 @@ impl<'c, 'r> LazyRow<'c, 'r> {
             is_first,
             is_last: false,
         };
-        if self.list_cells(cells, writer.infos())?
-            && writer.push_cells(text, cells.as_slice(), extent)?
-        {
-            return Ok(());
-        }
-        let row = [self.made()?];
-        writer.push_rows(text, row.as_slice(), extent)
+        self.list_cells(cells)?;
+        writer.push_cells(text, cells.as_slice(), self.height_limit(), extent)
     }
 
-    // Lists the cells, if each is one line as it is. Returns whether that is so; no cell after one
-    // that doesn't fit its column is looked at.
-    fn list_cells(
-        &self,
-        cells: &mut Vec<PlainCell<'r>>,
-        infos: &[ColumnDisplayInfo],
-    ) -> Result<bool>
-        ensures { IfOk result (λ all. IsTrue all → IsRowOf cells.new.items self.now) }
+    // Lists the cells.
+    fn list_cells(&self, cells: &mut Vec<RowCell<'r>>) -> Result<()>
+        ensures { OnOk result (map cell_of cells.new.items ≡ self.now.cells) }
     {
         cells.clear();
-        if self.rows.look.has_sequences {
-            return Ok(false);
-        }
-        for position in 0..self.len() {
-            let Some(cell) = self.cell_at(position)?.lent() else {
-                return Ok(false);
-            };
-            let info = infos.get(position);
-            if info.is_some_and(|info| cell.columns() > usize::from(info.content_width)) {
-                return Ok(false);
+        match &self.source {
+            RowSource::Record(at, fields, columns) => {
+                self.rows.push_record(cells, *at, *fields, *columns)
             }
-            cells.push(cell)?;
+            RowSource::Field(column, name, field) => {
+                self.rows.push_pair(cells, *column, *name, *field)
+            }
         }
-        Ok(true)
     }
 
-    // Lets widths have room for the row.
-    fn widen(&self, widths: &mut Vec<u16>, table: &Table) -> Result<()>
+    // Lets widths have room for the row. `cells` is memory that is used again.
+    fn widen(
+        &self,
+        widths: &mut Vec<u16>,
+        table: &Table,
+        cells: &mut Vec<RowCell<'r>>,
+    ) -> Result<()>
         ensures each { OnOk result ((i : ℕ) → slice_index_or widths.new.items i 0
             ≡ max (slice_index_or widths.old.items i 0) (measured_at table.now
             cell_content_width (slice_get self.now.cells i))) }
         ensures count { OnOk result (length widths.new.items
             ≡ max (length widths.old.items) (length self.now.cells)) }
     {
-        for position in 0..self.len() {
-            let width = self
-                .cell_at(position)?
-                .content_width(self.rows.alloc(), table)?;
-            widen_at(widths, position, width)?;
+        self.list_cells(cells)?;
+        for (position, cell) in cells.iter().enumerate() {
+            widen_at(widths, position, cell.content_width(table))?;
         }
         Ok(())
     }
@@ -432,8 +467,7 @@ impl<'c, 'r> LazyRow<'c, 'r> {
             (slice_get self.now.cells position)) }
     {
         if position < self.len() {
-            self.cell_at(position)?
-                .longest_line(self.rows.alloc(), table, info)
+            self.cell_at(position)?.longest_line(table, info)
         } else {
             Ok(0)
         }
@@ -446,36 +480,21 @@ impl<'c, 'r> LazyRow<'c, 'r> {
         ensures within { IfOk result (λ width. width ≤ room) }
     {
         if position < self.len() {
-            self.cell_at(position)?
-                .unbroken_width(self.rows.alloc(), table, room)
+            let cell = self.cell_at(position)?;
+            cell_unbroken_width(self.rows.alloc(), table, &cell, room)
         } else {
             Ok(0)
         }
     }
 
-    /// Whether the row is drawn in more than one line.
-    pub fn is_tall(&self, table: &Table, infos: &[ColumnDisplayInfo]) -> Result<bool>
+    /// Whether the row is drawn in more than one line. `cells` is memory that is used again.
+    pub fn is_tall(&self, writer: &RowWriter<'_>, cells: &mut Vec<RowCell<'r>>) -> Result<bool>
         ensures { IfOk result (λ is. is
-            ≡ nat_lt 1 (row_height table.now infos.now self.now)) }
+            ≡ nat_lt 1 (row_height writer.now.table writer.now.infos self.now)) }
     {
-        if self.is_flat(table, infos)? {
-            return Ok(false);
-        }
-        let row = [self.made()?];
-        is_any_taller(table, infos, row.as_slice(), 1)
-    }
-
-    // Whether each cell is seen to be one line that fits its column. If one isn't, the row may yet
-    // have one line.
-    fn is_flat(&self, table: &Table, infos: &[ColumnDisplayInfo]) -> Result<bool>
-        ensures { IfOk result (λ is. IsTrue is → row_height table.now infos.now self.now ≤ 1) }
-    {
-        for (position, info) in infos.iter().enumerate() {
-            if position < self.len() && !self.cell_at(position)?.is_flat(table, info) {
-                return Ok(false);
-            }
-        }
-        Ok(true)
+        self.list_cells(cells)?;
+        let height = writer.height_of_cells(cells.as_slice(), self.height_limit())?;
+        Ok(height > 1)
     }
 }
 

@@ -1,12 +1,16 @@
 //! Where lines between rows are drawn.
 
-ghost use Rattle.std.specs.Prelude.{◌≡◌, IfOk, OnOk, false, true};
+ghost use Rattle.std.specs.Prelude.{◌≡◌, IfOk, OnOk, false, map, nat_lt, true};
+ghost use Rattle.std.specs.List.{list_any};
+ghost use Rattle.comfy_table.specs.Pieces.{row_height};
+ghost use Rattle.csv_tables.specs.Contents.{rows_from};
 ghost use Rattle.csv_tables.specs.Drawn.{HasTallRow, condensed_style, separated_table, separators_in, with_style};
 ghost use Rattle.csv_tables.specs.Separators.{AreRowsSeparated, AreTallRowsSeparated};
 
 use crate::contents::RowContents;
 use crate::options::RowSeparators;
-use comfy_table::{ArrangedTable, LineStyle, Result, TableStyle};
+use crate::rows::RecordRows;
+use comfy_table::{ArrangedTable, LineStyle, Result, RowWriter, TableStyle};
 
 /// Leaves out the lines that a table's style has between rows, where they aren't wanted.
 pub(crate) fn separate_rows(contents: &mut RowContents, separators: RowSeparators) -> Result<()>
@@ -83,11 +87,22 @@ fn has_tall_row(contents: &RowContents) -> Result<bool>
     ensures { IfOk result (λ is_tall. HasTallRow contents.now.table is_tall) }
 {
     let arranged = ArrangedTable::of_contents(contents)?;
-    let infos = arranged.infos();
-    let rows = &contents.rows;
+    let writer = arranged.row_writer()?;
+    is_any_tall(&contents.rows, &writer)
+}
+
+// Whether the row of a record is drawn in more than one line.
+fn is_any_tall(rows: &RecordRows, writer: &RowWriter<'_>) -> Result<bool>
+    requires { rows.now.is_expanded ≡ false }
+    ensures { IfOk result (λ is. is ≡ list_any (nat_lt 1)
+        (map (row_height writer.now.table writer.now.infos)
+        (rows_from rows.now 0 rows.now.selected.rows))) }
+{
     let selected = &rows.selected;
+    let mut cells = Vec::new(selected.alloc);
     for (at, fields) in selected.rows().enumerate() {
-        if rows.whole_row(at, &fields).is_tall(&contents.table, infos)? {
+        let row = rows.whole_row(at, &fields);
+        if row.is_tall(writer, &mut cells)? {
             return Ok(true);
         }
     }

@@ -3,6 +3,7 @@
 ghost use Rattle.std.specs.Prelude.{◌≡◌, ◌||◌, ◌-◌, Bool, List, ◌≤◌, ◌^◌, All, IfOk, None, OnOk, Some, chars, false, if◌then◌else◌, length, map, min, nat_le, nat_lt, option_copied, slice_get, true, unwrap_or};
 ghost use Rattle.std.specs.List.{list_all};
 ghost use Rattle.csv_records.specs.Number.{is_neutral, is_number};
+ghost use Rattle.comfy_table.specs.RowCells.{cell_of};
 ghost use Rattle.comfy_table.specs.TableValue.{TableValue, constrained, measured_cell};
 ghost use Rattle.csv_tables.specs.Unbroken.{at_least, by_columns, cell_unbroken_width, field_width, given_at, has_room, if_wide, is_of_dates, is_unbroken, kept_at, kept_unbroken, kept_unbroken_fields, level_in, may_break, name_in, room_beside, room_for_two, shared_content, shared_width, unbroken_width, wide_word, with_content, with_field_width, word_width};
 ghost use Rattle.csv_tables.specs.Cells.{cell_for};
@@ -14,7 +15,7 @@ use crate::selected::SelectedRecords;
 use comfy_parts::content_split::measure_text_width;
 use comfy_parts::for_tables::measured_lines;
 use comfy_table::utils::arrangement::helper::count_border_columns;
-use comfy_table::{Cell, Column, ColumnConstraint, Result, Table, Width};
+use comfy_table::{Cell, Column, ColumnConstraint, Result, RowCell, Table, TextCell, Width};
 use csv_records::{is_neutral, is_number};
 use std::alloc::{AllocError, Global};
 
@@ -303,8 +304,40 @@ fn field_width(contents: &RowContents, room: u16) -> Result<u16>
     Ok(widest)
 }
 
-/// The width of the widest number or date among the lines of a cell that has room, or 0.
-pub(crate) fn lines_unbroken_width(table: &Table, cell: &Cell, room: u16) -> u16
+/// The width of the widest number or date among the lines of a cell that has room, in terminal
+/// columns, or 0.
+pub(crate) fn cell_unbroken_width(
+    alloc: Global,
+    table: &Table,
+    cell: &RowCell<'_>,
+    room: u16,
+) -> Result<u16>
+    ensures value { IfOk result (λ width. width
+        ≡ cell_unbroken_width room (measured_cell table.now (cell_of cell.now))) }
+    ensures within { IfOk result (λ width. width ≤ room) }
+{
+    match cell {
+        RowCell::Lent(cell) => text_unbroken_width(alloc, cell, room),
+        RowCell::Made(cell) => Ok(lines_unbroken_width(table, cell, room)),
+    }
+}
+
+// The width of a text that is lent, if it is a number or a date and has room; else 0.
+fn text_unbroken_width(alloc: Global, cell: &TextCell<'_>, room: u16) -> Result<u16>
+    ensures value { (table : TableValue) → IfOk result (λ width. width
+        ≡ cell_unbroken_width room (measured_cell table cell.now)) }
+    ensures within { IfOk result (λ width. width ≤ room) }
+{
+    let (text, after) = cell.line();
+    if after == 0 {
+        return Ok(unbroken_width(text, room));
+    }
+    let spaced = cell.spaced(alloc)?;
+    Ok(unbroken_width(spaced.as_str(), room))
+}
+
+// The widest among the lines of a cell that is made.
+fn lines_unbroken_width(table: &Table, cell: &Cell, room: u16) -> u16
     ensures value { result ≡ cell_unbroken_width room (measured_cell table.now cell.now) }
     ensures within { result ≤ room }
 {
@@ -316,8 +349,8 @@ pub(crate) fn lines_unbroken_width(table: &Table, cell: &Cell, room: u16) -> u16
     widest
 }
 
-/// The width of a text line that is a number or a date and has room, or 0.
-pub(crate) fn unbroken_width(line: &str, room: u16) -> u16
+// The width of a text line that is a number or a date and has room, or 0.
+fn unbroken_width(line: &str, room: u16) -> u16
     ensures value { result ≡ unbroken_width room line.now }
     ensures within { result ≤ room }
 {

@@ -1,7 +1,7 @@
 use Rattle.std.proofs.Common.{◌≡◌, false, ap, sym, ◌∙◌}
 use Rattle.csv_tables.proofs.FieldLemmas.{printable_cell}
 use Rattle.csv_tables.specs.Cells.{is_blank}
-use Rattle.csv_tables.proofs.cells.cell_of.Goals as goal
+use Rattle.csv_tables.proofs.cells.cleaned_cell.Goals as goal
 
 pub returns-in-Some : goal.returns-in-Some
 returns-in-Some c =
