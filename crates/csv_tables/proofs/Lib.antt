@@ -11,6 +11,7 @@ pub mod FieldLemmas
 mod PieceLemmas
 mod PlainRowLemmas
 pub mod FittingLemmas
+mod FlatLemmas
 pub mod KeptFieldLemmas
 pub mod KeptWidthLemmas
 pub mod LeastLemmas

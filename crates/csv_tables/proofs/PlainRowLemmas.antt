@@ -1,5 +1,5 @@
 -- Rows and cells that aren't made before they are drawn.
-use Rattle.std.proofs.Common.{◌≡◌, ◌+◌, ◌<◌, length, inl, inr, ℕ, Bool, true, false, ◌&&◌, List, [], ◌∷◌, ◌++◌, Option, Some, None, chars, map, decimal, take, zero, suc, refl, ap, ap₂, subst, sym, ◌∙◌, append-nil, arith}
+use Rattle.std.proofs.Common.{◌≡◌, ◌+◌, ◌<◌, length, inl, inr, ℕ, Bool, true, false, ◌&&◌, List, [], ◌∷◌, ◌++◌, Option, Some, None, chars, map, decimal, zero, suc, refl, ap, ap₂, subst, sym, ◌∙◌, append-nil, arith}
 use Rattle.std.proofs.lemmas.List.{map-append}
 use Rattle.std.proofs.lemmas.List.Folds.{list_all-append}
 use Rattle.std.proofs.lemmas.Option.{slice_get-map}
@@ -96,12 +96,6 @@ pub inside : {X : Type 0} (xs : List X) (i : ℕ) (d : X) → i < length xs → 
 inside [] i d within = absurd (omega (arith, within))
 inside (x ∷ xs) zero d within = refl
 inside (x ∷ xs) (suc i) d within = inside xs i d (omega (arith, within))
-
--- one cell more
-pub take_next : {X : Type 0} (xs : List X) (i : ℕ) (x : X) → slice_get xs i ≡ Some x → take (i + 1) xs ≡ take i xs ++ x ∷ []
-take_next [] i x is = absurd (cc is)
-take_next (y ∷ xs) zero x is = ap (λ t. t ∷ []) (cc is)
-take_next (y ∷ xs) (suc i) x is = let next : suc i + 1 ≡ suc (i + 1) = omega arith in ap (λ n. take n (y ∷ xs)) next ∙ ap (λ ts. y ∷ ts) (take_next xs i x is)
 
 -- one cell more in a list of cells
 pub pushed_cell : {X : Type 0} (cell : X → CellValue) (new old : List X) (x : X) → new ≡ old ++ x ∷ [] → map cell new ≡ map cell old ++ cell x ∷ []

@@ -1,9 +1,11 @@
 //! The table of records whose rows are made only when they are drawn.
 
-ghost use Rattle.std.specs.Prelude.{◌≡◌, ℕ, IfOk, length, max};
-ghost use Rattle.std.specs.List.{slice_index_or};
+ghost use Rattle.std.specs.Prelude.{◌≡◌, ℕ, All, IfOk, false, length, map, max, nat_lt, true};
+ghost use Rattle.std.specs.List.{list_any, slice_index_or};
+ghost use Rattle.comfy_table.specs.Pieces.{row_height};
 ghost use Rattle.comfy_table.specs.TableValue.{column_content_width, max_content_widths, with_other_rows};
 ghost use Rattle.csv_tables.specs.Contents.{headed_by, most_cells, rows_from, table_by};
+ghost use Rattle.csv_tables.specs.LazyRows.{AreWithin, IsFlat};
 
 use crate::rows::RecordRows;
 use crate::selected::SelectedRecords;
@@ -19,21 +21,25 @@ pub(crate) struct RowContents {
     pub rows: RecordRows,
     // the content width of each column
     widths: Vec<u16>,
+    // no cell of a row is known to have several text lines
+    is_flat: bool,
 }
 
 impl Model for RowContents {
-    ghost use Rattle.std.specs.Prelude.{◌≡◌, [], ℕ, length};
+    ghost use Rattle.std.specs.Prelude.{◌≡◌, [], ℕ, All, length, true};
     ghost use Rattle.std.specs.List.{slice_index_or};
     ghost use Rattle.comfy_table.specs.TableValue.{column_content_width, with_other_rows};
     ghost use Rattle.csv_tables.specs.Contents.{rows_from};
     ghost use Rattle.csv_tables.specs.ContentsValue.{ContentsValue};
+    ghost use Rattle.csv_tables.specs.LazyRows.{IsFlat};
 
     ghost Value = { ContentsValue };
 
     ghost invariant = { λ c. (c.table.rows ≡ [])
         × (length c.widths.items ≡ length c.table.columns)
         × ((i : ℕ) → slice_index_or c.widths.items i 0 ≡ column_content_width
-        (with_other_rows (rows_from c.rows 0 c.rows.selected.rows) c.table) i) };
+        (with_other_rows (rows_from c.rows 0 c.rows.selected.rows) c.table) i)
+        × (c.is_flat ≡ true → All IsFlat (rows_from c.rows 0 c.rows.selected.rows)) };
 
     ghost view = { λ c. record {
       table = with_other_rows (rows_from c.rows 0 c.rows.selected.rows) c.table;
@@ -48,12 +54,13 @@ impl RowContents {
         ensures rows { IfOk result (λ contents. contents.rows ≡ rows) }
     {
         let mut table = rows.headed_table()?;
-        let widths = content_widths(&rows, &table)?;
+        let (widths, is_flat) = content_widths(&rows, &table)?;
         table.grow_columns(widths.len())?;
         Ok(RowContents {
             table,
             rows,
             widths,
+            is_flat,
         })
     }
 
@@ -66,6 +73,15 @@ impl RowContents {
         selected
     }
 
+    /// Whether each row has one line if each width has room for its column. What isn't seen at once
+    /// isn't said.
+    pub fn is_flat_within(&self, infos: &[ColumnDisplayInfo]) -> bool
+        ensures { result ≡ true → list_any (nat_lt 1) (map (row_height self.now.table infos.now)
+            self.now.table.rows) ≡ false }
+    {
+        self.is_flat && are_within(self.widths.as_slice(), infos)
+    }
+
     /// The content width of each column, in list order.
     pub fn widths(&self) -> &[u16]
         ensures { result.now ≡ max_content_widths self.now.table }
@@ -74,21 +90,38 @@ impl RowContents {
     }
 }
 
-// The content width of each column of a table that has these rows, which are none of its own.
-fn content_widths(rows: &RecordRows, table: &Table) -> Result<Vec<u16>>
-    ensures each { table.now ≡ headed_by rows.now → IfOk result (λ widths. (i : ℕ)
-        → slice_index_or widths.items i 0 ≡ column_content_width
+// The content width of each column of a table that has these rows, which are none of its own, and
+// whether no cell of the rows has several text lines.
+fn content_widths(rows: &RecordRows, table: &Table) -> Result<(Vec<u16>, bool)>
+    ensures each { table.now ≡ headed_by rows.now → IfOk result (λ found. (i : ℕ)
+        → slice_index_or found.0.items i 0 ≡ column_content_width
         (with_other_rows (rows_from rows.now 0 rows.now.selected.rows) table.now) i) }
-    ensures count { IfOk result (λ widths. length widths.items ≡ max (length table.now.columns)
+    ensures count { IfOk result (λ found. length found.0.items ≡ max (length table.now.columns)
         (most_cells (rows_from rows.now 0 rows.now.selected.rows))) }
+    ensures flat { IfOk result (λ found. found.1 ≡ true
+        → All IsFlat (rows_from rows.now 0 rows.now.selected.rows)) }
 {
     let mut widths = table.column_max_content_widths()?;
+    let mut is_flat = true;
     let selected = &rows.selected;
     let mut cells = Vec::new(selected.alloc);
     for (at, fields) in selected.rows().enumerate() {
-        rows.widen(&mut widths, table, at, &fields, &mut cells)?;
+        is_flat &= rows.widen(&mut widths, table, at, &fields, &mut cells)?;
     }
-    Ok(widths)
+    Ok((widths, is_flat))
+}
+
+// Whether each column has room for this content width. A width of 65535 may stand for more.
+fn are_within(widths: &[u16], infos: &[ColumnDisplayInfo]) -> bool
+    ensures { result ≡ true → AreWithin widths.now infos.now }
+{
+    for (position, info) in infos.iter().enumerate() {
+        let width = widths.get(position).copied().unwrap_or(0);
+        if width > info.content_width || width >= u16::MAX {
+            return false;
+        }
+    }
+    true
 }
 
 impl Contents for RowContents {

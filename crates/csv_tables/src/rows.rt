@@ -1,8 +1,9 @@
 //! The rows of records, whose cells are made or lent when they are asked for.
 
-ghost use Rattle.std.specs.Prelude.{◌≡◌, ◌<◌, ◌≤◌, ◌+◌, ◌++◌, ◌==◌, ◌∷◌, [], ℕ, false, IfNone, IfOk, IfSome, List, OnOk, Some, if◌then◌else◌, length, map, max, nat_lt, option_map, slice_get, string_bytes};
+ghost use Rattle.std.specs.Prelude.{◌≡◌, ◌<◌, ◌≤◌, ◌+◌, ◌++◌, ◌==◌, ◌∷◌, [], ℕ, false, IfNone, IfOk, IfSome, List, OnOk, Some, if◌then◌else◌, length, map, max, nat_lt, option_map, slice_get, string_bytes, All, true};
 ghost use Rattle.std.specs.Iterator.{YieldsFirstBy, item_count};
 ghost use Rattle.std.specs.List.{slice_index_or};
+ghost use Rattle.comfy_parts.specs.CellValue.{CellValue};
 ghost use Rattle.comfy_parts.specs.Text.{Text};
 ghost use Rattle.comfy_table.specs.LongestLine.{cell_longest_line};
 ghost use Rattle.comfy_table.specs.TableValue.{cell_content_width};
@@ -13,6 +14,7 @@ ghost use Rattle.csv_tables.specs.Cells.{columns_within, pair_for, shown_cells, 
 ghost use Rattle.csv_tables.specs.Columns.{name_at, name_or_number};
 ghost use Rattle.csv_tables.specs.Contents.{greatest_at, headed_by, made_by, measured_at, most_cells, rows_at};
 ghost use Rattle.csv_tables.specs.Drawn.{pairs_of};
+ghost use Rattle.csv_tables.specs.LazyRows.{IsFlat};
 ghost use Rattle.csv_tables.specs.Unbroken.{cell_unbroken_width};
 ghost use Rattle.csv_tables.specs.declared.options.Look.{Look};
 
@@ -83,8 +85,9 @@ impl RecordRows {
         }
     }
 
-    /// Lets widths have room for the rows of the record at a place. `cells` is memory that is used
-    /// again.
+    /// Lets widths have room for the rows of the record at a place. Returns whether no cell of them
+    /// has several text lines, which is found only if records aren't expanded. `cells` is memory
+    /// that is used again.
     pub fn widen<'r>(
         &'r self,
         widths: &mut Vec<u16>,
@@ -92,17 +95,25 @@ impl RecordRows {
         at: usize,
         fields: &Record<'r>,
         cells: &mut Vec<RowCell<'r>>,
-    ) -> Result<()>
+    ) -> Result<bool>
         ensures each { OnOk result ((i : ℕ) → slice_index_or widths.new.items i 0
             ≡ max (slice_index_or widths.old.items i 0) (greatest_at table.now
             cell_content_width (rows_at self.now at fields.now) i)) }
         ensures count { OnOk result (length widths.new.items
             ≡ max (length widths.old.items) (most_cells (rows_at self.now at fields.now))) }
+        ensures flat { IfOk result (λ is. is ≡ true
+            → All IsFlat (rows_at self.now at fields.now)) }
     {
+        if !self.is_expanded {
+            let row = self.whole_row(at, fields);
+            let _limit = row.height_limit();
+            row.widen(widths, table, cells)?;
+            return Ok(are_flat(cells.as_slice()));
+        }
         for row in self.rows_of(at, fields) {
             row.widen(widths, table, cells)?;
         }
-        Ok(())
+        Ok(false)
     }
 
     /// The longest line of the cells at a position of the rows of the record at a place, as they
@@ -447,6 +458,7 @@ impl<'c, 'r> LazyRow<'c, 'r> {
             cell_content_width (slice_get self.now.cells i))) }
         ensures count { OnOk result (length widths.new.items
             ≡ max (length widths.old.items) (length self.now.cells)) }
+        ensures listed { OnOk result (map cell_of cells.new.items ≡ self.now.cells) }
     {
         self.list_cells(cells)?;
         for (position, cell) in cells.iter().enumerate() {
@@ -495,6 +507,34 @@ impl<'c, 'r> LazyRow<'c, 'r> {
         self.list_cells(cells)?;
         let height = writer.height_of_cells(cells.as_slice(), self.height_limit())?;
         Ok(height > 1)
+    }
+}
+
+// Whether none of these cells has several text lines.
+fn are_flat(cells: &[RowCell<'_>]) -> bool
+    ensures { result ≡ true
+        → All (λ (cell : CellValue). length cell.text_lines ≤ 1) (map cell_of cells.now) }
+{
+    for cell in cells {
+        if !has_one_line(cell) {
+            return false;
+        }
+    }
+    true
+}
+
+// Whether a cell hasn't several text lines.
+#[inline(always)]
+fn has_one_line(cell: &RowCell<'_>) -> bool
+    ensures { result ≡ true → length (cell_of cell.now).text_lines ≤ 1 }
+{
+    match cell {
+        RowCell::Lent(cell) => {
+            // its clause says that it has one
+            let _ = cell.columns();
+            true
+        }
+        RowCell::Made(cell) => cell.text_lines().len() <= 1,
     }
 }
 

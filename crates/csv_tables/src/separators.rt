@@ -87,6 +87,9 @@ fn has_tall_row(contents: &RowContents) -> Result<bool>
     ensures { IfOk result (λ is_tall. HasTallRow contents.now.table is_tall) }
 {
     let arranged = ArrangedTable::of_contents(contents)?;
+    if contents.is_flat_within(arranged.infos()) {
+        return Ok(false);
+    }
     let writer = arranged.row_writer()?;
     is_any_tall(&contents.rows, &writer)
 }

@@ -1,12 +1,15 @@
-use Rattle.std.proofs.Common.{◌≡◌, ◌+◌, ◌++◌, [], ℕ, List, ap, ap₂, arith, length, max, ◌∙◌, rules}
+use Rattle.std.proofs.Common.{◌≡◌, ◌+◌, ◌++◌, [], ℕ, List, ap, ap₂, arith, length, max, subst, sym, ◌∙◌, rules}
 use Rattle.std.proofs.lemmas.List.FromFn.{length-map-range_with_len}
 use Rattle.std.specs.Iterator.Adapters.{enumerate_count, enumerate_source}
-use Rattle.std.specs.List.{slice_index_or}
+use Rattle.std.proofs.lemmas.Bool.{and_parts}
+use Rattle.std.proofs.lemmas.List.Elements.{All-append, All-nil}
+use Rattle.std.specs.List.{All, slice_index_or}
 use Rattle.comfy_parts.specs.CellValue.{RowValue}
 use Rattle.comfy_parts.specs.Text.{Text}
 use Rattle.comfy_table.specs.TableValue.{cell_content_width, column_content_width, max_content_widths}
 use Rattle.csv_tables.proofs.ContentLemmas.{greatest_at-append, header_widths, most_cells-append, no_rows, width_below}
 use Rattle.csv_tables.specs.Contents.{greatest_at, most_cells, rows_at, rows_from}
+use Rattle.csv_tables.specs.LazyRows.{IsFlat}
 use Rattle.csv_tables.proofs.contents.content_widths.Goals as goal
 
 pub loop-at-init : goal.loop-at-init
@@ -24,6 +27,7 @@ loop-at-init c =
           ∙ width_below table all i (ap (λ t. t.rows) is ∙ no_rows rows),
       ap₂ (λ (ws : List ℕ) (rs : List RowValue). max (length ws) (most_cells rs)) own left
           ∙ ap (λ n. max n (most_cells all)) (length-map-range_with_len (column_content_width table) 0 (length table.columns)),
+      λ is flat. subst (All IsFlat) left flat,
     )
 
 pub loop-at-preserved : goal.loop-at-preserved
@@ -43,16 +47,20 @@ loop-at-preserved c =
     let old = c.loop-at.widths.items in (
       λ is i.
           let f : List RowValue → ℕ = λ rs. greatest_at table cell_content_width rs i in
-          let grown : slice_index_or new i 0 ≡ max (slice_index_or old i 0) (f here) = c.in_ok-widen.ensures.each i ∙ ap (λ (rs : List RowValue). max (slice_index_or old i 0) (f rs)) at in
+          let grown : slice_index_or new i 0 ≡ max (slice_index_or old i 0) (f here) = c.in_ok-is_flat.ensures.each i ∙ ap (λ (rs : List RowValue). max (slice_index_or old i 0) (f rs)) at in
           let parts = ap f before ∙ greatest_at-append table cell_content_width here later i in
           let next = ap f left in
           let so = c.loop-at.invariant.0 is i in
           omega (arith, grown, parts, next, so),
-      let grown : length new ≡ max (length old) (most_cells here) = c.in_ok-widen.ensures.count ∙ ap (λ (rs : List RowValue). max (length old) (most_cells rs)) at in
+      let grown : length new ≡ max (length old) (most_cells here) = c.in_ok-is_flat.ensures.count ∙ ap (λ (rs : List RowValue). max (length old) (most_cells rs)) at in
           let parts = ap most_cells before ∙ most_cells-append here later in
           let next = ap most_cells left in
           let so = c.loop-at.invariant.1 in
           omega (arith, grown, parts, next, so),
+      λ is flat.
+          let parts = and_parts c.loop-at.is_flat c.in_ok-is_flat.field-0 is in
+          let now : All IsFlat here = subst (All IsFlat) at (c.in_ok-is_flat.ensures.flat parts.1) in
+          c.loop-at.invariant.2 parts.0 (subst (All IsFlat) (sym before) (All-append IsFlat here later now (subst (All IsFlat) left flat))),
     )
 
 pub returns-clause-each : goal.returns-clause-each
@@ -70,3 +78,10 @@ returns-clause-count c =
     let none = ap (λ (left : List (List Text)). most_cells (rows_from rows (enumerate_count c.loop-at.at-iterator) left)) ended in
     let so = c.loop-at.invariant.1 in
     omega (arith, none, so)
+
+pub returns-clause-flat : goal.returns-clause-flat
+returns-clause-flat c = λ is.
+    let rows = c.args.rows.now in
+    let ended : enumerate_source c.loop-at.at-iterator ≡ [] = search rules in
+    let none : rows_from rows (enumerate_count c.loop-at.at-iterator) (enumerate_source c.loop-at.at-iterator) ≡ [] = ap (rows_from rows (enumerate_count c.loop-at.at-iterator)) ended in
+    c.loop-at.invariant.2 is (subst (All IsFlat) (sym none) (All-nil IsFlat))

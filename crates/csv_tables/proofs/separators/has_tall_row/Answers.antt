@@ -30,3 +30,13 @@ returns c =
           ∙ ap (λ (is : List ColumnInfo). list_any (nat_lt 1) (map (row_height table is) table.rows)) found.2,
     ))
     c.is_any_tall.ensures
+
+pub returns-then-is_flat_within : goal.returns-then-is_flat_within
+returns-then-is_flat_within c =
+    let table = c.args.contents.now.table in
+    let found = c.in_ok-arranged.ensures.infos in (
+      found.0,
+      found.1,
+      sym (c.is_flat_within.ensures c.if-is_flat_within.true)
+          ∙ ap (λ (is : List ColumnInfo). list_any (nat_lt 1) (map (row_height table is) table.rows)) (c.infos.ensures ∙ found.2),
+    )

@@ -12,4 +12,5 @@ invariant_of-contents c =
       ap (λ (t : TableValue). t.rows) is ∙ had.0,
       had.1 ∙ sym (constrained-length c.args.constraints.items c.contents.inside.table.columns) ∙ sym (ap (λ (t : TableValue). length t.columns) is),
       λ i. had.2 i ∙ sym (ap (λ (t : TableValue). column_content_width (with_other_rows (rows_from rows 0 rows.selected.rows) t) i) is),
+      had.3,
     )

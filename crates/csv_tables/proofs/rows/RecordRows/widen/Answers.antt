@@ -7,7 +7,7 @@ use Rattle.csv_tables.proofs.rows.RecordRows.widen.Goals as goal
 pub loop-row-preserved : goal.loop-row-preserved
 loop-row-preserved c =
     let steps = c.in-Some.ensures.steps in
-    let grown = c.in_ok-widen.ensures in (
+    let grown = c.in_ok-widen-2.ensures in (
       λ i.
           let before = ap (λ (rows : List RowValue). greatest_at c.args.table.now cell_content_width rows i) steps in
           let one = grown.each i in
