@@ -21,7 +21,7 @@ pub(crate) struct RowContents {
     pub rows: RecordRows,
     // the content width of each column
     widths: Vec<u16>,
-    // no cell of a row is known to have several text lines
+    // each cell of a row is known to have at most one text line
     is_flat: bool,
 }
 
@@ -73,8 +73,8 @@ impl RowContents {
         selected
     }
 
-    /// Whether each row has one line if each width has room for its column. What isn't seen at once
-    /// isn't said.
+    /// Whether each row is seen to have at most one line with these infos. If this returns
+    /// false, a row may have several lines or not.
     pub fn is_flat_within(&self, infos: &[ColumnDisplayInfo]) -> bool
         ensures { result ≡ true → list_any (nat_lt 1) (map (row_height self.now.table infos.now)
             self.now.table.rows) ≡ false }
@@ -111,7 +111,7 @@ fn content_widths(rows: &RecordRows, table: &Table) -> Result<(Vec<u16>, bool)>
     Ok((widths, is_flat))
 }
 
-// Whether each column has room for this content width. A width of 65535 may stand for more.
+// Whether each column has room for this content width. A width of 65535 may mean more.
 fn are_within(widths: &[u16], infos: &[ColumnDisplayInfo]) -> bool
     ensures { result ≡ true → AreWithin widths.now infos.now }
 {
