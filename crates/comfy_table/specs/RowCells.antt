@@ -30,7 +30,7 @@ abbrev pub row_in : RowSource → RowValue
 row_in (Whole row) = row.now
 row_in (Listed cells limit) = row_with (map cell_of cells.now) limit
 
--- a row of at most so many lines
+-- a row of at most this number of lines
 abbrev pub row_within : Option ℕ → RowValue
 row_within limit = record { cells = []; max_height = limit }
 

@@ -24,8 +24,8 @@ pub use table::output::Lines;
 pub use table::parts::TableParts;
 pub use table::row_writer::RowWriter;
 pub use table::terminal::Terminal;
-pub use utils::arrangement::contents::Contents;
-pub use utils::formatting::drawing::Extent;
+pub use utils::arrangement::source::TableSource;
+pub use utils::formatting::drawing::PartEnds;
 pub use utils::formatting::row_cell::{RowCell, TextCell};
 pub use utils::formatting::text_style::TextStyle;
 

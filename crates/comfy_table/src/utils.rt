@@ -13,7 +13,7 @@ use crate::table::Table;
 use crate::table::output::Lines;
 use comfy_parts::Result;
 pub use comfy_parts::content_split::ColumnDisplayInfo;
-use formatting::{Extent, Output};
+use formatting::{Output, PartEnds};
 
 /// The drawn lines of a table: arranged, formatted and framed.
 pub fn build_table(table: &Table) -> Result<Lines>
@@ -32,5 +32,5 @@ pub(crate) fn draw<O: Output>(table: &Table, output: &mut O) -> Result<()>
         × (O.kept output.new ≡ with_lines O.kept_of lines (O.kept output.old))) }
 {
     let arranged = table.arranged()?;
-    arranged.draw(table.rows.as_slice(), Extent::WHOLE, output)
+    arranged.draw(table.rows.as_slice(), PartEnds::WHOLE, output)
 }

@@ -21,7 +21,7 @@ use Rattle.csv_command.specs.Drawn.{AreEnough, HasLimit, IsNotEnough, RendersBeg
 use Rattle.csv_command.specs.Errors.{of_columns}
 use Rattle.csv_command.specs.Told.{IsToldOfBeginning, IsToldOfInput, drawn_records}
 use Rattle.csv_records.specs.Longer.{longer_records}
-use Rattle.csv_records.specs.declared.longer.LongerRecords.{LongerRecords}
+use Rattle.csv_records.specs.declared.longer.LongRecords.{LongRecords}
 use Rattle.csv_command.specs.Run.{IsInputRefusal, IsRefusal}
 use Rattle.csv_command.specs.declared.error.ColumnsError.{ColumnsError}
 use Rattle.csv_command.specs.declared.error.ColumnsError.TheVariants.{OutOfMemory}
@@ -167,10 +167,10 @@ module _ (options : Options) where
           is_output = same_output options first found.records alike None output made;
         }
 
-    pub beginning_told : (longer told : Option LongerRecords) → longer ≡ longer_records options.input found.is_enough.text first → told ≡ (if options.selection.has_header then longer else None) → IsToldOfBeginning options (whole_lines read) told
+    pub beginning_told : (longer told : Option LongRecords) → longer ≡ longer_records options.input found.is_enough.text first → told ≡ (if options.selection.has_header then longer else None) → IsToldOfBeginning options (whole_lines read) told
     beginning_told longer told are is =
         let drawn : first ≡ drawn_records options.selection found.records = found.are_first ∙ sym (ap (λ (o : Option ℕ). limited o found.records) enough) in
-        record { records = found.records; are_enough = are_enough; is = is ∙ ap (λ (l : Option LongerRecords). if options.selection.has_header then l else None) (are ∙ ap (longer_records options.input found.is_enough.text) drawn) }
+        record { records = found.records; are_enough = are_enough; is = is ∙ ap (λ (l : Option LongRecords). if options.selection.has_header then l else None) (are ∙ ap (longer_records options.input found.is_enough.text) drawn) }
 
     pub beginning_refused : (e : ColumnsError) → IsColumnsRefusal e (columns_for options first) → IsRefusal options Beginning read (of_columns e)
     beginning_refused OutOfMemory why = own_limit.0
@@ -181,13 +181,13 @@ module _ (options : Options) where
   whole_no_memory input text is_text = λ wanted. (subst (λ (encoding : Encoding). IsDecoded encoding options.input.skip input text) wanted is_text.is_decoded).0
 
   -- what is told of the first records is told of the input
-  pub whole_told : (input text : Text) (first all : List (List Text)) (longer told : Option LongerRecords) → first ≡ drawn_records options.selection all → IsDecodedBy options.input input text → AreRecordsIn options.input text all
+  pub whole_told : (input text : Text) (first all : List (List Text)) (longer told : Option LongRecords) → first ≡ drawn_records options.selection all → IsDecodedBy options.input input text → AreRecordsIn options.input text all
       → longer ≡ longer_records options.input text first → told ≡ (if options.selection.has_header then longer else None) → IsToldOfInput options input told
   whole_told input text first all longer told drawn is_text are_records are is =
       record {
         records = all;
         are_records = record { text = text; is_text = is_text; are_records = are_records };
-        is = is ∙ ap (λ (l : Option LongerRecords). if options.selection.has_header then l else None) (are ∙ ap (longer_records options.input text) drawn);
+        is = is ∙ ap (λ (l : Option LongRecords). if options.selection.has_header then l else None) (are ∙ ap (longer_records options.input text) drawn);
       }
 
   -- columns of an input's records can't be drawn so

@@ -13,7 +13,7 @@ use Rattle.csv_command.specs.declared.arguments.Invocation.{Invocation}
 use Rattle.csv_records.specs.declared.encoding.Encoding.{Encoding}
 use Rattle.csv_records.specs.declared.error.DecodeError.{DecodeError}
 use Rattle.csv_records.specs.declared.error.DecodeError.TheVariants as decode
-use Rattle.csv_records.specs.declared.longer.LongerRecords.{LongerRecords}
+use Rattle.csv_records.specs.declared.longer.LongRecords.{LongRecords}
 use Rattle.csv_records.specs.declared.not_text.NotText.{NotText}
 use Rattle.csv_records.specs.declared.not_text.NotText.TheVariants as not_text
 use Rattle.csv_records.specs.declared.error.RecordsError.{RecordsError}
@@ -124,7 +124,7 @@ others_told others =
     else (codes " (and " ++ decimal others) ++ codes " more lines)"
 
 -- the line on records that have more fields than the header
-abbrev pub longer_line : Option Text → LongerRecords → Text
+abbrev pub longer_line : Option Text → LongRecords → Text
 longer_line file longer =
     ((about true file
     ++ (((codes "line " ++ decimal longer.line) ++ (codes " has " ++ decimal longer.fields))
@@ -204,7 +204,7 @@ IsEndOfError drawing e ending =
 
 -- the end where a drawing was written: nothing is said but of records with more fields than the
 -- header
-abbrev pub IsEndOfDrawing : Outcome → Option LongerRecords → Ending → Type 0
+abbrev pub IsEndOfDrawing : Outcome → Option LongRecords → Ending → Type 0
 IsEndOfDrawing drawing None ending = IsSilent 0 ending
 IsEndOfDrawing drawing (Some longer) ending =
     IsMessage 0

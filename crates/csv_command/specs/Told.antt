@@ -5,7 +5,7 @@ use Rattle.comfy_parts.specs.Text.{Text}
 use Rattle.csv_records.specs.Beginning.{whole_lines}
 use Rattle.csv_records.specs.Longer.{longer_records}
 use Rattle.csv_records.specs.Reading.{AreRecordsFor}
-use Rattle.csv_records.specs.declared.longer.LongerRecords.{LongerRecords}
+use Rattle.csv_records.specs.declared.longer.LongRecords.{LongRecords}
 use Rattle.csv_command.specs.Drawn.{AreEnough, most_drawn}
 use Rattle.csv_command.specs.declared.arguments.Options.{Options}
 use Rattle.csv_tables.specs.Drawn.{limited}
@@ -18,7 +18,7 @@ drawn_records selection records =
     limited (option_map (most_drawn selection.has_header) selection.limit) records
 
 -- what is told of the records of a text
-abbrev pub told_for : Options → Text → List (List Text) → Option LongerRecords
+abbrev pub told_for : Options → Text → List (List Text) → Option LongRecords
 told_for options text records =
     if options.selection.has_header
     then longer_records options.input text (drawn_records options.selection records)
@@ -26,18 +26,18 @@ told_for options text records =
 
 -- what is told of an input that was read whole
 pub record IsToldOfInput (options : Options) (input : Text)
-    (told : Option LongerRecords) : Type 0 where
+    (told : Option LongRecords) : Type 0 where
   pub records : List (List Text)
   pub are_records : AreRecordsFor options.input input records
   pub is : told ≡ told_for options are_records.text records
 
 -- of a beginning which is enough
 pub record IsToldOfBeginning (options : Options) (beginning : Text)
-    (told : Option LongerRecords) : Type 0 where
+    (told : Option LongRecords) : Type 0 where
   pub records : List (List Text)
   pub are_enough : AreEnough options beginning records
   pub is : told ≡ told_for options are_enough.are.text records
 
-abbrev pub IsToldOf : Options → Extent → Text → Option LongerRecords → Type 0
+abbrev pub IsToldOf : Options → Extent → Text → Option LongRecords → Type 0
 IsToldOf options Whole input told = IsToldOfInput options input told
 IsToldOf options Beginning read told = IsToldOfBeginning options (whole_lines read) told

@@ -8,7 +8,7 @@ ghost use Rattle.csv_command.specs.Ending.{IsEndOfOutcome, IsEndOfRefusal, IsEnd
 use crate::arguments::Invocation;
 use crate::error::{ColumnsError, CsvError};
 use clap::error::{Error, ErrorKind};
-use csv_records::{DecodeError, Encoding, LongerRecords, NotText, RecordsError, shown_text};
+use csv_records::{DecodeError, Encoding, LongRecords, NotText, RecordsError, shown_text};
 use std::alloc::{AllocError, Global};
 use std::io;
 
@@ -80,7 +80,7 @@ pub(crate) struct Outcome<'a> {
     /// What arguments asked for.
     pub invocation: &'a Invocation,
     /// Whether it was written, and then what is told of its records.
-    pub result: Result<Option<LongerRecords>, CsvError>,
+    pub result: Result<Option<LongRecords>, CsvError>,
     /// With which error the input couldn't be opened or read.
     pub fault: Option<io::ErrorKind>,
     /// With which error the output couldn't be written.
@@ -180,12 +180,12 @@ fn message_of_text(text: Result<String, AllocError>) -> Message
 fn longer_line(
     alloc: Global,
     file: &Option<String>,
-    longer: LongerRecords,
+    longer: LongRecords,
 ) -> Result<String, AllocError>
     ensures { IfOk result (λ text. string_bytes text
         ≡ longer_line (option_map string_bytes file.now) longer) }
 {
-    let LongerRecords {
+    let LongRecords {
         line,
         fields,
         first_fields,

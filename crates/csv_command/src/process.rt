@@ -7,7 +7,7 @@ use crate::ending::{
 };
 use crate::error::CsvError;
 use crate::transfer::draw;
-use csv_records::LongerRecords;
+use csv_records::LongRecords;
 use devices::{FromReader, ToWriter, Uninterrupted, arguments_of_process, write_all};
 use std::alloc::AllocError;
 use std::env::VarError;
@@ -106,10 +106,7 @@ fn run(rt: &HostRuntime, invocation: &Invocation) -> Ending {
 }
 
 // What came of it, and with which error the input couldn't be opened or read.
-type Drawn = (
-    Result<Option<LongerRecords>, CsvError>,
-    Option<io::ErrorKind>,
-);
+type Drawn = (Result<Option<LongRecords>, CsvError>, Option<io::ErrorKind>);
 
 fn drawn(rt: &HostRuntime, sink: &mut WriterTo<io::Stdout>, invocation: &Invocation) -> Drawn {
     let Some(path) = &invocation.file else {

@@ -5,7 +5,7 @@ use crate::ending::{
     Ending, Outcome, ending_of_outcome, ending_of_refusal, ending_without_arguments, waiting_notice,
 };
 use crate::error::{ColumnsError, CsvError};
-use csv_records::{DecodeError, LongerRecords, NotText, RecordsError};
+use csv_records::{DecodeError, LongRecords, NotText, RecordsError};
 use std::alloc::{Alloc, Global};
 use std::io::ErrorKind;
 use std::process::Abort;
@@ -228,7 +228,7 @@ fn a_drawing_that_ends(rt: HostRuntime) {
 fn assert_drawn<'a>(
     rt: &(impl Abort + Alloc<A = Global>),
     arguments: &'a [&'a str],
-    told: Option<LongerRecords>,
+    told: Option<LongRecords>,
     text: &str,
 ) {
     let invocation = parse_by(rt, arguments);
@@ -244,14 +244,14 @@ fn assert_drawn<'a>(
 // Nothing is said of a drawing that was written, but of records with more fields than the header.
 #[test]
 fn a_drawing_that_was_written(rt: HostRuntime) {
-    let one = LongerRecords {
+    let one = LongRecords {
         line: 3,
         fields: 4,
         first_fields: 3,
         others: 0,
     };
-    let two = LongerRecords { others: 1, ..one };
-    let three = LongerRecords { others: 2, ..one };
+    let two = LongRecords { others: 1, ..one };
+    let three = LongRecords { others: 2, ..one };
     assert_drawn(&rt, &["csvtable", "a.csv"], None, "");
     let text = "csvtable: a.csv: line 3 has 4 fields, the header has 3\n";
     assert_drawn(&rt, &["csvtable", "a.csv"], Some(one), text);

@@ -12,9 +12,9 @@ use crate::arguments::Options;
 use crate::columns::columns_of;
 use crate::error::{ColumnsError, CsvError};
 use csv_records::{
-    FirstRecords, LongerRecords, Records, decoded, read_beginning, read_first_records,
+    FirstRecords, LongRecords, Records, decoded, read_beginning, read_first_records,
 };
-use csv_tables::{DrawnRecords, Layout, Selection, drawn_records};
+use csv_tables::{Layout, RecordDrawing, Selection, drawn_records};
 use devices::{Render, Rendered, Sink, Source, joined};
 use std::alloc::Global;
 
@@ -45,7 +45,7 @@ pub fn draw<R: Source, W: Sink>(
     source: &mut R,
     sink: &mut W,
     options: &Options,
-) -> Result<Option<LongerRecords>, CsvError>
+) -> Result<Option<LongRecords>, CsvError>
     ensures ended { OnOk result ((R.end_was_read source.new ≡ true) ⊎ HasLimit options.now) }
     ensures source { R.has_failed source.new ≡ is_read_fault result }
     ensures sink { W.has_failed sink.old ≡ false → W.has_failed sink.new ≡ is_write_fault result }
@@ -58,14 +58,14 @@ pub fn draw<R: Source, W: Sink>(
 }
 
 // A drawing, and what is told of its records.
-type Drawing = Rendered<DrawnRecords, Option<LongerRecords>>;
+type Drawing = Rendered<RecordDrawing, Option<LongRecords>>;
 
 impl Render for Options {
     type Error = CsvError;
 
-    type Output = DrawnRecords;
+    type Output = RecordDrawing;
 
-    type Note = Option<LongerRecords>;
+    type Note = Option<LongRecords>;
 
     ghost is_not_enough = { IsNotEnough };
 
@@ -112,7 +112,7 @@ fn most_drawn(selection: &Selection) -> Option<usize>
 }
 
 // What is told of the first records: those that have more fields than the header.
-fn told_of(selection: &Selection, first: &FirstRecords) -> Option<LongerRecords>
+fn told_of(selection: &Selection, first: &FirstRecords) -> Option<LongRecords>
     ensures { result ≡ (if selection.now.has_header then first.now.longer else None) }
 {
     first.longer.filter(|_| selection.has_header)
@@ -124,7 +124,7 @@ fn output_of(
     records: Records,
     count: Option<usize>,
     options: &Options,
-) -> Result<DrawnRecords, ColumnsError>
+) -> Result<RecordDrawing, ColumnsError>
     ensures output { IfOk result (λ output.
         RendersChosen count options.now records output) }
     ensures refused { IfErr result (λ e. IsColumnsRefusal e (columns_for options.now records)) }
@@ -165,7 +165,7 @@ fn rendered_input(alloc: Global, input: Vec<u8>, options: &Options) -> Result<Dr
     drop(text);
     let note = told_of(&options.selection, &first);
     if first.count == 0 {
-        let pieces = DrawnRecords::nothing();
+        let pieces = RecordDrawing::nothing();
         return Ok(Rendered { pieces, note });
     }
     let below = first.count - usize::from(options.selection.has_header);

@@ -13,7 +13,7 @@ use Rattle.csv_command.specs.declared.arguments.Options.{Options}
 use Rattle.csv_records.specs.Numerals.{number_for}
 use Rattle.csv_tables.specs.Columns.{ColumnsValue, count_of}
 use Rattle.csv_tables.specs.Drawn.{SelectedValue, columns_of, selected_of, drawn_rows, names_or_none}
-use Rattle.csv_tables.specs.declared.options.DrawnColumn.{DrawnColumn}
+use Rattle.csv_tables.specs.declared.options.ColumnPlan.{ColumnPlan}
 use Rattle.csv_promises.proofs.DrawnColumnLemmas.{AreBelow, placed, some_drawn}
 use Rattle.csv_promises.proofs.PositionLemmas.{at_sides, chosen, found_by, kept_positions, some_kept}
 use Rattle.csv_promises.specs.Fields.{columns_asked, positions_by, positions_in}
@@ -149,7 +149,7 @@ module _ (options : Options) (records : List (List Text)) (own : ColumnsValue) (
 
   module _ (known : Option ℕ) (content : SelectedValue) (is : selected_of known (layout_with options own) records ≡ content) where
     -- the drawn columns are those that options choose
-    pub chosen_positions : map (λ (column : DrawnColumn). column.position) (columns_of (layout_with options own) records) ≡ positions_in options names rows
+    pub chosen_positions : map (λ (column : ColumnPlan). column.position) (columns_of (layout_with options own) records) ≡ positions_in options names rows
     chosen_positions = placed (layout_with options own) records known content is ∙ positions
 
     pub some_column : 1 ≤ length content.columns

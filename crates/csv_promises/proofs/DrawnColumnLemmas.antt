@@ -9,7 +9,7 @@ use Rattle.comfy_parts.specs.Text.{Text}
 use Rattle.csv_tables.proofs.RowLemmas.{positions-shown}
 use Rattle.csv_tables.specs.Columns.{count_of, seen}
 use Rattle.csv_tables.specs.Drawn.{SelectedValue, columns_of, drawn_rows, names_or_none, selected_of}
-use Rattle.csv_tables.specs.declared.options.DrawnColumn.{DrawnColumn}
+use Rattle.csv_tables.specs.declared.options.ColumnPlan.{ColumnPlan}
 use Rattle.csv_tables.specs.declared.options.Layout.{Layout}
 use Rattle.csv_promises.proofs.FrameLemmas.{reaches}
 use Rattle.csv_promises.specs.Width.{columns_in}
@@ -38,24 +38,24 @@ module _ (layout : Layout) (records : List (List Text)) (known : Option ℕ) (co
   abbrev rows : List (List Text)
   rows = drawn_rows layout.selection records
 
-  abbrev columns : List DrawnColumn
+  abbrev columns : List ColumnPlan
   columns = columns_of layout records
 
-  pub placed : map (λ (column : DrawnColumn). column.position) columns ≡ layout.columns.drawn
+  pub placed : map (λ (column : ColumnPlan). column.position) columns ≡ layout.columns.drawn
   placed = positions-shown layout.columns (map (seen layout.look.has_sequences) rows)
 
   long : length columns ≡ length layout.columns.drawn
-  long = omega (arith, length-map columns (λ (column : DrawnColumn). column.position), ap length placed)
+  long = omega (arith, length-map columns (λ (column : ColumnPlan). column.position), ap length placed)
 
   own_columns : content.columns ≡ columns
   own_columns = sym (ap (λ (c : SelectedValue). c.columns) is)
 
   pub some_drawn : 1 ≤ length layout.columns.drawn → 1 ≤ length content.columns
-  some_drawn some = omega (arith, some, long, ap (λ (cs : List DrawnColumn). length cs) own_columns)
+  some_drawn some = omega (arith, some, long, ap (λ (cs : List ColumnPlan). length cs) own_columns)
 
   -- the number of drawn columns, with that of record numbers
   pub drawn_count : length content.columns + (if content.is_numbered then 1 else 0) ≡ columns_in layout
-  drawn_count = ap₂ (λ (n : ℕ) (b : Bool). n + (if b then 1 else 0)) (ap (λ (cs : List DrawnColumn). length cs) own_columns ∙ long) (sym (ap (λ (c : SelectedValue). c.is_numbered) is))
+  drawn_count = ap₂ (λ (n : ℕ) (b : Bool). n + (if b then 1 else 0)) (ap (λ (cs : List ColumnPlan). length cs) own_columns ∙ long) (sym (ap (λ (c : SelectedValue). c.is_numbered) is))
 
   same_rows : content.rows ≡ rows
   same_rows = sym (ap (λ (c : SelectedValue). c.rows) is)
@@ -67,18 +67,18 @@ module _ (layout : Layout) (records : List (List Text)) (known : Option ℕ) (co
   -- without names a row has the field of the last column
   pub reaches_last : 1 ≤ length layout.columns.drawn → AreBelow names rows layout.columns.drawn → content.names ≡ None → reaches content.columns content.rows ≡ true
   reaches_last some inside none =
-      ap₂ (λ (cs : List DrawnColumn) (rs : List (List Text)). reaches cs rs) own_columns same_rows ∙ by_columns columns (omega (arith, some, long)) below
+      ap₂ (λ (cs : List ColumnPlan) (rs : List (List Text)). reaches cs rs) own_columns same_rows ∙ by_columns columns (omega (arith, some, long)) below
     where
       unnamed : names ≡ []
       unnamed = ap (λ (o : Option (List Text)). unwrap_or o []) (ap (λ (c : SelectedValue). c.names) is ∙ none)
 
-      IsIn : DrawnColumn → Type 0
+      IsIn : ColumnPlan → Type 0
       IsIn column = column.position < count_of [] rows
 
       below : All IsIn columns
-      below = All-of_map (λ (k : ℕ). k < count_of [] rows) (λ (column : DrawnColumn). column.position) columns (subst (All (λ (k : ℕ). k < count_of [] rows)) (sym placed) (inside unnamed))
+      below = All-of_map (λ (k : ℕ). k < count_of [] rows) (λ (column : ColumnPlan). column.position) columns (subst (All (λ (k : ℕ). k < count_of [] rows)) (sym placed) (inside unnamed))
 
-      by_columns : (cs : List DrawnColumn) → 1 ≤ length cs → All IsIn cs → reaches cs rows ≡ true
+      by_columns : (cs : List ColumnPlan) → 1 ≤ length cs → All IsIn cs → reaches cs rows ≡ true
       by_columns [] one in_rows = absurd (omega (arith, one))
       by_columns (column ∷ []) one in_rows = in_row column.position rows 0 (omega arith) (All-head IsIn column [] in_rows)
       by_columns (column ∷ next ∷ more) one in_rows = by_columns (next ∷ more) (omega arith) (All-tail IsIn column (next ∷ more) in_rows)

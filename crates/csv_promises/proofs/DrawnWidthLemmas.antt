@@ -22,7 +22,7 @@ use Rattle.csv_tables.specs.Columns.{name_at}
 use Rattle.csv_tables.specs.Drawn.{SelectedValue, RendersAsTable, RendersRecords, drawn_fields, drawn_rows, names_or_none, has_room_for, is_expanded_in, output_table, pairs_in, separated_table, some_lines, table_text, is_aligned_in}
 use Rattle.csv_tables.specs.Fields.{field_or_blank}
 use Rattle.csv_tables.specs.Laws.{ArePlainLines, CharactersFitEachWidth, HasLines, seen_lines}
-use Rattle.csv_tables.specs.declared.options.DrawnColumn.{DrawnColumn}
+use Rattle.csv_tables.specs.declared.options.ColumnPlan.{ColumnPlan}
 use Rattle.csv_tables.specs.declared.options.Expansion.TheVariants.{Always, Auto, Never}
 use Rattle.csv_tables.specs.declared.options.Expansion.{Expansion}
 use Rattle.csv_tables.specs.declared.options.Layout.{Layout}
@@ -45,12 +45,12 @@ module _ (look : Look) (content : SelectedValue) (arranged : ArrangedValue) (non
   no_fields : (rows : List (List Text)) → flat_map (pairs_in look content) rows ≡ [] → (at : ℕ) → drawn_fields content (slice_index_or rows at []) ≡ 0
   no_fields [] none at = ap length (no_field content.columns)
     where
-      no_field : (columns : List DrawnColumn) → held [] columns ≡ []
+      no_field : (columns : List ColumnPlan) → held [] columns ≡ []
       no_field [] = refl
       no_field (column ∷ columns) = let past : nat_lt column.position 0 ≡ false = grind arith in rw past (no_field columns)
   no_fields (fields ∷ rows) none zero =
       let own = ap length (both_empty (pairs_in look content fields) (flat_map (pairs_in look content) rows) none).0 in
-      omega (arith, own, length-map (held fields content.columns) (λ (column : DrawnColumn). pair_for look (name_at (unwrap_or content.names []) column.position) (field_or_blank fields column.position)))
+      omega (arith, own, length-map (held fields content.columns) (λ (column : ColumnPlan). pair_for look (name_at (unwrap_or content.names []) column.position) (field_or_blank fields column.position)))
   no_fields (fields ∷ rows) none (suc at) = no_fields rows (both_empty (pairs_in look content fields) (flat_map (pairs_in look content) rows) none).1 at
 
   no_part : (at : ℕ) → some_lines arranged (sum_by (drawn_fields content) (take at content.rows)) (drawn_fields content (slice_index_or content.rows at [])) ≡ []

@@ -24,7 +24,7 @@ use Rattle.csv_tables.specs.Columns.{name_at}
 use Rattle.csv_tables.specs.Cells.{shown_in, shown_names, field_text, marked, unless_blank, cell_for, cells_for, header_for, held, pair_for, columns_within, row_for, with_weight, Shown, counted_from, shown_fields, shown_number, text_in, number_name}
 use Rattle.csv_tables.specs.Fields.{field_or_blank}
 use Rattle.csv_tables.specs.Drawn.{pairs_of}
-use Rattle.csv_tables.specs.declared.options.DrawnColumn.{DrawnColumn}
+use Rattle.csv_tables.specs.declared.options.ColumnPlan.{ColumnPlan}
 use Rattle.csv_tables.specs.declared.options.Look.{Look}
 use Rattle.comfy_parts.proofs.CallerLemmas.{All-every}
 use Rattle.csv_promises.proofs.BoldLemmas.{IsWeighted}
@@ -39,28 +39,28 @@ pub record IsRowFor (sides : List CellAlignment) (fields : List Text) (row : Row
   pub weighted : All IsWeighted row.cells
 
 -- the side of a column
-abbrev pub own_side : DrawnColumn → CellAlignment
+abbrev pub own_side : ColumnPlan → CellAlignment
 own_side column = unwrap_or column.alignment Left
 
-abbrev pub own_sides : List DrawnColumn → List CellAlignment
+abbrev pub own_sides : List ColumnPlan → List CellAlignment
 own_sides columns = map own_side columns
 
-own_side_at : (columns : List DrawnColumn) (i : ℕ) (d : DrawnColumn) → slice_get columns i ≡ Some d → side_at (own_sides columns) i ≡ own_side d
+own_side_at : (columns : List ColumnPlan) (i : ℕ) (d : ColumnPlan) → slice_get columns i ≡ Some d → side_at (own_sides columns) i ≡ own_side d
 own_side_at [] i d found = absurd (cc found)
 own_side_at (column ∷ columns) zero d found = let same : column ≡ d = cc found in ap own_side same
 own_side_at (column ∷ columns) (suc i) d found = own_side_at columns i d found
 
-abbrev pub positions_of : List DrawnColumn → List ℕ
-positions_of columns = map (λ (column : DrawnColumn). column.position) columns
+abbrev pub positions_of : List ColumnPlan → List ℕ
+positions_of columns = map (λ (column : ColumnPlan). column.position) columns
 
 module _ (f : ℕ → Text) where
-  at_column : (columns : List DrawnColumn) (i : ℕ) (d : DrawnColumn) → slice_get columns i ≡ Some d → field_or_blank (map f (positions_of columns)) i ≡ f d.position
+  at_column : (columns : List ColumnPlan) (i : ℕ) (d : ColumnPlan) → slice_get columns i ≡ Some d → field_or_blank (map f (positions_of columns)) i ≡ f d.position
   unfolding field_at
   at_column [] i d found = absurd (cc found)
-  at_column (column ∷ columns) zero d found = let same : column ≡ d = cc found in ap (λ (c : DrawnColumn). f c.position) same
+  at_column (column ∷ columns) zero d found = let same : column ≡ d = cc found in ap (λ (c : ColumnPlan). f c.position) same
   at_column (column ∷ columns) (suc i) d found = at_column columns i d found
 
-  past_columns : (columns : List DrawnColumn) (i : ℕ) → slice_get columns i ≡ None → field_or_blank (map f (positions_of columns)) i ≡ []
+  past_columns : (columns : List ColumnPlan) (i : ℕ) → slice_get columns i ≡ None → field_or_blank (map f (positions_of columns)) i ≡ []
   unfolding field_at
   past_columns [] i none = refl
   past_columns (column ∷ columns) zero none = absurd (cc none)
@@ -76,7 +76,7 @@ module _ (look : Look) (unkept : look.has_sequences ≡ false) (none : look.is_m
   abbrev cell_of : Bool → Shown → CellValue
   cell_of is_bold s = with_weight is_bold (cell_for look s.alignment s.text)
 
-  abbrev show : Bool → List Text → DrawnColumn → Shown
+  abbrev show : Bool → List Text → ColumnPlan → Shown
   show is_aligned fields column = record { alignment = column.alignment; text = text_in look is_aligned column fields }
 
   -- a field is cleaned, and a blank one is nothing
@@ -99,7 +99,7 @@ module _ (look : Look) (unkept : look.has_sequences ≡ false) (none : look.is_m
       (All-every (λ (s : Shown). IsWeighted (with_weight is_bold (cell_for look s.alignment s.text))) shown (λ s. weighted_cell is_bold s.alignment s.text))
 
   -- cells for these columns, of which those that aren't drawn are blank
-  abbrev Reaches : List Text → List DrawnColumn → List DrawnColumn → Type 0
+  abbrev Reaches : List Text → List ColumnPlan → List ColumnPlan → Type 0
   Reaches fields columns own = (i : ℕ) → MatchOption (slice_get columns i) (slice_get own i ≡ None) (λ d. (slice_get own i ≡ Some d) ⊎ ((slice_get own i ≡ None) × (field_or_blank fields d.position ≡ [])))
 
   -- what each cell of a row holds
@@ -112,10 +112,10 @@ module _ (look : Look) (unkept : look.has_sequences ≡ false) (none : look.is_m
   text_is (Some points) field utf8 = ap (λ (keeps : Bool). cleaned false (field ++ spaces (spaces_behind points (visible_of keeps field)))) unkept ∙ cleaned-spaced field (spaces_behind points field) utf8
 
   -- the marks of columns are those of their positions
-  abbrev HaveMarks : (ℕ → Option Points) → Bool → List DrawnColumn → Type 0
-  HaveMarks marks is_aligned columns = (i : ℕ) (d : DrawnColumn) → slice_get columns i ≡ Some d → (if is_aligned then d.points else None) ≡ marks d.position
+  abbrev HaveMarks : (ℕ → Option Points) → Bool → List ColumnPlan → Type 0
+  HaveMarks marks is_aligned columns = (i : ℕ) (d : ColumnPlan) → slice_get columns i ≡ Some d → (if is_aligned then d.points else None) ≡ marks d.position
 
-  cells_are : (is_bold is_aligned : Bool) (marks : ℕ → Option Points) (columns own : List DrawnColumn) → HaveMarks marks is_aligned columns → (fields : List Text) → Reaches fields columns own → All IsUtf8 fields → HoldEach (own_sides columns) (fields_at marks (positions_of columns) fields) (cells_for look is_bold (shown_fields look is_aligned own fields))
+  cells_are : (is_bold is_aligned : Bool) (marks : ℕ → Option Points) (columns own : List ColumnPlan) → HaveMarks marks is_aligned columns → (fields : List Text) → Reaches fields columns own → All IsUtf8 fields → HoldEach (own_sides columns) (fields_at marks (positions_of columns) fields) (cells_for look is_bold (shown_fields look is_aligned own fields))
   cells_are is_bold is_aligned marks columns own have fields reaches utf8 i = by_column (slice_get columns i) refl (reaches i)
     where
       field : Text
@@ -127,7 +127,7 @@ module _ (look : Look) (unkept : look.has_sequences ≡ false) (none : look.is_m
       drawn_at : ℕ → Text
       drawn_at position = lined_up (marks position) (field_or_blank fields position)
 
-      by_column : (o : Option DrawnColumn) → slice_get columns i ≡ o → MatchOption o (slice_get own i ≡ None) (λ d. (slice_get own i ≡ Some d) ⊎ ((slice_get own i ≡ None) × (field_or_blank fields d.position ≡ []))) → Is (slice_get (map (cell_of is_bold) (map (show is_aligned fields) own)) i)
+      by_column : (o : Option ColumnPlan) → slice_get columns i ≡ o → MatchOption o (slice_get own i ≡ None) (λ d. (slice_get own i ≡ Some d) ⊎ ((slice_get own i ≡ None) × (field_or_blank fields d.position ≡ []))) → Is (slice_get (map (cell_of is_bold) (map (show is_aligned fields) own)) i)
       by_column None is gone = subst Is (sym (unmapped_at (cell_of is_bold) (map (show is_aligned fields) own) i (unmapped_at (show is_aligned fields) own i gone))) (past_columns drawn_at columns i is)
       by_column (Some d) is (inl found) =
           let same =
@@ -140,22 +140,22 @@ module _ (look : Look) (unkept : look.has_sequences ≡ false) (none : look.is_m
           (at_column drawn_at columns i d is ∙ ap (lined_up (marks d.position)) blank ∙ blank_lined_up (marks d.position))
 
   -- a row has cells up to the last field of its record
-  reaches : (drawn : List Text) (columns : List DrawnColumn) → Reaches drawn columns (columns_within drawn columns)
+  reaches : (drawn : List Text) (columns : List ColumnPlan) → Reaches drawn columns (columns_within drawn columns)
   reaches drawn columns i = by_column (slice_get columns i) refl
     where
-      by_column : (o : Option DrawnColumn) → slice_get columns i ≡ o → MatchOption o (slice_get (columns_within drawn columns) i ≡ None) (λ d. (slice_get (columns_within drawn columns) i ≡ Some d) ⊎ ((slice_get (columns_within drawn columns) i ≡ None) × (field_or_blank drawn d.position ≡ [])))
+      by_column : (o : Option ColumnPlan) → slice_get columns i ≡ o → MatchOption o (slice_get (columns_within drawn columns) i ≡ None) (λ d. (slice_get (columns_within drawn columns) i ≡ Some d) ⊎ ((slice_get (columns_within drawn columns) i ≡ None) × (field_or_blank drawn d.position ≡ [])))
       by_column None is = by_place (slice_get_cases columns i).1
         where
-          by_place : ((x : DrawnColumn) × (i < length columns) × (slice_get columns i ≡ Some x) × (get_or columns i x ≡ x)) ⊎ ((length columns ≤ i) × (slice_get columns i ≡ None)) → slice_get (columns_within drawn columns) i ≡ None
+          by_place : ((x : ColumnPlan) × (i < length columns) × (slice_get columns i ≡ Some x) × (get_or columns i x ≡ x)) ⊎ ((length columns ≤ i) × (slice_get columns i ≡ None)) → slice_get (columns_within drawn columns) i ≡ None
           by_place (inl (x, below, found, at)) = absurd (cc (sym is ∙ found))
           by_place (inr (past, gone)) = let short = reached-length drawn columns in slice_get_past (columns_within drawn columns) i (omega (arith, past, short))
       by_column (Some d) is = reached-at drawn columns i d is
 
   -- the header has one for each
-  all_own : (drawn : List Text) (columns : List DrawnColumn) → Reaches drawn columns columns
+  all_own : (drawn : List Text) (columns : List ColumnPlan) → Reaches drawn columns columns
   all_own drawn columns i = by_column (slice_get columns i) refl
     where
-      by_column : (o : Option DrawnColumn) → slice_get columns i ≡ o → MatchOption o (slice_get columns i ≡ None) (λ d. (slice_get columns i ≡ Some d) ⊎ ((slice_get columns i ≡ None) × (field_or_blank drawn d.position ≡ [])))
+      by_column : (o : Option ColumnPlan) → slice_get columns i ≡ o → MatchOption o (slice_get columns i ≡ None) (λ d. (slice_get columns i ≡ Some d) ⊎ ((slice_get columns i ≡ None) × (field_or_blank drawn d.position ≡ [])))
       by_column None is = is
       by_column (Some d) is = inl is
 
@@ -169,7 +169,7 @@ module _ (look : Look) (unkept : look.has_sequences ≡ false) (none : look.is_m
 
   -- ---- rows of a table
 
-  module _ (whole : look.max_height ≡ None) (columns : List DrawnColumn) where
+  module _ (whole : look.max_height ≡ None) (columns : List ColumnPlan) where
     name_is_printable : (names : List Text) → is_printable_ascii (number_name names) ≡ true
     name_is_printable [] = refl
     name_is_printable (name ∷ names) = refl
@@ -214,14 +214,14 @@ module _ (look : Look) (unkept : look.has_sequences ≡ false) (none : look.is_m
         each (suc (suc i)) = refl
 
     -- those of a record
-    pub are_pairs : (names fields : List Text) (own : List DrawnColumn) → AllZip (IsRowFor []) (pairs_at names (positions_of own) fields) (pairs_of look own names fields)
+    pub are_pairs : (names fields : List Text) (own : List ColumnPlan) → AllZip (IsRowFor []) (pairs_at names (positions_of own) fields) (pairs_of look own names fields)
     are_pairs names fields [] = tt
     are_pairs names fields (column ∷ own) = by_test (nat_lt column.position (length fields)) (are_pairs names fields own)
       where
         pair_at : ℕ → List Text
         pair_at position = cleaned false (name_at names position) ∷ cleaned false (field_or_blank fields position) ∷ []
 
-        row_of : DrawnColumn → RowValue
+        row_of : ColumnPlan → RowValue
         row_of c = pair_for look (name_at names c.position) (field_or_blank fields c.position)
 
         by_test : (b : Bool) → AllZip (IsRowFor []) (pairs_at names (positions_of own) fields) (pairs_of look own names fields)

@@ -21,9 +21,9 @@ use Rattle.csv_tables.proofs.SeparatorLemmas.{separated}
 use Rattle.csv_tables.proofs.WholeColumnLemmas.{HasTwo, IsPaddedColumn, exactly_two, pairs_are_two, pairs_have_two}
 use Rattle.csv_tables.proofs.WholeTableLemmas.{HasRoom, columns-drawn, least-fits, room_for_given}
 use Rattle.csv_tables.specs.Cells.{cell_for, cells_for, has_field, header_for, columns_within, row_for, with_weight, Shown, counted_from, shown_in, shown_names}
-use Rattle.csv_tables.specs.Drawn.{SelectedValue, empty_table, has_room_for, headed_table, output_table, pairs_in, pairs_table, rows_table, separated_table, unbroken_in, is_aligned_in}
-use Rattle.csv_tables.specs.Unbroken.{given_in, has_room, kept_unbroken, level_in, with_kept}
-use Rattle.csv_tables.specs.declared.options.DrawnColumn.{DrawnColumn}
+use Rattle.csv_tables.specs.Drawn.{SelectedValue, empty_table, has_room_for, headed_table, output_table, pairs_in, pairs_table, rows_table, separated_table, nowrap_in, is_aligned_in}
+use Rattle.csv_tables.specs.NoWrap.{given_in, has_room, with_min_widths, fair_level, with_lower_bounds}
+use Rattle.csv_tables.specs.declared.options.ColumnPlan.{ColumnPlan}
 use Rattle.csv_tables.specs.declared.options.Look.{Look}
 use Rattle.promises.proofs.FrameLemmas.{borders}
 use Rattle.promises.proofs.TableOfRowsLemmas.{few_columns}
@@ -102,40 +102,40 @@ module _ (look : Look) (content : SelectedValue) (has : Bool) where
   rows = rows_table look (is_aligned_in look content) content
 
   abbrev whole : List Bool
-  whole = unbroken_in content
+  whole = nowrap_in content
 
   -- it has room for the table
   pub width_has_room : (w : ℕ) → look.width ≡ Some w → has_room_for look content (is_aligned_in look content) ≡ true → least_total (separated_table has (output_table false look content)) ≤ w
   width_has_room w wide test =
       let new = recursion_from_All IsNewColumn rows.columns (any_built false (is_aligned_in look content) look content).columns in
       let own : has_room (Some w) whole rows ≡ true = ap (λ (width : Option ℕ). has_room width whole rows) (sym wide) ∙ test in
-      let made : output_table false look content ≡ with_kept (given_in w whole rows) rows = ap (λ (width : Option ℕ). kept_unbroken width whole rows) wide ∙ ap (λ (b : Bool). if b then with_kept (given_in w whole rows) rows else rows) own in
-      let room : HasRoom w (separated_table has (output_table false look content)) = subst (HasRoom w) (sym (ap (separated_table has) made)) (room_for_given w (level_in w whole rows) has whole rows new (leb-true _ w own)) in
+      let made : output_table false look content ≡ with_lower_bounds (given_in w whole rows) rows = ap (λ (width : Option ℕ). with_min_widths width whole rows) wide ∙ ap (λ (b : Bool). if b then with_lower_bounds (given_in w whole rows) rows else rows) own in
+      let room : HasRoom w (separated_table has (output_table false look content)) = subst (HasRoom w) (sym (ap (separated_table has) made)) (room_for_given w (fair_level w whole rows) has whole rows new (leb-true _ w own)) in
       least-fits w (separated_table has (output_table false look content)) room
 
 -- ---- columns that are drawn
 
 -- whether a record has the field of the last column
-abbrev pub has_last : List Text → List DrawnColumn → Bool
+abbrev pub has_last : List Text → List ColumnPlan → Bool
 has_last fields [] = true
 has_last fields (column ∷ []) = has_field fields column
 has_last fields (column ∷ next ∷ more) = has_last fields (next ∷ more)
 
 -- so one has it
-abbrev pub reaches : List DrawnColumn → List (List Text) → Bool
+abbrev pub reaches : List ColumnPlan → List (List Text) → Bool
 reaches columns rows = list_any (λ (fields : List Text). has_last fields columns) rows
 
 -- such a record has a cell for each column
-any_to_last : (fields : List Text) (column : DrawnColumn) (more : List DrawnColumn) → has_last fields (column ∷ more) ≡ true → list_any (has_field fields) (column ∷ more) ≡ true
+any_to_last : (fields : List Text) (column : ColumnPlan) (more : List ColumnPlan) → has_last fields (column ∷ more) ≡ true → list_any (has_field fields) (column ∷ more) ≡ true
 any_to_last fields column [] last = ap (λ (b : Bool). b || false) last
 any_to_last fields column (next ∷ more) last = or_right (has_field fields column) (list_any (has_field fields) (next ∷ more)) (any_to_last fields next more last)
 
-all_within : (fields : List Text) (columns : List DrawnColumn) → has_last fields columns ≡ true → columns_within fields columns ≡ columns
+all_within : (fields : List Text) (columns : List ColumnPlan) → has_last fields columns ≡ true → columns_within fields columns ≡ columns
 all_within fields [] last = refl
 all_within fields (column ∷ []) last = rw (any_to_last fields column [] last) refl
-all_within fields (column ∷ next ∷ more) last = rw (any_to_last fields column (next ∷ more) last) (ap (λ (cs : List DrawnColumn). column ∷ cs) (all_within fields (next ∷ more) last))
+all_within fields (column ∷ next ∷ more) last = rw (any_to_last fields column (next ∷ more) last) (ap (λ (cs : List ColumnPlan). column ∷ cs) (all_within fields (next ∷ more) last))
 
-module _ (look : Look) (is_aligned is_numbered : Bool) (columns : List DrawnColumn) where
+module _ (look : Look) (is_aligned is_numbered : Bool) (columns : List ColumnPlan) where
   -- so the table has them all
   all_cells : (n : ℕ) (rows : List (List Text)) (table : TableValue) → reaches columns rows ≡ true → length columns + (if is_numbered then 1 else 0) ≤ length (with_rows (map (row_for look is_aligned is_numbered columns) (counted_from n rows)) table).columns
   all_cells n [] table none = absurd (cc none)

@@ -34,7 +34,7 @@ use Rattle.csv_tables.proofs.WholeTableLemmas.{IsDrawn, columns-drawn, drawn-is,
 use Rattle.csv_tables.specs.Cells.{Shown, cell_for, cells_for, counted_from, held, pair_for, row_for, with_weight}
 use Rattle.csv_tables.specs.Columns.{name_at}
 use Rattle.csv_tables.specs.Fields.{field_or_blank}
-use Rattle.csv_tables.specs.declared.options.DrawnColumn.{DrawnColumn}
+use Rattle.csv_tables.specs.declared.options.ColumnPlan.{ColumnPlan}
 use Rattle.csv_tables.specs.Controls.{HasNothingHarmful, IsHarmlessStyle}
 use Rattle.csv_tables.specs.Drawn.{SelectedValue, RendersAsMarkdown, RendersAsTable, RendersContent, RendersRecords, count_below, empty_table, is_aligned_in, markdown_content, markdown_lines, markdown_look, markdown_rule, markdown_table, output_table, pairs_in, separated_table, sides}
 use Rattle.csv_tables.specs.declared.options.Layout.{Layout}
@@ -158,8 +158,8 @@ weighted_built is_expanded is_aligned look content =
     built look IsWeightedRow content is_expanded is_aligned (λ n is. weighted_row look look.has_bold_header _)
     (All-every (λ row. IsWeightedRow (row_for look is_aligned content.is_numbered content.columns row)) (counted_from 1 content.rows) (λ row. weighted_row look false _))
     (All-every (λ fields. All IsWeightedRow (pairs_in look content fields)) content.rows (λ fields.
-    let pair = λ (column : DrawnColumn). pair_for look (name_at (unwrap_or content.names []) column.position) (field_or_blank fields column.position) in
-    All-map IsWeightedRow pair (held fields content.columns) (All-every (λ (column : DrawnColumn). IsWeightedRow (pair column)) (held fields content.columns) (λ column. weighted_pair look _ _))))
+    let pair = λ (column : ColumnPlan). pair_for look (name_at (unwrap_or content.names []) column.position) (field_or_blank fields column.position) in
+    All-map IsWeightedRow pair (held fields content.columns) (All-every (λ (column : ColumnPlan). IsWeightedRow (pair column)) (held fields content.columns) (λ column. weighted_pair look _ _))))
 
 module _ (look : Look) (content : SelectedValue) (is_expanded has : Bool) (clear : IsHarmlessStyle look.style) (text : EachOf AllText content) where
   abbrev table : TableValue

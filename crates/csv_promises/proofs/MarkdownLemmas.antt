@@ -27,7 +27,7 @@ use Rattle.csv_tables.specs.Fields.{field_or_blank}
 use Rattle.csv_tables.specs.Laws.{EachText}
 use Rattle.csv_tables.specs.Markdown.{rule_line}
 use Rattle.csv_tables.specs.MarkdownLines.{without_outer_spaces}
-use Rattle.csv_tables.specs.declared.options.DrawnColumn.{DrawnColumn}
+use Rattle.csv_tables.specs.declared.options.ColumnPlan.{ColumnPlan}
 use Rattle.csv_tables.specs.declared.options.Layout.{Layout}
 use Rattle.csv_tables.specs.declared.options.Look.{Look}
 use Rattle.csv_promises.proofs.ColumnLemmas.{chosen_positions, some_column}
@@ -44,12 +44,12 @@ read_shown s = read_field s.text
 abbrev as_read : Text → List ℕ
 as_read field = without_outer_spaces (chars field)
 
-abbrev positions_of : List DrawnColumn → List ℕ
-positions_of columns = map (λ (column : DrawnColumn). column.position) columns
+abbrev positions_of : List ColumnPlan → List ℕ
+positions_of columns = map (λ (column : ColumnPlan). column.position) columns
 
 module _ (look : Look) where
   -- a shown field is read as it is cleaned
-  fields_read : (columns : List DrawnColumn) (fields : List Text) → map read_shown (shown_fields look false columns fields) ≡ map as_read (fields_at no_marks (positions_of columns) fields)
+  fields_read : (columns : List ColumnPlan) (fields : List Text) → map read_shown (shown_fields look false columns fields) ≡ map as_read (fields_at no_marks (positions_of columns) fields)
   fields_read [] fields = refl
   fields_read (column ∷ columns) fields = ap (λ (rest : List (List ℕ)). as_read (cleaned false (field_or_blank fields column.position)) ∷ rest) (fields_read columns fields)
 
@@ -66,12 +66,12 @@ module _ (look : Look) where
   name_is_printable [] = refl
   name_is_printable (name ∷ names) = refl
 
-  header_has : (is_numbered : Bool) (columns : List DrawnColumn) (names : List Text) (line : Text) → GivesBack (shown_names look is_numbered columns names) line → HasFields (row_after_number is_numbered (number_name names) (fields_at no_marks (positions_of columns) names)) line
+  header_has : (is_numbered : Bool) (columns : List ColumnPlan) (names : List Text) (line : Text) → GivesBack (shown_names look is_numbered columns names) line → HasFields (row_after_number is_numbered (number_name names) (fields_at no_marks (positions_of columns) names)) line
   header_has is_numbered columns names line =
       has_fields (shown_names look is_numbered columns names) (row_after_number is_numbered (number_name names) (fields_at no_marks (positions_of columns) names)) line
       (row_read is_numbered (number_name names) (name_is_printable names) (shown_fields look false columns names) (fields_at no_marks (positions_of columns) names) (fields_read columns names))
 
-  rows_have : (is_numbered : Bool) (columns : List DrawnColumn) (n : ℕ) (rows : List (List Text)) (lines : List Text) → AllZip (λ row line. GivesBack (shown_in look false is_numbered columns row) line) (counted_from n rows) lines
+  rows_have : (is_numbered : Bool) (columns : List ColumnPlan) (n : ℕ) (rows : List (List Text)) (lines : List Text) → AllZip (λ row line. GivesBack (shown_in look false is_numbered columns row) line) (counted_from n rows) lines
       → AllZip HasFields (rows_from is_numbered no_marks (positions_of columns) n rows) lines
   rows_have is_numbered columns n [] [] each = tt
   rows_have is_numbered columns n [] (line ∷ lines) each = absurd each
@@ -122,7 +122,7 @@ module _ (arguments : List Text) (context : OutputContext) (invocation : Invocat
     abbrev own : SelectedValue
     own = selected_of known layout rs
 
-    abbrev columns : List DrawnColumn
+    abbrev columns : List ColumnPlan
     columns = columns_of layout rs
 
     positions : positions_of columns ≡ positions_in options (unwrap_or (names_of options.selection.has_header rs) []) (drawn_rows options.selection rs)
@@ -161,7 +161,7 @@ module _ (arguments : List Text) (context : OutputContext) (invocation : Invocat
       counted : count_in is_numbered (positions_in options (unwrap_or (names_of options.selection.has_header records) []) (drawn_rows options.selection records)) ≡ all
       counted =
           sym (ap₂ (λ (names : Option (List Text)) (rows : List (List Text)). count_in is_numbered (positions_in options (unwrap_or names []) rows)) by.names by.rows)
-          ∙ sym (ap (count_in is_numbered) positions) ∙ omega (arith, length-map columns (λ (column : DrawnColumn). column.position))
+          ∙ sym (ap (count_in is_numbered) positions) ∙ omega (arith, length-map columns (λ (column : ColumnPlan). column.position))
           ∙ sym (sides-length own) ∙ sym (ap (λ (c : SelectedValue). length (sides c)) same)
 
       each_count : All (λ (fields : List Text). length fields ≡ all) (rows_for (names_of options.selection.has_header records) (drawn_rows options.selection records))

@@ -24,10 +24,10 @@ use Rattle.csv_tables.proofs.FieldControlLemmas.{text_fields}
 use Rattle.csv_tables.proofs.RowLemmas.{with_rows-rows}
 use Rattle.csv_tables.specs.Cells.{Shown, cell_for, columns_within, held, pair_for, shown_cells, shown_in, with_weight, number_name, row_for, counted_from}
 use Rattle.csv_tables.specs.Columns.{ColumnsValue, name_at}
-use Rattle.csv_tables.specs.Drawn.{SelectedValue, RendersAsTable, RendersRecords, RendersTable, columns_of, drawn_fields, drawn_rows, empty_table, has_room_for, headed_table, names_of, note_for, output_table, pairs_in, record_line, record_text, rows_table, separated_table, some_lines, table_text, unbroken_in, is_aligned_in, is_table_expanded, names_or_none}
-use Rattle.csv_tables.specs.Unbroken.{has_room}
+use Rattle.csv_tables.specs.Drawn.{SelectedValue, RendersAsTable, RendersRecords, RendersTable, columns_of, drawn_fields, drawn_rows, empty_table, has_room_for, headed_table, names_of, note_for, output_table, pairs_in, record_line, record_text, rows_table, separated_table, some_lines, table_text, nowrap_in, is_aligned_in, is_table_expanded, names_or_none}
+use Rattle.csv_tables.specs.NoWrap.{has_room}
 use Rattle.csv_command.specs.Drawn.{layout_with}
-use Rattle.csv_tables.specs.declared.options.DrawnColumn.{DrawnColumn}
+use Rattle.csv_tables.specs.declared.options.ColumnPlan.{ColumnPlan}
 use Rattle.csv_records.specs.declared.decimals.Points.{Points}
 use Rattle.csv_tables.specs.declared.options.Layout.{Layout}
 use Rattle.csv_tables.specs.declared.options.Look.{Look}
@@ -48,7 +48,7 @@ use Rattle.csv_promises.proofs.LineLemmas.{may_expand, no_records, no_rows, none
 use Rattle.csv_promises.proofs.WrittenLemmas.{IsDrawnBy, by_extent}
 use Rattle.csv_promises.specs.Counted.{AreExpanded, IsCount, IsWrittenFor}
 use Rattle.csv_promises.specs.Fields.{AreLinedUp, IsDrawingOf, KeepsNumbers, ShowsAllFields, ShowsFields, fields_at, row_after_number, rows_from, ShowsPairs, ShowsRecords, ShowsRows, columns_asked, lined_up, mark_for, no_marks, pairs_at, all_rows, sides_after_number, whole_for, whole_pairs}
-use Rattle.csv_promises.proofs.WholeLemmas.{AreColumns, kept_whole, marks-shown, pairs_keep_numbers, pairs_kept_whole, sides-shown, unbroken-shown, widest-content}
+use Rattle.csv_promises.proofs.WholeLemmas.{AreColumns, kept_whole, marks-shown, pairs_keep_numbers, pairs_kept_whole, sides-shown, nowrap-shown, widest-content}
 use Rattle.csv_promises.specs.Written.{IsWritten}
 
 -- of no rows nothing
@@ -68,7 +68,7 @@ pub record DrawsAll (look : Look) : Type 0 where
   pub uncut : look.max_height ≡ None
   pub style : IsStyleWithout 0x0A look.style
 
-module _ (look : Look) (all : DrawsAll look) (is_numbered : Bool) (names : Option (List Text)) (rows : List (List Text)) (columns : List DrawnColumn) (count : Option ℕ) where
+module _ (look : Look) (all : DrawsAll look) (is_numbered : Bool) (names : Option (List Text)) (rows : List (List Text)) (columns : List ColumnPlan) (count : Option ℕ) where
   abbrev pub content : SelectedValue
   content = record { names = names; rows = rows; columns = columns; count = count; is_numbered = is_numbered }
 
@@ -104,7 +104,7 @@ module _ (look : Look) (all : DrawsAll look) (is_numbered : Bool) (names : Optio
   abbrev sides : List CellAlignment
   sides = sides_after_number is_numbered (own_sides columns)
 
-  pub rows_shown : (text : Text) → RendersTable false look content text → All (All IsUtf8) (option_to_list names ++ rows) → AreColumns look content → (names ≡ None → reaches columns rows ≡ true) → (marks : ℕ → Option Points) → ((i : ℕ) (d : DrawnColumn) → slice_get columns i ≡ Some d → (if is_aligned_in look content then d.points else None) ≡ marks d.position)
+  pub rows_shown : (text : Text) → RendersTable false look content text → All (All IsUtf8) (option_to_list names ++ rows) → AreColumns look content → (names ≡ None → reaches columns rows ≡ true) → (marks : ℕ → Option Points) → ((i : ℕ) (d : ColumnPlan) → slice_get columns i ≡ Some d → (if is_aligned_in look content then d.points else None) ≡ marks d.position)
       → ShowsRows look (is_some names) false sides (whole_for look.width look.expansion is_numbered (positions_of columns) rows) (all_rows is_numbered marks (positions_of columns) names rows) text
   rows_shown text renders utf8 are reach marks have =
       subst (ShowsRows look (is_some names) false sides whole fields) (sym (is_text false text renders))
@@ -137,7 +137,7 @@ module _ (look : Look) (all : DrawsAll look) (is_numbered : Bool) (names : Optio
 
       behind-length : (number : Text) (at : ℕ → Option Points) (own : List Text) → length (row_after_number is_numbered number (fields_at at (positions_of columns) own)) ≡ places_of content
       behind-length number at own =
-          let long : length (fields_at at (positions_of columns) own) ≡ length columns = length-map (positions_of columns) (λ position. lined_up (at position) (field_or_blank own position)) ∙ length-map columns (λ (column : DrawnColumn). column.position) in
+          let long : length (fields_at at (positions_of columns) own) ≡ length columns = length-map (positions_of columns) (λ position. lined_up (at position) (field_or_blank own position)) ∙ length-map columns (λ (column : ColumnPlan). column.position) in
           by_number is_numbered long
         where
           by_number : (b : Bool) → length (fields_at at (positions_of columns) own) ≡ length columns → length (row_after_number b number (fields_at at (positions_of columns) own)) ≡ length columns + (if b then 1 else 0)
@@ -264,9 +264,9 @@ module _ (look : Look) (all : DrawsAll look) (is_numbered : Bool) (names : Optio
     plain_pairs : (fields : List Text) → All (HasPlainFields true) (pairs_in look content fields)
     plain_pairs fields =
         All-map (HasPlainFields true) row_of (held fields columns)
-        (All-every (λ (column : DrawnColumn). HasPlainFields true (row_of column)) (held fields columns) (λ column. All-cons IsUncoloured (cell_for look None (field_or_blank fields column.position)) [] (record { no_foreground = refl; no_background = refl; no_attributes = refl }) (All-nil IsUncoloured)))
+        (All-every (λ (column : ColumnPlan). HasPlainFields true (row_of column)) (held fields columns) (λ column. All-cons IsUncoloured (cell_for look None (field_or_blank fields column.position)) [] (record { no_foreground = refl; no_background = refl; no_attributes = refl }) (All-nil IsUncoloured)))
       where
-        row_of : DrawnColumn → RowValue
+        row_of : ColumnPlan → RowValue
         row_of column = pair_for look (name_at header column.position) (field_or_blank fields column.position)
 
     -- from a record on
@@ -308,7 +308,7 @@ module _ (layout : Layout) (all : DrawsAll layout.look) (known : Option ℕ) (re
   abbrev rows : List (List Text)
   rows = drawn_rows layout.selection records
 
-  abbrev columns : List DrawnColumn
+  abbrev columns : List ColumnPlan
   columns = columns_of layout records
 
   abbrev own : SelectedValue
@@ -332,7 +332,7 @@ module _ (layout : Layout) (all : DrawsAll layout.look) (known : Option ℕ) (re
   lined : AreLinedUp look are
   lined =
       record {
-        without_width = λ none. ap (λ (width : Option ℕ). look.aligns_decimals && has_room width (unbroken_in own) (rows_table look true own)) none ∙ and_true look.aligns_decimals;
+        without_width = λ none. ap (λ (width : Option ℕ). look.aligns_decimals && has_room width (nowrap_in own) (rows_table look true own)) none ∙ and_true look.aligns_decimals;
         unasked = λ no. ap (λ (b : Bool). b && has_room_for look own true) no;
       }
     where
@@ -346,7 +346,7 @@ module _ (layout : Layout) (all : DrawsAll layout.look) (known : Option ℕ) (re
     lined,
     subst (Rows layout.columns.drawn) (sides-shown layout.columns look.has_sequences all.unkept rows)
         (subst (λ (ps : List ℕ). Rows ps (own_sides columns)) positions
-        (rows_shown look all is_numbered names rows columns known text renders utf8 (record { table = all.table; kind = sym kind; unbroken = unbroken-shown layout.columns look.has_sequences all.unkept rows }) (reaches_last layout records known own refl some below)
+        (rows_shown look all is_numbered names rows columns known text renders utf8 (record { table = all.table; kind = sym kind; unbroken = nowrap-shown layout.columns look.has_sequences all.unkept rows }) (reaches_last layout records known own refl some below)
         (mark_for are layout.columns rows) (marks-shown layout.columns look.has_sequences all.unkept rows are))),
   )
     where

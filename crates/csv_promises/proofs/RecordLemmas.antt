@@ -12,7 +12,7 @@ use Rattle.csv_tables.proofs.BuiltLemmas.{plain_table}
 use Rattle.csv_tables.specs.Cells.{header_for, row_for, counted_from}
 use Rattle.csv_tables.specs.Drawn.{SelectedValue, empty_table, headed_table, limited, names_of, pairs_in, records_below}
 use Rattle.csv_command.specs.Drawn.{most_drawn}
-use Rattle.csv_tables.specs.declared.options.DrawnColumn.{DrawnColumn}
+use Rattle.csv_tables.specs.declared.options.ColumnPlan.{ColumnPlan}
 use Rattle.csv_tables.specs.declared.options.Look.{Look}
 
 -- ---- columns
@@ -35,7 +35,7 @@ rows_have_columns (row ∷ rows) t each =
     grown : length (columns_grown_to (length row.cells) t.columns) ≡ max (length row.cells) (length t.columns)
     grown = no_fewer_columns (length row.cells) t.columns
 
-header_has_columns : (look : Look) (is_numbered : Bool) (columns : List DrawnColumn) (names : Option (List Text)) → All (HasColumns (headed_table look is_numbered columns names)) (header_and_rows (headed_table look is_numbered columns names))
+header_has_columns : (look : Look) (is_numbered : Bool) (columns : List ColumnPlan) (names : Option (List Text)) → All (HasColumns (headed_table look is_numbered columns names)) (header_and_rows (headed_table look is_numbered columns names))
 header_has_columns look is_numbered columns None = All-nil (HasColumns (empty_table look))
 header_has_columns look is_numbered columns (Some names) =
     let header = header_for look is_numbered columns names in

@@ -19,8 +19,8 @@ use Rattle.csv_tables.proofs.LineLemmas.{Any, any_built, any_drawn, kept_setting
 use Rattle.csv_tables.proofs.SeparatorLemmas.{separated}
 use Rattle.csv_tables.proofs.WholeColumnLemmas.{IsPaddedColumn, all_shown, leasts-length, leasts_on}
 use Rattle.csv_tables.proofs.WholeTableLemmas.{IsDrawn, drawn-is}
-use Rattle.csv_tables.specs.Drawn.{SelectedValue, condensed_style, empty_table, output_table, pairs_table, rows_table, separated_table, unbroken_in, is_aligned_in}
-use Rattle.csv_tables.specs.Unbroken.{field_width, has_room, kept_unbroken, given_in, kept_unbroken_fields, may_break, room_beside, room_for_two, with_field_width, with_kept, with_second}
+use Rattle.csv_tables.specs.Drawn.{SelectedValue, condensed_style, empty_table, output_table, pairs_table, rows_table, separated_table, nowrap_in, is_aligned_in}
+use Rattle.csv_tables.specs.NoWrap.{field_width, has_room, with_min_widths, given_in, with_min_field_width, may_break, room_beside, room_for_two, with_field_width, with_lower_bounds, with_second}
 use Rattle.csv_tables.specs.declared.options.Look.{Look}
 use Rattle.promises.proofs.KeptLemmas.{part_framed, part_plain, part_width}
 use Rattle.promises.specs.Headline.{IsUncoloured, widest}
@@ -85,7 +85,7 @@ module _ (look : Look) (content : SelectedValue) where
       as_it_is : HasRowsOf pairs (separated_table has pairs)
       as_it_is = with_columns pairs has pairs.columns refl (all_shown [] pairs.columns new)
 
-      by_width : (width : Option ℕ) → HasRowsOf pairs (separated_table has (kept_unbroken_fields width pairs))
+      by_width : (width : Option ℕ) → HasRowsOf pairs (separated_table has (with_min_field_width width pairs))
       by_width None = as_it_is
       by_width (Some w) = by_test (may_break room names field)
         where
@@ -111,15 +111,15 @@ module _ (look : Look) (content : SelectedValue) where
       new : AllByRecursion IsNewColumn rows.columns
       new = recursion_from_All IsNewColumn rows.columns (any_built false (is_aligned_in look content) look content).columns
 
-      constrained : (kept : List ℕ) → HasRowsOf rows (separated_table has (with_kept kept rows))
+      constrained : (kept : List ℕ) → HasRowsOf rows (separated_table has (with_lower_bounds kept rows))
       constrained kept = with_columns rows has (leasts_on kept rows.columns) (leasts-length kept rows.columns) (all_shown kept rows.columns new)
 
-      by_width : (width : Option ℕ) → HasRowsOf rows (separated_table has (kept_unbroken width (unbroken_in content) rows))
+      by_width : (width : Option ℕ) → HasRowsOf rows (separated_table has (with_min_widths width (nowrap_in content) rows))
       by_width None = constrained []
-      by_width (Some w) = by_room (has_room (Some w) (unbroken_in content) rows)
+      by_width (Some w) = by_room (has_room (Some w) (nowrap_in content) rows)
         where
-          by_room : (b : Bool) → HasRowsOf rows (separated_table has (if b then with_kept (given_in w (unbroken_in content) rows) rows else rows))
-          by_room true = constrained (given_in w (unbroken_in content) rows)
+          by_room : (b : Bool) → HasRowsOf rows (separated_table has (if b then with_lower_bounds (given_in w (nowrap_in content) rows) rows else rows))
+          by_room true = constrained (given_in w (nowrap_in content) rows)
           by_room false = constrained []
 
   module _ (is_expanded has : Bool) where

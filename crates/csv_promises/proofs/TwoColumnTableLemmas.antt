@@ -23,12 +23,12 @@ use Rattle.csv_tables.proofs.BuiltLemmas.{plain_table}
 use Rattle.csv_tables.proofs.LeastLemmas.{lower_or_one}
 use Rattle.csv_tables.proofs.LineLemmas.{Any, any_built, any_drawn, kept_setting}
 use Rattle.csv_tables.proofs.SeparatorLemmas.{restyled, separated}
-use Rattle.csv_tables.proofs.UnbrokenLemmas.{boundary-some, framed_pair, given_is_shared, kept-test, with_second-none}
+use Rattle.csv_tables.proofs.NoWrapLemmas.{boundary-some, framed_pair, given_is_shared, kept-test, with_second-none}
 use Rattle.csv_tables.proofs.WholeColumnLemmas.{IsPaddedColumn, all_shown, both_shown, field_width-within, leasts_on, pairs_have_two}
 use Rattle.csv_tables.proofs.WholeTableLemmas.{IsDrawn, drawn-is, fewer_borders, field_separated, still_fits}
-use Rattle.csv_tables.specs.Drawn.{SelectedValue, arrangement_for, empty_table, is_aligned_in, is_expanded_for, is_expanded_in, is_table_expanded, output_table, pairs_table, rows_table, separated_table, unbroken_in}
+use Rattle.csv_tables.specs.Drawn.{SelectedValue, arrangement_for, empty_table, is_aligned_in, is_expanded_for, is_expanded_in, is_table_expanded, output_table, pairs_table, rows_table, separated_table, nowrap_in}
 use Rattle.csv_tables.specs.Laws.{IsDrawnTable}
-use Rattle.csv_tables.specs.Unbroken.{at_least, boundary_for, by_columns, field_width, framed_width, given_at, has_room, kept_at, kept_unbroken, kept_unbroken_fields, least_width, level_in, may_break, name_in, room_beside, room_for_two, shared_at, wide_word, with_content, with_field_width, with_kept, word_width}
+use Rattle.csv_tables.specs.NoWrap.{at_least, boundary_for, by_columns, field_width, framed_width, reserved_width, has_room, min_width, with_min_widths, with_min_field_width, least_width, fair_level, may_break, name_in, room_beside, room_for_two, width_at_level, wide_word, with_content, with_field_width, with_lower_bounds, word_width}
 use Rattle.csv_tables.specs.declared.options.Expansion.{Expansion}
 use Rattle.csv_tables.specs.declared.options.Expansion.TheVariants.{Always, Auto, Never}
 use Rattle.csv_tables.specs.declared.options.Look.{Look}
@@ -263,8 +263,8 @@ wide_word-two table (Some name) = by_test width (nat_lt 8 width) refl
     by_test n false test = inl refl
 
 -- what a column keeps, and so what it is given, is nothing, or two at least, or its content
-gives_two : (level : ℕ) (whole : List Bool) (table : TableValue) (i : ℕ) → GivesTwo (column_content_width table i) (given_at level whole table i)
-gives_two level whole table i = by_tests (unwrap_or (slice_get whole i) false || nat_le content 8) (unwrap_or (slice_get whole i) false || nat_lt level (kept_at whole table i))
+gives_two : (level : ℕ) (whole : List Bool) (table : TableValue) (i : ℕ) → GivesTwo (column_content_width table i) (reserved_width level whole table i)
+gives_two level whole table i = by_tests (unwrap_or (slice_get whole i) false || nat_le content 8) (unwrap_or (slice_get whole i) false || nat_lt level (min_width whole table i))
   where
     content : ℕ
     content = column_content_width table i
@@ -282,10 +282,10 @@ gives_two level whole table i = by_tests (unwrap_or (slice_get whole i) false ||
 
 module _ (base : TableValue) (new : AllByRecursion IsNewColumn base.columns) (w : ℕ) (widths : List ℕ) where
   -- with what columns are given beforehand, where there is room
-  given_has_two : (level : ℕ) (whole : List Bool) → let with : TableValue = with_kept (by_columns (given_at level whole base) base) base in width_kept with.arrangement (Some w) ≡ Some w → table_width with ≡ Some w → least_width whole base ≤ w → IsArranged with widths → EachHasTwo with widths
+  given_has_two : (level : ℕ) (whole : List Bool) → let with : TableValue = with_lower_bounds (by_columns (reserved_width level whole base) base) base in width_kept with.arrangement (Some w) ≡ Some w → table_width with ≡ Some w → least_width whole base ≤ w → IsArranged with widths → EachHasTwo with widths
   given_has_two level whole kept known fits arranged =
-      table_two (with_kept (by_columns (given_at level whole base) base) base) w widths (by_columns (shared_at 8 whole base) base) (all_shown (by_columns (given_at level whole base) base) base.columns new) kept known
-      (given_all (with_kept (by_columns (given_at level whole base) base) base) (given_at level whole base) (shared_at 8 whole base) (gives_two level whole base) (λ i. omega (arith, given_is_shared level 8 whole base i)) base.columns 0 new) fits arranged
+      table_two (with_lower_bounds (by_columns (reserved_width level whole base) base) base) w widths (by_columns (width_at_level 8 whole base) base) (all_shown (by_columns (reserved_width level whole base) base) base.columns new) kept known
+      (given_all (with_lower_bounds (by_columns (reserved_width level whole base) base) base) (reserved_width level whole base) (width_at_level 8 whole base) (gives_two level whole base) (λ i. omega (arith, given_is_shared level 8 whole base i)) base.columns 0 new) fits arranged
 
   -- and without constraints, where there is room for five each
   plain_has_two : width_kept base.arrangement (Some w) ≡ Some w → table_width base ≡ Some w → 1 + 5 * length base.columns ≤ w → IsArranged base widths → EachHasTwo base widths
@@ -330,38 +330,38 @@ module _ (w : ℕ) (look : Look) (content : SelectedValue) (wide : look.width �
   module _ (table : TableValue) (widths : List ℕ) (arranged : IsArranged table widths) where
     -- the table of rows, if a width has room
     rows_two : table ≡ separated_table has (output_table false look content)
-        → (has_room (Some w) (unbroken_in content) (rows_table look (is_aligned_in look content) content) ≡ true) ⊎ (1 + 5 * length table.columns ≤ w) → EachHasTwo table widths
+        → (has_room (Some w) (nowrap_in content) (rows_table look (is_aligned_in look content) content) ≡ true) ⊎ (1 + 5 * length table.columns ≤ w) → EachHasTwo table widths
     rows_two made room = by_test (has_room (Some w) whole rows) refl
       where
         rows : TableValue
         rows = rows_table look (is_aligned_in look content) content
 
         whole : List Bool
-        whole = unbroken_in content
+        whole = nowrap_in content
 
         base : TableValue
         base = separated_table has rows
 
         level : ℕ
-        level = level_in w whole rows
+        level = fair_level w whole rows
 
         keeps : (width_kept table.arrangement (Some w) ≡ Some w) × (table_width table ≡ Some w)
         keeps = drawn_keeps false table made
 
-        own : table ≡ separated_table has (kept_unbroken (Some w) whole rows)
-        own = made ∙ ap (λ o. separated_table has (kept_unbroken o whole rows)) wide
+        own : table ≡ separated_table has (with_min_widths (Some w) whole rows)
+        own = made ∙ ap (λ o. separated_table has (with_min_widths o whole rows)) wide
 
-        kept_in : (h : Bool) → separated_table h (with_kept (by_columns (given_at level whole rows) rows) rows) ≡ with_kept (by_columns (given_at level whole (separated_table h rows)) (separated_table h rows)) (separated_table h rows)
+        kept_in : (h : Bool) → separated_table h (with_lower_bounds (by_columns (reserved_width level whole rows) rows) rows) ≡ with_lower_bounds (by_columns (reserved_width level whole (separated_table h rows)) (separated_table h rows)) (separated_table h rows)
         kept_in true = refl
         kept_in false = refl
 
         fits_in : (h : Bool) → least_width whole rows ≤ w → least_width whole (separated_table h rows) ≤ w
         fits_in true fits = fits
-        fits_in false fits = still_fits w false rows (by_columns (shared_at 8 whole rows) rows) fits
+        fits_in false fits = still_fits w false rows (by_columns (width_at_level 8 whole rows) rows) fits
 
         by_test : (b : Bool) → has_room (Some w) whole rows ≡ b → EachHasTwo table widths
         by_test true test =
-            let is : table ≡ with_kept (by_columns (given_at level whole base) base) base = own ∙ ap (separated_table has) (kept-test w whole rows true test) ∙ kept_in has in
+            let is : table ≡ with_lower_bounds (by_columns (reserved_width level whole base) base) base = own ∙ ap (separated_table has) (kept-test w whole rows true test) ∙ kept_in has in
             subst (λ (t : TableValue). EachHasTwo t widths) (sym is)
             (given_has_two base (new_columns false) w widths level whole (subst (λ (t : TableValue). width_kept t.arrangement (Some w) ≡ Some w) is keeps.0) (subst (λ (t : TableValue). table_width t ≡ Some w) is keeps.1)
             (fits_in has (leb-true (least_width whole rows) w test)) (subst (λ (t : TableValue). IsArranged t widths) is arranged))
@@ -394,8 +394,8 @@ module _ (w : ℕ) (look : Look) (content : SelectedValue) (wide : look.width �
         keeps : (width_kept table.arrangement (Some w) ≡ Some w) × (table_width table ≡ Some w)
         keeps = drawn_keeps true table made
 
-        own : table ≡ separated_table has (kept_unbroken_fields (Some w) pairs)
-        own = made ∙ ap (λ (o : Option ℕ). separated_table has (kept_unbroken_fields o pairs)) wide
+        own : table ≡ separated_table has (with_min_field_width (Some w) pairs)
+        own = made ∙ ap (λ (o : Option ℕ). separated_table has (with_min_field_width o pairs)) wide
 
         new : AllByRecursion IsNewColumn base.columns
         new = new_columns true
@@ -448,7 +448,7 @@ HasTwoAt table i width = (min 2 (column_content_width table i) ≤ width) ⊎ ((
 -- a width has room for a table: for five terminal columns of each column beside one border, or, for one of rows, for what its columns need
 abbrev pub HasRoomFor : ℕ → Look → SelectedValue → TableValue → Type 0
 HasRoomFor w look content table =
-    (1 + 5 * length table.columns ≤ w) ⊎ ((is_expanded_for look content ≡ false) × (has_room (Some w) (unbroken_in content) (rows_table look (is_aligned_in look content) content) ≡ true))
+    (1 + 5 * length table.columns ≤ w) ⊎ ((is_expanded_for look content ≡ false) × (has_room (Some w) (nowrap_in content) (rows_table look (is_aligned_in look content) content) ≡ true))
 
 -- there is a column at each place
 column_there : (columns : List ColumnValue) (i : ℕ) → i < length columns → (column : ColumnValue) × (slice_get columns i ≡ Some column)
@@ -498,7 +498,7 @@ room_by_expansion w all look content table plain wide most two is_drawn five =
     rows = rows_table look (is_aligned_in look content) content
 
     whole : List Bool
-    whole = unbroken_in content
+    whole = nowrap_in content
 
     expanded : is_expanded_for look content ≡ is_expanded_in look.expansion ((length content.rows == 0) || has_room (Some w) whole rows)
     expanded = ap (λ m. not m && is_table_expanded look content) plain ∙ ap (λ o. is_expanded_in look.expansion ((length content.rows == 0) || has_room o whole rows)) wide

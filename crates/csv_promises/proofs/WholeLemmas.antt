@@ -22,9 +22,9 @@ use Rattle.csv_tables.proofs.LineLemmas.{Any, any_drawn, kept_setting}
 use Rattle.csv_tables.proofs.SeparatorLemmas.{separated}
 use Rattle.csv_tables.proofs.WholeTableLemmas.{IsDrawn, drawn-is, unconstrained-drawn}
 use Rattle.csv_tables.specs.Columns.{ColumnsValue, drawn_columns, seen}
-use Rattle.csv_tables.specs.Unbroken.{framed_width, is_unbroken, needed_by_names}
-use Rattle.csv_tables.specs.Drawn.{SelectedValue, is_expanded_for, is_table_expanded, output_table, separated_table, unbroken_in}
-use Rattle.csv_tables.specs.declared.options.DrawnColumn.{DrawnColumn}
+use Rattle.csv_tables.specs.NoWrap.{framed_width, is_nowrap, needed_by_names}
+use Rattle.csv_tables.specs.Drawn.{SelectedValue, is_expanded_for, is_table_expanded, output_table, separated_table, nowrap_in}
+use Rattle.csv_tables.specs.declared.options.ColumnPlan.{ColumnPlan}
 use Rattle.csv_tables.specs.declared.options.Expansion.{Expansion}
 use Rattle.csv_tables.specs.declared.options.Expansion.TheVariants.{Always, Auto, Never}
 use Rattle.csv_tables.specs.declared.options.Look.{Look}
@@ -160,12 +160,12 @@ seen_rows [] = refl
 seen_rows (fields ∷ rows) = (λ i. seen_fields fields i ∷ seen_rows rows i)
 
 -- the drawn columns of them are those of the fields
-pub unbroken-shown : (own : ColumnsValue) (keeps : Bool) → keeps ≡ false → (rows : List (List Text)) → map (λ (column : DrawnColumn). column.is_unbroken) (drawn_columns own (map (seen keeps) rows)) ≡ map (has_numbers rows) (positions_of (drawn_columns own (map (seen keeps) rows)))
-unbroken-shown own keeps none rows =
-    subst (λ (seen_as : List (List Text)). map (λ (column : DrawnColumn). column.is_unbroken) (drawn_columns own seen_as) ≡ map (has_numbers rows) (positions_of (drawn_columns own seen_as)))
+pub nowrap-shown : (own : ColumnsValue) (keeps : Bool) → keeps ≡ false → (rows : List (List Text)) → map (λ (column : ColumnPlan). column.is_nowrap) (drawn_columns own (map (seen keeps) rows)) ≡ map (has_numbers rows) (positions_of (drawn_columns own (map (seen keeps) rows)))
+nowrap-shown own keeps none rows =
+    subst (λ (seen_as : List (List Text)). map (λ (column : ColumnPlan). column.is_nowrap) (drawn_columns own seen_as) ≡ map (has_numbers rows) (positions_of (drawn_columns own seen_as)))
     (sym (ap (λ (k : Bool). map (seen k) rows) none ∙ seen_rows rows)) (all own.drawn)
   where
-    all : (ps : List ℕ) → map (λ (column : DrawnColumn). column.is_unbroken) (drawn_columns (record own { drawn = ps }) rows) ≡ map (has_numbers rows) (positions_of (drawn_columns (record own { drawn = ps }) rows))
+    all : (ps : List ℕ) → map (λ (column : ColumnPlan). column.is_nowrap) (drawn_columns (record own { drawn = ps }) rows) ≡ map (has_numbers rows) (positions_of (drawn_columns (record own { drawn = ps }) rows))
     all [] = refl
     all (p ∷ ps) = ap (λ (more : List Bool). has_numbers rows p ∷ more) (all ps)
 
@@ -179,12 +179,12 @@ sides-shown own keeps none rows =
     all (p ∷ ps) = ap (λ (more : List CellAlignment). side_for own rows p ∷ more) (all ps)
 
 -- and their marks
-pub marks-shown : (own : ColumnsValue) (keeps : Bool) → keeps ≡ false → (rows : List (List Text)) (are : Bool) (i : ℕ) (d : DrawnColumn) → slice_get (drawn_columns own (map (seen keeps) rows)) i ≡ Some d → (if are then d.points else None) ≡ mark_for are own rows d.position
+pub marks-shown : (own : ColumnsValue) (keeps : Bool) → keeps ≡ false → (rows : List (List Text)) (are : Bool) (i : ℕ) (d : ColumnPlan) → slice_get (drawn_columns own (map (seen keeps) rows)) i ≡ Some d → (if are then d.points else None) ≡ mark_for are own rows d.position
 marks-shown own keeps none rows are i d found =
     by_columns own.drawn i (sym (ap (λ (seen_as : List (List Text)). slice_get (drawn_columns own seen_as) i) (ap (λ (k : Bool). map (seen k) rows) none ∙ seen_rows rows)) ∙ found)
   where
     by_asked : (b : Bool) (p : ℕ) → column_in own rows p ≡ d → (if b then d.points else None) ≡ mark_for b own rows d.position
-    by_asked true p same = subst (λ (c : DrawnColumn). c.points ≡ (column_in own rows c.position).points) same refl
+    by_asked true p same = subst (λ (c : ColumnPlan). c.points ≡ (column_in own rows c.position).points) same refl
     by_asked false p same = refl
 
     by_columns : (ps : List ℕ) (i : ℕ) → slice_get (drawn_columns (record own { drawn = ps }) rows) i ≡ Some d → (if are then d.points else None) ≡ mark_for are own rows d.position
@@ -196,7 +196,7 @@ marks-shown own keeps none rows are i d found =
 pub record AreColumns (look : Look) (content : SelectedValue) : Type 0 where
   pub table : look.is_markdown ≡ false
   pub kind : is_table_expanded look content ≡ false
-  pub unbroken : map (λ (column : DrawnColumn). column.is_unbroken) content.columns ≡ map (has_numbers content.rows) (positions_of content.columns)
+  pub unbroken : map (λ (column : ColumnPlan). column.is_nowrap) content.columns ≡ map (has_numbers content.rows) (positions_of content.columns)
 
 module _ (look : Look) (content : SelectedValue) (are : AreColumns look content) (has : Bool) (widths : List ℕ) where
   abbrev rows_made : TableValue
@@ -226,8 +226,8 @@ module _ (look : Look) (content : SelectedValue) (are : AreColumns look content)
           by_expansion Auto is (fields ∷ rows) some found =
               let long : length content.rows ≡ suc (length rows) = ap length some in
               let filled : (length content.rows == 0) ≡ false = ne_eqb (length content.rows) 0 (λ same. absurd (omega (arith, same, long))) in
-              let same : unbroken_in content ≡ (if content.is_numbered then true ∷ [] else []) ++ map (has_numbers (fields ∷ rows)) positions =
-              ap (λ (b : Bool). (if content.is_numbered then not b ∷ [] else []) ++ map (λ (column : DrawnColumn). not b && column.is_unbroken) content.columns) filled
+              let same : nowrap_in content ≡ (if content.is_numbered then true ∷ [] else []) ++ map (has_numbers (fields ∷ rows)) positions =
+              ap (λ (b : Bool). (if content.is_numbered then not b ∷ [] else []) ++ map (λ (column : ColumnPlan). not b && column.is_nowrap) content.columns) filled
               ∙ ap (λ (more : List Bool). (if content.is_numbered then true ∷ [] else []) ++ more) (are.unbroken ∙ ap (λ (rs : List (List Text)). map (has_numbers rs) positions) some) in
               let kept = auto_keeps_whole w look content are.table wide is own rows_made widths i (has, ap (λ (e : Bool). separated_table has (output_table e look content)) (sym own)) arranged below (ap (λ (bs : List Bool). slice_get bs i) same ∙ found) in
               omega (arith, kept)
@@ -263,13 +263,13 @@ module _ (look : Look) (content : SelectedValue) (unkept : look.has_sequences �
       (found_in Stands (λ (row : RowValue). slice_get row.cells 1) pairs_made.rows (subst (All Stands) (ap (filter_map (λ (row : RowValue). slice_get row.cells 1)) rows_are) law))
     where
       Line : Text → Type 0
-      Line line = is_unbroken line ≡ true → framed_width look.style (needed_by_names (column_content_width pairs_made 0) ∷ measure line ∷ []) ≤ w → measure line ≤ slice_index widths 1
+      Line line = is_nowrap line ≡ true → framed_width look.style (needed_by_names (column_content_width pairs_made 0) ∷ measure line ∷ []) ≤ w → measure line ≤ slice_index widths 1
 
       Stands : CellValue → Type 0
       Stands cell = All Line cell.text_lines
 
       Kept : Text → Type 0
-      Kept line = is_unbroken line ≡ true → framed_width look.style (4 ∷ measure line ∷ []) ≤ w → measure line ≤ max 1 (slice_index widths 1)
+      Kept line = is_nowrap line ≡ true → framed_width look.style (4 ∷ measure line ∷ []) ≤ w → measure line ≤ max 1 (slice_index widths 1)
 
       kept : (line : Text) → Line line → Kept line
       kept line own unbroken room =

@@ -16,10 +16,10 @@ use Rattle.csv_tables.specs.Fields.{field_or_blank}
 use Rattle.csv_tables.specs.Columns.{ColumnsValue, column_at, count_of, name_at}
 use Rattle.csv_command.specs.Columns.{columns_chosen, positions_between, without}
 use Rattle.csv_tables.specs.Drawn.{condensed_style, drawn_rows, names_of}
-use Rattle.csv_tables.specs.declared.options.DrawnColumn.{DrawnColumn}
+use Rattle.csv_tables.specs.declared.options.ColumnPlan.{ColumnPlan}
 use Rattle.csv_tables.specs.declared.options.Layout.{Layout}
 use Rattle.csv_tables.specs.Summaries.{column_fields, summary_of}
-use Rattle.csv_tables.specs.Unbroken.{framed_width, is_unbroken}
+use Rattle.csv_tables.specs.NoWrap.{framed_width, is_nowrap}
 use Rattle.csv_tables.specs.declared.options.Expansion.{Expansion}
 use Rattle.csv_tables.specs.declared.options.Expansion.TheVariants.{Always, Auto, Never}
 use Rattle.csv_tables.specs.declared.options.Look.{Look}
@@ -84,7 +84,7 @@ pub record IsTableOf (look : Look) (has_header has_names : Bool) (sides : List C
 abbrev pub KeepsNumbers : Look → ℕ → ℕ → RowValue → Type 0
 KeepsNumbers look w width row =
     (cell : CellValue) → slice_get row.cells 1 ≡ Some cell
-    → All (λ line. is_unbroken line ≡ true
+    → All (λ line. is_nowrap line ≡ true
     → framed_width look.style (4 ∷ measure line ∷ []) ≤ w → measure line ≤ width) cell.text_lines
 
 -- a text is the lines of such a table, but for bold in the pieces around texts of its header and
@@ -116,7 +116,7 @@ ShowsRows look has_header has_names sides whole rows text =
 
 -- a column as its fields in rows ask for it: at the right if they are numbers, unless a side is
 -- chosen for it, and with their decimal mark if they have one
-abbrev pub column_in : ColumnsValue → List (List Text) → ℕ → DrawnColumn
+abbrev pub column_in : ColumnsValue → List (List Text) → ℕ → ColumnPlan
 column_in columns rows position =
     column_at columns (summary_of (column_fields rows position)) position
 
@@ -148,7 +148,7 @@ pub record AreLinedUp (look : Look) (are : Bool) : Type 0 where
 
 -- each field that rows have at a position is a number or a date, or says nothing
 abbrev pub has_numbers : List (List Text) → ℕ → Bool
-has_numbers rows position = list_all is_unbroken (column_fields rows position)
+has_numbers rows position = list_all is_nowrap (column_fields rows position)
 
 -- columns at positions are whole if they pass a test; that of record numbers is, if there is one
 abbrev pub whole_columns : Bool → List ℕ → (ℕ → Bool) → List Bool

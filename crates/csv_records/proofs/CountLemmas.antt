@@ -13,7 +13,7 @@ use Rattle.csv.specs.declared.parser.State.TheVariants as st
 use Rattle.csv_records.specs.Counting.{count_behind, count_from, state_at, told_of}
 use Rattle.csv_records.specs.Counting as own_step
 use Rattle.csv_records.specs.Input.{config_for}
-use Rattle.csv_records.specs.Longer.{behind_record}
+use Rattle.csv_records.specs.Longer.{skip_record}
 use Rattle.csv_records.specs.declared.counting.State.{State as OwnState}
 use Rattle.csv_records.specs.declared.counting.State.TheVariants as own
 
@@ -77,7 +77,7 @@ counted cfg s fields field (b ∷ rest) = by_action (step cfg s b).1 (λ fields 
     by_action act.Copy more = more fields (field ++ (b ∷ [])) ∙ ap (λ (n : ℕ). count_from cfg to n rest) (sym (add-zero (length fields + 1)))
 
 -- what follows a record that is counted
-pub behind_counted : (cfg : Config) (text : Text) (found : Option (ℕ × Text)) → found ≡ count_from cfg st.StartRecord 1 text → option_map_or (λ it. it.1) found [] ≡ behind_record cfg text
+pub behind_counted : (cfg : Config) (text : Text) (found : Option (ℕ × Text)) → found ≡ count_from cfg st.StartRecord 1 text → option_map_or (λ it. it.1) found [] ≡ skip_record cfg text
 behind_counted cfg text found is = ap (λ (o : Option (ℕ × Text)). option_map_or (λ it. it.1) o []) (is ∙ sym (counted cfg st.StartRecord [] [] text)) ∙ by_next (next_record cfg st.StartRecord [] [] text)
   where
     by_next : (next : Option FoundRecord) → option_map_or (λ it. it.1) (option_map count_of next) [] ≡ option_map_or (λ it. it.2) next []

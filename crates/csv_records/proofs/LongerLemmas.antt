@@ -6,7 +6,7 @@ use Rattle.comfy_parts.specs.Text.{Text}
 use Rattle.csv.specs.Reading.{strip_bom}
 use Rattle.csv_records.specs.Delimiter.{delimited}
 use Rattle.csv_records.specs.Input.{config_for, line_number}
-use Rattle.csv_records.specs.Longer.{from_record, is_longer, line_of_record, longer_at, longer_by, longer_records}
+use Rattle.csv_records.specs.Longer.{skip_records, is_longer, line_of_record, longer_at, longer_by, longer_records}
 use Rattle.csv_records.specs.Reading.{parted}
 use Rattle.csv_records.specs.declared.delimiter.Delimiter.TheVariants.{Spaces}
 use Rattle.csv_records.specs.declared.options.InputOptions.{InputOptions}
@@ -16,7 +16,7 @@ module _ (options : InputOptions) (text : Text) (other : options.delimiter ≢ S
   -- the line of a record, by the byte between fields and what holds the records
   abbrev pub line : ℕ → Text → Bool → ℕ → ℕ
   line delimiter rest has_quotes before =
-      line_number options.skip (take (length text - length (from_record (config_for delimiter has_quotes) before (strip_bom rest))) text)
+      line_number options.skip (take (length text - length (skip_records (config_for delimiter has_quotes) before (strip_bom rest))) text)
 
   pub line_is : (delimiter : ℕ) (rest : Text) (before : ℕ) → delimiter ≡ (delimited options.delimiter options.has_quotes text).0 → rest ≡ (delimited options.delimiter options.has_quotes text).1
       → line delimiter rest options.has_quotes before ≡ line_of_record options text before

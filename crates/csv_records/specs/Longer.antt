@@ -13,31 +13,31 @@ use Rattle.csv_records.specs.Lines.{ends_line}
 use Rattle.csv_records.specs.Reading.{parted, reads_quotes}
 use Rattle.csv_records.specs.declared.delimiter.Delimiter.{Delimiter}
 use Rattle.csv_records.specs.declared.delimiter.Delimiter.TheVariants.{Spaces}
-use Rattle.csv_records.specs.declared.longer.LongerRecords.{LongerRecords}
+use Rattle.csv_records.specs.declared.longer.LongRecords.{LongRecords}
 use Rattle.csv_records.specs.declared.options.InputOptions.{InputOptions}
 
 -- ---- where a record begins
 
 -- a text without the line ends in front
-abbrev pub below_line_ends : Text → Text
-below_line_ends text = drop (prefix_len ends_line text) text
+abbrev pub skip_newlines : Text → Text
+skip_newlines text = drop (prefix_len ends_line text) text
 
 -- what follows the first record of a text
-abbrev pub behind_record : Config → Text → Text
-behind_record config text =
+abbrev pub skip_record : Config → Text → Text
+skip_record config text =
     option_map_or (λ found. found.2) (next_record config st.StartRecord [] [] text) []
 
 -- a text from the record on before which so many stand
-abbrev pub from_record : Config → ℕ → Text → Text
-from_record config zero text = below_line_ends text
-from_record config (suc before) text = from_record config before (behind_record config text)
+abbrev pub skip_records : Config → ℕ → Text → Text
+skip_records config zero text = skip_newlines text
+skip_records config (suc before) text = skip_records config before (skip_record config text)
 
 -- the number of the line in which that record of a text begins, which stands below the lines that
 -- are left out
 abbrev pub line_of_record : InputOptions → Text → ℕ → ℕ
 line_of_record options text before =
     let config = config_for (parted options text).0 (reads_quotes options) in
-    let rest = from_record config before (strip_bom (parted options text).1) in
+    let rest = skip_records config before (strip_bom (parted options text).1) in
     line_number options.skip (take (length text - length rest) text)
 
 -- ---- records with more fields
@@ -52,7 +52,7 @@ is_longer records fields = nat_lt (field_count records 0) (length fields)
 
 -- what is told of those: the line and the fields of the first of them, and how many others there
 -- are
-abbrev pub longer_at : (ℕ → ℕ) → List (List Text) → ℕ → LongerRecords
+abbrev pub longer_at : (ℕ → ℕ) → List (List Text) → ℕ → LongRecords
 longer_at line_of records at =
     record {
       line = line_of at;
@@ -61,7 +61,7 @@ longer_at line_of records at =
       others = count_by (is_longer records) records - 1;
     }
 
-abbrev pub longer_by : (ℕ → ℕ) → List (List Text) → Option LongerRecords
+abbrev pub longer_by : (ℕ → ℕ) → List (List Text) → Option LongRecords
 longer_by line_of records =
     option_map (longer_at line_of records) (position (is_longer records) records)
 
@@ -71,6 +71,6 @@ abbrev pub unless_spaces : {T : Type 0} → Delimiter → Option T → Option T
 unless_spaces Spaces told = None
 unless_spaces _ told = told
 
-abbrev pub longer_records : InputOptions → Text → List (List Text) → Option LongerRecords
+abbrev pub longer_records : InputOptions → Text → List (List Text) → Option LongRecords
 longer_records options text records =
     unless_spaces options.delimiter (longer_by (line_of_record options text) records)

@@ -36,7 +36,7 @@ pub use digits::parse_digits;
 pub use encoding::{Encoding, decoded};
 pub use error::{DecodeError, RecordsError};
 pub use field_number::{FieldNumber, Fraction, is_number, number_in};
-pub use longer::LongerRecords;
+pub use longer::LongRecords;
 pub use not_text::NotText;
 pub use number::is_neutral;
 pub use options::InputOptions;

@@ -4,7 +4,7 @@ ghost use Rattle.std.specs.Prelude.{◌≡◌, ◌≢◌, length, nat_lt};
 ghost use Rattle.std.specs.List.{count_by, position};
 ghost use Rattle.csv_records.specs.Delimiter.{delimited};
 ghost use Rattle.csv_records.specs.Input.{config_for};
-ghost use Rattle.csv_records.specs.Longer.{behind_record, below_line_ends, field_count, from_record, longer_records};
+ghost use Rattle.csv_records.specs.Longer.{skip_record, skip_newlines, field_count, skip_records, longer_records};
 ghost use Rattle.csv_records.specs.declared.delimiter.Delimiter.TheVariants.{Spaces};
 
 use crate::counting::first_count;
@@ -14,7 +14,7 @@ use crate::text::{line_before, without_mark};
 
 /// Records that have more fields than the first one.
 #[derive(Clone, Copy, Debug)]
-pub struct LongerRecords {
+pub struct LongRecords {
     /// The line in which the first of them begins. Lines are counted as for `DecodeError`.
     pub line: u64,
     /// How many fields that one has.
@@ -32,7 +32,7 @@ pub(crate) fn longer_records(
     options: &InputOptions,
     delimiter: u8,
     rest: &str,
-) -> Option<LongerRecords>
+) -> Option<LongRecords>
     requires no_spaces { options.now.delimiter ≢ Spaces }
     requires byte { delimiter
         ≡ (delimited options.now.delimiter options.now.has_quotes text.now).0 }
@@ -43,8 +43,8 @@ pub(crate) fn longer_records(
     let first_fields = fields_at(records, 0);
     let before = first_longer(records, first_fields)?;
     let unmarked = without_mark(rest).as_bytes();
-    let from = from_record(unmarked, before, delimiter, options.has_quotes);
-    Some(LongerRecords {
+    let from = skip_records(unmarked, before, delimiter, options.has_quotes);
+    Some(LongRecords {
         line: line_before(options.skip, text, from.len()),
         fields: fields_at(records, before),
         first_fields,
@@ -77,19 +77,19 @@ fn count_longer(records: &Rows<'_>, most: usize) -> usize
 }
 
 // These bytes from the record on before which so many stand.
-fn from_record(bytes: &[u8], before: usize, delimiter: u8, has_quotes: bool) -> &[u8]
-    ensures { result.now ≡ from_record (config_for delimiter has_quotes) before bytes.now }
+fn skip_records(bytes: &[u8], before: usize, delimiter: u8, has_quotes: bool) -> &[u8]
+    ensures { result.now ≡ skip_records (config_for delimiter has_quotes) before bytes.now }
 {
     let mut rest = bytes;
     for _ in 0..before {
-        rest = behind_record(rest, delimiter, has_quotes);
+        rest = skip_record(rest, delimiter, has_quotes);
     }
-    below_line_ends(rest)
+    skip_newlines(rest)
 }
 
 // What follows the first record of these bytes.
-fn behind_record(bytes: &[u8], delimiter: u8, has_quotes: bool) -> &[u8]
-    ensures { result.now ≡ behind_record (config_for delimiter has_quotes) bytes.now }
+fn skip_record(bytes: &[u8], delimiter: u8, has_quotes: bool) -> &[u8]
+    ensures { result.now ≡ skip_record (config_for delimiter has_quotes) bytes.now }
 {
     match first_count(bytes, delimiter, has_quotes) {
         Some((_, behind)) => behind,
@@ -98,8 +98,8 @@ fn behind_record(bytes: &[u8], delimiter: u8, has_quotes: bool) -> &[u8]
 }
 
 // These bytes without the line ends in front.
-fn below_line_ends(bytes: &[u8]) -> &[u8]
-    ensures { result.now ≡ below_line_ends bytes.now }
+fn skip_newlines(bytes: &[u8]) -> &[u8]
+    ensures { result.now ≡ skip_newlines bytes.now }
 {
     let mut rest = bytes;
     while let [b'\n' | b'\r', behind @ ..] = rest {

@@ -11,7 +11,7 @@ ghost use Rattle.csv_records.specs.Started.{IsStarted};
 
 use crate::error::RecordsError;
 use crate::fields::Fields;
-use crate::longer::LongerRecords;
+use crate::longer::LongRecords;
 use csv::{ByteRecord, Reader, ReaderBuilder, StringRecord};
 use std::alloc::{AllocError, Global};
 use std::marker::Model;
@@ -346,7 +346,7 @@ pub struct FirstRecords {
     /// How many records it has.
     pub count: usize,
     /// Those of the first records that have more fields than the first of all.
-    pub longer: Option<LongerRecords>,
+    pub longer: Option<LongRecords>,
 }
 
 /// The first records of a text, at most so many. All of it is read.

@@ -14,7 +14,7 @@ use Rattle.csv.specs.Records.{field_at}
 use Rattle.csv_records.proofs.CleaningLemmas.{Stays-nil, stays_cleaned}
 use Rattle.comfy_parts.specs.declared.style.cell.CellAlignment.TheVariants.{Right}
 use Rattle.csv_tables.proofs.FieldLemmas.{IsShortPrintable, number_is_printable, number_is_short}
-use Rattle.csv_tables.specs.declared.options.DrawnColumn.{DrawnColumn}
+use Rattle.csv_tables.specs.declared.options.ColumnPlan.{ColumnPlan}
 use Rattle.csv_tables.specs.Cells.{Shown, counted_from, text_in, shown_fields, shown_in, shown_names, field_text, header_for, marked, row_for, unless_blank, number_name}
 use Rattle.csv_tables.specs.Fields.{field_or_blank}
 use Rattle.csv_records.specs.Cleaning.{cleaned}
@@ -51,24 +51,24 @@ each_name P names i number each = by_field names i each
     by_field (f ∷ fs) (suc j) each = by_field fs j (All-tail P f fs each)
 
 -- P holds of what columns show of a record
-abbrev pub EachColumn : (Text → Type 0) → Look → Bool → List DrawnColumn → List Text → Type 0
-EachColumn P look is_aligned columns fields = All (λ (column : DrawnColumn). P (text_in look is_aligned column fields)) columns
+abbrev pub EachColumn : (Text → Type 0) → Look → Bool → List ColumnPlan → List Text → Type 0
+EachColumn P look is_aligned columns fields = All (λ (column : ColumnPlan). P (text_in look is_aligned column fields)) columns
 
-pub plain_columns : (P : Text → Type 0) → P [] → (look : Look) (columns : List DrawnColumn) (fields : List Text) → All P fields → EachColumn P look false columns fields
-plain_columns P empty look columns fields each = All-every (λ (column : DrawnColumn). P (text_in look false column fields)) columns (λ column. each_field P empty fields column.position each)
+pub plain_columns : (P : Text → Type 0) → P [] → (look : Look) (columns : List ColumnPlan) (fields : List Text) → All P fields → EachColumn P look false columns fields
+plain_columns P empty look columns fields each = All-every (λ (column : ColumnPlan). P (text_in look false column fields)) columns (λ column. each_field P empty fields column.position each)
 
 -- P holds of each text that a row shows, where it does of its fields, of no text, and of short texts of printable ASCII
 module _ (P : Text → Type 0) (empty : P []) (short : (text : Text) → IsShortPrintable 64 text → P text) where
   abbrev pub OfShown : Shown → Type 0
   OfShown shown = P shown.text
 
-  pub fields_each : (look : Look) (is_aligned : Bool) (columns : List DrawnColumn) (fields : List Text) → EachColumn P look is_aligned columns fields → All OfShown (shown_fields look is_aligned columns fields)
-  fields_each look is_aligned columns fields each = All-map OfShown (λ (column : DrawnColumn). record { alignment = column.alignment; text = text_in look is_aligned column fields }) columns each
+  pub fields_each : (look : Look) (is_aligned : Bool) (columns : List ColumnPlan) (fields : List Text) → EachColumn P look is_aligned columns fields → All OfShown (shown_fields look is_aligned columns fields)
+  fields_each look is_aligned columns fields each = All-map OfShown (λ (column : ColumnPlan). record { alignment = column.alignment; text = text_in look is_aligned column fields }) columns each
 
   pub number_each : (number : ℕ) → P (decimal number)
   number_each number = short (decimal number) (number_is_printable number, number_is_short number)
 
-  pub row_each : (look : Look) (is_aligned is_numbered : Bool) (columns : List DrawnColumn) (row : ℕ × List Text) → EachColumn P look is_aligned columns row.1 → All OfShown (shown_in look is_aligned is_numbered columns row)
+  pub row_each : (look : Look) (is_aligned is_numbered : Bool) (columns : List ColumnPlan) (row : ℕ × List Text) → EachColumn P look is_aligned columns row.1 → All OfShown (shown_in look is_aligned is_numbered columns row)
   row_each look is_aligned true columns row each =
       All-cons OfShown (record { alignment = Some Right; text = decimal row.0 }) (shown_fields look is_aligned columns row.1) (number_each row.0) (fields_each look is_aligned columns row.1 each)
   row_each look is_aligned false columns row each = fields_each look is_aligned columns row.1 each
@@ -77,17 +77,17 @@ module _ (P : Text → Type 0) (empty : P []) (short : (text : Text) → IsShort
   name_each [] = empty
   name_each (name ∷ names) = short (codes "#") (refl, omega arith)
 
-  pub names_each : (look : Look) (is_numbered : Bool) (columns : List DrawnColumn) (names : List Text) → All P names → All OfShown (shown_names look is_numbered columns names)
+  pub names_each : (look : Look) (is_numbered : Bool) (columns : List ColumnPlan) (names : List Text) → All P names → All OfShown (shown_names look is_numbered columns names)
   names_each look true columns names each =
       All-cons OfShown (record { alignment = Some Right; text = number_name names }) (shown_fields look false columns names) (name_each names) (fields_each look false columns names (plain_columns P empty look columns names each))
   names_each look false columns names each = fields_each look false columns names (plain_columns P empty look columns names each)
 
 -- a row shows a text in each column
-pub row-length : (look : Look) (is_aligned is_numbered : Bool) (columns : List DrawnColumn) (row : ℕ × List Text) → length (shown_in look is_aligned is_numbered columns row) ≡ (if is_numbered then 1 else 0) + length columns
+pub row-length : (look : Look) (is_aligned is_numbered : Bool) (columns : List ColumnPlan) (row : ℕ × List Text) → length (shown_in look is_aligned is_numbered columns row) ≡ (if is_numbered then 1 else 0) + length columns
 row-length look is_aligned true columns row = let own : length (shown_fields look is_aligned columns row.1) ≡ length columns = length-map columns _ in omega (arith, own)
 row-length look is_aligned false columns row = let own : length (shown_fields look is_aligned columns row.1) ≡ length columns = length-map columns _ in omega (arith, own)
 
-pub names-length : (look : Look) (is_numbered : Bool) (columns : List DrawnColumn) (names : List Text) → length (shown_names look is_numbered columns names) ≡ (if is_numbered then 1 else 0) + length columns
+pub names-length : (look : Look) (is_numbered : Bool) (columns : List ColumnPlan) (names : List Text) → length (shown_names look is_numbered columns names) ≡ (if is_numbered then 1 else 0) + length columns
 names-length look true columns names = let own : length (shown_fields look false columns names) ≡ length columns = length-map columns _ in omega (arith, own)
 names-length look false columns names = let own : length (shown_fields look false columns names) ≡ length columns = length-map columns _ in omega (arith, own)
 

@@ -15,7 +15,7 @@ use Rattle.comfy_table.specs.TableValue.{TableValue, cell_content_width, cells_a
 use Rattle.csv_tables.specs.Cells.{counted_from, header_for, row_for}
 use Rattle.csv_tables.specs.Contents.{greatest_at, headed_by, made_by, measured_at, most_cells, pairs_by, rows_from, table_by}
 use Rattle.csv_tables.specs.Drawn.{SelectedValue, empty_table, headed_table, pairs_in, pairs_table, rows_of, rows_table}
-use Rattle.csv_tables.specs.Unbroken.{cell_unbroken_width, field_width}
+use Rattle.csv_tables.specs.NoWrap.{cell_nowrap_width, field_width}
 use Rattle.csv_tables.specs.declared.options.Look.{Look}
 use Rattle.csv_tables.specs.declared.rows.RecordRows.{RecordRows}
 
@@ -161,11 +161,11 @@ measured_alike f t rows made i = λ j. greatest (map (λ (cell : Option CellValu
 
 -- the fields of expanded records
 pub fields_are : (rows : RecordRows) (t : TableValue) (room : ℕ) → t.header ≡ None → t.rows ≡ [] → rows.is_expanded ≡ true
-    → max 0 (greatest_at (with_other_rows (rows_from rows 0 rows.selected.rows) t) (cell_unbroken_width room) (flat_map (pairs_by rows) rows.selected.rows) 1) ≡ field_width room (with_other_rows (rows_from rows 0 rows.selected.rows) t)
+    → max 0 (greatest_at (with_other_rows (rows_from rows 0 rows.selected.rows) t) (cell_nowrap_width room) (flat_map (pairs_by rows) rows.selected.rows) 1) ≡ field_width room (with_other_rows (rows_from rows 0 rows.selected.rows) t)
 fields_are rows t room bare none expanded =
     let all = rows_from rows 0 rows.selected.rows in
     let whole = with_other_rows all t in
-    let f = cell_unbroken_width room in
+    let f = cell_nowrap_width room in
     let is = pairs_rows rows expanded 0 rows.selected.rows in
     let own = greatest_measured whole f 1 in
     let header = ap (λ (h : Option RowValue). of_measured whole f (option_and_then (λ (row : RowValue). slice_get row.cells 1) h)) bare in

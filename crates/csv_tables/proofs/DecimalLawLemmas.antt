@@ -14,7 +14,7 @@ use Rattle.csv_records.specs.declared.decimals.DecimalMark.TheVariants.{Comma, P
 use Rattle.csv_records.specs.declared.decimals.Points.{Points}
 use Rattle.csv_tables.specs.Decimals.{spaced}
 use Rattle.csv_tables.specs.Fields.{field_or_blank}
-use Rattle.csv_tables.specs.declared.options.DrawnColumn.{DrawnColumn}
+use Rattle.csv_tables.specs.declared.options.ColumnPlan.{ColumnPlan}
 use Rattle.csv_tables.specs.Laws.{HasSpacesBehind, MarksStandBelow, SpacesAloneAreAdded}
 use Rattle.csv_tables.specs.declared.options.Look.{Look}
 
@@ -69,5 +69,5 @@ with_spaces : (keeps : Bool) (mark : Option Points) (field : Text) → HasSpaces
 with_spaces keeps None field = (0, sym (append-nil field))
 with_spaces keeps (Some points) field = (spaces_behind points (visible_of keeps field), refl)
 
-pub spaces_alone : (look : Look) (is_aligned : Bool) (column : DrawnColumn) (fields : List Text) → SpacesAloneAreAdded look is_aligned column fields
+pub spaces_alone : (look : Look) (is_aligned : Bool) (column : ColumnPlan) (fields : List Text) → SpacesAloneAreAdded look is_aligned column fields
 spaces_alone look is_aligned column fields = with_spaces look.has_sequences (if is_aligned then column.points else None) (field_or_blank fields column.position)

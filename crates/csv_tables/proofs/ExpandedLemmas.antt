@@ -8,7 +8,7 @@ use Rattle.csv_tables.specs.Cells.{held, pair_for}
 use Rattle.csv_tables.specs.Fields.{field_or_blank}
 use Rattle.csv_tables.specs.Columns.{name_at}
 use Rattle.csv_tables.specs.Drawn.{pairs_of}
-use Rattle.csv_tables.specs.declared.options.DrawnColumn.{DrawnColumn}
+use Rattle.csv_tables.specs.declared.options.ColumnPlan.{ColumnPlan}
 use Rattle.csv_tables.specs.declared.options.Look.{Look}
 
 -- a field is there
@@ -26,11 +26,11 @@ has-none (f ∷ fs) zero is = absurd (cc is)
 has-none (f ∷ fs) (suc position) is = let rest = has-none fs position is in grind (arith, rest)
 
 -- the row of a column
-abbrev pair_of : Look → List Text → List Text → DrawnColumn → RowValue
+abbrev pair_of : Look → List Text → List Text → ColumnPlan → RowValue
 pair_of look names fields column = pair_for look (name_at names column.position) (field_or_blank fields column.position)
 
 -- the rows of columns of which the first has a field
-pub pairs-first : (look : Look) (column : DrawnColumn) (left : List DrawnColumn) (names fields : List Text) (field : Text) → Some field ≡ field_at fields column.position
+pub pairs-first : (look : Look) (column : ColumnPlan) (left : List ColumnPlan) (names fields : List Text) (field : Text) → Some field ≡ field_at fields column.position
     → pairs_of look (column ∷ left) names fields ≡ pair_for look (name_at names column.position) field ∷ pairs_of look left names fields
 pairs-first look column left names fields field is =
     let own = has-some fields column.position field is in
@@ -38,7 +38,7 @@ pairs-first look column left names fields field is =
     ∙ ap (λ (text : Text). pair_for look (name_at names column.position) text ∷ pairs_of look left names fields) own.1
 
 -- or has none
-pub pairs-later : (look : Look) (column : DrawnColumn) (left : List DrawnColumn) (names fields : List Text) → None ≡ field_at fields column.position → pairs_of look (column ∷ left) names fields ≡ pairs_of look left names fields
+pub pairs-later : (look : Look) (column : ColumnPlan) (left : List ColumnPlan) (names fields : List Text) → None ≡ field_at fields column.position → pairs_of look (column ∷ left) names fields ≡ pairs_of look left names fields
 pairs-later look column left names fields is = ap (λ (b : Bool). map (pair_of look names fields) (cond b (column ∷ held fields left) (held fields left))) (has-none fields column.position is)
 
 -- what is left of a list begins with the element at its place

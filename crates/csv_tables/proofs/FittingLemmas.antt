@@ -29,7 +29,7 @@ use Rattle.csv_tables.specs.Drawn.{SelectedValue, selected_of, drawn_rows}
 use Rattle.csv_tables.specs.Fields.{field_or_blank}
 use Rattle.csv_tables.specs.Markdown.{is_right}
 use Rattle.csv_tables.specs.Summaries.{column_fields, summary_of}
-use Rattle.csv_tables.specs.declared.options.DrawnColumn.{DrawnColumn}
+use Rattle.csv_tables.specs.declared.options.ColumnPlan.{ColumnPlan}
 use Rattle.csv_tables.specs.declared.options.Layout.{Layout}
 use Rattle.csv_tables.specs.declared.options.Look.{Look}
 
@@ -164,7 +164,7 @@ spaced-short points field least narrow = (
 -- ---- columns with a mark
 
 -- a column that has a mark has narrow fields
-abbrev pub IsPointed : List (List Text) → DrawnColumn → Type 0
+abbrev pub IsPointed : List (List Text) → ColumnPlan → Type 0
 IsPointed rows column = (points : Points) → column.points ≡ Some points → (points.longest ≤ 26) × All Narrow (column_fields rows column.position)
 
 by_marks : (fields : List Text) (points : Points) (narrow plain : Bool) → list_all is_narrow fields ≡ narrow → points_in (if narrow && plain then Some (marks_of fields) else None) ≡ Some points → (points.longest ≤ 26) × All Narrow fields
@@ -177,7 +177,7 @@ by_side fields points true is = by_marks fields points (list_all is_narrow field
 by_side fields points false is = absurd (cc is)
 
 module _ (columns : ColumnsValue) (rows : List (List Text)) where
-  abbrev made : ℕ → DrawnColumn
+  abbrev made : ℕ → ColumnPlan
   made p = column_at columns (summary_of (column_fields rows p)) p
 
   pointed : (p : ℕ) → IsPointed rows (made p)
@@ -222,7 +222,7 @@ module _ (position : ℕ) where
           (more (All-tail Narrow own (column_fields rows position) narrow))
 
 module _ (R : Text → Type 0) (empty : R []) (gives : (text : Text) → IsShortPrintable 64 text → R text) (look : Look) (plain : look.has_sequences ≡ false) where
-  text_each : (column : DrawnColumn) (fields : List Text) → ((points : Points) → column.points ≡ Some points → (points.longest ≤ 26) × ((field : Text) → field_at fields column.position ≡ Some field → Narrow field))
+  text_each : (column : ColumnPlan) (fields : List Text) → ((points : Points) → column.points ≡ Some points → (points.longest ≤ 26) × ((field : Text) → field_at fields column.position ≡ Some field → Narrow field))
       → R (field_or_blank fields column.position) → R (text_in look true column fields)
   text_each column fields known own = subst (λ (b : Bool). R (spaced b column.points (field_or_blank fields column.position))) (sym plain) (by_points column.points refl)
     where
@@ -256,5 +256,5 @@ text_field keeps (Some points) field own =
     let n = spaces_behind points (visible_of keeps field) in
     IsUtf8-append field (spaces n) own (IsUtf8-printable (spaces n) (spaces_printable n))
 
-pub text_drawn : (look : Look) (is_aligned : Bool) (column : DrawnColumn) (fields : List Text) → All IsUtf8 fields → IsUtf8 (text_in look is_aligned column fields)
+pub text_drawn : (look : Look) (is_aligned : Bool) (column : ColumnPlan) (fields : List Text) → All IsUtf8 fields → IsUtf8 (text_in look is_aligned column fields)
 text_drawn look is_aligned column fields own = text_field look.has_sequences (if is_aligned then column.points else None) (field_or_blank fields column.position) (each_field IsUtf8 IsUtf8-nil fields column.position own)

@@ -30,12 +30,12 @@ use Rattle.comfy_table.specs.Widths.{ColumnNeeds, even_spread, needs_of, part_of
 use Rattle.csv_tables.proofs.KeptWidthLemmas.{IsFixedAt, fixed_is_kept, kept_arrangement, le-added}
 use Rattle.csv_tables.proofs.LineLemmas.{Any, any_built, any_drawn, kept_setting}
 use Rattle.csv_tables.proofs.SeparatorLemmas.{separated}
-use Rattle.csv_tables.proofs.UnbrokenLemmas.{framed_pair}
+use Rattle.csv_tables.proofs.NoWrapLemmas.{framed_pair}
 use Rattle.csv_tables.proofs.WholeColumnLemmas.{HasTwo, all_shown, both_shown, exactly_two, pairs_are_two}
 use Rattle.csv_tables.proofs.WholeTableLemmas.{IsDrawn, drawn-is, fewer_borders, field_separated}
 use Rattle.csv_tables.specs.Drawn.{SelectedValue, arrangement_for, empty_table, is_expanded_for, output_table, pairs_in, pairs_table, separated_table}
 use Rattle.csv_tables.specs.Laws.{IsDrawnTable}
-use Rattle.csv_tables.specs.Unbroken.{cell_unbroken_width, field_width, framed_width, is_unbroken, kept_unbroken_fields, may_break, needed_by_names, room_beside, room_for_two, unbroken_width, with_content, with_field_width}
+use Rattle.csv_tables.specs.NoWrap.{cell_nowrap_width, field_width, framed_width, is_nowrap, with_min_field_width, may_break, needed_by_names, room_beside, room_for_two, nowrap_width, with_content, with_field_width}
 use Rattle.csv_tables.specs.declared.options.Look.{Look}
 
 -- ---- two columns without constraints
@@ -85,10 +85,10 @@ module _ (room : ℕ) (a b : ColumnNeeds) (m : ℕ) (content : m ≤ b.content) 
     where
       by_fit : (fits : Bool) → nat_le b.content level ≡ fits → MatchBool fits (y ≡ max 1 b.content) (IsShrunkOrLevel level b y) → m ≤ y
       by_fit true fits is = omega (arith, is, content)
-      by_fit false wider kept = ⊎_elim (shrunk (enough wider)) (λ at_least. omega (arith, enough wider, at_least)) kept
+      by_fit false wider kept = ⊎_elim (shrunk (enough wider)) (λ lower_bound. omega (arith, enough wider, lower_bound)) kept
         where
           shrunk : m ≤ level → ((at : ℕ) × (level ≤ at) × (b.longest at + 3 ≤ at) × (y ≡ max 1 (b.longest at))) → m ≤ y
-          shrunk least (at, at_least, three, is) = let long = longest at (omega (arith, least, at_least)) in omega (arith, long, is)
+          shrunk least (at, lower_bound, three, is) = let long = longest at (omega (arith, least, lower_bound)) in omega (arith, long, is)
   by_list level (x ∷ y ∷ z ∷ more) enough (own, (other, each)) = absurd each
 
   -- and without one there is no room to be had
@@ -227,7 +227,7 @@ module _ (base : TableValue) (a b : ColumnValue) (new : AllByRecursion IsNewColu
 -- ---- the table of expanded records
 
 -- lines between rows and a width of fields change no cell
-cells_kept : (has : Bool) (o : Option ℕ) (pairs : TableValue) (i : ℕ) → column_cells (separated_table has (kept_unbroken_fields o pairs)) i ≡ column_cells pairs i
+cells_kept : (has : Bool) (o : Option ℕ) (pairs : TableValue) (i : ℕ) → column_cells (separated_table has (with_min_field_width o pairs)) i ≡ column_cells pairs i
 cells_kept has None pairs i = by_lines has
   where
     by_lines : (h : Bool) → column_cells (separated_table h pairs) i ≡ column_cells pairs i
@@ -274,8 +274,8 @@ module _ (w : ℕ) (look : Look) (content : SelectedValue) (small : w ≤ 65535)
   abbrev field : ℕ
   field = field_width (room_beside names room) pairs
 
-  own : table ≡ separated_table has (kept_unbroken_fields (Some w) pairs)
-  own = made ∙ ap (λ (e : Bool). separated_table has (output_table e look content)) expanded ∙ ap (λ (o : Option ℕ). separated_table has (kept_unbroken_fields o pairs)) wide
+  own : table ≡ separated_table has (with_min_field_width (Some w) pairs)
+  own = made ∙ ap (λ (e : Bool). separated_table has (output_table e look content)) expanded ∙ ap (λ (o : Option ℕ). separated_table has (with_min_field_width o pairs)) wide
 
   same_cells : (i : ℕ) → column_cells table i ≡ column_cells pairs i
   same_cells i = ap (λ (t : TableValue). column_cells t i) own ∙ cells_kept has (Some w) pairs i
@@ -350,7 +350,7 @@ module _ (w : ℕ) (look : Look) (content : SelectedValue) (small : w ≤ 65535)
     -- so each number and each date has that fits
     abbrev FieldIsWhole : CellValue → Type 0
     FieldIsWhole cell =
-        All (λ (line : Text). is_unbroken line ≡ true → framed_width look.style (needed_by_names (column_content_width table 0) ∷ measure line ∷ []) ≤ w → measure line ≤ slice_index widths 1) cell.text_lines
+        All (λ (line : Text). is_nowrap line ≡ true → framed_width look.style (needed_by_names (column_content_width table 0) ∷ measure line ∷ []) ≤ w → measure line ≤ slice_index widths 1) cell.text_lines
 
     fields_are_whole : All FieldIsWhole (column_cells pairs 1)
     fields_are_whole k default below j other inside unbroken fits = enough
@@ -377,13 +377,13 @@ module _ (w : ℕ) (look : Look) (content : SelectedValue) (small : w ≤ 65535)
             let same : border_count pairs.style 2 ≡ border_count look.style 2 = ap (λ (s : TableStyle). border_count s 2) style_is in
             omega (arith, fits, framed, both, same, first)
 
-        counted : unbroken_width left line ≡ measure line
+        counted : nowrap_width left line ≡ measure line
         counted = ap₂ (λ (p q : Bool). if p && q then measure line else 0) unbroken (le-leb (measure line) left (omega (arith, beside)))
 
         within : measure line ≤ field
         within =
-            let of_cell = All-from_recursion (λ (c : CellValue). cell_unbroken_width left c ≤ field) cells (every-le-greatest (cell_unbroken_width left) cells) k default below in
-            let of_line = All-from_recursion (λ (l : Text). unbroken_width left l ≤ cell_unbroken_width left cell) cell.text_lines (every-le-greatest (unbroken_width left) cell.text_lines) j other inside in
+            let of_cell = All-from_recursion (λ (c : CellValue). cell_nowrap_width left c ≤ field) cells (every-le-greatest (cell_nowrap_width left) cells) k default below in
+            let of_line = All-from_recursion (λ (l : Text). nowrap_width left l ≤ cell_nowrap_width left cell) cell.text_lines (every-le-greatest (nowrap_width left) cell.text_lines) j other inside in
             omega (arith, counted, of_cell, of_line)
 
         content_width : measure line ≤ column_content_width pairs 1
@@ -402,12 +402,12 @@ module _ (w : ℕ) (look : Look) (content : SelectedValue) (small : w ≤ 65535)
         enough : measure line ≤ slice_index widths 1
         enough = line_wide (measure line) within content_width longest beside
 
-  whole_cells : All (λ (cell : CellValue). All (λ (line : Text). is_unbroken line ≡ true → framed_width look.style (needed_by_names (column_content_width table 0) ∷ measure line ∷ []) ≤ w → measure line ≤ slice_index widths 1) cell.text_lines) (column_cells table 1)
+  whole_cells : All (λ (cell : CellValue). All (λ (line : Text). is_nowrap line ≡ true → framed_width look.style (needed_by_names (column_content_width table 0) ∷ measure line ∷ []) ≤ w → measure line ≤ slice_index widths 1) cell.text_lines) (column_cells table 1)
   whole_cells = subst (All IsWhole) (sym (same_cells 1)) (all_cells look (flat_map (pairs_in look content) content.rows) (pairs_are_two look content) IsWhole (λ two. with_both pairs.columns refl two))
     where
       IsWhole : CellValue → Type 0
       IsWhole cell =
-          All (λ (line : Text). is_unbroken line ≡ true → framed_width look.style (needed_by_names (column_content_width table 0) ∷ measure line ∷ []) ≤ w → measure line ≤ slice_index widths 1) cell.text_lines
+          All (λ (line : Text). is_nowrap line ≡ true → framed_width look.style (needed_by_names (column_content_width table 0) ∷ measure line ∷ []) ≤ w → measure line ≤ slice_index widths 1) cell.text_lines
 
       with_both : (columns : List ColumnValue) → pairs.columns ≡ columns → length columns ≡ 2 → All IsWhole (column_cells pairs 1)
       with_both [] are two = absurd (omega (arith, two))
@@ -417,5 +417,5 @@ module _ (w : ℕ) (look : Look) (content : SelectedValue) (small : w ≤ 65535)
 
 -- so does each text line of a field of the table that is drawn of expanded records, as it is measured, that is a number or a date and fits the width beside what the names need
 pub expanded_keeps_whole : (w : ℕ) (look : Look) (content : SelectedValue) → w ≤ 65535 → look.width ≡ Some w → is_expanded_for look content ≡ true → (table : TableValue) (widths : List ℕ) → IsDrawnTable look content table → IsArranged table widths
-    → All (λ (cell : CellValue). All (λ (line : Text). is_unbroken line ≡ true → framed_width look.style (needed_by_names (column_content_width table 0) ∷ measure line ∷ []) ≤ w → measure line ≤ slice_index widths 1) cell.text_lines) (column_cells table 1)
+    → All (λ (cell : CellValue). All (λ (line : Text). is_nowrap line ≡ true → framed_width look.style (needed_by_names (column_content_width table 0) ∷ measure line ∷ []) ≤ w → measure line ≤ slice_index widths 1) cell.text_lines) (column_cells table 1)
 expanded_keeps_whole w look content small wide expanded table widths (has, made) arranged = whole_cells w look content small wide expanded has table made widths arranged

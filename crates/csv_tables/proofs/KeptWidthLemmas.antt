@@ -16,13 +16,13 @@ use Rattle.comfy_table.specs.TableValue.{TableValue, column_content_width, shown
 use Rattle.comfy_table.specs.Widths.{ColumnNeeds, even_spread, fixed_by_boundary, needs_of, part_of, shown_needs, without_padding}
 use Rattle.csv_tables.proofs.LineLemmas.{Any, any_built, any_drawn, kept_setting}
 use Rattle.csv_tables.proofs.SeparatorLemmas.{restyled, separated}
-use Rattle.csv_tables.proofs.UnbrokenLemmas.{boundary-some, kept-test}
+use Rattle.csv_tables.proofs.NoWrapLemmas.{boundary-some, kept-test}
 use Rattle.csv_tables.proofs.WholeColumnLemmas.{all_shown, leasts-length, leasts_on}
 use Rattle.csv_tables.proofs.WholeTableLemmas.{drawn-is}
-use Rattle.csv_tables.specs.Drawn.{SelectedValue, arrangement_for, empty_table, is_expanded_for, is_expanded_in, is_table_expanded, output_table, rows_table, separated_table, unbroken_in, is_aligned_in}
+use Rattle.csv_tables.specs.Drawn.{SelectedValue, arrangement_for, empty_table, is_expanded_for, is_expanded_in, is_table_expanded, output_table, rows_table, separated_table, nowrap_in, is_aligned_in}
 use Rattle.csv_tables.specs.Laws.{IsDrawnTable}
-use Rattle.csv_tables.specs.Unbroken.{boundary_for, by_columns, given_at, has_room, kept_unbroken, level_in, name_in, wide_word, with_kept}
-use Rattle.csv_tables.specs.declared.options.DrawnColumn.{DrawnColumn}
+use Rattle.csv_tables.specs.NoWrap.{boundary_for, by_columns, reserved_width, has_room, with_min_widths, fair_level, name_in, wide_word, with_lower_bounds}
+use Rattle.csv_tables.specs.declared.options.ColumnPlan.{ColumnPlan}
 use Rattle.csv_tables.specs.declared.options.Expansion.TheVariants.{Auto}
 use Rattle.csv_tables.specs.declared.options.Look.{Look}
 
@@ -113,12 +113,12 @@ whole_need table kept (c ∷ cs) n (suc i) new some is below =
 
 module _ (table : TableValue) (new : AllByRecursion IsNewColumn table.columns) (whole : List Bool) (level w : ℕ) (widths : List ℕ) (i : ℕ) where
   abbrev kept_on : List ℕ
-  kept_on = by_columns (given_at level whole table) table
+  kept_on = by_columns (reserved_width level whole table) table
 
   abbrev with : TableValue
-  with = with_kept kept_on table
+  with = with_lower_bounds kept_on table
 
-  keeps_all : slice_get whole i ≡ Some true → given_at level whole table i ≡ column_content_width table i
+  keeps_all : slice_get whole i ≡ Some true → reserved_width level whole table i ≡ column_content_width table i
   keeps_all is = ap (λ (o : Option Bool). if unwrap_or o false || nat_lt level (keeps o) then keeps o else 0) is
     where
       keeps : Option Bool → ℕ
@@ -130,8 +130,8 @@ module _ (table : TableValue) (new : AllByRecursion IsNewColumn table.columns) (
       let all = all_shown kept_on table.columns new in
       let found = dynamic_widths with with.arrangement w widths kept refl known arranged in
       let place : 0 + i ≡ i = omega arith in
-      let own : given_at level whole table (0 + i) ≡ column_content_width table (0 + i) = subst (λ (j : ℕ). given_at level whole table j ≡ column_content_width table j) (sym place) (keeps_all is) in
-      let fixed = subst (λ (ps : List (ℕ × ColumnValue)). IsFixedAt (map (needs_of with) ps) i (max 1 (column_content_width with (0 + i)))) (sym all) (whole_need with (given_at level whole table) table.columns 0 i new (omega (arith, some, ap (column_content_width table) place)) own below) in
+      let own : reserved_width level whole table (0 + i) ≡ column_content_width table (0 + i) = subst (λ (j : ℕ). reserved_width level whole table j ≡ column_content_width table j) (sym place) (keeps_all is) in
+      let fixed = subst (λ (ps : List (ℕ × ColumnValue)). IsFixedAt (map (needs_of with) ps) i (max 1 (column_content_width with (0 + i)))) (sym all) (whole_need with (reserved_width level whole table) table.columns 0 i new (omega (arith, some, ap (column_content_width table) place)) own below) in
       let room = room_beside_borders with w in
       let full = is_full_width with.arrangement in
       let wide : max 1 (column_content_width with (0 + i)) ≤ slice_index (widened room (shown_needs with) full found.0) i = fixed_is_kept room (shown_needs with) full found.0 i (max 1 (column_content_width with (0 + i))) fixed in
@@ -152,15 +152,15 @@ kept_arrangement w false = refl
 -- ---- columns of numbers and dates
 
 -- those of the table that is drawn are no narrower than their contents
-abbrev pub UnbrokenColumnsAreWhole : Look → SelectedValue → Type 0
-UnbrokenColumnsAreWhole look content =
+abbrev pub NoWrapColumnsAreWhole : Look → SelectedValue → Type 0
+NoWrapColumnsAreWhole look content =
     (table : TableValue) (widths : List ℕ) (i : ℕ) → IsDrawnTable look content table
     → IsArranged table widths → i < length table.columns
-    → slice_get (unbroken_in content) i ≡ Some true
+    → slice_get (nowrap_in content) i ≡ Some true
     → column_content_width table i ≤ slice_index widths i
 
 -- if there is room for them, they are so
-room_keeps_whole : (w : ℕ) (look : Look) (content : SelectedValue) → look.width ≡ Some w → has_room (Some w) (unbroken_in content) (rows_table look (is_aligned_in look content) content) ≡ true → is_expanded_for look content ≡ false → UnbrokenColumnsAreWhole look content
+room_keeps_whole : (w : ℕ) (look : Look) (content : SelectedValue) → look.width ≡ Some w → has_room (Some w) (nowrap_in content) (rows_table look (is_aligned_in look content) content) ≡ true → is_expanded_for look content ≡ false → NoWrapColumnsAreWhole look content
 room_keeps_whole w look content wide room none table widths i is_drawn arranged below is = subst (λ (t : TableValue). column_content_width t i ≤ slice_index widths i) (sym same) kept
   where
     has : Bool
@@ -170,7 +170,7 @@ room_keeps_whole w look content wide room none table widths i is_drawn arranged 
     rows = rows_table look (is_aligned_in look content) content
 
     whole : List Bool
-    whole = unbroken_in content
+    whole = nowrap_in content
 
     drawn : TableValue
     drawn = separated_table has (output_table false look content)
@@ -179,17 +179,17 @@ room_keeps_whole w look content wide room none table widths i is_drawn arranged 
     own = is_drawn.1 ∙ ap (λ (e : Bool). separated_table has (output_table e look content)) none
 
     level : ℕ
-    level = level_in w whole rows
+    level = fair_level w whole rows
 
     kept_on : TableValue → List ℕ
-    kept_on t = by_columns (given_at level whole t) t
+    kept_on t = by_columns (reserved_width level whole t) t
 
-    kept_in : (h : Bool) → separated_table h (with_kept (kept_on rows) rows) ≡ with_kept (kept_on (separated_table h rows)) (separated_table h rows)
+    kept_in : (h : Bool) → separated_table h (with_lower_bounds (kept_on rows) rows) ≡ with_lower_bounds (kept_on (separated_table h rows)) (separated_table h rows)
     kept_in true = refl
     kept_in false = refl
 
-    same : table ≡ with_kept (kept_on (separated_table has rows)) (separated_table has rows)
-    same = own ∙ ap (separated_table has) (ap (λ o. kept_unbroken o whole rows) wide ∙ kept-test w whole rows true room) ∙ kept_in has
+    same : table ≡ with_lower_bounds (kept_on (separated_table has rows)) (separated_table has rows)
+    same = own ∙ ap (separated_table has) (ap (λ o. with_min_widths o whole rows) wide ∙ kept-test w whole rows true room) ∙ kept_in has
 
     looks : drawn ≡ record (empty_table (separated has look)) { columns = drawn.columns; header = drawn.header; rows = drawn.rows }
     looks = drawn-is (separated has look) Any content drawn (any_drawn look content false has)
@@ -206,7 +206,7 @@ room_keeps_whole w look content wide room none table widths i is_drawn arranged 
     new : AllByRecursion IsNewColumn (separated_table has rows).columns
     new = subst (λ (t : TableValue). AllByRecursion IsNewColumn t.columns) (restyled look content false (is_aligned_in look content) has) (recursion_from_All IsNewColumn _ (any_built false (is_aligned_in look content) (separated has look) content).columns)
 
-    with : drawn ≡ with_kept (kept_on (separated_table has rows)) (separated_table has rows)
+    with : drawn ≡ with_lower_bounds (kept_on (separated_table has rows)) (separated_table has rows)
     with = sym own ∙ same
 
     count : length table.columns ≡ length (separated_table has rows).columns
@@ -222,31 +222,31 @@ held true is = refl
 held false is = absurd (cc is)
 
 -- without records no column has numbers and dates alone
-none_in : (is_numbered : Bool) (columns : List DrawnColumn) (i : ℕ) → slice_get ((if is_numbered then false ∷ [] else []) ++ map (λ (column : DrawnColumn). false && column.is_unbroken) columns) i ≡ Some true → ⊥
+none_in : (is_numbered : Bool) (columns : List ColumnPlan) (i : ℕ) → slice_get ((if is_numbered then false ∷ [] else []) ++ map (λ (column : ColumnPlan). false && column.is_nowrap) columns) i ≡ Some true → ⊥
 none_in true columns zero is = cc is
 none_in true columns (suc i) is = none_in false columns i is
 none_in false [] i is = cc is
 none_in false (column ∷ columns) zero is = cc is
 none_in false (column ∷ columns) (suc i) is = none_in false columns i is
 
-none_without : (look : Look) (content : SelectedValue) → (length content.rows == 0) ≡ true → UnbrokenColumnsAreWhole look content
+none_without : (look : Look) (content : SelectedValue) → (length content.rows == 0) ≡ true → NoWrapColumnsAreWhole look content
 none_without look content empty table widths i is_drawn arranged below is =
     absurd (none_in content.is_numbered content.columns i
-    (subst (λ (b : Bool). slice_get ((if content.is_numbered then not b ∷ [] else []) ++ map (λ (column : DrawnColumn). not b && column.is_unbroken) content.columns) i ≡ Some true) empty is))
+    (subst (λ (b : Bool). slice_get ((if content.is_numbered then not b ∷ [] else []) ++ map (λ (column : ColumnPlan). not b && column.is_nowrap) content.columns) i ≡ Some true) empty is))
 
 -- under `auto` they are if records aren't expanded
-pub auto_keeps_whole : (w : ℕ) (look : Look) (content : SelectedValue) → look.is_markdown ≡ false → look.width ≡ Some w → look.expansion ≡ Auto → is_expanded_for look content ≡ false → UnbrokenColumnsAreWhole look content
+pub auto_keeps_whole : (w : ℕ) (look : Look) (content : SelectedValue) → look.is_markdown ≡ false → look.width ≡ Some w → look.expansion ≡ Auto → is_expanded_for look content ≡ false → NoWrapColumnsAreWhole look content
 auto_keeps_whole w look content table wide auto none = by_rows (length content.rows == 0) refl
   where
     rows : TableValue
     rows = rows_table look (is_aligned_in look content) content
 
     whole : List Bool
-    whole = unbroken_in content
+    whole = nowrap_in content
 
     test : is_expanded_for look content ≡ not ((length content.rows == 0) || has_room (Some w) whole rows)
     test = ap (λ m. not m && is_table_expanded look content) table ∙ ap (λ e. is_expanded_in e ((length content.rows == 0) || has_room look.width whole rows)) auto ∙ ap (λ o. not ((length content.rows == 0) || has_room o whole rows)) wide
 
-    by_rows : (b : Bool) → (length content.rows == 0) ≡ b → UnbrokenColumnsAreWhole look content
+    by_rows : (b : Bool) → (length content.rows == 0) ≡ b → NoWrapColumnsAreWhole look content
     by_rows true empty = none_without look content empty
     by_rows false some = room_keeps_whole w look content wide (held (has_room (Some w) whole rows) (ap (λ b. not (b || has_room (Some w) whole rows)) (sym some) ∙ sym test ∙ none)) none

@@ -35,8 +35,8 @@ pub mod StraightLemmas
 pub mod SummaryLemmas
 pub mod TextLineLemmas
 pub mod TextTableLemmas
-pub mod UnbrokenFieldLemmas
-pub mod UnbrokenLemmas
+pub mod NoWrapFieldLemmas
+pub mod NoWrapLemmas
 pub mod WholeColumnLemmas
 pub mod WholeRowLemmas
 pub mod WholeTableLemmas

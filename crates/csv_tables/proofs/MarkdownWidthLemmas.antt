@@ -34,7 +34,7 @@ use Rattle.csv_records.specs.Cleaning.{cleaned, visible_of}
 use Rattle.csv_tables.specs.Markdown.{is_right, rule_line, rule_part}
 use Rattle.comfy_parts.specs.declared.style.cell.CellAlignment.{CellAlignment}
 use Rattle.comfy_parts.specs.declared.style.cell.CellAlignment.TheVariants.{Right}
-use Rattle.csv_tables.specs.declared.options.DrawnColumn.{DrawnColumn}
+use Rattle.csv_tables.specs.declared.options.ColumnPlan.{ColumnPlan}
 use Rattle.csv_tables.specs.declared.options.Look.{Look}
 use Rattle.csv_tables.specs.declared.options.Layout.{Layout}
 use Rattle.csv_tables.proofs.BuiltLemmas.{Built, EachOf, each_content, names-length, row-length, plain_shown}
@@ -161,9 +161,9 @@ module _ (table : TableValue) (own : table.style ≡ markdown_style) where
 pub sides-length : (content : SelectedValue) → length (sides content) ≡ (if content.is_numbered then 1 else 0) + length content.columns
 sides-length content = by_numbers content.is_numbered
   where
-    by_numbers : (b : Bool) → length ((if b then Some Right ∷ [] else []) ++ map (λ (column : DrawnColumn). column.alignment) content.columns) ≡ (if b then 1 else 0) + length content.columns
-    by_numbers true = let own : length (map (λ (column : DrawnColumn). column.alignment) content.columns) ≡ length content.columns = length-map content.columns _ in omega (arith, own)
-    by_numbers false = let own : length (map (λ (column : DrawnColumn). column.alignment) content.columns) ≡ length content.columns = length-map content.columns _ in omega (arith, own)
+    by_numbers : (b : Bool) → length ((if b then Some Right ∷ [] else []) ++ map (λ (column : ColumnPlan). column.alignment) content.columns) ≡ (if b then 1 else 0) + length content.columns
+    by_numbers true = let own : length (map (λ (column : ColumnPlan). column.alignment) content.columns) ≡ length content.columns = length-map content.columns _ in omega (arith, own)
+    by_numbers false = let own : length (map (λ (column : ColumnPlan). column.alignment) content.columns) ≡ length content.columns = length-map content.columns _ in omega (arith, own)
 
 module _ (look : Look) (content : SelectedValue) where
   abbrev pub table : TableValue

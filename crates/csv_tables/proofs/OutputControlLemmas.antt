@@ -27,7 +27,7 @@ use Rattle.comfy_table.specs.Headline.{IsTableDrawing}
 use Rattle.comfy_table.specs.Laws.{AreLinesOf, HasNoBreak, HasNoControl, IsFreeOfControls, IsStyleWithout, unstyled}
 use Rattle.comfy_table.specs.TableValue.{TableValue, ellipsis, measured_rows, visible_cell}
 use Rattle.csv.specs.Records.{AllText}
-use Rattle.csv_tables.specs.declared.options.DrawnColumn.{DrawnColumn}
+use Rattle.csv_tables.specs.declared.options.ColumnPlan.{ColumnPlan}
 use Rattle.csv_tables.proofs.FieldControlLemmas.{field-harmless, text_fields, visible_whole}
 use Rattle.csv_tables.proofs.TextLineLemmas.{lines_without_replaced}
 use Rattle.csv_tables.proofs.WholeRowLemmas.{has_lines, text_whole}
@@ -203,7 +203,7 @@ module _ (look : Look) (is : IsHarmlessStyle look.style) (content : SelectedValu
             };
         shown =
             All-weaker AllText (EachColumn (EachLine (IsClearLine look.has_sequences) look) look is_aligned content.columns)
-            (λ fields own. All-every (λ (column : DrawnColumn). EachLine (IsClearLine look.has_sequences) look (text_in look is_aligned column fields)) content.columns
+            (λ fields own. All-every (λ (column : ColumnPlan). EachLine (IsClearLine look.has_sequences) look (text_in look is_aligned column fields)) content.columns
             (λ column. clear_field look (text_in look is_aligned column fields) (text_drawn look is_aligned column fields (text_fields fields own)))) content.rows text.rows;
       }
 

@@ -24,7 +24,7 @@ use Rattle.csv_tables.specs.Contents.{IsKept, made_by, pairs_by, rows_at, rows_l
 use Rattle.csv_tables.specs.Fields.{field_or_blank}
 use Rattle.csv_tables.specs.LazyRows.{row_by}
 use Rattle.csv_tables.specs.Markdown.{may_be_escaped}
-use Rattle.csv_tables.specs.declared.options.DrawnColumn.{DrawnColumn}
+use Rattle.csv_tables.specs.declared.options.ColumnPlan.{ColumnPlan}
 use Rattle.csv_tables.specs.declared.options.Look.{Look}
 use Rattle.csv_tables.specs.declared.rows.RecordRows.{RecordRows}
 use Rattle.csv_tables.specs.declared.rows.RowSource.{RowSource}
@@ -66,11 +66,11 @@ clean_stays look field kept utf8 clean =
 -- ---- cells
 
 -- the cell of a column
-abbrev pub cell_of_column : RecordRows → List Text → DrawnColumn → CellValue
+abbrev pub cell_of_column : RecordRows → List Text → ColumnPlan → CellValue
 cell_of_column rows fields column = cell_for rows.look column.alignment (text_in rows.look rows.is_aligned column fields)
 
 -- the cell of a column, behind that of the number
-pub cell_behind : (rows : RecordRows) (fields : List Text) (column : DrawnColumn) (at position place : ℕ) → position ≡ place + (if rows.selected.is_numbered then 1 else 0)
+pub cell_behind : (rows : RecordRows) (fields : List Text) (column : ColumnPlan) (at position place : ℕ) → position ≡ place + (if rows.selected.is_numbered then 1 else 0)
     → slice_get (columns_within fields rows.selected.columns) place ≡ Some column → slice_get (made_by rows at fields).cells position ≡ Some (cell_of_column rows fields column)
 cell_behind rows fields column at position place stands found =
     slice_get-map (λ (s : Shown). cell_for rows.look s.alignment s.text) (shown_by rows at fields) position
@@ -138,5 +138,5 @@ pub rows_begin : (rows : RecordRows) (at : ℕ) (fields : List Text)
 rows_begin rows at fields = by_kind rows.is_expanded
   where
     by_kind : (b : Bool) → rows_left rows at fields (not b) (if b then columns_within fields rows.selected.columns else []) ≡ (if b then pairs_by rows fields else made_by rows at fields ∷ [])
-    by_kind true = ap (map (λ (column : DrawnColumn). pair_for rows.look (name_at (unwrap_or rows.selected.names []) column.position) (field_or_blank fields column.position))) (held-reached fields rows.selected.columns)
+    by_kind true = ap (map (λ (column : ColumnPlan). pair_for rows.look (name_at (unwrap_or rows.selected.names []) column.position) (field_or_blank fields column.position))) (held-reached fields rows.selected.columns)
     by_kind false = refl

@@ -12,14 +12,14 @@ use Rattle.std.proofs.lemmas.List.Elements.{All-cons, All-head, All-nil, All-tai
 use Rattle.csv_tables.proofs.SpacedLemmas.{blank_text}
 use Rattle.csv_tables.specs.declared.options.Look.{Look}
 use Rattle.csv_tables.specs.Leasts.{least_position, least_positions}
-use Rattle.csv_tables.specs.declared.options.DrawnColumn.{DrawnColumn}
+use Rattle.csv_tables.specs.declared.options.ColumnPlan.{ColumnPlan}
 
 -- a column where none is
-abbrev pub no_column : DrawnColumn
-no_column = record { position = 0; alignment = None; points = None; is_unbroken = false }
+abbrev pub no_column : ColumnPlan
+no_column = record { position = 0; alignment = None; points = None; is_nowrap = false }
 
 -- what holds of columns holds of those that are reached
-pub All-reached : (P : DrawnColumn → Type 0) (fields : List Text) (columns : List DrawnColumn) → All P columns → All P (columns_within fields columns)
+pub All-reached : (P : ColumnPlan → Type 0) (fields : List Text) (columns : List ColumnPlan) → All P columns → All P (columns_within fields columns)
 All-reached P fields [] each = each
 All-reached P fields (column ∷ columns) each = by_any (list_any (has_field fields) (column ∷ columns)) refl (All-reached P fields columns (All-tail P column columns each))
   where
@@ -29,14 +29,14 @@ All-reached P fields (column ∷ columns) each = by_any (list_any (has_field fie
 
 module _ (fields : List Text) where
   -- none of the columns is held
-  none-held : (columns : List DrawnColumn) → list_any (has_field fields) columns ≡ false → held fields columns ≡ []
+  none-held : (columns : List ColumnPlan) → list_any (has_field fields) columns ≡ false → held fields columns ≡ []
   none-held [] none = refl
   none-held (column ∷ columns) none =
       let parts = or_parts (has_field fields column) (list_any (has_field fields) columns) none in
       rw parts.0 (none-held columns parts.1)
 
   -- behind those that are reached none is held
-  pub held-reached : (columns : List DrawnColumn) → held fields (columns_within fields columns) ≡ held fields columns
+  pub held-reached : (columns : List ColumnPlan) → held fields (columns_within fields columns) ≡ held fields columns
   held-reached [] = refl
   held-reached (column ∷ columns) = by_any (list_any (has_field fields) (column ∷ columns)) refl (held-reached columns)
     where
@@ -45,7 +45,7 @@ module _ (fields : List Text) where
       by_any false is rest = rw is (sym (none-held (column ∷ columns) is))
 
   -- no more than all
-  pub reached-length : (columns : List DrawnColumn) → length (columns_within fields columns) ≤ length columns
+  pub reached-length : (columns : List ColumnPlan) → length (columns_within fields columns) ≤ length columns
   reached-length [] = omega arith
   reached-length (column ∷ columns) = by_any (list_any (has_field fields) (column ∷ columns)) refl (reached-length columns)
     where
@@ -55,7 +55,7 @@ module _ (fields : List Text) where
 
   -- a column is held where the least position says so
   module _ (short : length fields < 2 ^ 64) where
-    pub held-by_least : (columns : List DrawnColumn) → list_any (has_field fields) columns ≡ nat_lt (least_position columns) (length fields)
+    pub held-by_least : (columns : List ColumnPlan) → list_any (has_field fields) columns ≡ nat_lt (least_position columns) (length fields)
     held-by_least [] = grind (arith, short)
     held-by_least (column ∷ columns) = ap (λ b. nat_lt column.position (length fields) || b) (held-by_least columns) ∙ either column.position (least_position columns) (length fields)
       where
@@ -63,23 +63,23 @@ module _ (fields : List Text) where
         either a b n = grind arith
 
 -- the least position from a column on
-pub least-at : (columns : List DrawnColumn) (k : ℕ) → k < length columns → slice_index_or (least_positions columns) k 0 ≡ least_position (drop k columns)
+pub least-at : (columns : List ColumnPlan) (k : ℕ) → k < length columns → slice_index_or (least_positions columns) k 0 ≡ least_position (drop k columns)
 least-at [] k below = absurd (omega arith)
 least-at (column ∷ columns) zero below = refl
 least-at (column ∷ columns) (suc k) below = least-at columns k (omega arith)
 
-pub leasts-length : (columns : List DrawnColumn) → length (least_positions columns) ≡ length columns
+pub leasts-length : (columns : List ColumnPlan) → length (least_positions columns) ≡ length columns
 leasts-length [] = refl
 leasts-length (column ∷ columns) = ap suc (leasts-length columns)
 
 module _ (fields : List Text) where
   -- where none is held, none is reached
-  pub none-reached : (columns : List DrawnColumn) → list_any (has_field fields) columns ≡ false → columns_within fields columns ≡ []
+  pub none-reached : (columns : List ColumnPlan) → list_any (has_field fields) columns ≡ false → columns_within fields columns ≡ []
   none-reached [] none = refl
   none-reached (column ∷ columns) none = rw none refl
 
   -- where one is held from a column on, that column is reached
-  pub reached-more : (columns : List DrawnColumn) (k : ℕ) → k < length columns → list_any (has_field fields) (drop k columns) ≡ true
+  pub reached-more : (columns : List ColumnPlan) (k : ℕ) → k < length columns → list_any (has_field fields) (drop k columns) ≡ true
       → take k columns ++ columns_within fields (drop k columns) ≡ take (suc k) columns ++ columns_within fields (drop (suc k) columns)
   reached-more [] k below some = absurd (omega arith)
   reached-more (column ∷ columns) zero below some = rw some refl
@@ -105,7 +105,7 @@ no_field (field ∷ fields) zero none = absurd (let all : nat_lt 0 (length (fiel
 no_field (field ∷ fields) (suc position) none = no_field fields position (grind (arith, none))
 
 -- a column is reached, or its field is blank
-pub reached-at : (fields : List Text) (columns : List DrawnColumn) (k : ℕ) (d : DrawnColumn) → slice_get columns k ≡ Some d
+pub reached-at : (fields : List Text) (columns : List ColumnPlan) (k : ℕ) (d : ColumnPlan) → slice_get columns k ≡ Some d
     → (slice_get (columns_within fields columns) k ≡ Some d) ⊎ ((slice_get (columns_within fields columns) k ≡ None) × (field_or_blank fields d.position ≡ []))
 reached-at fields [] k d found = absurd (cc found)
 reached-at fields (column ∷ columns) zero d found = by_any (list_any (has_field fields) (column ∷ columns)) refl
@@ -120,7 +120,7 @@ reached-at fields (column ∷ columns) zero d found = by_any (list_any (has_fiel
 reached-at fields (column ∷ columns) (suc k) d found = by_any (list_any (has_field fields) (column ∷ columns)) refl (reached-at fields columns k d found) (behind columns k found)
   where
     -- columns behind those that are reached have no field
-    behind : (columns : List DrawnColumn) (k : ℕ) → slice_get columns k ≡ Some d → list_any (has_field fields) columns ≡ false → has_field fields d ≡ false
+    behind : (columns : List ColumnPlan) (k : ℕ) → slice_get columns k ≡ Some d → list_any (has_field fields) columns ≡ false → has_field fields d ≡ false
     behind [] k found none = absurd (cc found)
     behind (column ∷ columns) zero found none =
         let parts = or_parts (has_field fields column) (list_any (has_field fields) columns) none in
@@ -138,7 +138,7 @@ reached-at fields (column ∷ columns) (suc k) d found = by_any (list_any (has_f
         rw is (inr (refl, no_field fields d.position (none parts.1)))
 
 -- what a column shows of a record
-abbrev show : Look → Bool → List Text → DrawnColumn → Shown
+abbrev show : Look → Bool → List Text → ColumnPlan → Shown
 show look is_aligned fields column = record { alignment = column.alignment; text = text_in look is_aligned column fields }
 
 -- a text at a place of some, or a blank one past their end
@@ -146,18 +146,18 @@ abbrev pub IsAt : List Shown → ℕ → Shown → Type 0
 IsAt shown k d = (slice_get shown k ≡ Some d) ⊎ ((slice_get shown k ≡ None) × (d.text ≡ []))
 
 -- a text that a row shows has a cell, or it is blank
-pub shown-at : (look : Look) (is_aligned is_numbered : Bool) (columns : List DrawnColumn) (row : ℕ × List Text) (k : ℕ) (d : Shown) → slice_get (shown_in look is_aligned is_numbered columns row) k ≡ Some d
+pub shown-at : (look : Look) (is_aligned is_numbered : Bool) (columns : List ColumnPlan) (row : ℕ × List Text) (k : ℕ) (d : Shown) → slice_get (shown_in look is_aligned is_numbered columns row) k ≡ Some d
     → IsAt (shown_in look is_aligned is_numbered (columns_within row.1 columns) row) k d
 shown-at look is_aligned true columns row zero d found = inl found
 shown-at look is_aligned true columns row (suc k) d found = shown-at look is_aligned false columns row k d found
 shown-at look is_aligned false columns row k d found = by_column (slice_get columns k) refl
   where
-    by_reached : (column : DrawnColumn) → show look is_aligned row.1 column ≡ d → (slice_get (columns_within row.1 columns) k ≡ Some column) ⊎ ((slice_get (columns_within row.1 columns) k ≡ None) × (field_or_blank row.1 column.position ≡ []))
+    by_reached : (column : ColumnPlan) → show look is_aligned row.1 column ≡ d → (slice_get (columns_within row.1 columns) k ≡ Some column) ⊎ ((slice_get (columns_within row.1 columns) k ≡ None) × (field_or_blank row.1 column.position ≡ []))
         → IsAt (shown_fields look is_aligned (columns_within row.1 columns) row.1) k d
     by_reached column same (inl some) = inl (mapped_at (show look is_aligned row.1) (columns_within row.1 columns) k column some ∙ ap (λ (s : Shown). Some s) same)
     by_reached column same (inr (none, blank)) = inr (unmapped_at (show look is_aligned row.1) (columns_within row.1 columns) k none, ap (λ (s : Shown). s.text) (sym same) ∙ blank_text look is_aligned column row.1 blank)
 
-    by_column : (o : Option DrawnColumn) → slice_get columns k ≡ o → IsAt (shown_fields look is_aligned (columns_within row.1 columns) row.1) k d
+    by_column : (o : Option ColumnPlan) → slice_get columns k ≡ o → IsAt (shown_fields look is_aligned (columns_within row.1 columns) row.1) k d
     by_column None none = absurd (let gone : ◌≡◌ {A = Option Shown} None (Some d) = sym (unmapped_at (show look is_aligned row.1) columns k none) ∙ found in cc gone)
     by_column (Some column) some =
         let both : Some (show look is_aligned row.1 column) ≡ Some d = sym (mapped_at (show look is_aligned row.1) columns k column some) ∙ found in

@@ -18,17 +18,17 @@ use Rattle.csv_tables.proofs.OutputLemmas.{text_of_table}
 use Rattle.csv_tables.specs.Cells.{held, pair_for}
 use Rattle.csv_tables.specs.Columns.{name_at}
 use Rattle.csv_tables.specs.Contents.{AreDrawnContents, drawn_next, expanded_from, fields_text, pairs_by, rows_from}
-use Rattle.csv_tables.specs.ContentsValue.{ContentsValue}
+use Rattle.csv_tables.specs.LazyTableValue.{LazyTableValue}
 use Rattle.csv_tables.specs.Drawn.{RendersAsTable, drawn_fields, record_line, record_text, some_lines, table_text}
 use Rattle.csv_tables.specs.Fields.{field_or_blank}
-use Rattle.csv_tables.specs.declared.options.DrawnColumn.{DrawnColumn}
+use Rattle.csv_tables.specs.declared.options.ColumnPlan.{ColumnPlan}
 use Rattle.csv_tables.specs.declared.options.Look.{Look}
 use Rattle.csv_tables.specs.declared.rows.RecordRows.{RecordRows}
 
 module _ (rows : RecordRows) where
   -- a record has as many rows as fields are drawn of it
   as_many : (fields : List Text) → length (pairs_by rows fields) ≡ drawn_fields rows.selected fields
-  as_many fields = length-map (held fields rows.selected.columns) (λ (column : DrawnColumn). pair_for rows.look (name_at (unwrap_or rows.selected.names []) column.position) (field_or_blank fields column.position))
+  as_many fields = length-map (held fields rows.selected.columns) (λ (column : ColumnPlan). pair_for rows.look (name_at (unwrap_or rows.selected.names []) column.position) (field_or_blank fields column.position))
 
   -- the rows behind those of the first records
   rows_behind : (at : ℕ) (records : List (List Text)) → drop (sum_by (drawn_fields rows.selected) (take at records)) (flat_map (pairs_by rows) records) ≡ flat_map (pairs_by rows) (drop at records)
@@ -74,7 +74,7 @@ module _ (rows : RecordRows) where
         (records_are (at + 1) left (place.2 ∙ ap (λ n. drop n rows.selected.rows) one))
 
 -- the text of all
-pub text_is : (contents : ContentsValue) (arranged : ArrangedValue) → arranged.table ≡ contents.table → contents.table.rows ≡ rows_from contents.rows 0 contents.rows.selected.rows
+pub text_is : (contents : LazyTableValue) (arranged : ArrangedValue) → arranged.table ≡ contents.table → contents.table.rows ≡ rows_from contents.rows 0 contents.rows.selected.rows
     → drawn_next contents.rows contents.table arranged.infos 0 true true contents.rows.selected.rows ≡ table_text contents.rows.is_expanded contents.rows.selected arranged
 text_is contents arranged same own = by_kind contents.rows.is_expanded refl
   where
@@ -101,7 +101,7 @@ text_is contents arranged same own = by_kind contents.rows.is_expanded refl
         ∙ ap (λ (t : TableValue). terminated_text_of (drawing_of_infos t arranged.infos)) (sym (all_rows_are_the_table whole count (omega arith)))
 
 -- it is the text of a table
-pub renders : (look : Look) (contents : ContentsValue) (infos : List ColumnInfo) → AreDrawnContents look contents.rows.selected contents → IsArrangedTable contents.table (record { table = contents.table; infos = infos })
+pub renders : (look : Look) (contents : LazyTableValue) (infos : List ColumnInfo) → AreDrawnContents look contents.rows.selected contents → IsArrangedTable contents.table (record { table = contents.table; infos = infos })
     → contents.table.rows ≡ rows_from contents.rows 0 contents.rows.selected.rows → RendersAsTable look contents.rows.selected (drawn_next contents.rows contents.table infos 0 true true contents.rows.selected.rows)
 renders look contents infos made arranged own =
     record {

@@ -11,7 +11,7 @@ use Rattle.comfy_parts.specs.Text.{Text, is_printable_ascii, spaces}
 use Rattle.comfy_table.specs.TableValue.{TableValue, cell_content_width}
 use Rattle.csv_tables.specs.Cells.{Shown, cell_for, columns_within, shown_fields, shown_number, text_in}
 use Rattle.csv_tables.specs.Contents.{made_by, measured_at, shown_by}
-use Rattle.csv_tables.specs.declared.options.DrawnColumn.{DrawnColumn}
+use Rattle.csv_tables.specs.declared.options.ColumnPlan.{ColumnPlan}
 use Rattle.csv_tables.specs.declared.rows.RecordRows.{RecordRows}
 
 -- ---- spaces behind a field
@@ -23,19 +23,19 @@ spaces_printable (suc n) = spaces_printable n
 -- ---- what a row shows
 
 -- behind its number stand its fields
-pub shown_behind : (rows : RecordRows) (fields : List Text) (column : DrawnColumn) (at position place : ℕ) → position ≡ place + (if rows.selected.is_numbered then 1 else 0)
+pub shown_behind : (rows : RecordRows) (fields : List Text) (column : ColumnPlan) (at position place : ℕ) → position ≡ place + (if rows.selected.is_numbered then 1 else 0)
     → slice_get (columns_within fields rows.selected.columns) place ≡ Some column
     → slice_get (shown_by rows at fields) position ≡ Some (record { alignment = column.alignment; text = text_in rows.look rows.is_aligned column fields })
 shown_behind rows fields column at position place stands found = by_number rows.selected.is_numbered stands
   where
-    drawn : List DrawnColumn
+    drawn : List ColumnPlan
     drawn = columns_within fields rows.selected.columns
 
     own : Shown
     own = record { alignment = column.alignment; text = text_in rows.look rows.is_aligned column fields }
 
     in_fields : slice_get (shown_fields rows.look rows.is_aligned drawn fields) place ≡ Some own
-    in_fields = slice_get-map (λ (d : DrawnColumn). record { alignment = d.alignment; text = text_in rows.look rows.is_aligned d fields }) drawn place ∙ ap (option_map (λ (d : DrawnColumn). record { alignment = d.alignment; text = text_in rows.look rows.is_aligned d fields })) found
+    in_fields = slice_get-map (λ (d : ColumnPlan). record { alignment = d.alignment; text = text_in rows.look rows.is_aligned d fields }) drawn place ∙ ap (option_map (λ (d : ColumnPlan). record { alignment = d.alignment; text = text_in rows.look rows.is_aligned d fields })) found
 
     by_number : (b : Bool) → position ≡ place + (if b then 1 else 0)
         → slice_get (shown_number (if b then Some (decimal (at + 1)) else None) ++ shown_fields rows.look rows.is_aligned drawn fields) position ≡ Some own
@@ -53,11 +53,11 @@ pub as_many_cells : (rows : RecordRows) (at : ℕ) (fields : List Text) → leng
 as_many_cells rows at fields =
     length-map (shown_by rows at fields) (λ (s : Shown). cell_for rows.look s.alignment s.text) ∙ by_number rows.selected.is_numbered
   where
-    drawn : List DrawnColumn
+    drawn : List ColumnPlan
     drawn = columns_within fields rows.selected.columns
 
     many : length (shown_fields rows.look rows.is_aligned drawn fields) ≡ length drawn
-    many = length-map drawn (λ (d : DrawnColumn). record { alignment = d.alignment; text = text_in rows.look rows.is_aligned d fields })
+    many = length-map drawn (λ (d : ColumnPlan). record { alignment = d.alignment; text = text_in rows.look rows.is_aligned d fields })
 
     by_number : (b : Bool) → length (shown_number (if b then Some (decimal (at + 1)) else None) ++ shown_fields rows.look rows.is_aligned drawn fields) ≡ length drawn + (if b then 1 else 0)
     by_number true = let own = many in omega (arith, own)

@@ -15,7 +15,7 @@ use Rattle.csv_tables.specs.Cells.{Shown, cells_for, counted_from, cut, has_fiel
 use Rattle.csv_tables.specs.Decimals.{has_points, spaced}
 use Rattle.csv_tables.specs.Drawn.{SelectedValue, has_room_for, headed_table, is_aligned_in, rows_table}
 use Rattle.csv_tables.specs.Fields.{field_or_blank}
-use Rattle.csv_tables.specs.declared.options.DrawnColumn.{DrawnColumn}
+use Rattle.csv_tables.specs.declared.options.ColumnPlan.{ColumnPlan}
 use Rattle.csv_tables.specs.declared.options.Look.{Look}
 
 -- ---- no spaces
@@ -35,13 +35,13 @@ spaced-blank keeps None = refl
 spaced-blank keeps (Some points) = ap spaces (ap (spaces_behind points) (unseen keeps) ∙ no_spaces points)
 
 -- so does what a column shows of it
-pub blank_text : (look : Look) (is_aligned : Bool) (column : DrawnColumn) (fields : List Text) → field_or_blank fields column.position ≡ [] → text_in look is_aligned column fields ≡ []
+pub blank_text : (look : Look) (is_aligned : Bool) (column : ColumnPlan) (fields : List Text) → field_or_blank fields column.position ≡ [] → text_in look is_aligned column fields ≡ []
 blank_text look is_aligned column fields blank =
     ap (spaced look.has_sequences (if is_aligned then column.points else None)) blank ∙ spaced-blank look.has_sequences (if is_aligned then column.points else None)
 
 -- ---- columns without marks
 
-no_points : (column : DrawnColumn) → is_some column.points ≡ false → column.points ≡ None
+no_points : (column : ColumnPlan) → is_some column.points ≡ false → column.points ≡ None
 no_points column none = by_points column.points refl none
   where
     by_points : (o : Option Points) → column.points ≡ o → is_some o ≡ false → column.points ≡ None
@@ -53,7 +53,7 @@ and_false true = refl
 and_false false = refl
 
 module _ (look : Look) where
-  same_fields : (columns : List DrawnColumn) → has_points columns ≡ false → (fields : List Text) → shown_fields look true columns fields ≡ shown_fields look false columns fields
+  same_fields : (columns : List ColumnPlan) → has_points columns ≡ false → (fields : List Text) → shown_fields look true columns fields ≡ shown_fields look false columns fields
   same_fields [] none fields = refl
   same_fields (column ∷ columns) none fields =
       let parts = or_parts (is_some column.points) (has_points columns) none in
@@ -61,7 +61,7 @@ module _ (look : Look) where
       (no_points column parts.0) (same_fields columns parts.1 fields)
 
   -- none of those that are reached has one either
-  none_reached : (fields : List Text) (columns : List DrawnColumn) → has_points columns ≡ false → has_points (columns_within fields columns) ≡ false
+  none_reached : (fields : List Text) (columns : List ColumnPlan) → has_points columns ≡ false → has_points (columns_within fields columns) ≡ false
   none_reached fields [] none = refl
   none_reached fields (column ∷ columns) none = by_any (list_any (has_field fields) (column ∷ columns)) refl (none_reached fields columns parts.1)
     where

@@ -22,7 +22,7 @@ use Rattle.comfy_table.specs.NewTables.{AreEquallyWide, IsShortRow}
 use Rattle.comfy_table.specs.Pieces.{shown_infos}
 use Rattle.comfy_table.specs.Straight.{EachCell, IsStraightTable, TextsFit}
 use Rattle.comfy_table.specs.TableValue.{TableValue, measured_rows, should_style, table_width}
-use Rattle.csv_tables.specs.declared.options.DrawnColumn.{DrawnColumn}
+use Rattle.csv_tables.specs.declared.options.ColumnPlan.{ColumnPlan}
 use Rattle.csv_tables.proofs.BuiltLemmas.{EachColumn, EachShown, each_content}
 use Rattle.csv_tables.proofs.FittingLemmas.{content_pointed, each_drawn}
 use Rattle.csv_tables.proofs.LineLemmas.{drawn, drawn_table, expansion, is_table_text, kept_setting, with_lines}
@@ -64,7 +64,7 @@ any_line look field = All-every IsAny (plain_cell (field_text look field)).text_
 
 any_content : (look : Look) (is_aligned : Bool) (content : SelectedValue) → EachShown (EachLine IsAny look) look is_aligned content
 any_content look is_aligned content =
-    record { fields = record { names = λ names is. All-every (EachLine IsAny look) names (any_line look); rows = All-every (All (EachLine IsAny look)) content.rows (λ fields. All-every (EachLine IsAny look) fields (any_line look)) }; shown = All-every (EachColumn (EachLine IsAny look) look is_aligned content.columns) content.rows (λ fields. All-every (λ (column : DrawnColumn). EachLine IsAny look (text_in look is_aligned column fields)) content.columns (λ column. any_line look (text_in look is_aligned column fields))) }
+    record { fields = record { names = λ names is. All-every (EachLine IsAny look) names (any_line look); rows = All-every (All (EachLine IsAny look)) content.rows (λ fields. All-every (EachLine IsAny look) fields (any_line look)) }; shown = All-every (EachColumn (EachLine IsAny look) look is_aligned content.columns) content.rows (λ fields. All-every (λ (column : ColumnPlan). EachLine IsAny look (text_in look is_aligned column fields)) content.columns (λ column. any_line look (text_in look is_aligned column fields))) }
 
 pub short_printable : HoldsOfShort IsShort
 short_printable text printable few = rw (measure-printable text printable) (omega (arith, few))

@@ -20,7 +20,7 @@ use Rattle.csv_tables.specs.Decimals.{is_narrow, narrow_marks}
 use Rattle.csv_tables.specs.Fields.{field_or_blank}
 use Rattle.csv_tables.specs.Kinds.{column_kind, is_number_kind, is_other_kind, joined_kind, kind_of}
 use Rattle.csv_tables.specs.Summaries.{AreSummaries, column_fields, summary_of}
-use Rattle.csv_tables.specs.Unbroken.{is_unbroken}
+use Rattle.csv_tables.specs.NoWrap.{is_nowrap}
 use Rattle.csv_tables.specs.declared.summary.ColumnSummary.{ColumnSummary}
 use Rattle.csv_tables.specs.declared.summary.FieldKind.{FieldKind}
 use Rattle.csv_tables.specs.declared.summary.FieldKind.TheVariants.{Neutral, Number, Other}
@@ -123,11 +123,11 @@ all_records all summaries until position = until.so position ∙ ap (λ rows. su
 
 -- ---- one field more
 
-same_summary : (m n : ColumnSummary) → m.kind ≡ n.kind → m.marks ≡ n.marks → m.are_unbroken ≡ n.are_unbroken → m ≡ n
-same_summary m n kind marks unbroken = ap (λ (k : FieldKind). made_of k m.marks m.are_unbroken) kind ∙ ap₂ (made_of n.kind) marks unbroken
+same_summary : (m n : ColumnSummary) → m.kind ≡ n.kind → m.marks ≡ n.marks → m.are_nowrap ≡ n.are_nowrap → m ≡ n
+same_summary m n kind marks unbroken = ap (λ (k : FieldKind). made_of k m.marks m.are_nowrap) kind ∙ ap₂ (made_of n.kind) marks unbroken
   where
     made_of : FieldKind → Option ColumnMarks → Bool → ColumnSummary
-    made_of kind marks are_unbroken = record { kind = kind; marks = marks; are_unbroken = are_unbroken }
+    made_of kind marks are_nowrap = record { kind = kind; marks = marks; are_nowrap = are_nowrap }
 
 module _ (fields : List Text) (field : Text) where
   all_with : (p : Text → Bool) (b : Bool) → p field ≡ b → list_all p (fields ++ field ∷ []) ≡ list_all p fields && b
@@ -158,7 +158,7 @@ empty_kind : kind_of [] ≡ Neutral
 unfolding chars is_neutral is_number
 empty_kind = refl
 
-empty_unbroken : is_unbroken [] ≡ true
+empty_unbroken : is_nowrap [] ≡ true
 unfolding chars
 empty_unbroken = refl
 
@@ -179,8 +179,8 @@ empty_says_nothing fields [] none = same_summary (summary_of fields) (summary_of
         ap₂ (λ (n p : Bool). if n && p then Some (marks_of (fields ++ [] ∷ [])) else None) narrow plain
         ∙ ap (λ (m : ColumnMarks). if list_all is_narrow fields && list_all is_plain fields then Some m else None) (sym (marks_stay fields))
 
-    unbroken : list_all is_unbroken (fields ++ [] ∷ []) ≡ list_all is_unbroken fields
-    unbroken = all_with fields [] is_unbroken true empty_unbroken ∙ and_true (list_all is_unbroken fields)
+    unbroken : list_all is_nowrap (fields ++ [] ∷ []) ≡ list_all is_nowrap fields
+    unbroken = all_with fields [] is_nowrap true empty_unbroken ∙ and_true (list_all is_nowrap fields)
 
 -- ---- columns that aren't of numbers
 
@@ -216,13 +216,13 @@ no_marks fields none = by_narrow (list_all is_narrow fields) (list_all is_plain 
     by_narrow true true is = absurd (cc is)
 
 pub other_stays : (fields : List Text) (field : Text) (had made : ColumnSummary) → is_other_kind had.kind ≡ true → had ≡ summary_of fields
-    → made.kind ≡ had.kind → made.marks ≡ had.marks → made.are_unbroken ≡ (had.are_unbroken && is_unbroken field)
+    → made.kind ≡ had.kind → made.marks ≡ had.marks → made.are_nowrap ≡ (had.are_nowrap && is_nowrap field)
     → made ≡ summary_of (fields ++ field ∷ [])
 other_stays fields field had made other same kind marks unbroken =
     same_summary made (summary_of (fields ++ field ∷ []))
     (kind ∙ ap (λ (s : ColumnSummary). s.kind) same ∙ is_other ∙ sym (ap (λ (b : Bool). if b then Other else if list_any (λ f. is_number_kind (kind_of f)) (fields ++ field ∷ []) then Number else Neutral) (list_any-append _ fields (field ∷ []) ∙ ap (λ (b : Bool). b || list_any (λ f. is_other_kind (kind_of f)) (field ∷ [])) any)))
     (marks ∙ ap (λ (s : ColumnSummary). s.marks) same ∙ no_marks fields (other_has_no_marks fields any) ∙ sym (no_marks (fields ++ field ∷ []) (list_all-append is_plain fields (field ∷ []) ∙ ap (λ (b : Bool). b && list_all is_plain (field ∷ [])) (other_has_no_marks fields any))))
-    (unbroken ∙ ap (λ (s : ColumnSummary). s.are_unbroken && is_unbroken field) same ∙ sym (all_with fields field is_unbroken (is_unbroken field) refl))
+    (unbroken ∙ ap (λ (s : ColumnSummary). s.are_nowrap && is_nowrap field) same ∙ sym (all_with fields field is_nowrap (is_nowrap field) refl))
   where
     any : list_any (λ f. is_other_kind (kind_of f)) fields ≡ true
     any = by_tests (list_any (λ f. is_other_kind (kind_of f)) fields) (list_any (λ f. is_number_kind (kind_of f)) fields) (sym (ap (λ (s : ColumnSummary). is_other_kind s.kind) same) ∙ other)
@@ -260,12 +260,12 @@ module _ (fields : List Text) (field : Text) where
       by_cases false false Other = refl
 
   pub number_more : (had made : ColumnSummary) → had ≡ summary_of fields → made.kind ≡ joined_kind had.kind (kind_of field)
-      → made.marks ≡ narrow_marks (fields ++ field ∷ []) → made.are_unbroken ≡ (had.are_unbroken && is_unbroken field)
+      → made.marks ≡ narrow_marks (fields ++ field ∷ []) → made.are_nowrap ≡ (had.are_nowrap && is_nowrap field)
       → made ≡ summary_of (fields ++ field ∷ [])
   number_more had made same kind marks unbroken =
       same_summary made (summary_of (fields ++ field ∷ []))
       (kind ∙ ap (λ (s : ColumnSummary). joined_kind s.kind (kind_of field)) same ∙ kind_with) marks
-      (unbroken ∙ ap (λ (s : ColumnSummary). s.are_unbroken && is_unbroken field) same ∙ sym (all_with fields field is_unbroken (is_unbroken field) refl))
+      (unbroken ∙ ap (λ (s : ColumnSummary). s.are_nowrap && is_nowrap field) same ∙ sym (all_with fields field is_nowrap (is_nowrap field) refl))
 
   -- why fields have no marks any more
   pub wide_field : is_narrow field ≡ false → narrow_marks (fields ++ field ∷ []) ≡ None

@@ -14,7 +14,7 @@ use Rattle.csv_tables.specs.Columns.{name_at}
 use Rattle.csv_tables.proofs.ReachedLemmas.{All-reached}
 use Rattle.csv_tables.specs.Drawn.{SelectedValue, pairs_in, rows_table}
 use Rattle.csv_tables.specs.declared.options.Look.{Look}
-use Rattle.csv_tables.specs.declared.options.DrawnColumn.{DrawnColumn}
+use Rattle.csv_tables.specs.declared.options.ColumnPlan.{ColumnPlan}
 
 -- P holds of each text line of a field as it is drawn
 abbrev pub EachLine : (Text → Type 0) → Look → Text → Type 0
@@ -68,7 +68,7 @@ module _ (P : Text → Type 0) (empty : P []) (look : Look) where
       rows : All (MakesRow look Q content is_aligned) (counted_from 1 content.rows)
       rows =
           All-weaker (λ (row : ℕ × List Text). EachColumn (EachLine P look) look is_aligned content.columns row.1) (MakesRow look Q content is_aligned)
-          (λ row own. makes.row _ (row_each (EachLine P look) blank short look is_aligned content.is_numbered (columns_within row.1 content.columns) row (All-reached (λ (column : DrawnColumn). EachLine P look (text_in look is_aligned column row.1)) row.1 content.columns own)))
+          (λ row own. makes.row _ (row_each (EachLine P look) blank short look is_aligned content.is_numbered (columns_within row.1 content.columns) row (All-reached (λ (column : ColumnPlan). EachLine P look (text_in look is_aligned column row.1)) row.1 content.columns own)))
           (counted_from 1 content.rows) (each_counted (EachColumn (EachLine P look) look is_aligned content.columns) 1 content.rows each.shown)
 
       -- so it does of the table of their rows
@@ -82,8 +82,8 @@ module _ (P : Text → Type 0) (empty : P []) (look : Look) where
       pairs : (fields : List Text) → All (EachLine P look) fields → All Q (pairs_in look content fields)
       pairs fields own =
           let names = unwrap_or content.names [] in
-          All-map Q (λ (column : DrawnColumn). pair_for look (name_at names column.position) (field_or_blank fields column.position)) (held fields content.columns)
-          (All-every (λ (column : DrawnColumn). Q (pair_for look (name_at names column.position) (field_or_blank fields column.position))) (held fields content.columns)
+          All-map Q (λ (column : ColumnPlan). pair_for look (name_at names column.position) (field_or_blank fields column.position)) (held fields content.columns)
+          (All-every (λ (column : ColumnPlan). Q (pair_for look (name_at names column.position) (field_or_blank fields column.position))) (held fields content.columns)
           (λ column. makes.pair (name_at names column.position) (field_or_blank fields column.position) (named content.names each.fields.names column.position) (each_field (EachLine P look) blank fields column.position own)))
 
       -- and of expanded records

@@ -13,13 +13,13 @@ use Rattle.comfy_table.proofs.BuiltTableLemmas.{IsNewColumn}
 use Rattle.comfy_table.specs.TableValue.{TableValue, column_cells, column_content_width, constrained, with_row, with_rows}
 use Rattle.comfy_table.specs.Widths.{ColumnNeeds, fixed_by_boundary, fixed_by_constraint, lower_boundary, needs_of, shown_count, without_padding}
 use Rattle.csv_tables.proofs.LeastLemmas.{least_of, lower_or_one}
-use Rattle.csv_tables.proofs.UnbrokenLemmas.{boundary-within}
+use Rattle.csv_tables.proofs.NoWrapLemmas.{boundary-within}
 use Rattle.csv_tables.specs.Cells.{held, pair_for}
 use Rattle.csv_tables.specs.Fields.{field_or_blank}
 use Rattle.csv_tables.specs.Columns.{name_at}
 use Rattle.csv_tables.specs.Drawn.{SelectedValue, empty_table, pairs_in, pairs_table}
-use Rattle.csv_tables.specs.Unbroken.{at_least, boundary_for, cell_unbroken_width, field_width, is_unbroken, unbroken_width, with_content, with_second}
-use Rattle.csv_tables.specs.declared.options.DrawnColumn.{DrawnColumn}
+use Rattle.csv_tables.specs.NoWrap.{lower_bound, boundary_for, cell_nowrap_width, field_width, is_nowrap, nowrap_width, with_content, with_second}
+use Rattle.csv_tables.specs.declared.options.ColumnPlan.{ColumnPlan}
 use Rattle.csv_tables.specs.declared.options.Look.{Look}
 
 -- ---- what columns need
@@ -50,7 +50,7 @@ needs-cons column content columns contents own more =
 
 -- columns that have at least these contents
 abbrev pub leasts_on : List ℕ → List ColumnValue → List ColumnValue
-leasts_on kept columns = constrained (map at_least kept) columns
+leasts_on kept columns = constrained (map lower_bound kept) columns
 
 -- a boundary that is fixed at once takes as much as one that isn't
 as_much : (content padding l : ℕ) → unwrap_or (fixed_by_boundary content padding (Some l)) (without_padding padding l) ≡ without_padding padding l
@@ -61,11 +61,11 @@ as_much content padding l = by_test (nat_le (content + padding) l)
     by_test false = refl
 
 module _ (table : TableValue) where
-  need : (kept needed i : ℕ) (column : ColumnValue) → max 1 kept ≤ needed → IsNewColumn column → IsNeed (needs_of table (i, record column { constraint = Some (at_least kept) })) needed
+  need : (kept needed i : ℕ) (column : ColumnValue) → max 1 kept ≤ needed → IsNewColumn column → IsNeed (needs_of table (i, record column { constraint = Some (lower_bound kept) })) needed
   need kept needed i column within new =
       let one : column.padding.0 ≡ 1 = ap (λ (x : ℕ × ℕ). x.0) new.padding in
       let other : column.padding.1 ≡ 1 = ap (λ (x : ℕ × ℕ). x.1) new.padding in
-      let takes : least_of (needs_of table (i, record column { constraint = Some (at_least kept) })) ≡ without_padding (column_padding column) (boundary_for kept) = as_much (column_content_width table i) (column_padding column) (boundary_for kept) in
+      let takes : least_of (needs_of table (i, record column { constraint = Some (lower_bound kept) })) ≡ without_padding (column_padding column) (boundary_for kept) = as_much (column_content_width table i) (column_padding column) (boundary_for kept) in
       record { padding = omega (arith, one, other); least = omega (arith, takes, one, other); most = omega (arith, takes, one, other, within, boundary-within kept) }
 
   pub needs : (kept needed : ℕ → ℕ) → ((i : ℕ) → max 1 (kept i) ≤ needed i) → (columns : List ColumnValue) (n : ℕ) → AllByRecursion IsNewColumn columns
@@ -97,7 +97,7 @@ constrained-length (first ∷ more) [] = refl
 constrained-length (first ∷ more) (column ∷ columns) = ap suc (constrained-length more columns)
 
 pub leasts-length : (kept : List ℕ) (columns : List ColumnValue) → length (leasts_on kept columns) ≡ length columns
-leasts-length kept columns = constrained-length (map at_least kept) columns
+leasts-length kept columns = constrained-length (map lower_bound kept) columns
 
 -- their paddings and their delimiter are those of new columns
 pub record IsPaddedColumn (column : ColumnValue) : Type 0 where
@@ -117,8 +117,8 @@ padded_columns (least ∷ more) (column ∷ columns) new = (record { padding = n
 -- ---- names and fields
 
 -- fields of a width are no wider than the room
-line-within : (room : ℕ) (line : Text) → unbroken_width room line ≤ room
-line-within room line = by_test (is_unbroken line) (nat_le (measure line) room) refl
+line-within : (room : ℕ) (line : Text) → nowrap_width room line ≤ room
+line-within room line = by_test (is_nowrap line) (nat_le (measure line) room) refl
   where
     by_test : (a b : Bool) → nat_le (measure line) room ≡ b → (if a && b then measure line else 0) ≤ room
     by_test true true fits = leb-true (measure line) room fits
@@ -131,7 +131,7 @@ greatest-within room f each (x ∷ xs) = let own = each x in let more = greatest
 
 pub field_width-within : (room : ℕ) (table : TableValue) → field_width room table ≤ room
 field_width-within room table =
-    greatest-within room (cell_unbroken_width room) (λ (cell : CellValue). greatest-within room (unbroken_width room) (line-within room) cell.text_lines) (column_cells table 1)
+    greatest-within room (cell_nowrap_width room) (λ (cell : CellValue). greatest-within room (nowrap_width room) (line-within room) cell.text_lines) (column_cells table 1)
 
 -- a row of two cells
 abbrev pub HasTwo : RowValue → Type 0
@@ -164,8 +164,8 @@ pairs_are_two look content =
     let names = unwrap_or content.names [] in
     All-flat_map HasTwo (pairs_in look content) content.rows
     (All-every (λ (fields : List Text). All HasTwo (pairs_in look content fields)) content.rows
-    (λ fields. All-map HasTwo (λ (column : DrawnColumn). pair_for look (name_at names column.position) (field_or_blank fields column.position)) (held fields content.columns)
-    (All-every (λ (column : DrawnColumn). HasTwo (pair_for look (name_at names column.position) (field_or_blank fields column.position))) (held fields content.columns) (λ column. refl))))
+    (λ fields. All-map HasTwo (λ (column : ColumnPlan). pair_for look (name_at names column.position) (field_or_blank fields column.position)) (held fields content.columns)
+    (All-every (λ (column : ColumnPlan). HasTwo (pair_for look (name_at names column.position) (field_or_blank fields column.position))) (held fields content.columns) (λ column. refl))))
 
 pub pairs_have_two : (look : Look) (content : SelectedValue) → length (pairs_table look content).columns ≤ 2
 pairs_have_two look content = two_at_most (flat_map (pairs_in look content) content.rows) (empty_table look) (pairs_are_two look content) (omega arith)

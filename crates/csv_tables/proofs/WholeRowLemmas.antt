@@ -28,7 +28,7 @@ use Rattle.csv_tables.specs.Cells.{Shown, cell_for, columns_within, field_text, 
 use Rattle.csv_tables.specs.Columns.{name_at}
 use Rattle.csv_tables.specs.Contents.{made_by, pairs_by, rows_at, rows_from, shown_by}
 use Rattle.csv_tables.specs.Fields.{field_or_blank}
-use Rattle.csv_tables.specs.declared.options.DrawnColumn.{DrawnColumn}
+use Rattle.csv_tables.specs.declared.options.ColumnPlan.{ColumnPlan}
 use Rattle.csv_tables.specs.declared.options.Look.{Look}
 use Rattle.csv_tables.specs.declared.rows.RecordRows.{RecordRows}
 
@@ -130,11 +130,11 @@ module _ (rows : RecordRows) where
         some_height = high rows.look rows.look.max_height;
       }
     where
-      drawn : List DrawnColumn
+      drawn : List ColumnPlan
       drawn = columns_within fields rows.selected.columns
 
-      each : All (λ (column : DrawnColumn). IsUtf8 (text_in rows.look rows.is_aligned column fields)) drawn
-      each = All-every (λ (column : DrawnColumn). IsUtf8 (text_in rows.look rows.is_aligned column fields)) drawn (λ column. text_drawn rows.look rows.is_aligned column fields utf8)
+      each : All (λ (column : ColumnPlan). IsUtf8 (text_in rows.look rows.is_aligned column fields)) drawn
+      each = All-every (λ (column : ColumnPlan). IsUtf8 (text_in rows.look rows.is_aligned column fields)) drawn (λ column. text_drawn rows.look rows.is_aligned column fields utf8)
 
       of_fields : All (λ (s : Shown). IsUtf8 s.text) (shown_fields rows.look rows.is_aligned drawn fields)
       of_fields = fields_each IsUtf8 IsUtf8-nil short_whole rows.look rows.is_aligned drawn fields each
@@ -153,8 +153,8 @@ module _ (rows : RecordRows) where
 
   pairs_whole : All IsUtf8 (unwrap_or rows.selected.names []) → (fields : List Text) → All IsUtf8 fields → All IsRow (pairs_by rows fields)
   pairs_whole names fields utf8 =
-      All-map IsRow (λ (column : DrawnColumn). pair_for rows.look (name_at (unwrap_or rows.selected.names []) column.position) (field_or_blank fields column.position)) _
-      (All-every (λ (column : DrawnColumn). IsRow (pair_for rows.look (name_at (unwrap_or rows.selected.names []) column.position) (field_or_blank fields column.position))) _
+      All-map IsRow (λ (column : ColumnPlan). pair_for rows.look (name_at (unwrap_or rows.selected.names []) column.position) (field_or_blank fields column.position)) _
+      (All-every (λ (column : ColumnPlan). IsRow (pair_for rows.look (name_at (unwrap_or rows.selected.names []) column.position) (field_or_blank fields column.position))) _
       (λ column. pair_whole (name_at (unwrap_or rows.selected.names []) column.position) (field_or_blank fields column.position)
       (each_name IsUtf8 (unwrap_or rows.selected.names []) column.position (number_each IsUtf8 IsUtf8-nil short_whole (column.position + 1)) names)
       (each_field IsUtf8 IsUtf8-nil fields column.position utf8)))

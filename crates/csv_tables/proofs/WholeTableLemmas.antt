@@ -21,10 +21,10 @@ use Rattle.comfy_table.specs.Widths.{ColumnNeeds, needs_of, shown_count, shown_n
 use Rattle.csv_tables.proofs.BuiltLemmas.{Built, plain_table}
 use Rattle.csv_tables.proofs.LeastLemmas.{least_of, steps_within}
 use Rattle.csv_tables.proofs.SeparatorLemmas.{restyled, separated}
-use Rattle.csv_tables.proofs.UnbrokenLemmas.{framed_pair, given_is_shared}
+use Rattle.csv_tables.proofs.NoWrapLemmas.{framed_pair, given_is_shared}
 use Rattle.csv_tables.proofs.WholeColumnLemmas.{AreNeeds, IsPaddedColumn, all_shown, field_width-within, leasts_on, needs, padded_columns, padded_second, pairs_have_two, second_needs}
-use Rattle.csv_tables.specs.Drawn.{SelectedValue, condensed_style, empty_table, is_aligned_in, output_table, pairs_table, rows_table, separated_table, unbroken_in}
-use Rattle.csv_tables.specs.Unbroken.{by_columns, field_width, framed_width, given_at, given_in, has_room, kept_unbroken, kept_unbroken_fields, least_width, level_in, may_break, needed_by_names, room_beside, room_for_two, shared_at, with_field_width, with_kept, with_second}
+use Rattle.csv_tables.specs.Drawn.{SelectedValue, condensed_style, empty_table, is_aligned_in, output_table, pairs_table, rows_table, separated_table, nowrap_in}
+use Rattle.csv_tables.specs.NoWrap.{by_columns, field_width, framed_width, reserved_width, given_in, has_room, with_min_widths, with_min_field_width, least_width, fair_level, may_break, needed_by_names, room_beside, room_for_two, width_at_level, with_field_width, with_lower_bounds, with_second}
 use Rattle.csv_tables.specs.declared.options.Look.{Look}
 
 -- ---- room
@@ -51,11 +51,11 @@ module _ (w : ℕ) (table : TableValue) (room : HasRoom w table) where
   wider-fits full steps widths arranged = omega (arith, framed, steps_within (room_beside_borders table w) (shown_needs table) full steps widths arranged)
 
 -- new columns that keep so much need no more than they need
-pub room_for : (w : ℕ) (kept needed : ℕ → ℕ) (table : TableValue) → ((i : ℕ) → max 1 (kept i) ≤ needed i) → AllByRecursion IsNewColumn table.columns → framed_width table.style (by_columns needed table) ≤ w → HasRoom w (with_kept (by_columns kept table) table)
+pub room_for : (w : ℕ) (kept needed : ℕ → ℕ) (table : TableValue) → ((i : ℕ) → max 1 (kept i) ≤ needed i) → AllByRecursion IsNewColumn table.columns → framed_width table.style (by_columns needed table) ≤ w → HasRoom w (with_lower_bounds (by_columns kept table) table)
 room_for w kept needed table within new fits =
     record {
       contents = by_columns needed table;
-      needs = subst (λ (ps : List (ℕ × ColumnValue)). AreNeeds (map (needs_of (with_kept (by_columns kept table) table)) ps) (by_columns needed table)) (sym (all_shown (by_columns kept table) table.columns new)) (needs (with_kept (by_columns kept table) table) kept needed within table.columns 0 new);
+      needs = subst (λ (ps : List (ℕ × ColumnValue)). AreNeeds (map (needs_of (with_lower_bounds (by_columns kept table) table)) ps) (by_columns needed table)) (sym (all_shown (by_columns kept table) table.columns new)) (needs (with_lower_bounds (by_columns kept table) table) kept needed within table.columns 0 new);
       fits = fits;
     }
 
@@ -83,17 +83,17 @@ pub still_fits : (w : ℕ) (has : Bool) (table : TableValue) (needed : List ℕ)
 still_fits w true table needed fits = fits
 still_fits w false table needed fits = omega (arith, fits, fewer_borders table.style (length needed))
 
-pub kept_separated : (has : Bool) (kept : List ℕ) (table : TableValue) → separated_table has (with_kept kept table) ≡ with_kept kept (separated_table has table)
+pub kept_separated : (has : Bool) (kept : List ℕ) (table : TableValue) → separated_table has (with_lower_bounds kept table) ≡ with_lower_bounds kept (separated_table has table)
 kept_separated true kept table = refl
 kept_separated false kept table = refl
 
 -- what columns take at the least has room for what they are given beforehand, without lines between rows too
-pub room_for_given : (w level : ℕ) (has : Bool) (whole : List Bool) (table : TableValue) → AllByRecursion IsNewColumn table.columns → least_width whole table ≤ w → HasRoom w (separated_table has (with_kept (by_columns (given_at level whole table) table) table))
+pub room_for_given : (w level : ℕ) (has : Bool) (whole : List Bool) (table : TableValue) → AllByRecursion IsNewColumn table.columns → least_width whole table ≤ w → HasRoom w (separated_table has (with_lower_bounds (by_columns (reserved_width level whole table) table) table))
 room_for_given w level has whole table new fits = by_lines has
   where
-    by_lines : (h : Bool) → HasRoom w (separated_table h (with_kept (by_columns (given_at level whole table) table) table))
-    by_lines true = room_for w (given_at level whole table) (shared_at 8 whole table) table (given_is_shared level 8 whole table) new fits
-    by_lines false = room_for w (given_at level whole table) (shared_at 8 whole table) (separated_table false table) (given_is_shared level 8 whole table) new (still_fits w false table (by_columns (shared_at 8 whole table) table) fits)
+    by_lines : (h : Bool) → HasRoom w (separated_table h (with_lower_bounds (by_columns (reserved_width level whole table) table) table))
+    by_lines true = room_for w (reserved_width level whole table) (width_at_level 8 whole table) table (given_is_shared level 8 whole table) new fits
+    by_lines false = room_for w (reserved_width level whole table) (width_at_level 8 whole table) (separated_table false table) (given_is_shared level 8 whole table) new (still_fits w false table (by_columns (width_at_level 8 whole table) table) fits)
 
 pub field_separated : (has : Bool) (field : ℕ) (table : TableValue) → separated_table has (with_field_width field table) ≡ with_field_width field (separated_table has table)
 field_separated true field table = refl
@@ -200,7 +200,7 @@ drawn_table-is look Q content true has known = by_width look.width refl
     as_many : length plain.columns ≤ 2
     as_many = pairs_have_two (separated has look) content
 
-    by_width : (o : Option ℕ) → look.width ≡ o → IsDrawn (separated has look) Q content (separated_table has (kept_unbroken_fields o pairs))
+    by_width : (o : Option ℕ) → look.width ≡ o → IsDrawn (separated has look) Q content (separated_table has (with_min_field_width o pairs))
     by_width None is = own
     by_width (Some w) is = by_test (may_break room names field) refl
       where
@@ -250,7 +250,7 @@ drawn_table-is look Q content false has known = by_width look.width refl
     plain = rows_table (separated has look) (is_aligned_in look content) content
 
     whole : List Bool
-    whole = unbroken_in content
+    whole = nowrap_in content
 
     same : plain ≡ separated_table has rows
     same = restyled look content false (is_aligned_in look content) has
@@ -265,24 +265,24 @@ drawn_table-is look Q content false has known = by_width look.width refl
         by_lines true own = own
         by_lines false own = own
 
-    by_width : (o : Option ℕ) → look.width ≡ o → IsDrawn (separated has look) Q content (separated_table has (kept_unbroken o whole rows))
+    by_width : (o : Option ℕ) → look.width ≡ o → IsDrawn (separated has look) Q content (separated_table has (with_min_widths o whole rows))
     by_width None is = own
     by_width (Some w) is = by_test (has_room (Some w) whole rows) refl
       where
         kept : List ℕ
         kept = given_in w whole rows
 
-        by_test : (b : Bool) → has_room (Some w) whole rows ≡ b → IsDrawn (separated has look) Q content (separated_table has (if b then with_kept kept rows else rows))
+        by_test : (b : Bool) → has_room (Some w) whole rows ≡ b → IsDrawn (separated has look) Q content (separated_table has (if b then with_lower_bounds kept rows else rows))
         by_test false test = own
         by_test true test =
             record {
               plain = plain;
               known = known;
               columns = leasts_on kept plain.columns;
-              is_plain = kept_separated has kept rows ∙ ap (with_kept kept) (sym same);
+              is_plain = kept_separated has kept rows ∙ ap (with_lower_bounds kept) (sym same);
               padded = padded_columns kept plain.columns (recursion_from_All IsNewColumn plain.columns known.columns);
               no_width = λ none. absurd (cc (own_width has none, is));
-              room = λ v wide. inr (subst (λ n. HasRoom n (separated_table has (with_kept kept rows))) (same_width v wide) (room_for_given w (level_in w whole rows) has whole rows new (leb-true _ w test)));
+              room = λ v wide. inr (subst (λ n. HasRoom n (separated_table has (with_lower_bounds kept rows))) (same_width v wide) (room_for_given w (fair_level w whole rows) has whole rows new (leb-true _ w test)));
             }
           where
             own_width : (b : Bool) → {o : Option ℕ} → (separated b look).width ≡ o → look.width ≡ o

@@ -13,7 +13,7 @@ use Rattle.csv_tables.specs.Fields.{field_or_blank}
 use Rattle.csv_records.specs.Cleaning.{cleaned}
 use Rattle.csv_tables.specs.Markdown.{escaped}
 use Rattle.csv_tables.specs.declared.options.Look.{Look}
-use Rattle.csv_tables.specs.declared.options.DrawnColumn.{DrawnColumn}
+use Rattle.csv_tables.specs.declared.options.ColumnPlan.{ColumnPlan}
 
 -- a text for a Markdown table
 abbrev pub marked : Text → Text
@@ -47,15 +47,15 @@ with_weight is_bold cell =
     if is_bold then record cell { attributes = cell.attributes ++ Bold ∷ [] } else cell
 
 -- a record has the field of a column
-abbrev pub has_field : List Text → DrawnColumn → Bool
+abbrev pub has_field : List Text → ColumnPlan → Bool
 has_field fields column = nat_lt column.position (length fields)
 
 -- the columns of which a record has the field
-abbrev pub held : List Text → List DrawnColumn → List DrawnColumn
+abbrev pub held : List Text → List ColumnPlan → List ColumnPlan
 held fields columns = filter (has_field fields) columns
 
 -- the columns up to the last one of these
-abbrev pub columns_within : List Text → List DrawnColumn → List DrawnColumn
+abbrev pub columns_within : List Text → List ColumnPlan → List ColumnPlan
 columns_within fields [] = []
 columns_within fields (column ∷ columns) =
     if list_any (has_field fields) (column ∷ columns)
@@ -68,15 +68,15 @@ pub record Shown : Type 0 where
   pub text : Text
 
 -- the field of a column, with what it needs where decimal marks stand below each other
-abbrev pub text_in : Look → Bool → DrawnColumn → List Text → Text
+abbrev pub text_in : Look → Bool → ColumnPlan → List Text → Text
 text_in look is_aligned column fields =
     spaced look.has_sequences (if is_aligned then column.points else None)
     (field_or_blank fields column.position)
 
 -- those of columns
-abbrev pub shown_fields : Look → Bool → List DrawnColumn → List Text → List Shown
+abbrev pub shown_fields : Look → Bool → List ColumnPlan → List Text → List Shown
 shown_fields look is_aligned columns fields =
-    map (λ (column : DrawnColumn). record {
+    map (λ (column : ColumnPlan). record {
       alignment = column.alignment;
       text = text_in look is_aligned column fields;
     }) columns
@@ -104,13 +104,13 @@ number_name [] = []
 number_name (name ∷ names) = codes "#"
 
 -- what the header shows
-abbrev pub shown_names : Look → Bool → List DrawnColumn → List Text → List Shown
+abbrev pub shown_names : Look → Bool → List ColumnPlan → List Text → List Shown
 shown_names look is_numbered columns names =
     shown_number (if is_numbered then Some (number_name names) else None)
     ++ shown_fields look false columns names
 
 -- the header's row
-abbrev pub header_for : Look → Bool → List DrawnColumn → List Text → RowValue
+abbrev pub header_for : Look → Bool → List ColumnPlan → List Text → RowValue
 header_for look is_numbered columns names =
     cells_for look look.has_bold_header (shown_names look is_numbered columns names)
 
@@ -124,12 +124,12 @@ counted_from number [] = []
 counted_from number (fields ∷ rows) = (number, fields) ∷ counted_from (number + 1) rows
 
 -- what the row of such a record shows
-abbrev pub shown_in : Look → Bool → Bool → List DrawnColumn → ℕ × List Text → List Shown
+abbrev pub shown_in : Look → Bool → Bool → List ColumnPlan → ℕ × List Text → List Shown
 shown_in look is_aligned is_numbered columns row =
     shown_number (number_of is_numbered row.0) ++ shown_fields look is_aligned columns row.1
 
 -- a record's row: it has cells up to the last of its fields
-abbrev pub row_for : Look → Bool → Bool → List DrawnColumn → ℕ × List Text → RowValue
+abbrev pub row_for : Look → Bool → Bool → List ColumnPlan → ℕ × List Text → RowValue
 row_for look is_aligned is_numbered columns row =
     cut look
     (cells_for look false (shown_in look is_aligned is_numbered (columns_within row.1 columns) row))

@@ -14,7 +14,7 @@ use Rattle.csv_tables.specs.Markdown.{is_right}
 use Rattle.csv_tables.specs.Summaries.{column_fields, summary_of}
 use Rattle.csv_tables.specs.declared.summary.ColumnSummary.{ColumnSummary}
 use Rattle.csv_records.specs.Cleaning.{visible_of}
-use Rattle.csv_tables.specs.declared.options.DrawnColumn.{DrawnColumn}
+use Rattle.csv_tables.specs.declared.options.ColumnPlan.{ColumnPlan}
 
 -- positions of columns, counted from 0: those that are drawn, in their order, and those that stand
 -- at the right and at the left
@@ -46,7 +46,7 @@ abbrev pub points_at : Option CellAlignment → Option ColumnMarks → Option Po
 points_at alignment marks = if is_right alignment then points_in marks else None
 
 -- the column at a position, whose fields say this
-abbrev pub column_at : ColumnsValue → ColumnSummary → ℕ → DrawnColumn
+abbrev pub column_at : ColumnsValue → ColumnSummary → ℕ → ColumnPlan
 column_at columns summary position =
     record {
       position = position;
@@ -56,11 +56,11 @@ column_at columns summary position =
           points_at
           (alignment_for columns.right columns.left (is_number_kind summary.kind) position)
           summary.marks;
-      is_unbroken = summary.are_unbroken;
+      is_nowrap = summary.are_nowrap;
     }
 
 -- the columns that are drawn; the rows are as they are seen
-abbrev pub drawn_columns : ColumnsValue → List (List Text) → List DrawnColumn
+abbrev pub drawn_columns : ColumnsValue → List (List Text) → List ColumnPlan
 drawn_columns columns rows =
     map (λ (p : ℕ). column_at columns (summary_of (column_fields rows p)) p) columns.drawn
 

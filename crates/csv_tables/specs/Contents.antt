@@ -7,11 +7,11 @@ use Rattle.comfy_parts.specs.Text.{Text, greatest, spaces}
 use Rattle.comfy_table.specs.Drawing.{part_of_drawing, terminated_text_of}
 use Rattle.comfy_table.specs.TableValue.{TableValue, cells_at, measured_cell}
 use Rattle.csv_tables.specs.Cells.{Shown, columns_within, is_blank, row_for, shown_in}
-use Rattle.csv_tables.specs.ContentsValue.{ContentsValue}
+use Rattle.csv_tables.specs.LazyTableValue.{LazyTableValue}
 use Rattle.csv_tables.specs.Drawn.{SelectedValue, empty_table, headed_table, is_table_expanded, output_table, pairs_of, pairs_table, record_line, rows_table, separators_in}
 use Rattle.csv_tables.specs.Markdown.{may_be_escaped}
 use Rattle.csv_tables.specs.Separators.{AreRowsSeparated}
-use Rattle.csv_tables.specs.declared.options.DrawnColumn.{DrawnColumn}
+use Rattle.csv_tables.specs.declared.options.ColumnPlan.{ColumnPlan}
 use Rattle.csv_tables.specs.declared.options.Look.{Look}
 use Rattle.csv_tables.specs.declared.rows.RecordRows.{RecordRows}
 
@@ -38,7 +38,7 @@ rows_at rows at fields =
     if rows.is_expanded then pairs_by rows fields else made_by rows at fields ∷ []
 
 -- those that are still to come: that of the whole record, or those of the fields of some columns
-abbrev pub rows_left : RecordRows → ℕ → List Text → Bool → List DrawnColumn → List RowValue
+abbrev pub rows_left : RecordRows → ℕ → List Text → Bool → List ColumnPlan → List RowValue
 rows_left rows at fields is_whole columns =
     (if is_whole then made_by rows at fields ∷ [] else [])
     ++ pairs_of rows.look columns (unwrap_or rows.selected.names []) fields
@@ -118,21 +118,21 @@ drawn_next rows table infos at is_first is_last next =
 
 -- contents are those of rows, or of expanded records
 pub record AreContentsOf (is_expanded : Bool) (look : Look) (content : SelectedValue)
-    (contents : ContentsValue) : Type 0 where
+    (contents : LazyTableValue) : Type 0 where
   pub look_is : contents.rows.look ≡ look
   pub selected_is : contents.rows.selected ≡ content
   pub expanded_is : contents.rows.is_expanded ≡ is_expanded
 
 -- contents are those of the table that is drawn, with lines between rows or without
 pub record AreDrawnAs (is_expanded : Bool) (look : Look) (content : SelectedValue)
-    (contents : ContentsValue) : Type 0 where
+    (contents : LazyTableValue) : Type 0 where
   pub are_contents : AreContentsOf is_expanded look content contents
   pub separated :
       AreRowsSeparated (separators_in is_expanded look.separators)
       (output_table is_expanded look content) contents.table
 
 -- whether expanded or not as it is wanted
-pub record AreDrawnContents (look : Look) (content : SelectedValue) (contents : ContentsValue)
+pub record AreDrawnContents (look : Look) (content : SelectedValue) (contents : LazyTableValue)
     : Type 0 where
   pub is_expanded : Bool
   pub expansion : is_expanded ≡ is_table_expanded look content

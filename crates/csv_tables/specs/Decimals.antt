@@ -7,7 +7,7 @@ use Rattle.csv_records.specs.Cleaning.{visible_of}
 use Rattle.csv_records.specs.Decimals.{is_plain, marks_of, points_for, spaces_behind}
 use Rattle.csv_records.specs.declared.decimals.ColumnMarks.{ColumnMarks}
 use Rattle.csv_records.specs.declared.decimals.Points.{Points}
-use Rattle.csv_tables.specs.declared.options.DrawnColumn.{DrawnColumn}
+use Rattle.csv_tables.specs.declared.options.ColumnPlan.{ColumnPlan}
 
 -- ---- the decimal mark of a column
 
@@ -25,8 +25,8 @@ points_in None = None
 points_in (Some marks) = points_for marks
 
 -- one of these columns has a decimal mark
-abbrev pub has_points : List DrawnColumn → Bool
-has_points columns = list_any (λ (column : DrawnColumn). is_some column.points) columns
+abbrev pub has_points : List ColumnPlan → Bool
+has_points columns = list_any (λ (column : ColumnPlan). is_some column.points) columns
 
 -- ---- fields with spaces behind them
 

@@ -25,9 +25,9 @@ use Rattle.csv_tables.specs.declared.options.Look.{Look}
 use Rattle.csv_tables.specs.declared.options.Layout.{Layout}
 use Rattle.csv_tables.specs.declared.options.RowSeparators.{RowSeparators}
 use Rattle.csv_tables.specs.declared.options.RowSeparators.TheVariants.{Styled, Needed, Never}
-use Rattle.csv_tables.specs.declared.options.DrawnColumn.{DrawnColumn}
+use Rattle.csv_tables.specs.declared.options.ColumnPlan.{ColumnPlan}
 use Rattle.csv_tables.specs.declared.selection.Selection.{Selection}
-use Rattle.csv_tables.specs.Unbroken.{has_room, kept_unbroken, kept_unbroken_fields}
+use Rattle.csv_tables.specs.NoWrap.{has_room, with_min_widths, with_min_field_width}
 
 -- ---- records
 
@@ -66,12 +66,12 @@ column_count selection records =
 pub record SelectedValue : Type 0 where
   pub names : Option (List Text)
   pub rows : List (List Text)
-  pub columns : List DrawnColumn
+  pub columns : List ColumnPlan
   pub count : Option ℕ
   pub is_numbered : Bool
 
 -- the columns that are drawn of some records
-abbrev pub columns_of : Layout → List (List Text) → List DrawnColumn
+abbrev pub columns_of : Layout → List (List Text) → List ColumnPlan
 columns_of layout records =
     drawn_columns layout.columns
     (map (seen layout.look.has_sequences) (drawn_rows layout.selection records))
@@ -105,7 +105,7 @@ empty_table look =
     }
 
 -- a table with a header of these names, where there are any
-abbrev pub headed_table : Look → Bool → List DrawnColumn → Option (List Text) → TableValue
+abbrev pub headed_table : Look → Bool → List ColumnPlan → Option (List Text) → TableValue
 headed_table look is_numbered columns None = empty_table look
 headed_table look is_numbered columns (Some names) =
     with_header (header_for look is_numbered columns names) (empty_table look)
@@ -123,9 +123,9 @@ rows_table look is_aligned content =
     (headed_table look content.is_numbered content.columns content.names)
 
 -- the fields of one record, each below the one before, beside the names of their columns
-abbrev pub pairs_of : Look → List DrawnColumn → List Text → List Text → List RowValue
+abbrev pub pairs_of : Look → List ColumnPlan → List Text → List Text → List RowValue
 pairs_of look columns names fields =
-    map (λ (column : DrawnColumn). pair_for look (name_at names column.position)
+    map (λ (column : ColumnPlan). pair_for look (name_at names column.position)
     (field_or_blank fields column.position)) (held fields columns)
 
 -- the pairs of a record, whose number stands above them
@@ -138,16 +138,16 @@ pairs_table look content =
     with_rows (flat_map (pairs_in look content) content.rows) (empty_table look)
 
 -- which columns of it hold numbers and dates alone, as that of numbers does; none without rows
-abbrev pub unbroken_in : SelectedValue → List Bool
-unbroken_in content =
+abbrev pub nowrap_in : SelectedValue → List Bool
+nowrap_in content =
     (if content.is_numbered then not (length content.rows == 0) ∷ [] else [])
-    ++ map (λ (column : DrawnColumn). not (length content.rows == 0) && column.is_unbroken)
+    ++ map (λ (column : ColumnPlan). not (length content.rows == 0) && column.is_nowrap)
     content.columns
 
 -- whether a width that is kept has room for the table of rows
 abbrev pub has_room_for : Look → SelectedValue → Bool → Bool
 has_room_for look content is_aligned =
-    has_room look.width (unbroken_in content) (rows_table look is_aligned content)
+    has_room look.width (nowrap_in content) (rows_table look is_aligned content)
 
 -- whether decimal marks stand below each other: where there is room for the spaces
 abbrev pub is_aligned_in : Look → SelectedValue → Bool
@@ -156,9 +156,9 @@ is_aligned_in look content = look.aligns_decimals && has_room_for look content t
 -- the table that is drawn, with all lines of its style: of expanded records, or of rows. Its
 -- numbers and dates aren't broken where there is room
 abbrev pub output_table : Bool → Look → SelectedValue → TableValue
-output_table true look content = kept_unbroken_fields look.width (pairs_table look content)
+output_table true look content = with_min_field_width look.width (pairs_table look content)
 output_table false look content =
-    kept_unbroken look.width (unbroken_in content)
+    with_min_widths look.width (nowrap_in content)
     (rows_table look (is_aligned_in look content) content)
 
 -- ---- lines between rows
@@ -302,7 +302,7 @@ markdown_table look content = rows_table (markdown_look look) false (markdown_co
 abbrev pub sides : SelectedValue → List (Option CellAlignment)
 sides content =
     (if content.is_numbered then Some Right ∷ [] else [])
-    ++ map (λ (column : DrawnColumn). column.alignment) content.columns
+    ++ map (λ (column : ColumnPlan). column.alignment) content.columns
 
 -- lines with another one below the first
 abbrev pub below_first : Text → List Text → List Text

@@ -14,7 +14,7 @@ use Rattle.comfy_table.specs.Straight.{EachCell}
 use Rattle.comfy_table.specs.TableValue.{TableValue}
 use Rattle.csv_tables.specs.Cells.{field_text, text_in}
 use Rattle.csv_tables.specs.Fields.{field_or_blank}
-use Rattle.csv_tables.specs.declared.options.DrawnColumn.{DrawnColumn}
+use Rattle.csv_tables.specs.declared.options.ColumnPlan.{ColumnPlan}
 use Rattle.csv_records.specs.Cleaning.{visible_of}
 use Rattle.csv_records.specs.Decimals.{byte_of, digits_in, fraction_len, points_of, spaces_behind}
 use Rattle.csv_records.specs.Number.{halves, is_neutral}
@@ -32,7 +32,7 @@ abbrev pub HasSpacesBehind : Text → Text → Type 0
 HasSpacesBehind text drawn = (n : ℕ) × (drawn ≡ text ++ spaces n)
 
 -- a column shows the field of a record, with nothing but spaces behind it
-abbrev pub SpacesAloneAreAdded : Look → Bool → DrawnColumn → List Text → Type 0
+abbrev pub SpacesAloneAreAdded : Look → Bool → ColumnPlan → List Text → Type 0
 SpacesAloneAreAdded look is_aligned column fields =
     HasSpacesBehind (field_or_blank fields column.position) (text_in look is_aligned column fields)
 

@@ -1,7 +1,7 @@
 pub mod Cells
 pub mod Columns
 pub mod Contents
-pub mod ContentsValue
+pub mod LazyTableValue
 pub mod Controls
 pub mod Decimals
 pub mod Drawn
@@ -16,4 +16,4 @@ pub mod Pieces
 pub mod References
 pub mod Separators
 pub mod Summaries
-pub mod Unbroken
+pub mod NoWrap

@@ -3,10 +3,10 @@
 use Rattle.std.specs.Prelude.{[], ◌++◌, Option, Some, None, true, drop, string_bytes}
 use Rattle.comfy_parts.specs.Text.{Text}
 use Rattle.csv_tables.specs.Contents.{drawn_next}
-use Rattle.csv_tables.specs.declared.drawn.OpenDrawing.{OpenDrawing}
+use Rattle.csv_tables.specs.declared.drawn.Remaining.{Remaining}
 
 -- what is left of a drawing
-abbrev pub rest_of : Option OpenDrawing → Text
+abbrev pub rest_of : Option Remaining → Text
 rest_of None = []
 rest_of (Some left) =
     drawn_next left.arranged.contents.rows left.arranged.contents.table left.arranged.infos

@@ -6,7 +6,7 @@ use Rattle.comfy_parts.specs.Text.{Text}
 use Rattle.csv.specs.Records.{field_at}
 use Rattle.csv_tables.specs.Decimals.{narrow_marks}
 use Rattle.csv_tables.specs.Kinds.{column_kind}
-use Rattle.csv_tables.specs.Unbroken.{is_unbroken}
+use Rattle.csv_tables.specs.NoWrap.{is_nowrap}
 use Rattle.csv_tables.specs.declared.summary.ColumnSummary.{ColumnSummary}
 
 -- the fields of a column that records have
@@ -19,7 +19,7 @@ summary_of fields =
     record {
       kind = column_kind fields;
       marks = narrow_marks fields;
-      are_unbroken = list_all is_unbroken fields;
+      are_nowrap = list_all is_nowrap fields;
     }
 
 -- summaries of columns, by their positions; past the list no field is there

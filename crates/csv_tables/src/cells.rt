@@ -17,7 +17,7 @@ ghost use Rattle.csv_tables.specs.Decimals.{spaced};
 use crate::columns::name_or_number;
 use crate::decimals::{spaces_after, with_spaces};
 use crate::markdown::{escaped, may_be_escaped};
-use crate::options::{DrawnColumn, Look};
+use crate::options::{ColumnPlan, Look};
 use comfy_parts::for_tables::printable_cell;
 use comfy_parts::style::{Attribute, CellAlignment};
 use comfy_parts::{Cell, Cells, IntoRow, Result, Row};
@@ -57,7 +57,7 @@ pub(crate) fn row_cell<'r>(
 pub(crate) fn field_cell<'r>(
     alloc: Global,
     field: &'r str,
-    column: &DrawnColumn,
+    column: &ColumnPlan,
     is_aligned: bool,
     look: &Look,
 ) -> Result<RowCell<'r>>
@@ -75,7 +75,7 @@ pub(crate) fn push_field<'r>(
     cells: &mut Vec<RowCell<'r>>,
     alloc: Global,
     field: &'r str,
-    column: &DrawnColumn,
+    column: &ColumnPlan,
     is_aligned: bool,
     look: &Look,
 ) -> Result<()>
@@ -137,7 +137,7 @@ pub(crate) fn push_name<'r>(
 fn spaces_of(
     alloc: Global,
     field: &str,
-    column: &DrawnColumn,
+    column: &ColumnPlan,
     is_aligned: bool,
     look: &Look,
 ) -> std::result::Result<usize, AllocError>
@@ -238,7 +238,7 @@ pub fn header_of(
     alloc: Global,
     is_numbered: bool,
     names: &Record<'_>,
-    columns: &[DrawnColumn],
+    columns: &[ColumnPlan],
     look: &Look,
 ) -> Result<Row>
     ensures { IfOk result (λ row. row
@@ -264,7 +264,7 @@ fn add_names(
     alloc: Global,
     row: &mut Row,
     names: &Record<'_>,
-    columns: &[DrawnColumn],
+    columns: &[ColumnPlan],
     look: &Look,
 ) -> Result<()>
     ensures { OnOk result (row.new ≡ record row.old {

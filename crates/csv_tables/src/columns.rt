@@ -7,7 +7,7 @@ ghost use Rattle.csv_records.specs.Cleaning.{visible_of};
 ghost use Rattle.csv_tables.specs.Columns.{alignment_for, column_at, drawn_columns, name_at, name_or_number, points_at, seen};
 
 use crate::markdown::is_right;
-use crate::options::DrawnColumn;
+use crate::options::ColumnPlan;
 use crate::selection::Columns;
 use crate::summary::{ColumnSummary, FieldKind, summaries_of, summary_at};
 use comfy_parts::content_split::visible_text;
@@ -22,7 +22,7 @@ pub(crate) fn drawn_columns(
     columns: &Columns,
     rows: &Rows<'_>,
     has_sequences: bool,
-) -> Result<Vec<DrawnColumn>, AllocError>
+) -> Result<Vec<ColumnPlan>, AllocError>
     ensures { IfOk result (λ drawn. drawn.items
         ≡ drawn_columns columns.now (map (seen has_sequences) rows.now)) }
 {
@@ -36,16 +36,16 @@ pub(crate) fn drawn_columns(
 }
 
 // The column at a position.
-fn drawn_column(position: usize, columns: &Columns, summary: ColumnSummary) -> DrawnColumn
+fn drawn_column(position: usize, columns: &Columns, summary: ColumnSummary) -> ColumnPlan
     ensures { result ≡ column_at columns.now summary position }
 {
     let has_numbers = matches!(summary.kind, FieldKind::Number);
     let alignment = alignment_of(position, columns.right(), columns.left(), has_numbers);
-    DrawnColumn {
+    ColumnPlan {
         position,
         alignment,
         points: points_at(alignment, summary.marks),
-        is_unbroken: summary.are_unbroken,
+        is_nowrap: summary.are_nowrap,
     }
 }
 

@@ -6,7 +6,7 @@ ghost use Rattle.csv_tables.specs.Decimals.{has_points, is_narrow, spaced};
 ghost use Rattle.comfy_parts.specs.Text.{spaces};
 
 use crate::columns::seen_text;
-use crate::options::DrawnColumn;
+use crate::options::ColumnPlan;
 use comfy_parts::content_split::is_printable;
 use csv_records::Points;
 use std::alloc::{AllocError, Global};
@@ -23,7 +23,7 @@ pub(crate) fn is_narrow(field: &str) -> bool
 }
 
 /// Whether one of these columns has a decimal mark.
-pub(crate) fn has_points(columns: &[DrawnColumn]) -> bool
+pub(crate) fn has_points(columns: &[ColumnPlan]) -> bool
     ensures { result ≡ has_points columns.now }
 {
     columns.iter().any(|column| column.points.is_some())

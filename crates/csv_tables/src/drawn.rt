@@ -8,10 +8,10 @@ ghost use Rattle.csv_tables.specs.Contents.{drawn_next, expanded_from, fields_te
 ghost use Rattle.csv_tables.specs.Pieces.{rest_of};
 ghost use Rattle.devices.specs.Pieces.{text_left};
 
-use crate::contents::RowContents;
 use crate::expanded::push_record_line;
+use crate::lazy_table::LazyTable;
 use crate::rows::LazyRows;
-use comfy_table::{ArrangedTable, Extent, Result, RowCell, RowWriter};
+use comfy_table::{ArrangedTable, PartEnds, Result, RowCell, RowWriter};
 use csv_records::Rows;
 use devices::Pieces;
 use std::alloc::{AllocError, Global};
@@ -24,14 +24,14 @@ const RECORDS: usize = 256;
 /// The drawing of some records. It is made piece by piece, so that it needs memory for few records
 /// at a time.
 #[derive(Drop)]
-pub struct DrawnRecords {
+pub struct RecordDrawing {
     // the next piece, which is made before it is asked for: memory runs out only before a piece
     ready: Option<String>,
     // what comes behind it
-    rest: Option<OpenDrawing>,
+    rest: Option<Remaining>,
 }
 
-impl Model for DrawnRecords {
+impl Model for RecordDrawing {
     ghost use Rattle.std.specs.Prelude.{◌≡◌, ◌<◌, ◌≤◌, ◌++◌, [], ℕ, List, IfNone, IfSome, length, string_bytes};
     ghost use Rattle.csv_tables.specs.Pieces.{rest_of};
     ghost use Rattle.devices.specs.Pieces.{text_left};
@@ -45,35 +45,35 @@ impl Model for DrawnRecords {
     ghost view = { λ d. text_left d.ready ++ rest_of d.rest };
 }
 
-impl DrawnRecords {
+impl RecordDrawing {
     /// The drawing of nothing.
-    pub fn nothing() -> DrawnRecords
+    pub fn nothing() -> RecordDrawing
         ensures { result ≡ [] }
     {
-        DrawnRecords {
+        RecordDrawing {
             ready: None,
             rest: None,
         }
     }
 
     /// The drawing that begins with this text, of records of which none is drawn yet.
-    pub(crate) fn of_records(beginning: String, left: OpenDrawing) -> Result<DrawnRecords>
+    pub(crate) fn of_records(beginning: String, left: Remaining) -> Result<RecordDrawing>
         requires { left.place ≡ 0 }
         ensures { IfOk result (λ drawn. drawn
             ≡ string_bytes beginning ++ rest_of (Some left)) }
     {
         if beginning.is_empty() {
             let (ready, rest) = piece_of(Some(left))?;
-            return Ok(DrawnRecords { ready, rest });
+            return Ok(RecordDrawing { ready, rest });
         }
-        Ok(DrawnRecords {
+        Ok(RecordDrawing {
             ready: Some(beginning),
             rest: Some(left),
         })
     }
 }
 
-impl Pieces for DrawnRecords {
+impl Pieces for RecordDrawing {
     ghost rest = { λ drawn. drawn };
 
     ghost is_whole = { false };
@@ -93,8 +93,8 @@ impl Pieces for DrawnRecords {
 
 /// Records that are drawn one after another, and the note that is written after them.
 #[derive(Drop)]
-pub(crate) struct OpenDrawing {
-    pub arranged: ArrangedTable<RowContents>,
+pub(crate) struct Remaining {
+    pub arranged: ArrangedTable<LazyTable>,
     // the record that is drawn next
     pub place: usize,
     // whether what stands above the records is drawn with it
@@ -103,7 +103,7 @@ pub(crate) struct OpenDrawing {
 }
 
 // The next piece of a drawing, and what comes behind it.
-fn piece_of(rest: Option<OpenDrawing>) -> Result<(Option<String>, Option<OpenDrawing>)>
+fn piece_of(rest: Option<Remaining>) -> Result<(Option<String>, Option<Remaining>)>
     requires { IfSome rest (λ left.
         left.place ≤ length left.arranged.contents.rows.selected.rows) }
     ensures all { IfOk result (λ x. rest_of rest ≡ text_left x.0 ++ rest_of x.1) }
@@ -125,7 +125,7 @@ fn piece_of(rest: Option<OpenDrawing>) -> Result<(Option<String>, Option<OpenDra
 
 // Appends the lines of the next records, and after the last one the note. Returns the rest of the
 // drawing.
-fn push_next(left: OpenDrawing, text: &mut String) -> Result<Option<OpenDrawing>>
+fn push_next(left: Remaining, text: &mut String) -> Result<Option<Remaining>>
     requires { left.place ≤ length left.arranged.contents.rows.selected.rows }
     ensures text { IfOk result (λ rest. string_bytes text.old ++ rest_of (Some left)
         ≡ string_bytes text.new ++ rest_of rest) }
@@ -134,7 +134,7 @@ fn push_next(left: OpenDrawing, text: &mut String) -> Result<Option<OpenDrawing>
         × (length more.arranged.contents.rows.selected.rows
         ≡ length left.arranged.contents.rows.selected.rows))) }
 {
-    let OpenDrawing {
+    let Remaining {
         arranged,
         place,
         is_first,
@@ -144,13 +144,13 @@ fn push_next(left: OpenDrawing, text: &mut String) -> Result<Option<OpenDrawing>
     let next = rows.first_rows(RECORDS);
     let count = next.len();
     let is_last = count == rows.len();
-    let extent = Extent { is_first, is_last };
+    let extent = PartEnds { is_first, is_last };
     push_records(text, &arranged, place, &next, extent)?;
     if is_last {
         text.push_str(note.as_str())?;
         return Ok(None);
     }
-    Ok(Some(OpenDrawing {
+    Ok(Some(Remaining {
         arranged,
         place: place + count,
         is_first: false,
@@ -161,10 +161,10 @@ fn push_next(left: OpenDrawing, text: &mut String) -> Result<Option<OpenDrawing>
 /// Appends the lines of the next records, the first of which is at a place.
 pub(crate) fn push_records(
     text: &mut String,
-    arranged: &ArrangedTable<RowContents>,
+    arranged: &ArrangedTable<LazyTable>,
     place: usize,
     next: &Rows<'_>,
-    extent: Extent,
+    extent: PartEnds,
 ) -> Result<()>
     requires { place + length next.now < 2 ^ 64 }
     ensures { OnOk result (string_bytes text.new ≡ string_bytes text.old
@@ -181,10 +181,10 @@ pub(crate) fn push_records(
 // Appends the lines of the rows of some records, the first of which is at a place.
 fn push_rows(
     text: &mut String,
-    arranged: &ArrangedTable<RowContents>,
+    arranged: &ArrangedTable<LazyTable>,
     place: usize,
     next: &Rows<'_>,
-    extent: Extent,
+    extent: PartEnds,
 ) -> Result<()>
     requires rows { arranged.now.contents.rows.is_expanded ≡ false }
     requires places { place + length next.now < 2 ^ 64 }
@@ -203,7 +203,7 @@ fn push_rows(
         at += 1;
         is_first = false;
     }
-    let end = Extent {
+    let end = PartEnds {
         is_first,
         is_last: extent.is_last,
     };
@@ -213,7 +213,7 @@ fn push_rows(
 // Appends some expanded records, the first of which is at a place.
 fn push_expanded(
     text: &mut String,
-    arranged: &ArrangedTable<RowContents>,
+    arranged: &ArrangedTable<LazyTable>,
     place: usize,
     next: &Rows<'_>,
 ) -> Result<()>
@@ -259,7 +259,7 @@ fn push_fields<'r>(
     if is_first {
         return Ok(());
     }
-    let end = Extent {
+    let end = PartEnds {
         is_first: false,
         is_last: true,
     };

@@ -6,13 +6,13 @@ ghost use Rattle.comfy_parts.specs.Text.{Text};
 ghost use Rattle.csv_tables.specs.Laws.{FittingOutputIsStraight, MarkdownOutputIsStraight, MarksStandBelow, NarrowOutputIsStraight, SpacesAloneAreAdded, WholeOutputIsStraight};
 ghost use Rattle.csv_tables.specs.declared.options.Look.{Look};
 ghost use Rattle.csv_tables.specs.declared.options.Layout.{Layout};
-ghost use Rattle.csv_tables.specs.declared.options.DrawnColumn.{DrawnColumn};
+ghost use Rattle.csv_tables.specs.declared.options.ColumnPlan.{ColumnPlan};
 
 /// Decimal marks stand below each other, by spaces alone. A column shows the fields of records with
 /// nothing but spaces behind them. In a column with a decimal mark the fraction of each field is as
 /// long with its spaces, so all marks are as far from the right side.
 pub fn decimal_marks_stand_below_each_other()
-    ensures spaces { (look : Look) (is_aligned : Bool) (column : DrawnColumn)
+    ensures spaces { (look : Look) (is_aligned : Bool) (column : ColumnPlan)
         (fields : List Text)
         → SpacesAloneAreAdded look is_aligned column fields }
     ensures marks { (fields : List Text) → MarksStandBelow fields }

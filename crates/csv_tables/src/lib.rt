@@ -4,12 +4,13 @@
 
 mod cells;
 mod columns;
-mod contents;
 mod decimals;
 mod drawn;
 mod expanded;
 pub mod laws;
+mod lazy_table;
 mod markdown;
+mod nowrap;
 mod options;
 mod output;
 mod references;
@@ -19,11 +20,10 @@ mod selection;
 mod separators;
 mod summary;
 mod table;
-mod unbroken;
 
 pub use columns::name_at;
-pub use drawn::DrawnRecords;
+pub use drawn::RecordDrawing;
 pub use markdown::escaped;
-pub use options::{DrawnColumn, Expansion, Layout, Look, RowSeparators};
+pub use options::{ColumnPlan, Expansion, Layout, Look, RowSeparators};
 pub use output::{drawn_records, output_of_records, text_of_records};
 pub use selection::{Columns, Selection};

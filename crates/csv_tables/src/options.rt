@@ -79,7 +79,7 @@ pub enum Expansion {
 
 /// A column that is drawn.
 #[derive(Clone, Copy, Debug)]
-pub struct DrawnColumn {
+pub struct ColumnPlan {
     /// The position of its field in a record, counted from 0.
     pub position: usize,
     /// The alignment of its cells, where it isn't that of the table.
@@ -87,5 +87,5 @@ pub struct DrawnColumn {
     /// The decimal mark of its fields, where these stand at the right and have one.
     pub points: Option<Points>,
     /// Whether its fields are numbers and dates alone, which aren't broken.
-    pub is_unbroken: bool,
+    pub is_nowrap: bool,
 }

@@ -9,21 +9,21 @@ ghost use Rattle.comfy_table.specs.TableValue.{max_content_widths};
 ghost use Rattle.comfy_table.specs.Parts.{IsArrangedTable};
 ghost use Rattle.csv_tables.specs.Markdown.{rule_line};
 ghost use Rattle.csv_tables.specs.Contents.{AreContentsOf, AreDrawnAs, AreDrawnContents, rows_from};
-ghost use Rattle.csv_tables.specs.Drawn.{RendersAnyRecords, RendersAsMarkdown, RendersRecords, are_more, below_first, note_text, has_room_for, is_aligned_in, note_for, output_table, rows_table, sides, unbroken_in};
-ghost use Rattle.csv_tables.specs.Unbroken.{kept_unbroken};
+ghost use Rattle.csv_tables.specs.Drawn.{RendersAnyRecords, RendersAsMarkdown, RendersRecords, are_more, below_first, note_text, has_room_for, is_aligned_in, note_for, output_table, rows_table, sides, nowrap_in};
+ghost use Rattle.csv_tables.specs.NoWrap.{with_min_widths};
 
-use crate::contents::RowContents;
 use crate::decimals::has_points;
-use crate::drawn::{DrawnRecords, OpenDrawing, push_records};
+use crate::drawn::{RecordDrawing, Remaining, push_records};
 use crate::expanded::is_expanded;
+use crate::lazy_table::LazyTable;
 use crate::markdown::push_rule;
+use crate::nowrap::{keep_nowrap, keep_nowrap_fields};
 use crate::options::{Expansion, Layout, Look};
 use crate::rows::RecordRows;
 use crate::selected::SelectedRecords;
 use crate::separators::{separate_fields, separate_rows};
 use crate::table::markdown_look;
-use crate::unbroken::{keep_unbroken, keep_unbroken_fields};
-use comfy_table::{ArrangedTable, Extent, Result};
+use comfy_table::{ArrangedTable, PartEnds, Result};
 use csv_records::Records;
 use devices::joined;
 use std::alloc::{AllocError, Global};
@@ -36,7 +36,7 @@ pub fn drawn_records(
     records: Records,
     count: Option<usize>,
     layout: &Layout,
-) -> Result<DrawnRecords>
+) -> Result<RecordDrawing>
     ensures { IfOk result (λ drawn. RendersRecords count layout.now records drawn) }
 {
     let look = &layout.look;
@@ -45,13 +45,13 @@ pub fn drawn_records(
     if look.is_markdown {
         return markdown_records(selected, look, note);
     }
-    let left = OpenDrawing {
+    let left = Remaining {
         arranged: arranged_contents(drawn_contents(selected, look)?)?,
         place: 0,
         is_first: true,
         note,
     };
-    DrawnRecords::of_records(String::new(alloc), left)
+    RecordDrawing::of_records(String::new(alloc), left)
 }
 
 /// The text of that drawing.
@@ -82,7 +82,7 @@ pub fn output_of_records(alloc: Global, records: Records, layout: &Layout) -> Re
 }
 
 // The table that is drawn of records, with the widths of its columns.
-fn arranged_contents(contents: RowContents) -> Result<ArrangedTable<RowContents>>
+fn arranged_contents(contents: LazyTable) -> Result<ArrangedTable<LazyTable>>
     ensures contents { IfOk result (λ arranged. arranged.contents ≡ contents) }
     ensures rows { contents.table.rows
         ≡ rows_from contents.rows 0 contents.rows.selected.rows }
@@ -95,7 +95,7 @@ fn arranged_contents(contents: RowContents) -> Result<ArrangedTable<RowContents>
 }
 
 // What is drawn of records: a table of rows, or of expanded records.
-fn drawn_contents(selected: SelectedRecords, look: &Look) -> Result<RowContents>
+fn drawn_contents(selected: SelectedRecords, look: &Look) -> Result<LazyTable>
     ensures { IfOk result (λ contents. AreDrawnContents look.now selected contents) }
 {
     // The table of rows isn't needed to see this.
@@ -113,62 +113,62 @@ fn drawn_contents(selected: SelectedRecords, look: &Look) -> Result<RowContents>
 
 // The table of rows, with decimal points below each other where there is room for that, and whether
 // there is room for the table.
-fn fitting_contents(selected: SelectedRecords, look: &Look) -> Result<(RowContents, bool)>
+fn fitting_contents(selected: SelectedRecords, look: &Look) -> Result<(LazyTable, bool)>
     ensures table { IfOk result (λ x. x.0.table ≡ output_table false look.now selected) }
     ensures rows { IfOk result (λ x. AreContentsOf false look.now selected x.0) }
     ensures has_room { IfOk result (λ x. x.1
         ≡ has_room_for look.now selected (is_aligned_in look.now selected)) }
 {
     let is_aligned = look.aligns_decimals && has_points(selected.columns.as_slice());
-    let (contents, has_room) = unbroken_contents(selected, is_aligned, look)?;
+    let (contents, has_room) = nowrap_contents(selected, is_aligned, look)?;
     if has_room || !is_aligned {
         return Ok((contents, has_room));
     }
-    unbroken_contents(contents.into_selected(), false, look)
+    nowrap_contents(contents.into_selected(), false, look)
 }
 
 // The table of rows, with decimal points below each other or not, and whether there is room for it.
-fn unbroken_contents(
+fn nowrap_contents(
     selected: SelectedRecords,
     is_aligned: bool,
     look: &Look,
-) -> Result<(RowContents, bool)>
-    ensures table { IfOk result (λ x. x.0.table ≡ kept_unbroken look.now.width
-        (unbroken_in selected) (rows_table look.now is_aligned selected)) }
+) -> Result<(LazyTable, bool)>
+    ensures table { IfOk result (λ x. x.0.table ≡ with_min_widths look.now.width
+        (nowrap_in selected) (rows_table look.now is_aligned selected)) }
     ensures rows { IfOk result (λ x. AreContentsOf false look.now selected x.0) }
     ensures has_room { IfOk result (λ x. x.1 ≡ has_room_for look.now selected is_aligned) }
 {
-    let mut contents = RowContents::new(RecordRows {
+    let mut contents = LazyTable::new(RecordRows {
         selected,
         look: *look,
         is_expanded: false,
         is_aligned,
     })?;
-    let has_room = keep_unbroken(&mut contents)?;
+    let has_room = keep_nowrap(&mut contents)?;
     Ok((contents, has_room))
 }
 
 // The table of expanded records.
-fn expanded_contents(selected: SelectedRecords, look: &Look) -> Result<RowContents>
+fn expanded_contents(selected: SelectedRecords, look: &Look) -> Result<LazyTable>
     ensures { IfOk result (λ contents. AreDrawnAs true look.now selected contents) }
 {
-    let mut contents = RowContents::new(RecordRows {
+    let mut contents = LazyTable::new(RecordRows {
         selected,
         look: *look,
         is_expanded: true,
         is_aligned: false,
     })?;
-    keep_unbroken_fields(&mut contents)?;
+    keep_nowrap_fields(&mut contents)?;
     separate_fields(&mut contents, look.separators);
     Ok(contents)
 }
 
 // The drawing of a table for Markdown, which begins with its header.
-fn markdown_records(selected: SelectedRecords, look: &Look, note: String) -> Result<DrawnRecords>
+fn markdown_records(selected: SelectedRecords, look: &Look, note: String) -> Result<RecordDrawing>
     ensures { IfOk result (λ drawn. (text : Text) × RendersAsMarkdown look.now selected text
         × (drawn ≡ text ++ string_bytes note)) }
 {
-    let contents = RowContents::new(RecordRows {
+    let contents = LazyTable::new(RecordRows {
         selected: selected.with_header(),
         look: markdown_look(*look),
         is_expanded: false,
@@ -176,17 +176,17 @@ fn markdown_records(selected: SelectedRecords, look: &Look, note: String) -> Res
     })?;
     let arranged = arranged_contents(contents)?;
     let beginning = markdown_beginning(&arranged)?;
-    let left = OpenDrawing {
+    let left = Remaining {
         arranged,
         place: 0,
         is_first: false,
         note,
     };
-    DrawnRecords::of_records(beginning, left)
+    RecordDrawing::of_records(beginning, left)
 }
 
 // The header of a table for Markdown, with the line below it.
-fn markdown_beginning(arranged: &ArrangedTable<RowContents>) -> Result<String>
+fn markdown_beginning(arranged: &ArrangedTable<LazyTable>) -> Result<String>
     requires { arranged.now.contents.rows.is_expanded ≡ false }
     ensures { IfOk result (λ text. All HasNoBreak
         (part_of_drawing arranged.now.contents.table arranged.now.infos true false [])
@@ -199,7 +199,7 @@ fn markdown_beginning(arranged: &ArrangedTable<RowContents>) -> Result<String>
     let selected = &contents.rows.selected;
     let mut header = String::new(selected.alloc);
     let none = selected.rows().first_rows(0);
-    let above = Extent {
+    let above = PartEnds {
         is_first: true,
         is_last: false,
     };
@@ -208,7 +208,7 @@ fn markdown_beginning(arranged: &ArrangedTable<RowContents>) -> Result<String>
 }
 
 // The lines of a header, with the line below it.
-fn with_rule(contents: &RowContents, header: &str) -> Result<String>
+fn with_rule(contents: &LazyTable, header: &str) -> Result<String>
     ensures { IfOk result (λ text. (lines : List Text) → All HasNoBreak lines
         → header.now ≡ terminated_text_of lines → string_bytes text ≡ terminated_text_of
         (below_first (rule_line (sides contents.now.rows.selected)
@@ -221,7 +221,7 @@ fn with_rule(contents: &RowContents, header: &str) -> Result<String>
 }
 
 // The same where the header's first line and the lines below it are known.
-fn with_rule_between(contents: &RowContents, first: &str, below: &str) -> Result<String>
+fn with_rule_between(contents: &LazyTable, first: &str, below: &str) -> Result<String>
     ensures { IfOk result (λ text. string_bytes text ≡ first.now
         ++ 0x0A ∷ (rule_line (sides contents.now.rows.selected)
         (max_content_widths contents.now.table) ++ 0x0A ∷ below.now)) }

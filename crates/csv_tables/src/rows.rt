@@ -15,18 +15,18 @@ ghost use Rattle.csv_tables.specs.Columns.{name_at, name_or_number};
 ghost use Rattle.csv_tables.specs.Contents.{greatest_at, headed_by, made_by, measured_at, most_cells, rows_at};
 ghost use Rattle.csv_tables.specs.Drawn.{pairs_of};
 ghost use Rattle.csv_tables.specs.LazyRows.{IsFlat};
-ghost use Rattle.csv_tables.specs.Unbroken.{cell_unbroken_width};
+ghost use Rattle.csv_tables.specs.NoWrap.{cell_nowrap_width};
 ghost use Rattle.csv_tables.specs.declared.options.Look.{Look};
 
 use crate::cells::{
     field_cell, name_cell, number_cell, push_field, push_name, push_text, row_cell,
 };
-use crate::options::{DrawnColumn, Look};
+use crate::nowrap::cell_nowrap_width;
+use crate::options::{ColumnPlan, Look};
 use crate::selected::SelectedRecords;
 use crate::table::empty_table;
-use crate::unbroken::cell_unbroken_width;
 use comfy_parts::content_split::ColumnDisplayInfo;
-use comfy_table::{Extent, Result, RowCell, RowWriter, Table};
+use comfy_table::{PartEnds, Result, RowCell, RowWriter, Table};
 use csv_records::Record;
 use std::alloc::{AllocError, Global};
 use std::marker::Model;
@@ -70,7 +70,7 @@ impl RecordRows {
     pub fn rows_of<'c, 'r>(&'r self, at: usize, fields: &'c Record<'r>) -> LazyRows<'c, 'r>
         ensures { result ≡ rows_at self.now at fields.now }
     {
-        let columns: &'r [DrawnColumn] = if self.is_expanded {
+        let columns: &'r [ColumnPlan] = if self.is_expanded {
             self.selected.columns_within(fields)
         } else {
             &[]
@@ -138,7 +138,7 @@ impl RecordRows {
 
     /// The width of the widest number or date that has room, among the cells at a position of the
     /// rows of the record at a place, in terminal columns, or 0.
-    pub fn unbroken_width(
+    pub fn nowrap_width(
         &self,
         table: &Table,
         at: usize,
@@ -147,12 +147,12 @@ impl RecordRows {
         room: u16,
     ) -> Result<u16>
         ensures value { IfOk result (λ width. width ≡ greatest_at table.now
-            (cell_unbroken_width room) (rows_at self.now at fields.now) position) }
+            (cell_nowrap_width room) (rows_at self.now at fields.now) position) }
         ensures within { IfOk result (λ width. width ≤ room) }
     {
         let mut widest = 0;
         for row in self.rows_of(at, fields) {
-            widest = row.unbroken_width(table, position, room)?.max(widest);
+            widest = row.nowrap_width(table, position, room)?.max(widest);
         }
         Ok(widest)
     }
@@ -164,7 +164,7 @@ impl RecordRows {
 
     // How many cells the row of a record with these columns has.
     #[inline(always)]
-    fn cell_count(&self, columns: &[DrawnColumn]) -> usize
+    fn cell_count(&self, columns: &[ColumnPlan]) -> usize
         ensures { result
             ≡ length columns.now + (if self.now.selected.is_numbered then 1 else 0) }
     {
@@ -178,7 +178,7 @@ impl RecordRows {
         &'r self,
         at: usize,
         fields: &Record<'r>,
-        columns: &[DrawnColumn],
+        columns: &[ColumnPlan],
         position: usize,
     ) -> Result<RowCell<'r>>
         requires columns { columns.now ≡ columns_within fields.now self.now.selected.columns }
@@ -206,7 +206,7 @@ impl RecordRows {
         cells: &mut Vec<RowCell<'r>>,
         at: usize,
         fields: &Record<'r>,
-        columns: &[DrawnColumn],
+        columns: &[ColumnPlan],
     ) -> Result<()>
         requires { columns.now ≡ columns_within fields.now self.now.selected.columns }
         ensures { OnOk result (map cell_of cells.new.items
@@ -225,7 +225,7 @@ impl RecordRows {
         &'r self,
         cells: &mut Vec<RowCell<'r>>,
         fields: &Record<'r>,
-        columns: &[DrawnColumn],
+        columns: &[ColumnPlan],
     ) -> Result<()>
         ensures { OnOk result (map cell_of cells.new.items ≡ map cell_of cells.old.items
             ++ shown_cells self.now.look false
@@ -287,7 +287,7 @@ pub(crate) struct LazyRows<'c, 'r> {
     // the row of the whole record is still to come
     is_whole: bool,
     // the columns whose fields are still to come
-    columns: &'r [DrawnColumn],
+    columns: &'r [ColumnPlan],
 }
 
 impl<'c, 'r> Model for LazyRows<'c, 'r> {
@@ -328,8 +328,8 @@ impl<'c, 'r> Iterator for LazyRows<'c, 'r> {
 // The first field of a record in these columns: its position, the field, and the columns after it.
 fn next_field<'c, 'r>(
     fields: &Record<'r>,
-    columns: &'c [DrawnColumn],
-) -> Option<(usize, &'r str, &'c [DrawnColumn])>
+    columns: &'c [ColumnPlan],
+) -> Option<(usize, &'r str, &'c [ColumnPlan])>
     ensures some { IfSome result (λ next. (look : Look) (names : List Text)
         → pairs_of look columns.now names fields.now
         ≡ pair_for look (name_at names next.0) next.1.now
@@ -351,7 +351,7 @@ fn next_field<'c, 'r>(
 #[derive(Drop)]
 enum RowSource<'c, 'r> {
     // all fields of the record at a place, and the columns up to the last one that has a field
-    Record(usize, &'c Record<'r>, &'r [DrawnColumn]),
+    Record(usize, &'c Record<'r>, &'r [ColumnPlan]),
     // one field: the position of its column, the name of the column, if it has one, and the field
     Field(usize, Option<&'r str>, &'r str),
 }
@@ -423,7 +423,7 @@ impl<'c, 'r> LazyRow<'c, 'r> {
             (self.now ∷ []))) }
         ensures kept { writer.new ≡ writer.old }
     {
-        let extent = Extent {
+        let extent = PartEnds {
             is_first,
             is_last: false,
         };
@@ -486,14 +486,14 @@ impl<'c, 'r> LazyRow<'c, 'r> {
     }
 
     // The width of the widest number or date of the cell at a position, or 0 if there is none.
-    fn unbroken_width(&self, table: &Table, position: usize, room: u16) -> Result<u16>
+    fn nowrap_width(&self, table: &Table, position: usize, room: u16) -> Result<u16>
         ensures value { IfOk result (λ width. width ≡ measured_at table.now
-            (cell_unbroken_width room) (slice_get self.now.cells position)) }
+            (cell_nowrap_width room) (slice_get self.now.cells position)) }
         ensures within { IfOk result (λ width. width ≤ room) }
     {
         if position < self.len() {
             let cell = self.cell_at(position)?;
-            cell_unbroken_width(self.rows.alloc(), table, &cell, room)
+            cell_nowrap_width(self.rows.alloc(), table, &cell, room)
         } else {
             Ok(0)
         }

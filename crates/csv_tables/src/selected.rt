@@ -7,7 +7,7 @@ ghost use Rattle.csv_tables.specs.Drawn.{selected_of, markdown_content, sides};
 ghost use Rattle.csv_tables.specs.Leasts.{least_positions};
 
 use crate::columns::drawn_columns;
-use crate::options::{DrawnColumn, Layout};
+use crate::options::{ColumnPlan, Layout};
 use crate::selection::{limited, names_of, records_below};
 use comfy_parts::Result;
 use comfy_parts::style::CellAlignment;
@@ -27,7 +27,7 @@ pub struct SelectedRecords {
     limit: Option<usize>,
     // how many records stand below the header, where that is known
     count: Option<usize>,
-    pub(crate) columns: Vec<DrawnColumn>,
+    pub(crate) columns: Vec<ColumnPlan>,
     // of each column, the least position of it and of those behind it
     least_behind: Vec<usize>,
     // whether a column of numbers stands before them
@@ -128,7 +128,7 @@ impl SelectedRecords {
 
     /// The columns up to the last one of which a record has the field. No others are looked at, so
     /// that a record of few fields costs little however many columns there are.
-    pub(crate) fn columns_within(&self, row: &Record<'_>) -> &[DrawnColumn]
+    pub(crate) fn columns_within(&self, row: &Record<'_>) -> &[ColumnPlan]
         ensures { result.now ≡ columns_within row.now self.now.columns }
     {
         for (count, least) in self.least_behind.iter().enumerate() {
@@ -162,7 +162,7 @@ impl SelectedRecords {
 }
 
 // Of each column, the least position of it and of those behind it.
-fn least_positions_of(alloc: Global, columns: &[DrawnColumn]) -> Result<Vec<usize>, AllocError>
+fn least_positions_of(alloc: Global, columns: &[ColumnPlan]) -> Result<Vec<usize>, AllocError>
     ensures { IfOk result (λ leasts. leasts.items ≡ least_positions columns.now) }
 {
     let mut leasts = Vec::with_capacity(alloc, columns.len())?;

@@ -7,13 +7,13 @@ ghost use Rattle.csv_tables.specs.Contents.{rows_from};
 ghost use Rattle.csv_tables.specs.Drawn.{HasTallRow, condensed_style, separated_table, separators_in, with_style};
 ghost use Rattle.csv_tables.specs.Separators.{AreRowsSeparated, AreTallRowsSeparated};
 
-use crate::contents::RowContents;
+use crate::lazy_table::LazyTable;
 use crate::options::RowSeparators;
 use crate::rows::RecordRows;
 use comfy_table::{ArrangedTable, LineStyle, Result, RowWriter, TableStyle};
 
 /// Leaves out the lines that a table's style has between rows, where they aren't wanted.
-pub(crate) fn separate_rows(contents: &mut RowContents, separators: RowSeparators) -> Result<()>
+pub(crate) fn separate_rows(contents: &mut LazyTable, separators: RowSeparators) -> Result<()>
     requires { contents.old.rows.is_expanded ≡ false }
     ensures table { OnOk result (AreRowsSeparated separators contents.old.table
         contents.new.table) }
@@ -31,7 +31,7 @@ pub(crate) fn separate_rows(contents: &mut RowContents, separators: RowSeparator
 
 /// The same between the fields of expanded records: no line that only tall rows would need, since
 /// names part the fields.
-pub(crate) fn separate_fields(contents: &mut RowContents, separators: RowSeparators)
+pub(crate) fn separate_fields(contents: &mut LazyTable, separators: RowSeparators)
     ensures table { AreRowsSeparated (separators_in true separators) contents.old.table
         contents.new.table }
     ensures rows { contents.new.rows ≡ contents.old.rows }
@@ -43,7 +43,7 @@ pub(crate) fn separate_fields(contents: &mut RowContents, separators: RowSeparat
 }
 
 // Leaves out the lines between rows, unless a row is drawn in more than one line without them.
-fn separate_tall_rows(contents: &mut RowContents) -> Result<()>
+fn separate_tall_rows(contents: &mut LazyTable) -> Result<()>
     requires { contents.old.rows.is_expanded ≡ false }
     ensures table { OnOk result (AreTallRowsSeparated contents.old.table contents.new.table) }
     ensures rows { OnOk result (contents.new.rows ≡ contents.old.rows) }
@@ -57,7 +57,7 @@ fn separate_tall_rows(contents: &mut RowContents) -> Result<()>
 }
 
 // Leaves out the lines between rows.
-fn condense(contents: &mut RowContents)
+fn condense(contents: &mut LazyTable)
     ensures { contents.new ≡ record contents.old {
       table = separated_table false contents.old.table;
     } }
@@ -66,7 +66,7 @@ fn condense(contents: &mut RowContents)
     load_style(contents, style);
 }
 
-fn load_style(contents: &mut RowContents, style: TableStyle)
+fn load_style(contents: &mut LazyTable, style: TableStyle)
     ensures { contents.new ≡ record contents.old {
       table = with_style style contents.old.table;
     } }
@@ -82,7 +82,7 @@ fn condensed_style(style: TableStyle) -> TableStyle
 }
 
 // Whether a row is drawn in more than one line.
-fn has_tall_row(contents: &RowContents) -> Result<bool>
+fn has_tall_row(contents: &LazyTable) -> Result<bool>
     requires { contents.now.rows.is_expanded ≡ false }
     ensures { IfOk result (λ is_tall. HasTallRow contents.now.table is_tall) }
 {

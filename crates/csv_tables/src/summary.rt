@@ -6,13 +6,13 @@ ghost use Rattle.csv_records.specs.Cleaning.{visible_of};
 ghost use Rattle.csv_records.specs.Decimals.{number_of};
 ghost use Rattle.csv_tables.specs.Columns.{seen};
 ghost use Rattle.csv_tables.specs.Kinds.{is_other_kind, joined_kind, kind_of};
-ghost use Rattle.csv_tables.specs.Unbroken.{is_unbroken};
+ghost use Rattle.csv_tables.specs.NoWrap.{is_nowrap};
 ghost use Rattle.csv_tables.specs.Decimals.{is_narrow, narrow_marks};
 ghost use Rattle.csv_tables.specs.Summaries.{AreSummaries, summary_of};
 
 use crate::columns::seen_text;
 use crate::decimals::is_narrow;
-use crate::unbroken::{is_short, is_unbroken};
+use crate::nowrap::{is_nowrap, is_short};
 use csv_records::{ColumnMarks, FieldNumber, Record, Rows, is_neutral, number_in};
 use std::alloc::{AllocError, Global};
 
@@ -24,7 +24,7 @@ pub(crate) struct ColumnSummary {
     /// Their decimal marks, where each of them is narrow, and a number or neutral.
     pub(crate) marks: Option<ColumnMarks>,
     /// Whether each of them is a number or a date, which isn't broken.
-    pub(crate) are_unbroken: bool,
+    pub(crate) are_nowrap: bool,
 }
 
 /// What a field says of its column.
@@ -44,7 +44,7 @@ impl ColumnSummary {
         ColumnSummary {
             kind: FieldKind::Neutral,
             marks: Some(ColumnMarks::new()),
-            are_unbroken: true,
+            are_nowrap: true,
         }
     }
 
@@ -84,7 +84,7 @@ impl ColumnSummary {
         ensures { is_other_kind self.old.kind ≡ true → (fields : List (List ℕ))
             → self.old ≡ summary_of fields → self.new ≡ summary_of (fields ++ field.now ∷ []) }
     {
-        self.are_unbroken = self.are_unbroken && is_unbroken(field);
+        self.are_nowrap = self.are_nowrap && is_nowrap(field);
     }
 
     // Adds what one field more says, by what it says as a number.
@@ -94,7 +94,7 @@ impl ColumnSummary {
     {
         let kind = kind_of(field, number);
         self.kind = joined_kind(self.kind, kind);
-        self.are_unbroken = self.are_unbroken && is_unbroken_of(kind, field);
+        self.are_nowrap = self.are_nowrap && is_nowrap_of(kind, field);
         add_marks(&mut self.marks, field, number);
     }
 
@@ -103,7 +103,7 @@ impl ColumnSummary {
         ensures { result ≡ true → (fields : List (List ℕ)) → self ≡ summary_of fields
             → (field : List ℕ) → self ≡ summary_of (fields ++ field ∷ []) }
     {
-        matches!(self.kind, FieldKind::Other) && self.marks.is_none() && !self.are_unbroken
+        matches!(self.kind, FieldKind::Other) && self.marks.is_none() && !self.are_nowrap
     }
 }
 
@@ -188,11 +188,11 @@ fn widen(summaries: &mut Vec<ColumnSummary>, position: usize) -> Result<(), Allo
 // ---- one field more
 
 // Whether a field isn't broken. One that is a number or neutral only has to be short.
-fn is_unbroken_of(kind: FieldKind, field: &str) -> bool
-    ensures { kind ≡ kind_of field.now → result ≡ is_unbroken field.now }
+fn is_nowrap_of(kind: FieldKind, field: &str) -> bool
+    ensures { kind ≡ kind_of field.now → result ≡ is_nowrap field.now }
 {
     match kind {
-        FieldKind::Other => is_unbroken(field),
+        FieldKind::Other => is_nowrap(field),
         _ => is_short(field),
     }
 }

@@ -12,7 +12,7 @@ use Rattle.csv_records.specs.declared.decimals.DecimalMark.TheVariants.{Point}
 use Rattle.csv_tables.specs.declared.options.RowSeparators.TheVariants.{Styled}
 use Rattle.csv_tables.specs.declared.options.Look.{Look}
 use Rattle.csv_tables.specs.declared.options.Expansion.TheVariants.{Never}
-use Rattle.csv_tables.specs.declared.options.DrawnColumn.{DrawnColumn}
+use Rattle.csv_tables.specs.declared.options.ColumnPlan.{ColumnPlan}
 use Rattle.csv_tables.specs.Cells.{counted_from, shown_in, shown_names}
 use Rattle.csv_command.specs.Columns.{less, positions_of_word}
 use Rattle.csv_command.specs.Columns.ColumnFault.{missing, none_left}
@@ -88,8 +88,8 @@ abbrev look : Look
 look = record { style = ascii_full; separators = Styled; expansion = Never; width = None; fills_width = false; max_height = None; has_bold_header = false; aligns_decimals = true; has_sequences = false; is_markdown = false }
 
 -- the second field of each record, which has a decimal mark
-abbrev prices : List DrawnColumn
-prices = record { position = 1; alignment = Some Right; points = Some (record { mark = Point; longest = 3 }); is_unbroken = true } ∷ []
+abbrev prices : List ColumnPlan
+prices = record { position = 1; alignment = Some Right; points = Some (record { mark = Point; longest = 3 }); is_nowrap = true } ∷ []
 
 -- behind the record's number or not, with decimal marks below each other or not
 numbered : map (λ is_numbered. shown_in look false is_numbered prices (7, texts ("oats" ∷ "3.5" ∷ []))) (true ∷ false ∷ [])

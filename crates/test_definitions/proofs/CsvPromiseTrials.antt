@@ -23,7 +23,7 @@ use Rattle.ucd_category.proofs.Computing.{ucd_category}
 use Rattle.csv_records.specs.Number.{is_neutral, is_number}
 use Rattle.csv_tables.specs.declared.options.Expansion.{Expansion}
 use Rattle.csv_tables.specs.declared.options.Expansion.TheVariants.{Always, Auto, Never}
-use Rattle.csv_tables.specs.Unbroken.{framed_width, is_unbroken}
+use Rattle.csv_tables.specs.NoWrap.{framed_width, is_nowrap}
 use Rattle.csv_tables.specs.declared.options.Layout.{Layout}
 use Rattle.csv_tables.specs.declared.options.Look.{Look}
 use Rattle.csv_command.specs.declared.arguments.Options.{Options}
@@ -422,7 +422,7 @@ split_date : ¬ (KeepsNumbers unbold 18 6 (plain_row (plain_cell (codes "day") �
 unfolding wrapping chars encode ucd_category is_neutral is_number
 split_date keeps =
     let room : framed_width dashed (4 ∷ measure (codes "2026-05-02") ∷ []) ≤ 18 = omega arith in
-    let whole : 10 ≤ 6 = All-head (λ line. is_unbroken line ≡ true → framed_width dashed (4 ∷ measure line ∷ []) ≤ 18 → measure line ≤ 6) (codes "2026-05-02") [] (keeps date_cell refl) refl room in
+    let whole : 10 ≤ 6 = All-head (λ line. is_nowrap line ≡ true → framed_width dashed (4 ∷ measure line ∷ []) ≤ 18 → measure line ≤ 6) (codes "2026-05-02") [] (keeps date_cell refl) refl room in
     omega (arith, whole)
 
 -- nothing stands behind the last record

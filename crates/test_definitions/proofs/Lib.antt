@@ -37,7 +37,7 @@ mod StyleModifierTrials
 mod StylingTrials
 mod ThreePlacesTrials
 mod TrialTables
-mod UnbrokenTrials
+mod NoWrapTrials
 mod ValueTrials
 mod VisibleTextTrials
 mod WidthTrials

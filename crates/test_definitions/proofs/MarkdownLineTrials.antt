@@ -12,7 +12,7 @@ use Rattle.comfy_table.specs.Drawing.{infos_of}
 use Rattle.csv_tables.specs.Cells.{Shown, shown_in}
 use Rattle.csv_tables.specs.Drawn.{SelectedValue, markdown_lines, markdown_table, sides}
 use Rattle.csv_tables.specs.Markdown.{rule_line}
-use Rattle.csv_tables.specs.declared.options.DrawnColumn.{DrawnColumn}
+use Rattle.csv_tables.specs.declared.options.ColumnPlan.{ColumnPlan}
 use Rattle.csv_tables.specs.declared.options.Expansion.TheVariants.{Never}
 use Rattle.csv_tables.specs.declared.options.Look.{Look}
 use Rattle.csv_tables.specs.declared.options.RowSeparators.TheVariants.{Styled}
@@ -65,7 +65,7 @@ content =
     record {
       names = Some (codes "a" ∷ codes "n" ∷ []);
       rows = (codes "x|y" ∷ codes "12" ∷ []) ∷ [];
-      columns = record { position = 0; alignment = None; points = None; is_unbroken = false } ∷ record { position = 1; alignment = Some Right; points = None; is_unbroken = false } ∷ [];
+      columns = record { position = 0; alignment = None; points = None; is_nowrap = false } ∷ record { position = 1; alignment = Some Right; points = None; is_nowrap = false } ∷ [];
       count = None;
       is_numbered = false;
     }
@@ -82,8 +82,8 @@ rule_of_contents = refl
 -- ---- records
 
 -- two columns in another order
-abbrev columns : List DrawnColumn
-columns = record { position = 1; alignment = None; points = None; is_unbroken = false } ∷ record { position = 0; alignment = None; points = None; is_unbroken = false } ∷ []
+abbrev columns : List ColumnPlan
+columns = record { position = 1; alignment = None; points = None; is_nowrap = false } ∷ record { position = 0; alignment = None; points = None; is_nowrap = false } ∷ []
 
 -- what they show of fields
 abbrev shown : List Text → List Shown

@@ -19,7 +19,7 @@ use Rattle.csv_tables.specs.Controls.{HasNothingHarmful, IsHarmlessStyle}
 use Rattle.csv_command.specs.Styles.{style_for}
 use Rattle.csv_tables.specs.declared.options.Expansion.TheVariants.{Auto}
 use Rattle.csv_tables.specs.declared.options.RowSeparators.TheVariants.{Styled}
-use Rattle.csv_tables.specs.declared.options.DrawnColumn.{DrawnColumn}
+use Rattle.csv_tables.specs.declared.options.ColumnPlan.{ColumnPlan}
 use Rattle.csv_tables.specs.declared.options.Look.{Look}
 use Rattle.csv_tables.specs.Drawn.{empty_table}
 use Rattle.test_definitions.proofs.TrialTables.{utf8}
@@ -93,8 +93,8 @@ marked_is_harmless = refl
 -- ---- outputs
 
 -- the first field of each record
-abbrev column : DrawnColumn
-column = record { position = 0; alignment = None; points = None; is_unbroken = false }
+abbrev column : ColumnPlan
+column = record { position = 0; alignment = None; points = None; is_nowrap = false }
 
 -- a header, and a record whose field clears the screen and then says so in one byte more
 abbrev table : Look → TableValue

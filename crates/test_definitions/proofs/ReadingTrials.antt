@@ -15,7 +15,7 @@ use Rattle.csv_records.specs.Number.{is_neutral, is_number}
 use Rattle.csv_records.specs.Lines.{below_lines}
 use Rattle.csv_records.specs.Longer.{longer_records}
 use Rattle.csv_records.specs.Delimiter.{agreement, delimited, delimiter_in}
-use Rattle.csv_tables.specs.Unbroken.{is_unbroken}
+use Rattle.csv_tables.specs.NoWrap.{is_nowrap}
 use Rattle.csv_command.specs.Arguments.{delimiter_for, encoding_for}
 use Rattle.csv_records.specs.NotText.{not_text_for}
 use Rattle.csv_records.specs.Input.{config_for, is_like_cp1252}
@@ -120,12 +120,12 @@ encodings = refl
 
 -- ---- fields that aren't broken
 
-unbroken : list_all is_unbroken (texts ("" ∷ "-84,50" ∷ "($3.00)" ∷ "02.05.2026" ∷ "2026-05-01T09:10:00+02:00" ∷ "192.168.0.1" ∷ "10:00 - 11:30" ∷ "0042" ∷ "n/a" ∷ [])) ≡ true
+unbroken : list_all is_nowrap (texts ("" ∷ "-84,50" ∷ "($3.00)" ∷ "02.05.2026" ∷ "2026-05-01T09:10:00+02:00" ∷ "192.168.0.1" ∷ "10:00 - 11:30" ∷ "0042" ∷ "n/a" ∷ [])) ≡ true
 unfolding chars lib.Utf8.encode ucd_category is_neutral is_number
 unbroken = refl
 
 -- words, and what is longer than 25 characters
-broken : list_any is_unbroken (texts ("none" ∷ "May 2" ∷ "1.2.3b" ∷ "12345678901234567890123456" ∷ [])) ≡ false
+broken : list_any is_nowrap (texts ("none" ∷ "May 2" ∷ "1.2.3b" ∷ "12345678901234567890123456" ∷ [])) ≡ false
 unfolding chars lib.Utf8.encode ucd_category is_neutral is_number
 broken = refl
 

@@ -37,7 +37,7 @@ use Rattle.csv_tables.specs.declared.options.RowSeparators.TheVariants.{Styled, 
 use Rattle.comfy_parts.specs.Presets.{nothing, utf8_full, utf8_full_condensed}
 use Rattle.comfy_parts.specs.StyleModifiers.{with_rounded_corners}
 use Rattle.csv_tables.specs.Cells.{held, columns_within, unless_blank}
-use Rattle.csv_tables.specs.declared.options.DrawnColumn.{DrawnColumn}
+use Rattle.csv_tables.specs.declared.options.ColumnPlan.{ColumnPlan}
 
 abbrev texts : List String → List Text
 texts words = map (λ (word : String). codes word) words
@@ -398,8 +398,8 @@ line_break_is_read same = let is : 0x0A ∷ [] ≡ codes "<br>" = same in cc is
 
 -- ---- cells
 
-abbrev placed_columns_at : List ℕ → List DrawnColumn
-placed_columns_at positions = map (λ (p : ℕ). record { position = p; alignment = None; points = None; is_unbroken = false }) positions
+abbrev placed_columns_at : List ℕ → List ColumnPlan
+placed_columns_at positions = map (λ (p : ℕ). record { position = p; alignment = None; points = None; is_nowrap = false }) positions
 
 -- of three columns a record of one field reaches the first, or those up to where that one stands
 reaches : map (λ positions. length (columns_within (texts ("1" ∷ [])) (placed_columns_at positions))) ((0 ∷ 1 ∷ 2 ∷ []) ∷ (2 ∷ 0 ∷ 1 ∷ []) ∷ (2 ∷ 1 ∷ []) ∷ []) ≡ 1 ∷ 2 ∷ 0 ∷ []

@@ -2,7 +2,7 @@
 
 use crate::fixtures::fill_worked;
 use crate::outcome::{Outcome, succeeded};
-use comfy_table::{ArrangedTable, Cell, Extent, Result, RowCell, Table, TextCell};
+use comfy_table::{ArrangedTable, Cell, PartEnds, Result, RowCell, Table, TextCell};
 use std::alloc::Global;
 
 /// What came of the call of this name on a new table that `fill_worked` fills.
@@ -51,7 +51,7 @@ fn outcome_of_pushing_cells(alloc: Global, arranged: &ArrangedTable<&Table>) -> 
     let cells = cells(alloc)?;
     let mut text = String::from_str(alloc, BEFORE)?;
     let mut writer = arranged.row_writer()?;
-    let extent = Extent {
+    let extent = PartEnds {
         is_first: false,
         is_last: true,
     };

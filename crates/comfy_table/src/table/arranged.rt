@@ -12,8 +12,8 @@ ghost use Rattle.comfy_table.specs.Parts.{IsArrangedTable, part_text};
 use crate::table::Table;
 use crate::table::row_writer::RowWriter;
 use crate::utils::arrangement::arrange;
-use crate::utils::arrangement::contents::Contents;
-use crate::utils::formatting::{DrawnFrame, Extent, Output, Writer};
+use crate::utils::arrangement::source::TableSource;
+use crate::utils::formatting::{FrameLines, Output, PartEnds, Writer};
 use comfy_parts::content_split::ColumnDisplayInfo;
 use comfy_parts::{Column, Result, Row};
 use std::marker::Model;
@@ -43,13 +43,13 @@ use std::marker::Model;
 /// // +----+--------+
 /// ```
 #[derive(Drop)]
-pub struct ArrangedTable<C: Contents> {
+pub struct ArrangedTable<C: TableSource> {
     contents: C,
     infos: Vec<ColumnDisplayInfo>,
-    frame: DrawnFrame,
+    frame: FrameLines,
 }
 
-impl<C: Contents> Model for ArrangedTable<C> {
+impl<C: TableSource> Model for ArrangedTable<C> {
     ghost use Rattle.std.specs.Prelude.{◌≡◌};
     ghost use Rattle.comfy_table.specs.Drawing.{outer_widths};
     ghost use Rattle.comfy_table.specs.Gaps.{frame_of};
@@ -75,7 +75,7 @@ impl Table {
     }
 }
 
-impl<C: Contents> ArrangedTable<C> {
+impl<C: TableSource> ArrangedTable<C> {
     /// A table with the widths of its columns, whose rows may be elsewhere. The caller who draws it
     /// shows that these are rows: each has texts in its cells.
     pub fn of_contents(contents: C) -> Result<ArrangedTable<C>>
@@ -87,7 +87,7 @@ impl<C: Contents> ArrangedTable<C> {
             AreInfosOf (C.whole contents) arranged.infos) }
     {
         let infos = infos_of(&contents)?;
-        let frame = DrawnFrame::new(contents.table(), infos.as_slice())?;
+        let frame = FrameLines::new(contents.table(), infos.as_slice())?;
         Ok(ArrangedTable {
             contents,
             infos,
@@ -120,7 +120,12 @@ impl<C: Contents> ArrangedTable<C> {
 
     // Appends the lines of some of the rows. After `OutOfMemory` the output begins with what it
     // was.
-    pub(crate) fn draw<O: Output>(&self, rows: &[Row], extent: Extent, output: &mut O) -> Result<()>
+    pub(crate) fn draw<O: Output>(
+        &self,
+        rows: &[Row],
+        extent: PartEnds,
+        output: &mut O,
+    ) -> Result<()>
         ensures ok { OnOk result (O.kept output.new
             ≡ with_lines O.kept_of (part_of_drawing (C.whole self.now.contents) self.now.infos
             extent.is_first extent.is_last rows.now) (O.kept output.old)) }
@@ -151,12 +156,12 @@ impl<'a> ArrangedTable<&'a Table> {
     {
         let table = self.contents;
         let rows = rows_from(table.rows.as_slice(), first, count);
-        self.row_writer()?.push_rows(text, rows, Extent::WHOLE)
+        self.row_writer()?.push_rows(text, rows, PartEnds::WHOLE)
     }
 }
 
 // What each column of such a table is drawn by.
-fn infos_of<C: Contents>(contents: &C) -> Result<Vec<ColumnDisplayInfo>>
+fn infos_of<C: TableSource>(contents: &C) -> Result<Vec<ColumnDisplayInfo>>
     ensures drawing { IfOk result (λ infos. All IsRow (C.whole contents.now).rows
         → IsArrangedTable (C.whole contents.now)
         (record { table = C.whole contents.now; infos = infos.items })) }

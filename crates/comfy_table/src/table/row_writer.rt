@@ -8,7 +8,7 @@ ghost use Rattle.comfy_table.specs.RowCells.{cell_of, row_with};
 
 use crate::table::Table;
 use crate::utils::formatting::row_cell::RowCell;
-use crate::utils::formatting::{DrawnFrame, Extent, Writer};
+use crate::utils::formatting::{FrameLines, PartEnds, Writer};
 use comfy_parts::content_split::ColumnDisplayInfo;
 use comfy_parts::{Result, Row};
 use std::marker::Model;
@@ -18,7 +18,7 @@ use std::marker::Model;
 ///
 /// ```
 /// let mut writer = arranged.row_writer()?;
-/// writer.push_rows(&mut text, &[row], Extent { is_first: false, is_last: false })?;
+/// writer.push_rows(&mut text, &[row], PartEnds { is_first: false, is_last: false })?;
 /// ```
 #[derive(Drop)]
 pub struct RowWriter<'a> {
@@ -37,7 +37,7 @@ impl<'a> RowWriter<'a> {
     pub(crate) fn new(
         table: &'a Table,
         infos: &'a [ColumnDisplayInfo],
-        frame: &'a DrawnFrame,
+        frame: &'a FrameLines,
     ) -> Result<RowWriter<'a>>
         requires { frame.now ≡ frame_of table.now.style (outer_widths infos.now) }
         ensures { IfOk result (λ writer. writer
@@ -58,7 +58,7 @@ impl<'a> RowWriter<'a> {
     /// is among them, the top border and the header are above them, else the row separator. It is
     /// also between each two of them. If the last row of the table is among them, the bottom border
     /// is below them. After `OutOfMemory` the text is as it was.
-    pub fn push_rows(&mut self, text: &mut String, rows: &[Row], extent: Extent) -> Result<()>
+    pub fn push_rows(&mut self, text: &mut String, rows: &[Row], extent: PartEnds) -> Result<()>
         ensures ok { OnOk result (string_bytes text.new
             ≡ string_bytes text.old ++ terminated_text_of
             (part_of_drawing self.old.table self.old.infos extent.is_first extent.is_last
@@ -81,7 +81,7 @@ impl<'a> RowWriter<'a> {
         text: &mut String,
         cells: &[RowCell<'_>],
         limit: Option<usize>,
-        extent: Extent,
+        extent: PartEnds,
     ) -> Result<()>
         ensures ok { OnOk result (string_bytes text.new
             ≡ string_bytes text.old ++ terminated_text_of

@@ -9,22 +9,22 @@ ghost use Rattle.comfy_table.specs.TableValue.{table_width};
 ghost use Rattle.comfy_table.specs.Widths.{shown_count};
 
 pub mod constraint;
-pub(crate) mod contents;
 mod disabled;
 mod dynamic;
 mod fixed;
 pub mod helper;
 mod longest;
+pub(crate) mod source;
 
 use crate::table::Table;
 use comfy_parts::content_split::ColumnDisplayInfo;
 use comfy_parts::style::ContentArrangement;
 use comfy_parts::{Column, Result};
-use contents::Contents;
 use disabled::disabled_width;
 use dynamic::dynamic_widths;
 use helper::count_visible_columns;
 pub use longest::longest_line;
+use source::TableSource;
 
 /// What each column is drawn by, in list order, hidden columns too.
 pub fn arrange_content(table: &Table) -> Result<Vec<ColumnDisplayInfo>>
@@ -34,7 +34,7 @@ pub fn arrange_content(table: &Table) -> Result<Vec<ColumnDisplayInfo>>
 }
 
 // What each column of a table is drawn by, whose rows may stand elsewhere.
-pub(crate) fn arrange<C: Contents>(contents: &C) -> Result<Vec<ColumnDisplayInfo>>
+pub(crate) fn arrange<C: TableSource>(contents: &C) -> Result<Vec<ColumnDisplayInfo>>
     ensures { IfOk result (λ infos. AreInfosOf (C.whole contents.now) infos.items) }
 {
     match kept_width(contents.table()) {
@@ -58,7 +58,7 @@ fn kept_width(table: &Table) -> Option<u16>
 
 // Each column with its width: the visible ones get these in list order, and 1 where there are no
 // more; a hidden column has its content's.
-fn infos_with<C: Contents>(contents: &C, widths: &[u16]) -> Result<Vec<ColumnDisplayInfo>>
+fn infos_with<C: TableSource>(contents: &C, widths: &[u16]) -> Result<Vec<ColumnDisplayInfo>>
     ensures { IfOk result (λ infos. infos.items
         ≡ infos_of (C.whole contents.now) (all_widths (C.whole contents.now) widths.now)) }
 {
@@ -80,7 +80,7 @@ fn infos_with<C: Contents>(contents: &C, widths: &[u16]) -> Result<Vec<ColumnDis
 }
 
 // Each column with the width that its content and its constraint alone give.
-fn infos_by_content<C: Contents>(contents: &C) -> Result<Vec<ColumnDisplayInfo>>
+fn infos_by_content<C: TableSource>(contents: &C) -> Result<Vec<ColumnDisplayInfo>>
     ensures { IfOk result (λ infos. infos.items
         ≡ infos_of (C.whole contents.now) (widths_by_content (C.whole contents.now))) }
 {
@@ -97,7 +97,7 @@ fn infos_by_content<C: Contents>(contents: &C) -> Result<Vec<ColumnDisplayInfo>>
 
 // The content width of the column at a position under `Disabled`: a hidden column has its
 // content's.
-fn width_by_content<C: Contents>(
+fn width_by_content<C: TableSource>(
     contents: &C,
     position: usize,
     column: &Column,

@@ -5,19 +5,19 @@ mod cell_lines;
 pub mod content_format;
 pub(crate) mod drawing;
 pub(crate) mod drawn_cell;
-mod drawn_frame;
-mod drawn_row;
+mod frame_lines;
 mod gap;
 mod output;
 mod piece;
 pub(crate) mod row_cell;
+mod row_cursor;
 mod row_gaps;
 mod shown_column;
 mod styling;
 pub(crate) mod text_style;
 
-pub(crate) use drawing::{Extent, Writer};
-pub(crate) use drawn_frame::DrawnFrame;
+pub(crate) use drawing::{PartEnds, Writer};
+pub(crate) use frame_lines::FrameLines;
 pub(crate) use output::{Output, TrimmedText};
 
 /// How texts are measured, cut and wrapped.

@@ -1,7 +1,7 @@
 //! Tables drawn in parts: all at the widths of the whole table, each with header and borders.
 
 use crate::support::{assert_given, table_of};
-use comfy_table::{ColumnConstraint, ContentArrangement, Extent, Row, RowCell, RowWriter, Table};
+use comfy_table::{ColumnConstraint, ContentArrangement, PartEnds, Row, RowCell, RowWriter, Table};
 use std::alloc::{Alloc, Global};
 use std::process::Abort;
 
@@ -220,7 +220,7 @@ fn drawn_one_by_one(
     let arranged = table.arranged()?;
     let mut writer = arranged.row_writer()?;
     for at in 0..rows.len() {
-        let extent = Extent {
+        let extent = PartEnds {
             is_first: at == 0,
             is_last: at + 1 == rows.len(),
         };

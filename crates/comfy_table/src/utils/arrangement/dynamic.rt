@@ -18,7 +18,7 @@ mod round_robin;
 mod spread;
 
 use crate::table::Table;
-use crate::utils::arrangement::contents::Contents;
+use crate::utils::arrangement::source::TableSource;
 use budget::Budget;
 use comfy_parts::Result;
 use comfy_parts::style::ContentArrangement;
@@ -28,7 +28,7 @@ use round_robin::{Candidates, Rule};
 use spread::final_widths;
 
 // The content widths of the shown columns of a table of this width, in list order.
-pub fn dynamic_widths<C: Contents>(contents: &C, width: u16) -> Result<Vec<u16>>
+pub fn dynamic_widths<C: TableSource>(contents: &C, width: u16) -> Result<Vec<u16>>
     ensures { IfOk result (λ widths.
         IsDynamicLayout (room_beside_borders (C.whole contents.now) width)
         (shown_needs (C.whole contents.now))

@@ -13,10 +13,10 @@ ghost use Rattle.comfy_table.specs.RowCells.{cell_of, row_in, row_with};
 use crate::table::Table;
 use crate::utils::formatting::borders::optional_frame_line;
 use crate::utils::formatting::drawn_cell::row_height;
-use crate::utils::formatting::drawn_frame::DrawnFrame;
-use crate::utils::formatting::drawn_row::DrawnRow;
+use crate::utils::formatting::frame_lines::FrameLines;
 use crate::utils::formatting::output::Output;
 use crate::utils::formatting::row_cell::{RowCell, RowSource};
+use crate::utils::formatting::row_cursor::RowCursor;
 use crate::utils::formatting::row_gaps::RowGaps;
 use crate::utils::formatting::shown_column::{ShownColumn, shown_infos};
 use comfy_parts::content_split::ColumnDisplayInfo;
@@ -25,16 +25,16 @@ use std::marker::Model;
 
 /// Which rows of a table some rows are.
 #[derive(Clone, Copy)]
-pub struct Extent {
+pub struct PartEnds {
     /// Whether the first one is among them. The top border and the header are above it.
     pub is_first: bool,
     /// Whether the last one is among them. The bottom border is below it.
     pub is_last: bool,
 }
 
-impl Extent {
+impl PartEnds {
     /// All rows of a table.
-    pub const WHOLE: Extent = Extent {
+    pub const WHOLE: PartEnds = PartEnds {
         is_first: true,
         is_last: true,
     };
@@ -45,7 +45,7 @@ impl Extent {
 pub struct Writer<'a> {
     table: &'a Table,
     infos: &'a [ColumnDisplayInfo],
-    frame: &'a DrawnFrame,
+    frame: &'a FrameLines,
     columns: Vec<ShownColumn<'a>>,
     // the line that is drawn now
     line: String,
@@ -71,7 +71,7 @@ impl<'a> Writer<'a> {
     pub fn new(
         table: &'a Table,
         infos: &'a [ColumnDisplayInfo],
-        frame: &'a DrawnFrame,
+        frame: &'a FrameLines,
     ) -> Result<Writer<'a>>
         requires { frame.now ≡ frame_of table.now.style (outer_widths infos.now) }
         ensures { IfOk result (λ writer. writer
@@ -99,7 +99,7 @@ impl<'a> Writer<'a> {
     pub fn draw<'r, O: Output>(
         &mut self,
         rows: &'r [Row],
-        extent: Extent,
+        extent: PartEnds,
         output: &mut O,
     ) -> Result<()>
     where
@@ -120,7 +120,7 @@ impl<'a> Writer<'a> {
         &mut self,
         cells: &'r [RowCell<'r>],
         limit: Option<usize>,
-        extent: Extent,
+        extent: PartEnds,
         output: &mut O,
     ) -> Result<()>
     where
@@ -162,7 +162,7 @@ impl<'a> Writer<'a> {
     {
         let frame = self.frame;
         let table = self.table;
-        let mut drawn: DrawnRow<'a, 'r> = DrawnRow::new(*table.columns.allocator());
+        let mut drawn: RowCursor<'a, 'r> = RowCursor::new(*table.columns.allocator());
         if is_first {
             self.write_above(&mut drawn, output)?;
         } else {
@@ -187,7 +187,7 @@ impl<'a> Writer<'a> {
         ensures kept { self.new ≡ self.old }
     {
         let table = self.table;
-        let mut drawn: DrawnRow<'a, 'r> = DrawnRow::new(*table.columns.allocator());
+        let mut drawn: RowCursor<'a, 'r> = RowCursor::new(*table.columns.allocator());
         if is_first {
             self.write_above(&mut drawn, output)?;
             self.write_rows(&mut drawn, rows, output)
@@ -216,7 +216,7 @@ impl<'a> Writer<'a> {
     // The top border and the header.
     fn write_above<'r, O: Output>(
         &mut self,
-        drawn: &mut DrawnRow<'a, 'r>,
+        drawn: &mut RowCursor<'a, 'r>,
         output: &mut O,
     ) -> Result<()>
     where
@@ -235,7 +235,7 @@ impl<'a> Writer<'a> {
     // The header's lines and the header separator, if there is a header.
     fn write_header<'r, O: Output>(
         &mut self,
-        drawn: &mut DrawnRow<'a, 'r>,
+        drawn: &mut RowCursor<'a, 'r>,
         output: &mut O,
     ) -> Result<()>
     where
@@ -256,7 +256,7 @@ impl<'a> Writer<'a> {
     // The lines of this header, and the header separator.
     fn write_header_lines<'r, O: Output>(
         &mut self,
-        drawn: &mut DrawnRow<'a, 'r>,
+        drawn: &mut RowCursor<'a, 'r>,
         header: &'r Row,
         output: &mut O,
     ) -> Result<()>
@@ -280,7 +280,7 @@ impl<'a> Writer<'a> {
     // The lines of these rows, with the row separator between each two rows.
     fn write_rows<'r, O: Output>(
         &mut self,
-        drawn: &mut DrawnRow<'a, 'r>,
+        drawn: &mut RowCursor<'a, 'r>,
         rows: &'r [Row],
         output: &mut O,
     ) -> Result<()>
@@ -305,7 +305,7 @@ impl<'a> Writer<'a> {
     // The lines of these rows, with the row separator above each of them.
     fn write_further_rows<'r, O: Output>(
         &mut self,
-        drawn: &mut DrawnRow<'a, 'r>,
+        drawn: &mut RowCursor<'a, 'r>,
         rows: &'r [Row],
         output: &mut O,
     ) -> Result<()>
@@ -328,7 +328,7 @@ impl<'a> Writer<'a> {
     // The lines of a row, in the memory of rows before it.
     fn write_row<'r, O: Output>(
         &mut self,
-        drawn: &mut DrawnRow<'a, 'r>,
+        drawn: &mut RowCursor<'a, 'r>,
         gaps: &RowGaps,
         row: RowSource<'r>,
         output: &mut O,
@@ -336,7 +336,8 @@ impl<'a> Writer<'a> {
     where
         'a: 'r,
         ensures ok { OnOk result (O.kept output.new
-            ≡ with_lines O.kept_of (row_between gaps.now self.old.table self.old.infos (row_in row.entry))
+            ≡ with_lines O.kept_of
+            (row_between gaps.now self.old.table self.old.infos (row_in row.entry))
             (O.kept output.old)) }
         ensures err { OnErr result (BeginsWith (O.kept output.new) (O.kept output.old)) }
         ensures kept { self.new ≡ self.old }
@@ -369,7 +370,7 @@ fn push_row<'a, O: Output>(
     output: &mut O,
     text: &mut String,
     gaps: &RowGaps,
-    row: &DrawnRow<'a, '_>,
+    row: &RowCursor<'a, '_>,
     columns: &[ShownColumn<'a>],
     height: usize,
 ) -> Result<()>

@@ -4,7 +4,7 @@ use Rattle.comfy_parts.specs.Text.{Text}
 use Rattle.csv.specs.Reading.{strip_bom}
 use Rattle.csv_records.proofs.LongerLemmas.{line_is, none_longer, some_longer}
 use Rattle.csv_records.specs.Input.{config_for, line_number}
-use Rattle.csv_records.specs.Longer.{field_count, from_record, is_longer, line_of_record}
+use Rattle.csv_records.specs.Longer.{field_count, skip_records, is_longer, line_of_record}
 use Rattle.csv_records.proofs.longer.longer_records.Goals as goal
 
 pub returns : goal.returns
@@ -16,7 +16,7 @@ returns c =
     let other = c.requires.no_spaces in
     let first : c.fields_at-first_fields.result ≡ field_count records 0 = c.fields_at-first_fields.ensures in
     let found : Some before ≡ position (is_longer records) records = search rules in
-    let rest : length c.from_record-from.result.now ≡ length (from_record (config_for c.args.delimiter options.has_quotes) before (strip_bom c.args.rest.now)) = search rules in
+    let rest : length c.skip_records-from.result.now ≡ length (skip_records (config_for c.args.delimiter options.has_quotes) before (strip_bom c.args.rest.now)) = search rules in
     let line : c.line_before.result ≡ line_of_record options text before =
     c.line_before.ensures ∙ ap (λ (n : ℕ). line_number options.skip (take (length text - n) text)) rest ∙ line_is options text other c.args.delimiter c.args.rest.now before c.requires.byte c.requires.behind in
     let counted = c.count_longer.ensures ∙ ap (λ (n : ℕ). count_by (λ (fields : List Text). nat_lt n (length fields)) records) first in

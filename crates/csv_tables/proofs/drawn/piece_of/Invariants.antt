@@ -1,10 +1,10 @@
 use Rattle.std.proofs.Common.{◌≡◌, ◌≤◌, ◌+◌, ◌-◌, ℕ, IfSome, Option, Some, None, length}
 use Rattle.csv_tables.specs.Pieces.{rest_of}
-use Rattle.csv_tables.specs.declared.drawn.OpenDrawing.{OpenDrawing}
+use Rattle.csv_tables.specs.declared.drawn.Remaining.{Remaining}
 use Rattle.csv_tables.proofs.drawn.piece_of.Given as goal
 
 -- how many records are left, and one more where the drawing isn't at its end
-abbrev pub left_of : Option OpenDrawing → ℕ
+abbrev pub left_of : Option Remaining → ℕ
 left_of None = 0
 left_of (Some left) = (length left.arranged.contents.rows.selected.rows - left.place) + 1
 

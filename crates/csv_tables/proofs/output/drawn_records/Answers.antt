@@ -3,7 +3,7 @@ use Rattle.std.proofs.lemmas.Result.{IfOk-weaker}
 use Rattle.comfy_parts.specs.Text.{Text}
 use Rattle.csv_tables.proofs.RecordTextLemmas.{renders}
 use Rattle.csv_tables.specs.Contents.{AreDrawnContents, drawn_next}
-use Rattle.csv_tables.specs.ContentsValue.{ContentsValue}
+use Rattle.csv_tables.specs.LazyTableValue.{LazyTableValue}
 use Rattle.csv_tables.specs.Drawn.{RendersAsTable, RendersContent, SelectedValue, note_for}
 use Rattle.csv_tables.proofs.output.drawn_records.Goals as goal
 
@@ -45,7 +45,7 @@ returns c =
       text = text;
       is_text = kind;
       joined = is
-          ∙ ap (λ (v : ContentsValue). string_bytes c.new-2.result ++ (drawn_next v.rows v.table arranged.infos 0 true true v.rows.selected.rows ++ string_bytes c.in_ok-note.note)) c.in_ok-arranged_contents.ensures.contents
+          ∙ ap (λ (v : LazyTableValue). string_bytes c.new-2.result ++ (drawn_next v.rows v.table arranged.infos 0 true true v.rows.selected.rows ++ string_bytes c.in_ok-note.note)) c.in_ok-arranged_contents.ensures.contents
           ∙ ap (λ (t : Text). t ++ (text ++ string_bytes c.in_ok-note.note)) c.new-2.ensures.bytes ∙ ap (λ (t : Text). text ++ t) (c.in_ok-note.ensures ∙ ap (note_for look.is_markdown layout.selection.limit) (sym count));
     })
     c.of_records.ensures

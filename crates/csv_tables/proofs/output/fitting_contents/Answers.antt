@@ -3,8 +3,8 @@ use Rattle.std.specs.Result.{IfOk}
 use Rattle.csv_tables.proofs.SpacedLemmas.{fits, without_room}
 use Rattle.csv_tables.specs.Contents.{AreContentsOf}
 use Rattle.csv_tables.specs.Decimals.{has_points}
-use Rattle.csv_tables.specs.Drawn.{SelectedValue, has_room_for, rows_table, unbroken_in}
-use Rattle.csv_tables.specs.Unbroken.{has_room, kept_unbroken}
+use Rattle.csv_tables.specs.Drawn.{SelectedValue, has_room_for, rows_table, nowrap_in}
+use Rattle.csv_tables.specs.NoWrap.{has_room, with_min_widths}
 use Rattle.csv_tables.proofs.output.fitting_contents.Goals as goal
 use Rattle.csv_tables.proofs.output.fitting_contents.Goals.{else-look, then-has_room-via-else-has_room+then-not-is_aligned, then-has_room-via-then-has_room, then-look}
 
@@ -22,7 +22,7 @@ returns-then-has_room-clause-table c =
       | then-has_room-via-then-has_room w ↦ ap (λ b. b || not c.if-look.is_aligned) w.if-has_room.true
       | then-has_room-via-else-has_room+then-not-is_aligned w ↦ ap₂ (λ a b. a || not b) w.if-has_room.false w.if-not-is_aligned.true
     ] in
-    c.in_ok-contents.ensures.table ∙ ap (kept_unbroken look.width (unbroken_in selected)) (fits look selected c.if-look.is_aligned c.in_ok-contents.has_room aligns c.in_ok-contents.ensures.has_room drawn)
+    c.in_ok-contents.ensures.table ∙ ap (with_min_widths look.width (nowrap_in selected)) (fits look selected c.if-look.is_aligned c.in_ok-contents.has_room aligns c.in_ok-contents.ensures.has_room drawn)
 
 pub returns-then-has_room-clause-has_room : goal.returns-then-has_room-clause-has_room
 returns-then-has_room-clause-has_room c =
@@ -38,7 +38,7 @@ returns-then-has_room-clause-has_room c =
       | then-has_room-via-then-has_room w ↦ ap (λ b. b || not c.if-look.is_aligned) w.if-has_room.true
       | then-has_room-via-else-has_room+then-not-is_aligned w ↦ ap₂ (λ a b. a || not b) w.if-has_room.false w.if-not-is_aligned.true
     ] in
-    c.in_ok-contents.ensures.has_room ∙ ap (has_room look.width (unbroken_in selected)) (fits look selected c.if-look.is_aligned c.in_ok-contents.has_room aligns c.in_ok-contents.ensures.has_room drawn)
+    c.in_ok-contents.ensures.has_room ∙ ap (has_room look.width (nowrap_in selected)) (fits look selected c.if-look.is_aligned c.in_ok-contents.has_room aligns c.in_ok-contents.ensures.has_room drawn)
 
 pub returns-clause-table : goal.returns-clause-table
 returns-clause-table c =
@@ -47,13 +47,13 @@ returns-clause-table c =
     let own : c.into_selected.result ≡ selected = c.into_selected.ensures ∙ c.in_ok-contents.ensures.rows.selected_is in
     let none : has_room_for look selected true ≡ false = sym (c.in_ok-contents.ensures.has_room ∙ ap (has_room_for look selected) c.if-not-is_aligned.false) ∙ c.if-has_room.false in
     let same = without_room look selected none in
-    subst (λ (b : Bool). IfOk c.unbroken_contents-2.result (λ x. x.0.table ≡ kept_unbroken look.width (unbroken_in selected) (rows_table look b selected))) (sym same)
-    (subst (λ (s : SelectedValue). IfOk c.unbroken_contents-2.result (λ x. x.0.table ≡ kept_unbroken look.width (unbroken_in s) (rows_table look false s))) own c.unbroken_contents-2.ensures.table)
+    subst (λ (b : Bool). IfOk c.nowrap_contents-2.result (λ x. x.0.table ≡ with_min_widths look.width (nowrap_in selected) (rows_table look b selected))) (sym same)
+    (subst (λ (s : SelectedValue). IfOk c.nowrap_contents-2.result (λ x. x.0.table ≡ with_min_widths look.width (nowrap_in s) (rows_table look false s))) own c.nowrap_contents-2.ensures.table)
 
 pub returns-clause-rows : goal.returns-clause-rows
 returns-clause-rows c =
     let own : c.into_selected.result ≡ c.args.selected = c.into_selected.ensures ∙ c.in_ok-contents.ensures.rows.selected_is in
-    subst (λ (s : SelectedValue). IfOk c.unbroken_contents-2.result (λ x. AreContentsOf false c.args.look.now s x.0)) own c.unbroken_contents-2.ensures.rows
+    subst (λ (s : SelectedValue). IfOk c.nowrap_contents-2.result (λ x. AreContentsOf false c.args.look.now s x.0)) own c.nowrap_contents-2.ensures.rows
 
 pub returns-clause-has_room : goal.returns-clause-has_room
 returns-clause-has_room c =
@@ -62,5 +62,5 @@ returns-clause-has_room c =
     let own : c.into_selected.result ≡ selected = c.into_selected.ensures ∙ c.in_ok-contents.ensures.rows.selected_is in
     let none : has_room_for look selected true ≡ false = sym (c.in_ok-contents.ensures.has_room ∙ ap (has_room_for look selected) c.if-not-is_aligned.false) ∙ c.if-has_room.false in
     let same = without_room look selected none in
-    subst (λ (b : Bool). IfOk c.unbroken_contents-2.result (λ x. x.1 ≡ has_room_for look selected b)) (sym same)
-    (subst (λ (s : SelectedValue). IfOk c.unbroken_contents-2.result (λ x. x.1 ≡ has_room_for look s false)) own c.unbroken_contents-2.ensures.has_room)
+    subst (λ (b : Bool). IfOk c.nowrap_contents-2.result (λ x. x.1 ≡ has_room_for look selected b)) (sym same)
+    (subst (λ (s : SelectedValue). IfOk c.nowrap_contents-2.result (λ x. x.1 ≡ has_room_for look s false)) own c.nowrap_contents-2.ensures.has_room)

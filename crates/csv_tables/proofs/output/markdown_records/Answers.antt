@@ -11,7 +11,7 @@ use Rattle.comfy_table.specs.Parts.{ArrangedValue, IsArrangedTable}
 use Rattle.comfy_table.specs.TableValue.{TableValue, max_content_widths}
 use Rattle.csv_tables.proofs.OutputLemmas.{header_each, markdown_unbroken}
 use Rattle.csv_tables.specs.Contents.{drawn_next, expanded_from, rows_from, table_by}
-use Rattle.csv_tables.specs.ContentsValue.{ContentsValue}
+use Rattle.csv_tables.specs.LazyTableValue.{LazyTableValue}
 use Rattle.csv_tables.specs.Drawn.{SelectedValue, below_first, markdown_content, markdown_look, markdown_rule, markdown_table, sides}
 use Rattle.csv_tables.specs.Markdown.{rule_line}
 use Rattle.csv_tables.specs.declared.options.Look.{Look}
@@ -38,11 +38,11 @@ returns c =
     let ruled : rule_line (sides contents.rows.selected) (max_content_widths contents.table) ≡ rule = ap₂ (λ (r : RecordRows) (t : TableValue). rule_line (sides r.selected) (max_content_widths t)) made table in
     let unbroken : All HasNoBreak above = header_each HasNoBreak look selected arranged is (is.headline.controls.without_breaks (markdown_unbroken look selected)) in
     let begun : string_bytes c.in_ok-beginning.beginning ≡ terminated_text_of (below_first rule above) =
-    subst (λ (v : ContentsValue). All HasNoBreak (part_of_drawing v.table infos true false []) → string_bytes c.in_ok-beginning.beginning ≡ terminated_text_of (below_first (rule_line (sides v.rows.selected) (max_content_widths v.table)) (part_of_drawing v.table infos true false []))) same c.in_ok-beginning.ensures unbroken ∙ ap (λ (t : Text). terminated_text_of (below_first t above)) ruled in
+    subst (λ (v : LazyTableValue). All HasNoBreak (part_of_drawing v.table infos true false []) → string_bytes c.in_ok-beginning.beginning ≡ terminated_text_of (below_first (rule_line (sides v.rows.selected) (max_content_widths v.table)) (part_of_drawing v.table infos true false []))) same c.in_ok-beginning.ensures unbroken ∙ ap (λ (t : Text). terminated_text_of (below_first t above)) ruled in
     let all : List (List Text) = contents.rows.selected.rows in
     let lines : List RowValue → Text = λ made. terminated_text_of (part_of_drawing contents.table infos false true made) in
     let rest : drawn_next own.contents.rows own.contents.table infos 0 false true own.contents.rows.selected.rows ≡ lines contents.table.rows =
-    ap (λ (v : ContentsValue). drawn_next v.rows v.table infos 0 false true v.rows.selected.rows) same
+    ap (λ (v : LazyTableValue). drawn_next v.rows v.table infos 0 false true v.rows.selected.rows) same
     ∙ ap (λ b. if b then expanded_from contents.rows contents.table infos 0 all else lines (rows_from contents.rows 0 all)) (ap (λ (r : RecordRows). r.is_expanded) made)
     ∙ ap lines (sym c.in_ok-arranged.ensures.rows) in
     let note = string_bytes c.args.note in

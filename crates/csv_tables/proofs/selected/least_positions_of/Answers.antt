@@ -2,25 +2,25 @@ use Rattle.std.proofs.Common.{◌≡◌, ◌<◌, ◌+◌, ◌-◌, ◌∷◌, [
 use Rattle.std.specs.List.{slice_index_or}
 use Rattle.std.proofs.lemmas.List.{drop_all, drop_more, reverse-append}
 use Rattle.csv_tables.specs.Leasts.{least_position, least_positions}
-use Rattle.csv_tables.specs.declared.options.DrawnColumn.{DrawnColumn}
+use Rattle.csv_tables.specs.declared.options.ColumnPlan.{ColumnPlan}
 use Rattle.csv_tables.proofs.ReachedLemmas.{no_column}
 use Rattle.csv_tables.proofs.selected.least_positions_of.Goals as goal
 
 pub loop-behind-init : goal.loop-behind-init
 loop-behind-init c =
-    let columns : List DrawnColumn = c.args.columns.now in
+    let columns : List ColumnPlan = c.args.columns.now in
     let whole : length columns - 0 ≡ length columns = omega arith in
     let none : drop (length columns - 0) columns ≡ [] = ap (λ (n : ℕ). drop n columns) whole ∙ drop_all (length columns) columns (omega arith) in
     (ap reverse c.in_ok-leasts.ensures.items ∙ sym (ap least_positions none), sym (ap least_position none))
 
 pub loop-behind-preserved : goal.loop-behind-preserved
 loop-behind-preserved c =
-    let columns : List DrawnColumn = c.args.columns.now in
+    let columns : List ColumnPlan = c.args.columns.now in
     let n : ℕ = length columns in
     let behind : ℕ = c.loop-behind.behind in
     let at : ℕ = n - 1 - behind in
     let test : behind < n = c.loop-behind-test.true in
-    let column : DrawnColumn = slice_index_or columns at no_column in
+    let column : ColumnPlan = slice_index_or columns at no_column in
     let below : at < n = omega (arith, test) in
     let before : at + 1 ≡ n - behind = omega (arith, test) in
     let here : n - (behind + 1) ≡ at = omega (arith, test) in
@@ -38,7 +38,7 @@ loop-behind-preserved c =
 
 pub returns : goal.returns
 returns c =
-    let columns : List DrawnColumn = c.args.columns.now in
+    let columns : List ColumnPlan = c.args.columns.now in
     let end = c.loop-behind-test.false in
     let none : length columns - c.loop-behind.behind ≡ 0 = omega (arith, end) in
     c.reverse.ensures.items ∙ c.loop-behind.invariant.0 ∙ ap (λ (n : ℕ). least_positions (drop n columns)) none

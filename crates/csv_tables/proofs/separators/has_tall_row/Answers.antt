@@ -8,7 +8,7 @@ use Rattle.comfy_table.specs.Pieces.{row_height}
 use Rattle.comfy_table.specs.TableValue.{with_other_rows}
 use Rattle.csv_tables.proofs.PieceLemmas.{height_as}
 use Rattle.csv_tables.specs.Contents.{rows_from}
-use Rattle.csv_tables.specs.ContentsValue.{ContentsValue}
+use Rattle.csv_tables.specs.LazyTableValue.{LazyTableValue}
 use Rattle.csv_tables.proofs.separators.has_tall_row.Goals as goal
 
 pub returns : goal.returns
@@ -18,7 +18,7 @@ returns c =
     let writer : ArrangedValue = c.in_ok-writer.writer in
     let infos = writer.infos in
     let own : with_other_rows table.rows writer.table ≡ table =
-    subst (λ (k : Bor ContentsValue). with_other_rows k.now.table.rows writer.table ≡ k.now.table) c.in_ok-arranged.ensures.contents c.in_ok-writer.ensures.table in
+    subst (λ (k : Bor LazyTableValue). with_other_rows k.now.table.rows writer.table ≡ k.now.table) c.in_ok-arranged.ensures.contents c.in_ok-writer.ensures.table in
     let found = subst (AreInfosOf table) (sym c.in_ok-writer.ensures.infos) c.in_ok-arranged.ensures.infos in
     IfOk-weaker c.is_any_tall.result _ _
     (λ is_tall is. (

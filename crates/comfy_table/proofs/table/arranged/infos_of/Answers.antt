@@ -10,7 +10,7 @@ use Rattle.comfy_table.proofs.table.arranged.infos_of.Goals as goal
 
 pub returns-clause-drawing : goal.returns-clause-drawing
 returns-clause-drawing g c =
-    let whole = g.C.Contents.whole c.args.contents.now in
+    let whole = g.C.TableSource.whole c.args.contents.now in
     let infos = c.in_ok-infos.infos.items in
     let utf8 : IsUtf8 whole.indicator = subst (λ (t : TableValue). IsUtf8 t.indicator) c.table-table.ensures (subst (λ (t : TableValue). IsUtf8 t.indicator) c.table.view_is (utf8_indicator c.table.inside.indicator)) in
     let keeps : All IsRow whole.rows → KeepsParts whole = λ rows. subst KeepsParts c.table-table.ensures (record {

@@ -7,12 +7,12 @@ use Rattle.comfy_table.proofs.utils.arrangement.infos_by_content.Goals as goal
 
 pub width_by_content-requires : goal.width_by_content-requires
 width_by_content-requires g c =
-    let columns : c.as_slice-columns.result.now ≡ (g.C.Contents.whole c.args.contents.now).columns = c.as_slice-columns.ensures.value ∙ ap (λ (t : TableValue). t.columns) c.table.view_is ∙ ap (λ (t : TableValue). t.columns) c.table-table.ensures in
-    c.count_visible_columns-visible.ensures ∙ ap shown_among columns ∙ sym (shown_count-among (g.C.Contents.whole c.args.contents.now))
+    let columns : c.as_slice-columns.result.now ≡ (g.C.TableSource.whole c.args.contents.now).columns = c.as_slice-columns.ensures.value ∙ ap (λ (t : TableValue). t.columns) c.table.view_is ∙ ap (λ (t : TableValue). t.columns) c.table-table.ensures in
+    c.count_visible_columns-visible.ensures ∙ ap shown_among columns ∙ sym (shown_count-among (g.C.TableSource.whole c.args.contents.now))
 
 pub loop-position-preserved : goal.loop-position-preserved
 loop-position-preserved g c =
-    let f = info_by_content (g.C.Contents.whole c.args.contents.now) in
+    let f = info_by_content (g.C.TableSource.whole c.args.contents.now) in
     let column = c.index-columns-position.result in
     let item : c.new.result ≡ f (c.loop-position.position, column) = c.new.ensures ∙ ap (info_of column) c.in_ok-width.ensures in
     c.in_ok-push.ensures.items

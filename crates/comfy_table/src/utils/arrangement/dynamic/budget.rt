@@ -7,8 +7,8 @@ ghost use Rattle.comfy_table.specs.Dynamic.{content_room};
 ghost use Rattle.comfy_table.specs.Widths.{ColumnNeeds, shown_count};
 
 use super::needs::WidthNeeds;
-use crate::utils::arrangement::contents::Contents;
 use crate::utils::arrangement::helper::count_border_columns;
+use crate::utils::arrangement::source::TableSource;
 use comfy_parts::Result;
 
 // The content widths of the shown columns while they are decided.
@@ -23,7 +23,11 @@ pub struct Budget {
 impl Budget {
     // The fixed widths alone, and the room that they, the borders and all paddings leave of the
     // table's width.
-    pub fn new<C: Contents>(contents: &C, columns: &[WidthNeeds<'_>], width: u16) -> Result<Budget>
+    pub fn new<C: TableSource>(
+        contents: &C,
+        columns: &[WidthNeeds<'_>],
+        width: u16,
+    ) -> Result<Budget>
         requires { length columns.now ≡ shown_count (C.whole contents.now) }
         ensures widths { IfOk result
             (λ budget. budget.widths.items

@@ -6,9 +6,9 @@ ghost use Rattle.comfy_table.specs.Deciding.{all_needs, needs_in};
 ghost use Rattle.comfy_table.specs.Widths.{needs_of, shown_count, shown_needs};
 
 use crate::utils::arrangement::constraint::{max, min};
-use crate::utils::arrangement::contents::Contents;
 use crate::utils::arrangement::fixed::fixed_width;
 use crate::utils::arrangement::helper::count_visible_columns;
+use crate::utils::arrangement::source::TableSource;
 use comfy_parts::{Column, Result};
 
 // A shown column, and what its width depends on beside its cells. All widths are terminal columns.
@@ -28,7 +28,7 @@ pub struct WidthNeeds<'a> {
 
 impl<'a> WidthNeeds<'a> {
     // The column at a position of the table, over so many shown columns.
-    fn new<C: Contents>(
+    fn new<C: TableSource>(
         contents: &C,
         position: usize,
         column: &'a Column,
@@ -61,7 +61,7 @@ impl<'a> WidthNeeds<'a> {
 }
 
 // The shown columns of a table, in list order.
-pub fn shown_needs<C: Contents>(contents: &C) -> Result<Vec<WidthNeeds<'_>>>
+pub fn shown_needs<C: TableSource>(contents: &C) -> Result<Vec<WidthNeeds<'_>>>
     ensures { IfOk result (λ columns. all_needs (C.whole contents.now) columns.items
         ≡ shown_needs (C.whole contents.now)) }
 {

@@ -7,8 +7,8 @@ ghost use Rattle.comfy_table.specs.Dynamic.{lower_of_boundary, shrunk_at};
 
 use super::budget::Budget;
 use super::needs::WidthNeeds;
-use crate::utils::arrangement::contents::Contents;
 use crate::utils::arrangement::helper::absolute_width_with_padding;
+use crate::utils::arrangement::source::TableSource;
 use comfy_parts::Result;
 use comfy_parts::content_split::ColumnDisplayInfo;
 
@@ -29,7 +29,7 @@ pub struct Candidates<'a, C> {
     pub rule: Rule,
 }
 
-impl<'a, C: Contents> Candidates<'a, C> {
+impl<'a, C: TableSource> Candidates<'a, C> {
     // Lets the columns take their widths in turn, until none takes one. A width that is taken
     // changes the room, and with it the average. No column is tried twice at one average.
     pub fn go_round(&self, budget: &mut Budget) -> Result<()>
@@ -108,7 +108,7 @@ fn lower_width(column: &WidthNeeds<'_>, average: usize) -> Option<u16>
 
 // What a column shrinks to where it has this average room: its longest line there, if that leaves
 // three or more terminal columns free.
-fn shrunk_width<C: Contents>(
+fn shrunk_width<C: TableSource>(
     contents: &C,
     column: &WidthNeeds<'_>,
     average: usize,

@@ -10,7 +10,7 @@ use Rattle.csv_tables.specs.Cells.{cell_for, columns_within}
 use Rattle.csv_tables.specs.Contents.{made_by}
 use Rattle.csv_tables.specs.Decimals.{spaced}
 use Rattle.csv_tables.specs.Fields.{field_or_blank}
-use Rattle.csv_tables.specs.declared.options.DrawnColumn.{DrawnColumn}
+use Rattle.csv_tables.specs.declared.options.ColumnPlan.{ColumnPlan}
 use Rattle.csv_tables.proofs.rows.RecordRows.cell_in.Goals as goal
 use Rattle.csv_tables.proofs.rows.RecordRows.cell_in.Goals.{in-Some+else-position-eq0, in_default}
 
@@ -33,7 +33,7 @@ returns c =
     let fields = c.args.fields.now in
     let columns = columns_within fields own.selected.columns in
     let place : ℕ = c.match-number_at.place in
-    let column : DrawnColumn = slice_index_or c.args.columns.now place no_column in
+    let column : ColumnPlan = slice_index_or c.args.columns.now place no_column in
     let one : Bool → ℕ = λ b. if b then 1 else 0 in
     let follows : c.args.position ≡ place + one own.selected.is_numbered =
     elim c.match-number_at.branch [

@@ -3,7 +3,7 @@ use Rattle.std.specs.Prelude.{if◌then◌else◌}
 use Rattle.csv_tables.proofs.PlainRowLemmas.{rows_begin}
 use Rattle.csv_tables.specs.Cells.{columns_within}
 use Rattle.csv_tables.specs.Contents.{rows_left}
-use Rattle.csv_tables.specs.declared.options.DrawnColumn.{DrawnColumn}
+use Rattle.csv_tables.specs.declared.options.ColumnPlan.{ColumnPlan}
 use Rattle.csv_tables.proofs.rows.RecordRows.rows_of.Goals as goal
 use Rattle.csv_tables.proofs.rows.RecordRows.rows_of.Goals.{then-self, else-self}
 
@@ -11,7 +11,7 @@ pub returns : goal.returns
 returns c =
     let rows = c.args.self.now in
     let fields = c.args.fields.now in
-    let by : Bool → List DrawnColumn = λ b. if b then columns_within fields rows.selected.columns else [] in
+    let by : Bool → List ColumnPlan = λ b. if b then columns_within fields rows.selected.columns else [] in
     let columns : c.if-self.columns.now ≡ by rows.is_expanded =
     elim c.if-self.branch [
       | then-self w ↦ ap (λ r. r.now) w.columns-is ∙ w.columns_within-columns.ensures ∙ sym (ap by w.if-self.true)

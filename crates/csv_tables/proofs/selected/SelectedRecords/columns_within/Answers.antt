@@ -4,13 +4,13 @@ use Rattle.std.proofs.lemmas.List.{drop_all, length-take-le, take_all}
 use Rattle.comfy_parts.specs.Text.{Text}
 use Rattle.csv_tables.specs.Cells.{has_field, columns_within}
 use Rattle.csv_tables.specs.Leasts.{least_position, least_positions}
-use Rattle.csv_tables.specs.declared.options.DrawnColumn.{DrawnColumn}
+use Rattle.csv_tables.specs.declared.options.ColumnPlan.{ColumnPlan}
 use Rattle.csv_tables.proofs.ReachedLemmas.{held-by_least, least-at, leasts-length, none-reached, reached-more}
 use Rattle.csv_tables.proofs.selected.SelectedRecords.columns_within.Goals as goal
 
 pub slice_bounds-result-end : goal.slice_bounds-result-end
 slice_bounds-result-end c =
-    let columns : List DrawnColumn = c.args.self.now.columns in
+    let columns : List ColumnPlan = c.args.self.now.columns in
     let own : c.self.inside.columns.items ≡ columns = ap (λ v. v.columns) c.self.view_is in
     let items : c.deref.result.now ≡ columns = c.deref.ensures.value ∙ own in
     let leasts : c.deref-least-items.result.now ≡ least_positions columns = c.deref-least-items.ensures.value ∙ c.self.invariant ∙ ap least_positions own in
@@ -22,7 +22,7 @@ slice_bounds-result-end c =
 
 pub returns-then-len-least : goal.returns-then-len-least
 returns-then-len-least c =
-    let columns : List DrawnColumn = c.args.self.now.columns in
+    let columns : List ColumnPlan = c.args.self.now.columns in
     let fields : List Text = c.args.row.now in
     let k : ℕ = c.loop-count.count in
     let own : c.self.inside.columns.items ≡ columns = ap (λ v. v.columns) c.self.view_is in
@@ -37,11 +37,11 @@ returns-then-len-least c =
     let short : length fields < 2 ^ 64 = omega (arith, count, fits) in
     let enough = c.if-len-least.true in
     let none : list_any (has_field fields) (drop k columns) ≡ false = held-by_least fields short (drop k columns) ∙ grind (arith, count, enough, least) in
-    ap (take k) items ∙ sym (append-nil (take k columns)) ∙ sym (c.loop-count.invariant ∙ ap (λ (rest : List DrawnColumn). take k columns ++ rest) (none-reached fields (drop k columns) none))
+    ap (take k) items ∙ sym (append-nil (take k columns)) ∙ sym (c.loop-count.invariant ∙ ap (λ (rest : List ColumnPlan). take k columns ++ rest) (none-reached fields (drop k columns) none))
 
 pub loop-count-preserved : goal.loop-count-preserved
 loop-count-preserved c =
-    let columns : List DrawnColumn = c.args.self.now.columns in
+    let columns : List ColumnPlan = c.args.self.now.columns in
     let fields : List Text = c.args.row.now in
     let k : ℕ = c.loop-count.count in
     let own : c.self.inside.columns.items ≡ columns = ap (λ v. v.columns) c.self.view_is in
@@ -60,7 +60,7 @@ loop-count-preserved c =
 
 pub returns : goal.returns
 returns c =
-    let columns : List DrawnColumn = c.args.self.now.columns in
+    let columns : List ColumnPlan = c.args.self.now.columns in
     let fields : List Text = c.args.row.now in
     let k : ℕ = c.loop-count.count in
     let own : c.self.inside.columns.items ≡ columns = ap (λ v. v.columns) c.self.view_is in
@@ -70,4 +70,4 @@ returns c =
     let all : length columns ≤ k = omega (arith, long, test) in
     let rest : drop k columns ≡ [] = drop_all k columns all in
     c.as_slice.ensures.value ∙ own ∙ sym (take_all k columns all) ∙ sym (append-nil (take k columns))
-    ∙ sym (c.loop-count.invariant ∙ ap (λ (columns' : List DrawnColumn). take k columns ++ columns_within fields columns') rest)
+    ∙ sym (c.loop-count.invariant ∙ ap (λ (columns' : List ColumnPlan). take k columns ++ columns_within fields columns') rest)

@@ -6,7 +6,7 @@ use Rattle.comfy_table.proofs.table.arranged.ArrangedTable.draw.Goals as goal
 
 pub returns-clause-ok : goal.returns-clause-ok
 returns-clause-ok g c =
-    let whole = g.C.Contents.whole c.self.inside.contents in
+    let whole = g.C.TableSource.whole c.self.inside.contents in
     let infos = c.self.inside.infos.items in
     let rows = c.args.rows.now in
     let extent = c.args.extent in

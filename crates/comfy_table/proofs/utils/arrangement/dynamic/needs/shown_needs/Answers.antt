@@ -10,20 +10,20 @@ use Rattle.comfy_table.proofs.utils.arrangement.dynamic.needs.shown_needs.Goals 
 
 pub new-requires : goal.new-requires
 new-requires g c =
-    let columns : c.as_slice-columns.result.now ≡ (g.C.Contents.whole c.args.contents.now).columns = c.as_slice-columns.ensures.value ∙ ap (λ (t : TableValue). t.columns) c.table.view_is ∙ ap (λ (t : TableValue). t.columns) c.table-table.ensures in
-    c.count_visible_columns-count.ensures ∙ ap shown_among columns ∙ sym (shown_count-among (g.C.Contents.whole c.args.contents.now))
+    let columns : c.as_slice-columns.result.now ≡ (g.C.TableSource.whole c.args.contents.now).columns = c.as_slice-columns.ensures.value ∙ ap (λ (t : TableValue). t.columns) c.table.view_is ∙ ap (λ (t : TableValue). t.columns) c.table-table.ensures in
+    c.count_visible_columns-count.ensures ∙ ap shown_among columns ∙ sym (shown_count-among (g.C.TableSource.whole c.args.contents.now))
 
 pub loop-position-init : goal.loop-position-init
-loop-position-init g c = ap (all_needs (g.C.Contents.whole c.args.contents.now)) c.new-visible.ensures.items
+loop-position-init g c = ap (all_needs (g.C.TableSource.whole c.args.contents.now)) c.new-visible.ensures.items
 
 pub loop-position-preserved-then-is_hidden : goal.loop-position-preserved-then-is_hidden
 loop-position-preserved-then-is_hidden g c =
-    let more = filtered_more (needs_of (g.C.Contents.whole c.args.contents.now)) (λ p. not (is_hidden_column p.1)) c.as_slice-columns.result.now c.loop-position.position c.index-columns-position.result c.loop-position-test.true c.index-columns-position.is in
+    let more = filtered_more (needs_of (g.C.TableSource.whole c.args.contents.now)) (λ p. not (is_hidden_column p.1)) c.as_slice-columns.result.now c.loop-position.position c.index-columns-position.result c.loop-position-test.true c.index-columns-position.is in
     grind (arith, more, append-nil)
 
 pub loop-position-preserved : goal.loop-position-preserved
 loop-position-preserved g c =
-    let more = filtered_more (needs_of (g.C.Contents.whole c.args.contents.now)) (λ p. not (is_hidden_column p.1)) c.as_slice-columns.result.now c.loop-position.position c.index-columns-position.result c.loop-position-test.true c.index-columns-position.is in
+    let more = filtered_more (needs_of (g.C.TableSource.whole c.args.contents.now)) (λ p. not (is_hidden_column p.1)) c.as_slice-columns.result.now c.loop-position.position c.index-columns-position.result c.loop-position-test.true c.index-columns-position.is in
     grind (arith, more, map-append)
 
 pub returns : goal.returns

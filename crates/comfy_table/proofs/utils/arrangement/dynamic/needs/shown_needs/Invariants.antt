@@ -7,4 +7,4 @@ use Rattle.comfy_table.proofs.utils.arrangement.dynamic.needs.shown_needs.Given 
 
 abbrev pub invariant-loop-position : goal.invariant-loop-position
 invariant-loop-position g l =
-    all_needs (g.C.Contents.whole l.contents) l.visible.items ≡ map (needs_of (g.C.Contents.whole l.contents)) (filter (λ (p : ℕ × ColumnValue). not (is_hidden_column p.1)) (take l.position (enumerate_from 0 l.columns)))
+    all_needs (g.C.TableSource.whole l.contents) l.visible.items ≡ map (needs_of (g.C.TableSource.whole l.contents)) (filter (λ (p : ℕ × ColumnValue). not (is_hidden_column p.1)) (take l.position (enumerate_from 0 l.columns)))

@@ -6,5 +6,5 @@ use Rattle.comfy_table.proofs.utils.arrangement.dynamic.budget.Budget.new.Given 
 
 abbrev pub invariant-loop-column : goal.invariant-loop-column
 invariant-loop-column g l =
-    (l.widths.items ++ map (λ (c : ColumnNeeds). c.fixed) (all_needs (g.C.Contents.whole l.contents) (drop l.column-index l.columns)) ≡ map (λ (c : ColumnNeeds). c.fixed) (all_needs (g.C.Contents.whole l.contents) l.columns))
-    × (content_room l.room (all_needs (g.C.Contents.whole l.contents) (drop l.column-index l.columns)) ≡ content_room l.initial.room (all_needs (g.C.Contents.whole l.contents) l.columns))
+    (l.widths.items ++ map (λ (c : ColumnNeeds). c.fixed) (all_needs (g.C.TableSource.whole l.contents) (drop l.column-index l.columns)) ≡ map (λ (c : ColumnNeeds). c.fixed) (all_needs (g.C.TableSource.whole l.contents) l.columns))
+    × (content_room l.room (all_needs (g.C.TableSource.whole l.contents) (drop l.column-index l.columns)) ≡ content_room l.initial.room (all_needs (g.C.TableSource.whole l.contents) l.columns))

@@ -8,7 +8,7 @@ use Rattle.comfy_table.proofs.utils.arrangement.dynamic.round_robin.Candidates.g
 
 pub loop-passed-init : goal.loop-passed-init
 loop-passed-init g c =
-    let needs = all_needs (g.C.Contents.whole c.args.self.now.contents.now) c.args.self.now.columns.now in
+    let needs = all_needs (g.C.TableSource.whole c.args.self.now.contents.now) c.args.self.now.columns.now in
     record {
       turn = turn_begins c.args.self.now.rule needs c.args.budget.now c.average-average.result c.average-average.ensures;
       counted = c.undecided-undecided.ensures;
@@ -19,7 +19,7 @@ loop-passed-smaller g c = grind (arith, fewer_undecided, count-set, width_at-som
 
 one_fewer : (g : Over) (c : goal.After-claim g) → undecided_count c.claim.new.self.widths.items + 1 ≡ c.loop-passed.undecided
 one_fewer g c =
-    let needs = all_needs (g.C.Contents.whole c.args.self.now.contents.now) c.args.self.now.columns.now in
+    let needs = all_needs (g.C.TableSource.whole c.args.self.now.contents.now) c.args.self.now.columns.now in
     ap (λ widths. undecided_count widths + 1) c.claim.ensures.widths
     ∙ count-taken c.args.self.now.rule c.loop-passed.average needs c.loop-passed.budget.widths.items c.loop-passed.position c.in-Some.width (sym c.in_ok-width.ensures ∙ c.in-Some.is)
     ∙ sym c.loop-passed.invariant.counted
@@ -35,7 +35,7 @@ loop-passed-preserved g c = grind (arith, length-map, turn_takes, turn_passes, c
 
 pub returns : goal.returns
 returns g c =
-    let needs = all_needs (g.C.Contents.whole c.args.self.now.contents.now) c.args.self.now.columns.now in
-    let count : length needs ≡ length c.args.self.now.columns.now = length-map c.args.self.now.columns.now (needs_in (g.C.Contents.whole c.args.self.now.contents.now)) in
+    let needs = all_needs (g.C.TableSource.whole c.args.self.now.contents.now) c.args.self.now.columns.now in
+    let count : length needs ≡ length c.args.self.now.columns.now = length-map c.args.self.now.columns.now (needs_in (g.C.TableSource.whole c.args.self.now.contents.now)) in
     turn_ends c.args.self.now.rule needs c.args.budget.now (c.requires.widths ∙ sym count) c.loop-passed.budget c.loop-passed.position c.loop-passed.passed c.loop-passed.average c.loop-passed.invariant.turn
     (omega (arith, c.loop-passed-test.false, count))

@@ -6,7 +6,7 @@ use Rattle.comfy_table.proofs.utils.arrangement.dynamic.round_robin.Candidates.g
 abbrev pub invariant-loop-passed : goal.invariant-loop-passed
 invariant-loop-passed g l =
     record {
-      turn : IsTurn l.self.rule (all_needs (g.C.Contents.whole l.self.contents.now) l.self.columns.now) l.initial.budget l.budget l.position l.passed l.average;
+      turn : IsTurn l.self.rule (all_needs (g.C.TableSource.whole l.self.contents.now) l.self.columns.now) l.initial.budget l.budget l.position l.passed l.average;
       counted : l.undecided ≡ undecided_count l.budget.widths.items;
     }
 

@@ -1,0 +1,141 @@
+//! A row that is drawn line by line.
+
+ghost use Rattle.std.specs.Prelude.{◌≡◌, ◌++◌, ◌<◌, ◌≤◌, [], IfOk, OnOk, length, map, string_bytes};
+ghost use Rattle.comfy_table.specs.DrawnCells.{AreFurther, drawn_cell, filled, greatest_height, piece_at, with_further};
+ghost use Rattle.comfy_table.specs.Gaps.{gap_line};
+ghost use Rattle.comfy_table.specs.RowCells.{row_in};
+
+use crate::table::Table;
+use crate::utils::formatting::cell_lines::Line;
+use crate::utils::formatting::drawn_cell::{DrawnCell, drawn_cell, only_piece, take_list};
+use crate::utils::formatting::piece::{Piece, Styles};
+use crate::utils::formatting::row_cell::RowSource;
+use crate::utils::formatting::row_gaps::RowGaps;
+use crate::utils::formatting::shown_column::ShownColumn;
+use comfy_parts::Result;
+use std::alloc::Global;
+use std::marker::Model;
+
+/// The row that is drawn now. Its first line is drawn while its cells are found, and only those for
+/// further lines are kept: most rows have none. One row after another is drawn by it, in the memory
+/// of those before.
+#[derive(Drop)]
+pub struct RowCursor<'a, 'r> {
+    // the cells from the first one on that has more than one line
+    further: Vec<DrawnCell<'a, 'r>>,
+    // lists in which the lines of earlier rows stood
+    spare: Vec<Vec<Line<'r>>>,
+}
+
+impl<'a, 'r> Model for RowCursor<'a, 'r> {
+    ghost use Rattle.std.specs.Prelude.{List};
+    ghost use Rattle.comfy_table.specs.DrawnCells.{DrawnCell};
+
+    ghost Value = { List DrawnCell };
+
+    ghost view = { λ r. r.further.items };
+}
+
+impl<'a, 'r> RowCursor<'a, 'r> {
+    /// No row. It takes no memory.
+    pub fn new(alloc: Global) -> RowCursor<'a, 'r>
+        ensures { result ≡ [] }
+    {
+        RowCursor {
+            further: Vec::new(alloc),
+            spare: Vec::new(alloc),
+        }
+    }
+
+    /// Goes on to a row, appends its first line, and returns its height. In no columns it has no
+    /// line.
+    pub fn push_first_line(
+        &mut self,
+        text: &mut String,
+        gaps: &RowGaps,
+        row: RowSource<'r>,
+        columns: &[ShownColumn<'a>],
+        table: &'r Table,
+    ) -> Result<usize>
+        ensures further { OnOk result
+            (AreFurther self.new (map (drawn_cell table.now (row_in row.entry)) columns.now)) }
+        ensures line { 0 < length columns.now → OnOk result (string_bytes text.new
+            ≡ string_bytes text.old ++ gap_line gaps.now
+            (map (piece_at 0) (map (drawn_cell table.now (row_in row.entry)) columns.now))) }
+        ensures height { IfOk result (λ height. height
+            ≡ greatest_height (map (drawn_cell table.now (row_in row.entry)) columns.now)) }
+    {
+        self.clear()?;
+        let styles = Styles::of(table);
+        let mut gap = gaps.left();
+        let mut free = 0;
+        let mut height = 0;
+        for column in columns {
+            if self.further.is_empty()
+                && let Some(piece) = only_piece(row, column, table, styles)
+            {
+                free = piece.push(text, gap, free)?;
+                height = height.max(1);
+            } else {
+                let cell = drawn_cell(row, column, table, styles, &mut self.spare)?;
+                free = cell.piece_at(0).push(text, gap, free)?;
+                height = cell.height().max(height);
+                self.keep(cell)?;
+            }
+            gap = gaps.junction();
+        }
+        gaps.push_end(text, free)?;
+        Ok(height)
+    }
+
+    // Leaves the row before.
+    fn clear(&mut self) -> Result<()>
+        ensures { OnOk result (self.new ≡ []) }
+    {
+        while let Some(cell) = self.further.pop() {
+            take_list(cell, &mut self.spare)?;
+        }
+        Ok(())
+    }
+
+    // Keeps a cell for further lines, if it has any, or stands behind one that has.
+    #[inline(always)]
+    fn keep(&mut self, cell: DrawnCell<'a, 'r>) -> Result<()>
+        ensures { OnOk result (self.new ≡ with_further self.old cell.entry) }
+    {
+        if self.further.is_empty() && cell.height() <= 1 {
+            return take_list(cell, &mut self.spare);
+        }
+        self.further.push(cell)?;
+        Ok(())
+    }
+
+    /// Appends a line behind the first, in the columns of that one. Lines are counted from 0.
+    #[inline(never)]
+    pub fn push_further_line(
+        &self,
+        text: &mut String,
+        gaps: &RowGaps,
+        columns: &[ShownColumn<'a>],
+        line: usize,
+    ) -> Result<()>
+        requires some { 0 < length columns.now }
+        requires columns { length self.now ≤ length columns.now }
+        ensures { OnOk result (string_bytes text.new ≡ string_bytes text.old
+            ++ gap_line gaps.now (map (piece_at line) (filled columns.now self.now))) }
+    {
+        let first = columns.len() - self.further.as_slice().len();
+        let mut gap = gaps.left();
+        let mut free = 0;
+        for (position, column) in columns.iter().enumerate() {
+            let piece = if position < first {
+                Piece::blank(column.info)
+            } else {
+                self.further[position - first].piece_at(line)
+            };
+            free = piece.push(text, gap, free)?;
+            gap = gaps.junction();
+        }
+        gaps.push_end(text, free)
+    }
+}

@@ -1,0 +1,40 @@
+-- Fields that aren't broken, as they are seen.
+use Rattle.std.proofs.Common.{◌≡◌, ◌&&◌, ◌||◌, Bool, true, false, refl, ◌≤◌, ◌+◌, ◌-◌, ◌*◌, ℕ, zero, suc, List, [], ◌∷◌, ap, arith, length, map}
+use Rattle.std.specs.List.{list_any}
+use Rattle.std.specs.Str.{chars, chars_after, continuation_len, lead_bits}
+use Rattle.comfy_parts.specs.CellValue.{CellValue}
+use Rattle.comfy_parts.specs.Text.{Text, greatest}
+use Rattle.comfy_parts.specs.VisibleText.{has_escape}
+use Rattle.comfy_table.proofs.RowCellLemmas.{clear_measured}
+use Rattle.comfy_table.specs.TableValue.{TableValue, measured_cell}
+use Rattle.csv_tables.specs.NoWrap.{cell_nowrap_width, nowrap_width}
+
+-- a text has no more characters than bytes
+few_after : (n c : ℕ) (bs : Text) → length (chars_after n c bs) ≤ 1 + length bs
+few_after zero c [] = omega arith
+few_after zero c (b ∷ bs) = let more = few_after (continuation_len b) (lead_bits b) bs in omega (arith, more)
+few_after (suc n) c [] = omega arith
+few_after (suc n) c (b ∷ bs) = let more = few_after n (c * 64 + (b - 128)) bs in omega (arith, more)
+
+pub few-chars : (text : Text) → length (chars text) ≤ length text
+unfolding chars
+few-chars [] = omega arith
+few-chars (b ∷ bs) = let more = few_after (continuation_len b) (lead_bits b) bs in omega (arith, more)
+
+-- what three tests say together
+pub first-two : (a b c : Bool) → a ≡ true → b ≡ true → true ≡ a && (b || c)
+first-two a b c one other = rw (one, other) refl
+
+pub last : (a b c : Bool) → a ≡ true → b ≡ false → c ≡ a && (b || c)
+last a b c one none = rw (one, none) refl
+
+pub none : (a b c : Bool) → a ≡ false → false ≡ a && (b || c)
+none a b c is = rw is refl
+
+-- the width of a cell of one text line without escape sequences is that of its text
+pub of_one_line : (table : TableValue) (room : ℕ) (cell : CellValue) (text : Text) → cell.text_lines ≡ text ∷ [] → list_any has_escape cell.text_lines ≡ false
+    → nowrap_width room text ≡ cell_nowrap_width room (measured_cell table cell)
+of_one_line table room cell text one clear =
+    let measured = ap (cell_nowrap_width room) (clear_measured table cell clear) in
+    let lines = ap (λ (ls : List Text). greatest (map (nowrap_width room) ls)) one in
+    omega (arith, measured, lines)

@@ -1,0 +1,100 @@
+-- What tables that keep numbers and dates whole are made of.
+use Rattle.std.proofs.Common.{◌≡◌, ◌<◌, ◌≤◌, ◌+◌, ℕ, zero, suc, Bool, List, [], ◌∷◌, Some, ◌-◌, ◌^◌, cond, filter, get_or, length, map, min, nat_le, set, max, nat_lt, slice_get, sum_by, unwrap_or, true, false, ◌||◌, refl, sym, ap, ◌∙◌, arith}
+use Rattle.std.specs.List.{All, range_with_len}
+use Rattle.std.proofs.lemmas.Bool.{lt-ltb}
+use Rattle.std.proofs.lemmas.Bool.Decides.{nat_tests}
+use Rattle.std.proofs.lemmas.List.{map-id}
+use Rattle.std.proofs.lemmas.List.Elements.{All-cons, All-nil}
+use Rattle.std.proofs.lemmas.List.FromFn.{filter_of_map_range_with_len_more}
+use Rattle.std.proofs.lemmas.List.Sums.{sum_by-cons}
+use Rattle.std.specs.Prelude.{if◌then◌else◌}
+use Rattle.comfy_parts.specs.CellValue.{ColumnValue}
+use Rattle.comfy_parts.specs.Text.{greatest}
+use Rattle.comfy_parts.specs.declared.style.table_style.TableStyle.{TableStyle}
+use Rattle.comfy_table.proofs.ColumnCellLemmas.{greatest-append}
+use Rattle.comfy_table.specs.Frame.{border_count}
+use Rattle.comfy_table.specs.TableValue.{TableValue}
+use Rattle.csv_tables.specs.NoWrap.{boundary_for, framed_width, reserved_width, given_in, greatest_level, has_room, min_width, with_min_widths, width_at_level, with_content, with_lower_bounds, with_second}
+
+-- what columns keep leaves room for paddings, where what they need does
+pub kept_within : (kept needed : ℕ → ℕ) → ((i : ℕ) → kept i ≤ needed i) → (n count : ℕ) → sum_by (λ content. 2 + content) (map needed (range_with_len n count)) ≤ 65535 → All (λ content. content ≤ 65533) (map kept (range_with_len n count))
+kept_within kept needed less n zero within = All-nil (λ (content : ℕ). content ≤ 65533)
+kept_within kept needed less n (suc count) within =
+    let own = less n in
+    let sums = sum_by-cons (λ (content : ℕ). 2 + content) (needed n) (map needed (range_with_len (n + 1) count)) in
+    All-cons (λ (content : ℕ). content ≤ 65533) (kept n) (map kept (range_with_len (n + 1) count)) (omega (arith, own, sums, within)) (kept_within kept needed less (n + 1) count (omega (arith, sums, within)))
+
+pub kept_is_shared : (level : ℕ) (nowrap : List Bool) (table : TableValue) (i : ℕ) → min_width nowrap table i ≤ width_at_level level nowrap table i
+kept_is_shared level nowrap table i = omega arith
+
+pub given_is_shared : (level level2 : ℕ) (nowrap : List Bool) (table : TableValue) (i : ℕ) → max 1 (reserved_width level nowrap table i) ≤ width_at_level level2 nowrap table i
+given_is_shared level level2 nowrap table i = by_test (unwrap_or (slice_get nowrap i) false || nat_lt level (min_width nowrap table i))
+  where
+    by_test : (b : Bool) → max 1 (if b then min_width nowrap table i else 0) ≤ width_at_level level2 nowrap table i
+    by_test true = omega arith
+    by_test false = omega arith
+
+-- a boundary is the content with its paddings, where there is content
+pub boundary-some : (content : ℕ) → 0 < content → boundary_for content ≡ content + 2
+boundary-some content some = ap (λ (b : Bool). if b then content + 2 else 0) (lt-ltb 0 content some)
+
+-- and never more than that
+pub boundary-within : (content : ℕ) → boundary_for content ≤ content + 2
+boundary-within zero = omega arith
+boundary-within (suc n) = omega (arith, boundary-some (suc n) (omega arith))
+
+-- a sum that stopped at the greatest number is above each width
+pub stopped : (n w : ℕ) → w ≤ 65535 → nat_le (min (2 ^ 64 - 1) n) w ≡ nat_le n w
+stopped n w below = grind (arith, nat_tests)
+
+-- ---- levels
+
+-- one level more
+level_more : (passes : ℕ → Bool) (n level : ℕ) → n + 1 ≡ level → greatest_level passes level ≡ max (greatest_level passes n) (greatest (cond (passes level) (level ∷ []) []))
+level_more passes n level next =
+    ap (greatest_level passes) (sym next)
+    ∙ ap (λ ls. greatest (filter passes ls)) (sym (map-id (range_with_len 1 (n + 1))))
+    ∙ ap greatest (filter_of_map_range_with_len_more passes (λ l. l) 1 n level (omega (arith, next)))
+    ∙ greatest-append (filter passes (map (λ l. l) (range_with_len 1 n))) (cond (passes level) (level ∷ []) [])
+    ∙ ap (λ ls. max (greatest (filter passes ls)) (greatest (cond (passes level) (level ∷ []) []))) (map-id (range_with_len 1 n))
+
+-- none is above the last one
+levels_within : (passes : ℕ → Bool) (a n : ℕ) → greatest (filter passes (range_with_len (a + 1) n)) ≤ a + n
+levels_within passes a zero = omega arith
+levels_within passes a (suc n) = grind (arith, levels_within passes (a + 1) n)
+
+-- a level that doesn't pass isn't the greatest that does
+pub failed_level : (passes : ℕ → Bool) (level : ℕ) → 0 < level → passes level ≡ false → greatest_level passes (level - 1) ≡ greatest_level passes level
+failed_level passes level some is = grind (arith, level_more passes (level - 1) level (omega (arith, some)))
+
+-- and one that does is
+pub passed_level : (passes : ℕ → Bool) (level : ℕ) → 0 < level → passes level ≡ true → level ≡ greatest_level passes level
+passed_level passes level some is = grind (arith, level_more passes (level - 1) level (omega (arith, some)), levels_within passes 0 (level - 1))
+
+-- ---- tables
+
+-- whether there is room
+pub kept-test : (width : ℕ) (nowrap : List Bool) (table : TableValue) (b : Bool) → has_room (Some width) nowrap table ≡ b
+    → with_min_widths (Some width) nowrap table ≡ (if b then with_lower_bounds (given_in width nowrap table) table else table)
+kept-test width nowrap table b is = ap (λ b. if b then with_lower_bounds (given_in width nowrap table) table else table) is
+
+-- ---- fields of expanded records
+
+-- the width of a line over two contents
+pub framed_pair : (style : TableStyle) (names field : ℕ) → framed_width style (names ∷ field ∷ []) ≡ border_count style 2 + ((2 + names) + (2 + field))
+framed_pair style names field =
+    let first = sum_by-cons (λ (content : ℕ). 2 + content) names (field ∷ []) in
+    let other = sum_by-cons (λ (content : ℕ). 2 + content) field [] in
+    omega (arith, first, other)
+
+-- the second column is replaced
+pub with_second-set : (columns : List ColumnValue) (content : ℕ) (default : ColumnValue) → 1 < length columns → set columns 1 (with_content content (get_or columns 1 default)) ≡ with_second content columns
+with_second-set [] content default below = absurd (omega (arith, below))
+with_second-set (a ∷ []) content default below = absurd (omega (arith, below))
+with_second-set (a ∷ b ∷ more) content default below = refl
+
+-- or there is none
+pub with_second-none : (columns : List ColumnValue) (content : ℕ) → length columns ≤ 1 → with_second content columns ≡ columns
+with_second-none [] content few = refl
+with_second-none (a ∷ []) content few = refl
+with_second-none (a ∷ b ∷ more) content few = absurd (omega (arith, few))

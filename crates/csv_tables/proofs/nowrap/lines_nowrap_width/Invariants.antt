@@ -1,0 +1,9 @@
+use Rattle.std.proofs.Common.{◌≡◌, ◌≤◌, drop, map, max, string_bytes}
+use Rattle.comfy_parts.specs.Text.{greatest}
+use Rattle.comfy_table.specs.TableValue.{measured_cell}
+use Rattle.csv_tables.specs.NoWrap.{cell_nowrap_width, nowrap_width}
+use Rattle.csv_tables.proofs.nowrap.lines_nowrap_width.Given as goal
+
+abbrev pub invariant-loop-line : goal.invariant-loop-line
+invariant-loop-line l =
+    (max l.widest (greatest (map (nowrap_width l.room) (map string_bytes (drop l.line-index l.lines)))) ≡ cell_nowrap_width l.room (measured_cell l.table l.cell)) × (l.widest ≤ l.room)

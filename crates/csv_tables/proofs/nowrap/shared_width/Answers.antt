@@ -1,0 +1,39 @@
+use Rattle.std.proofs.Common.{◌≡◌, ◌<◌, ◌+◌, ◌-◌, ◌^◌, ◌∙◌, ℕ, List, ap, ap₂, arith, get_or, length, map, min, rules, sum_by, sym}
+use Rattle.std.specs.List.{range_with_len}
+use Rattle.std.proofs.lemmas.List.FromFn.{get_or-map-range_with_len, length-map-range_with_len, sum_by-map-range_with_len_more}
+use Rattle.comfy_table.specs.Frame.{border_count, saturated_border_count}
+use Rattle.comfy_table.specs.TableValue.{TableValue, column_content_width}
+use Rattle.csv_tables.specs.NoWrap.{min_width, width_at_level, shared_content}
+use Rattle.csv_tables.proofs.nowrap.shared_width.Goals as goal
+
+pub loop-at-init : goal.loop-at-init
+loop-at-init c nowrap is =
+    let table = c.args.contents.now.table in
+    let view = ap (λ v. v.table) c.contents.view_is in
+    let long = ap length c.widths-widths.ensures ∙ length-map-range_with_len (column_content_width table) 0 (length table.columns) in
+    let count : c.count_border_columns-width.result ≡ saturated_border_count table.style (length table.columns) = c.count_border_columns-width.ensures ∙ ap₂ saturated_border_count (ap (λ (t : TableValue). t.style) view) long in
+    omega (arith, count)
+
+pub loop-at-preserved : goal.loop-at-preserved
+loop-at-preserved c nowrap is =
+    let table = c.args.contents.now.table in
+    let at : ℕ = c.loop-at.at in
+    let widths = c.widths-widths.result.now in
+    let long = ap length c.widths-widths.ensures ∙ length-map-range_with_len (column_content_width table) 0 (length table.columns) in
+    let below : at < length table.columns = omega (arith, c.loop-at-test.true, long) in
+    let content : get_or widths at 0 ≡ column_content_width table at = ap (λ (ws : List ℕ). get_or ws at 0) c.widths-widths.ensures ∙ get_or-map-range_with_len (column_content_width table) 0 (length table.columns) at at 0 below (omega arith) in
+    let got : c.unwrap_or-keeps.result ≡ get_or c.args.kept.now at 0 = search rules in
+    let keeps : c.unwrap_or-keeps.result ≡ min_width nowrap table at = got ∙ ap (λ (ks : List ℕ). get_or ks at 0) is ∙ get_or-map-range_with_len (min_width nowrap table) 0 (length table.columns) at at 0 below (omega arith) in
+    let takes : c.shared_content.result ≡ width_at_level c.args.level nowrap table at = c.shared_content.ensures ∙ ap₂ (shared_content c.args.level) keeps content in
+    let sums = sum_by-map-range_with_len_more (λ (n : ℕ). 2 + n) (width_at_level c.args.level nowrap table) 0 at at (omega arith) in
+    let so = c.loop-at.invariant nowrap is in
+    omega (arith, so, c.saturating_add-width.ensures, c.from.ensures, takes, sums)
+
+pub returns : goal.returns
+returns c nowrap is =
+    let table = c.args.contents.now.table in
+    let takes = width_at_level c.args.level nowrap table in
+    let long = ap length c.widths-widths.ensures ∙ length-map-range_with_len (column_content_width table) 0 (length table.columns) in
+    let same : c.loop-at.at ≡ length table.columns = omega (arith, c.loop-at-test.false, c.loop-at.auto.at-end, long) in
+    c.loop-at.invariant nowrap is ∙ ap (λ (n : ℕ). min (2 ^ 64 - 1) (border_count table.style (length table.columns) + sum_by (λ content. 2 + content) (map takes (range_with_len 0 n)))) same
+    ∙ ap (λ (n : ℕ). min (2 ^ 64 - 1) (border_count table.style n + sum_by (λ content. 2 + content) (map takes (range_with_len 0 (length table.columns))))) (sym (length-map-range_with_len takes 0 (length table.columns)))

@@ -1,8 +1,0 @@
-use Rattle.std.proofs.Common.{◌≡◌, map}
-use Rattle.std.specs.List.{range_with_len}
-use Rattle.csv_tables.specs.Unbroken.{kept_at}
-use Rattle.csv_tables.proofs.unbroken.kept_contents.Given as goal
-
--- what the columns so far keep
-abbrev pub invariant-loop-at : goal.invariant-loop-at
-invariant-loop-at l = l.kept.items ≡ map (kept_at l.unbroken l.contents.table) (range_with_len 0 l.at)

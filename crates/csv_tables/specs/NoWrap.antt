@@ -1,0 +1,191 @@
+-- Columns and fields that aren't broken over lines: which they are, and where a width has room for
+-- them.
+-- Source: this library's own.
+use Rattle.std.specs.Prelude.{ℕ, ◌+◌, ◌-◌, Bool, ◌==◌, ◌&&◌, ◌||◌, true, false, List, [], ◌∷◌, Option, Some, None, chars, codes, filter, length, map, max, min, nat_le, nat_lt, option_and_then, slice_get, slice_index, sum_by, unwrap_or, if◌then◌else◌}
+use Rattle.std.specs.Char.{is_ascii_digit}
+use Rattle.std.specs.List.{list_all, list_any, range_with_len, slice_split}
+use Rattle.comfy_parts.specs.CellValue.{CellValue, ColumnValue, RowValue}
+use Rattle.comfy_parts.specs.Text.{Text, greatest, measure}
+use Rattle.comfy_parts.specs.declared.style.column.ColumnConstraint.{ColumnConstraint}
+use Rattle.comfy_parts.specs.declared.style.column.ColumnConstraint.TheVariants.{Absolute, LowerBoundary}
+use Rattle.comfy_parts.specs.declared.style.column.Width.TheVariants.{Fixed}
+use Rattle.comfy_parts.specs.declared.style.table_style.TableStyle.{TableStyle}
+use Rattle.comfy_table.specs.Frame.{border_count}
+use Rattle.comfy_table.specs.TableValue.{TableValue, column_cells, column_content_width, constrained, max_content_widths, measured_cell}
+use Rattle.csv_records.specs.Number.{is_neutral, is_number}
+
+-- ---- which columns
+
+-- dates and times are written with digits, with these marks, and with spaces
+abbrev pub is_of_dates : ℕ → Bool
+is_of_dates c = is_ascii_digit c || list_any (λ mark. mark == c) (codes "-/:.TZ+ ")
+
+-- a number, a field that says nothing, or such characters alone; at most 25 characters
+abbrev pub is_nowrap : Text → Bool
+is_nowrap field =
+    nat_le (length (chars field)) 25
+    && (list_all is_of_dates field || (is_number field || is_neutral field))
+
+-- ---- how wide they are
+
+-- the width of a line over columns of these contents: borders, contents and paddings
+abbrev pub framed_width : TableStyle → List ℕ → ℕ
+framed_width style contents =
+    border_count style (length contents) + sum_by (λ content. 2 + content) contents
+
+-- the widest word of a text line: words stand between spaces
+abbrev pub word_width : Text → ℕ
+word_width line = greatest (map measure (slice_split (λ b. b == 0x20) line))
+
+-- a width of more than eight terminal columns, 20 at most; of others nothing
+abbrev pub clamped_word : ℕ → ℕ
+clamped_word width = if nat_lt 8 width then min 20 width else 0
+
+-- so the widest word of a name
+abbrev pub wide_word : TableValue → Option CellValue → ℕ
+wide_word table None = 0
+wide_word table (Some name) =
+    clamped_word (greatest (map word_width (measured_cell table name).text_lines))
+
+-- the name of the column at a position
+abbrev pub name_in : TableValue → ℕ → Option CellValue
+name_in table i = option_and_then (λ (row : RowValue). slice_get row.cells i) table.header
+
+-- how much of its content the column at a position keeps in any case: all where it isn't broken,
+-- or has up to eight terminal columns; else as much as a wide word of its name
+abbrev pub min_width : List Bool → TableValue → ℕ → ℕ
+min_width nowrap table i =
+    let content = column_content_width table i in
+    if unwrap_or (slice_get nowrap i) false || nat_le content 8
+    then content
+    else min content (wide_word table (name_in table i))
+
+-- what a column takes of its content where columns share a width up to a level: that much, but no
+-- less than it keeps
+abbrev pub shared_content : ℕ → ℕ → ℕ → ℕ
+shared_content level kept content = max 1 (max kept (min level content))
+
+-- so the column at a position
+abbrev pub width_at_level : ℕ → List Bool → TableValue → ℕ → ℕ
+width_at_level level nowrap table i =
+    shared_content level (min_width nowrap table i) (column_content_width table i)
+
+-- so each column
+abbrev pub by_columns : (ℕ → ℕ) → TableValue → List ℕ
+by_columns f table = map f (range_with_len 0 (length table.columns))
+
+-- the width of a table of rows whose columns share it up to a level
+abbrev pub shared_width : ℕ → List Bool → TableValue → ℕ
+shared_width level nowrap table =
+    framed_width table.style (by_columns (width_at_level level nowrap table) table)
+
+-- its least width: a column has up to eight terminal columns of its content
+abbrev pub least_width : List Bool → TableValue → ℕ
+least_width nowrap table = shared_width 8 nowrap table
+
+-- the greatest level up to another one that passes a test, 0 where none does
+abbrev pub greatest_level : (ℕ → Bool) → ℕ → ℕ
+greatest_level passes level = greatest (filter passes (range_with_len 1 level))
+
+-- the greatest level for which a width has room
+abbrev pub fair_level : ℕ → List Bool → TableValue → ℕ
+fair_level width nowrap table =
+    greatest_level (λ level. nat_le (shared_width level nowrap table) width) width
+
+-- whether a width that is kept has room for that
+abbrev pub has_room : Option ℕ → List Bool → TableValue → Bool
+has_room None nowrap table = true
+has_room (Some width) nowrap table = nat_le (least_width nowrap table) width
+
+-- the width of this content with its paddings; of none 0, which no column is narrower than
+abbrev pub boundary_for : ℕ → ℕ
+boundary_for content = if nat_lt 0 content then content + 2 else 0
+
+-- a column has at least this content, with its paddings
+abbrev pub lower_bound : ℕ → ColumnConstraint
+lower_bound content = LowerBoundary (Fixed (boundary_for content))
+
+-- so the columns of a table
+abbrev pub with_lower_bounds : List ℕ → TableValue → TableValue
+with_lower_bounds kept table = record table { columns = constrained (map lower_bound kept) table.columns }
+
+-- what the column at a position is given beforehand: what it keeps, where it isn't broken, or
+-- where that is more than the level that columns share a width up to
+abbrev pub reserved_width : ℕ → List Bool → TableValue → ℕ → ℕ
+reserved_width level nowrap table i =
+    let kept = min_width nowrap table i in
+    if unwrap_or (slice_get nowrap i) false || nat_lt level kept then kept else 0
+
+-- so each column
+abbrev pub given_in : ℕ → List Bool → TableValue → List ℕ
+given_in width nowrap table =
+    by_columns (reserved_width (fair_level width nowrap table) nowrap table) table
+
+-- so it is where a width is kept that has room for what its columns need; else it stays
+abbrev pub with_min_widths : Option ℕ → List Bool → TableValue → TableValue
+with_min_widths None nowrap table = table
+with_min_widths (Some width) nowrap table =
+    if has_room (Some width) nowrap table
+    then with_lower_bounds (given_in width nowrap table) table
+    else table
+
+-- ---- fields of expanded records
+
+-- the room of a width for the contents of two columns: less borders and paddings
+abbrev pub room_for_two : ℕ → TableStyle → ℕ
+room_for_two width style = width - framed_width style (0 ∷ 0 ∷ [])
+
+-- what names of a content need: at most four terminal columns, at least one
+abbrev pub needed_by_names : ℕ → ℕ
+needed_by_names names = max 1 (min names 4)
+
+-- what they leave of a room
+abbrev pub room_beside : ℕ → ℕ → ℕ
+room_beside names room = room - needed_by_names names
+
+-- the width of a text line that is a number or a date and has room; else nothing
+abbrev pub nowrap_width : ℕ → Text → ℕ
+nowrap_width room line =
+    if is_nowrap line && nat_le (measure line) room then measure line else 0
+
+-- the greatest of a cell's text lines
+abbrev pub cell_nowrap_width : ℕ → CellValue → ℕ
+cell_nowrap_width room cell = greatest (map (nowrap_width room) cell.text_lines)
+
+-- the greatest of the fields, which stand in the second column
+abbrev pub field_width : ℕ → TableValue → ℕ
+field_width room table = greatest (map (cell_nowrap_width room) (column_cells table 1))
+
+-- whether a field of this width might be broken beside names of this content: neither they nor as
+-- many terminal columns as the field has fit the room beside it
+abbrev pub may_break : ℕ → ℕ → ℕ → Bool
+may_break room names field = nat_lt room (min names field + field)
+
+-- a column of this content and its paddings
+abbrev pub with_content : ℕ → ColumnValue → ColumnValue
+with_content content column =
+    record column { constraint = Some (Absolute (Fixed (content + 2))) }
+
+-- so is the second one
+abbrev pub with_second : ℕ → List ColumnValue → List ColumnValue
+with_second content [] = []
+with_second content (names ∷ []) = names ∷ []
+with_second content (names ∷ fields ∷ more) =
+    names ∷ with_content content fields ∷ more
+
+abbrev pub with_field_width : ℕ → TableValue → TableValue
+with_field_width content table = record table { columns = with_second content table.columns }
+
+-- so it is where a field of that content might be broken; else the table stays
+abbrev pub with_room_for : ℕ → ℕ → ℕ → TableValue → TableValue
+with_room_for room names field table =
+    if may_break room names field then with_field_width field table else table
+
+-- the table of expanded records where a width is kept: no number and no date of a field is broken
+-- that has room beside what the names need
+abbrev pub with_min_field_width : Option ℕ → TableValue → TableValue
+with_min_field_width None table = table
+with_min_field_width (Some width) table =
+    let room = room_for_two width table.style in
+    let names = slice_index (max_content_widths table) 0 in
+    with_room_for room names (field_width (room_beside names room) table) table

@@ -1,0 +1,156 @@
+//! The table of records whose rows are made only when they are drawn.
+
+ghost use Rattle.std.specs.Prelude.{◌≡◌, ℕ, All, IfOk, false, length, map, max, nat_lt, true};
+ghost use Rattle.std.specs.List.{list_any, slice_index_or};
+ghost use Rattle.comfy_table.specs.Pieces.{row_height};
+ghost use Rattle.comfy_table.specs.TableValue.{column_content_width, max_content_widths, with_other_rows};
+ghost use Rattle.csv_tables.specs.Contents.{headed_by, most_cells, rows_from, table_by};
+ghost use Rattle.csv_tables.specs.LazyRows.{AreWithin, IsFlat};
+
+use crate::rows::RecordRows;
+use crate::selected::SelectedRecords;
+use comfy_parts::content_split::ColumnDisplayInfo;
+use comfy_table::{Result, Table, TableSource};
+use std::marker::Model;
+
+/// The table of records, whose rows are made only when they are drawn.
+#[derive(Drop)]
+pub(crate) struct LazyTable {
+    // its header and its columns, without rows
+    pub table: Table,
+    pub rows: RecordRows,
+    // the content width of each column
+    widths: Vec<u16>,
+    // each cell of a row is known to have at most one text line
+    is_flat: bool,
+}
+
+impl Model for LazyTable {
+    ghost use Rattle.std.specs.Prelude.{◌≡◌, [], ℕ, All, length, true};
+    ghost use Rattle.std.specs.List.{slice_index_or};
+    ghost use Rattle.comfy_table.specs.TableValue.{column_content_width, with_other_rows};
+    ghost use Rattle.csv_tables.specs.Contents.{rows_from};
+    ghost use Rattle.csv_tables.specs.LazyTableValue.{LazyTableValue};
+    ghost use Rattle.csv_tables.specs.LazyRows.{IsFlat};
+
+    ghost Value = { LazyTableValue };
+
+    ghost invariant = { λ c. (c.table.rows ≡ [])
+        × (length c.widths.items ≡ length c.table.columns)
+        × ((i : ℕ) → slice_index_or c.widths.items i 0 ≡ column_content_width
+        (with_other_rows (rows_from c.rows 0 c.rows.selected.rows) c.table) i)
+        × (c.is_flat ≡ true → All IsFlat (rows_from c.rows 0 c.rows.selected.rows)) };
+
+    ghost view = { λ c. record {
+      table = with_other_rows (rows_from c.rows 0 c.rows.selected.rows) c.table;
+      rows = c.rows;
+    } };
+}
+
+impl LazyTable {
+    /// The table of these rows, with all lines of the style.
+    pub fn new(rows: RecordRows) -> Result<LazyTable>
+        ensures table { IfOk result (λ contents. contents.table ≡ table_by rows) }
+        ensures rows { IfOk result (λ contents. contents.rows ≡ rows) }
+    {
+        let mut table = rows.headed_table()?;
+        let (widths, is_flat) = content_widths(&rows, &table)?;
+        table.grow_columns(widths.len())?;
+        Ok(LazyTable {
+            table,
+            rows,
+            widths,
+            is_flat,
+        })
+    }
+
+    /// What the records are of which its rows are made.
+    pub fn into_selected(self) -> SelectedRecords
+        ensures { result ≡ self.rows.selected }
+    {
+        let LazyTable { rows, .. } = self;
+        let RecordRows { selected, .. } = rows;
+        selected
+    }
+
+    /// Whether each row is seen to have at most one line with these infos. If this returns
+    /// false, a row may have several lines or not.
+    pub fn is_flat_within(&self, infos: &[ColumnDisplayInfo]) -> bool
+        ensures { result ≡ true → list_any (nat_lt 1) (map (row_height self.now.table infos.now)
+            self.now.table.rows) ≡ false }
+    {
+        self.is_flat && are_within(self.widths.as_slice(), infos)
+    }
+
+    /// The content width of each column, in list order.
+    pub fn widths(&self) -> &[u16]
+        ensures { result.now ≡ max_content_widths self.now.table }
+    {
+        self.widths.as_slice()
+    }
+}
+
+// The content width of each column of a table that has these rows, which are none of its own, and
+// whether no cell of the rows has several text lines.
+fn content_widths(rows: &RecordRows, table: &Table) -> Result<(Vec<u16>, bool)>
+    ensures each { table.now ≡ headed_by rows.now → IfOk result (λ found. (i : ℕ)
+        → slice_index_or found.0.items i 0 ≡ column_content_width
+        (with_other_rows (rows_from rows.now 0 rows.now.selected.rows) table.now) i) }
+    ensures count { IfOk result (λ found. length found.0.items ≡ max (length table.now.columns)
+        (most_cells (rows_from rows.now 0 rows.now.selected.rows))) }
+    ensures flat { IfOk result (λ found. found.1 ≡ true
+        → All IsFlat (rows_from rows.now 0 rows.now.selected.rows)) }
+{
+    let mut widths = table.column_max_content_widths()?;
+    let mut is_flat = true;
+    let selected = &rows.selected;
+    let mut cells = Vec::new(selected.alloc);
+    for (at, fields) in selected.rows().enumerate() {
+        is_flat &= rows.widen(&mut widths, table, at, &fields, &mut cells)?;
+    }
+    Ok((widths, is_flat))
+}
+
+// Whether each column has room for this content width. A width of 65535 may mean more.
+fn are_within(widths: &[u16], infos: &[ColumnDisplayInfo]) -> bool
+    ensures { result ≡ true → AreWithin widths.now infos.now }
+{
+    for (position, info) in infos.iter().enumerate() {
+        let width = widths.get(position).copied().unwrap_or(0);
+        if width > info.content_width || width >= u16::MAX {
+            return false;
+        }
+    }
+    true
+}
+
+impl TableSource for LazyTable {
+    ghost whole = { λ contents. contents.table };
+
+    fn table(&self) -> &Table {
+        &self.table
+    }
+
+    fn content_width(&self, position: usize) -> Result<u16> {
+        Ok(self.widths.get(position).copied().unwrap_or(0))
+    }
+
+    fn longest_line(
+        &self,
+        position: usize,
+        info: &ColumnDisplayInfo,
+        limit: usize,
+    ) -> Result<usize> {
+        let mut longest = self.table.longest_line(position, info, usize::MAX)?;
+        let rows = &self.rows;
+        for (at, fields) in rows.selected.rows().enumerate() {
+            longest = rows
+                .longest_line(&self.table, at, &fields, position, info)?
+                .max(longest);
+            if longest > limit {
+                return Ok(longest);
+            }
+        }
+        Ok(longest)
+    }
+}

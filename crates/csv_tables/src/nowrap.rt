@@ -1,0 +1,431 @@
+//! Numbers and dates, which aren't broken over lines where there is room.
+
+ghost use Rattle.std.specs.Prelude.{◌≡◌, ◌||◌, ◌-◌, Bool, List, ◌≤◌, ◌^◌, All, IfOk, None, OnOk, Some, chars, false, if◌then◌else◌, length, map, min, nat_le, nat_lt, option_copied, slice_get, true, unwrap_or};
+ghost use Rattle.std.specs.List.{list_all};
+ghost use Rattle.csv_records.specs.Number.{is_neutral, is_number};
+ghost use Rattle.comfy_table.specs.RowCells.{cell_of};
+ghost use Rattle.comfy_table.specs.TableValue.{TableValue, constrained, measured_cell};
+ghost use Rattle.csv_tables.specs.NoWrap.{lower_bound, by_columns, cell_nowrap_width, field_width, reserved_width, has_room, clamped_word, is_of_dates, is_nowrap, min_width, with_min_widths, with_min_field_width, fair_level, may_break, name_in, room_beside, room_for_two, shared_content, shared_width, nowrap_width, wide_word, with_content, with_field_width, word_width};
+ghost use Rattle.csv_tables.specs.Cells.{cell_for};
+ghost use Rattle.csv_tables.specs.Contents.{greatest_at, pairs_by};
+ghost use Rattle.csv_tables.specs.Drawn.{nowrap_in};
+
+use crate::lazy_table::LazyTable;
+use crate::selected::SelectedRecords;
+use comfy_parts::content_split::measure_text_width;
+use comfy_parts::for_tables::measured_lines;
+use comfy_table::utils::arrangement::helper::count_border_columns;
+use comfy_table::{Cell, Column, ColumnConstraint, Result, RowCell, Table, TextCell, Width};
+use csv_records::{is_neutral, is_number};
+use std::alloc::{AllocError, Global};
+
+// How many characters a field has at most that isn't broken.
+const LONGEST: usize = 25;
+
+// How many terminal columns a column of text needs at most for a word of its name.
+const LONGEST_WORD: u16 = 20;
+
+// How many of its content it needs at most, whatever its name.
+const LEAST_LEVEL: u16 = 8;
+
+// How many terminal columns the names of expanded records need at most.
+const NEEDED_NAMES: u16 = 4;
+
+/// Lets the columns keep what they need, where a width is kept that has room for that: those of
+/// numbers and dates their whole contents. Returns whether there is room, as there is where no
+/// width is kept.
+pub(crate) fn keep_nowrap(contents: &mut LazyTable) -> std::result::Result<bool, AllocError>
+    ensures contents { OnOk result (contents.new ≡ record contents.old {
+      table = with_min_widths contents.old.rows.look.width (nowrap_in contents.old.rows.selected)
+          contents.old.table;
+    }) }
+    ensures has_room { IfOk result (λ has. has ≡ has_room contents.old.rows.look.width
+        (nowrap_in contents.old.rows.selected) contents.old.table) }
+{
+    match contents.rows.look.width {
+        Some(width) => keep_within(contents, width),
+        None => Ok(true),
+    }
+}
+
+fn keep_within(contents: &mut LazyTable, width: u16) -> std::result::Result<bool, AllocError>
+    ensures contents { OnOk result (contents.new ≡ record contents.old {
+      table = with_min_widths (Some width) (nowrap_in contents.old.rows.selected)
+          contents.old.table;
+    }) }
+    ensures has_room { IfOk result (λ has. has
+        ≡ has_room (Some width) (nowrap_in contents.old.rows.selected) contents.old.table) }
+{
+    let nowrap = nowrap_columns(&contents.rows.selected)?;
+    let kept = kept_contents(contents, nowrap.as_slice())?;
+    let has_room = shared_width(contents, kept.as_slice(), LEAST_LEVEL) <= usize::from(width);
+    if has_room {
+        let level = fair_level(contents, kept.as_slice(), width);
+        let alloc = contents.rows.selected.alloc;
+        let constraints = constraints_of(alloc, kept.as_slice(), nowrap.as_slice(), level)?;
+        constrain_contents(contents, constraints);
+    }
+    Ok(has_room)
+}
+
+// Of each drawn column, whether it holds numbers and dates alone: none does without rows.
+fn nowrap_columns(selected: &SelectedRecords) -> std::result::Result<Vec<bool>, AllocError>
+    ensures { IfOk result (λ nowrap. nowrap.items ≡ nowrap_in selected.now) }
+{
+    let has_rows = !selected.rows().is_empty();
+    let mut nowrap = Vec::with_capacity(selected.alloc, selected.columns.len())?;
+    if selected.is_numbered {
+        nowrap.push(has_rows)?;
+    }
+    for column in &selected.columns {
+        nowrap.push(has_rows && column.is_nowrap)?;
+    }
+    Ok(nowrap)
+}
+
+// What the columns of a table of rows keep of their contents.
+fn kept_contents(contents: &LazyTable, nowrap: &[bool]) -> std::result::Result<Vec<u16>, AllocError>
+    ensures { IfOk result (λ kept. kept.items
+        ≡ by_columns (min_width nowrap.now contents.now.table) contents.now.table) }
+{
+    let table = &contents.table;
+    let widths = contents.widths();
+    let mut kept = Vec::with_capacity(contents.rows.selected.alloc, widths.len())?;
+    for (at, content) in widths.iter().enumerate() {
+        kept.push(kept_content(table, may_not_break(nowrap, at), at, *content))?;
+    }
+    Ok(kept)
+}
+
+// The width of the table where its columns, which keep so much, share it up to a level.
+fn shared_width(contents: &LazyTable, kept: &[u16], level: u16) -> usize
+    ensures { (nowrap : List Bool)
+        → kept.now ≡ by_columns (min_width nowrap contents.now.table) contents.now.table
+        → result ≡ min (2 ^ 64 - 1) (shared_width level nowrap contents.now.table) }
+{
+    let widths = contents.widths();
+    let mut width = count_border_columns(&contents.table, widths.len());
+    for (at, content) in widths.iter().enumerate() {
+        let keeps = kept.get(at).copied().unwrap_or(0);
+        width = width.saturating_add(2 + usize::from(shared_content(level, keeps, *content)));
+    }
+    width
+}
+
+fn shared_content(level: u16, kept: u16, content: u16) -> u16
+    ensures { result ≡ shared_content level kept content }
+{
+    content.min(level).max(kept).max(1)
+}
+
+// The greatest level for which a width has room.
+fn fair_level(contents: &LazyTable, kept: &[u16], width: u16) -> u16
+    ensures { (nowrap : List Bool)
+        → kept.now ≡ by_columns (min_width nowrap contents.now.table) contents.now.table
+        → result ≡ fair_level width nowrap contents.now.table }
+{
+    let mut level = width;
+    while level > 0 && shared_width(contents, kept, level) > usize::from(width) {
+        level -= 1;
+    }
+    level
+}
+
+fn may_not_break(nowrap: &[bool], at: usize) -> bool
+    ensures { result ≡ unwrap_or (slice_get nowrap.now at) false }
+{
+    match nowrap.get(at) {
+        Some(is_nowrap) => *is_nowrap,
+        None => false,
+    }
+}
+
+// What the column at a position keeps of its content.
+fn kept_content(table: &Table, is_nowrap: bool, at: usize, content: u16) -> u16
+    ensures { result ≡ (if is_nowrap || nat_le content 8
+        then content
+        else min content (wide_word table.now (name_in table.now at))) }
+{
+    if is_nowrap || content <= LEAST_LEVEL {
+        content
+    } else {
+        content.min(wide_word(table, name_in(table, at)))
+    }
+}
+
+// The name of the column at a position.
+fn name_in(table: &Table, at: usize) -> Option<&Cell>
+    ensures { option_copied result ≡ name_in table.now at }
+{
+    match table.header() {
+        Some(header) => header.cell_iter().as_slice().get(at),
+        None => None,
+    }
+}
+
+// The width of the widest word of a name, where that is wide.
+fn wide_word(table: &Table, name: Option<&Cell>) -> u16
+    ensures { result ≡ wide_word table.now (option_copied name.entry) }
+{
+    let Some(name) = name else {
+        return 0;
+    };
+    let (lines, _) = measured_lines(name, table.has_custom_styling());
+    let mut widest = 0;
+    for line in lines {
+        widest = word_width(line.as_str()).max(widest);
+    }
+    clamped_word(widest)
+}
+
+fn clamped_word(width: usize) -> u16
+    ensures { result ≡ clamped_word width }
+{
+    if width > usize::from(LEAST_LEVEL) {
+        width.min(usize::from(LONGEST_WORD)) as u16
+    } else {
+        0
+    }
+}
+
+// The width of the widest word of a text line.
+fn word_width(line: &str) -> usize
+    ensures { result ≡ word_width line.now }
+{
+    let mut widest = 0;
+    for word in line.split(' ') {
+        widest = measure_text_width(word).max(widest);
+    }
+    widest
+}
+
+fn constrain_contents(contents: &mut LazyTable, constraints: Vec<ColumnConstraint>)
+    ensures { contents.new ≡ record contents.old {
+      table = record contents.old.table {
+        columns = constrained constraints.items contents.old.table.columns;
+      };
+    } }
+{
+    constrain_columns(&mut contents.table, constraints);
+}
+
+fn constrain_columns(table: &mut Table, constraints: Vec<ColumnConstraint>)
+    ensures { table.new ≡ record table.old {
+      columns = constrained constraints.items table.old.columns;
+    } }
+{
+    table.set_constraints(constraints);
+}
+
+// The constraints of columns that keep so much, where all share a width up to a level.
+fn constraints_of(
+    alloc: Global,
+    kept: &[u16],
+    nowrap: &[bool],
+    level: u16,
+) -> std::result::Result<Vec<ColumnConstraint>, AllocError>
+    requires { All (λ content. content ≤ 65533) kept.now }
+    ensures { IfOk result (λ constraints. (table : TableValue)
+        → kept.now ≡ by_columns (min_width nowrap.now table) table
+        → constraints.items ≡ map lower_bound (by_columns (reserved_width level nowrap.now table) table)) }
+{
+    let mut constraints = Vec::with_capacity(alloc, kept.len())?;
+    for (at, keeps) in kept.iter().enumerate() {
+        let content = given_content(may_not_break(nowrap, at), level, *keeps);
+        let boundary = if content > 0 { content + 2 } else { 0 };
+        constraints.push(ColumnConstraint::LowerBoundary(Width::Fixed(boundary)))?;
+    }
+    Ok(constraints)
+}
+
+// What a column that keeps so much is given beforehand.
+fn given_content(is_nowrap: bool, level: u16, kept: u16) -> u16
+    ensures value { result ≡ (if is_nowrap || nat_lt level kept then kept else 0) }
+    ensures within { result ≤ kept }
+{
+    if is_nowrap || level < kept { kept } else { 0 }
+}
+
+/// Lets the fields of expanded records be as wide as the widest number or date of them that has
+/// room beside what the names need. The table stays where no width is kept, or where none of them
+/// would be broken anyway.
+pub(crate) fn keep_nowrap_fields(contents: &mut LazyTable) -> Result<()>
+    requires expanded { contents.old.rows.is_expanded ≡ true }
+    requires header { contents.old.table.header ≡ None }
+    ensures { OnOk result (contents.new ≡ record contents.old {
+      table = with_min_field_width contents.old.rows.look.width contents.old.table;
+    }) }
+{
+    let Some(width) = contents.rows.look.width else {
+        return Ok(());
+    };
+    let names = contents.widths().first().copied().unwrap_or(0);
+    let room = room_for_two(&contents.table, width);
+    let field = field_width(contents, room_beside(names, room))?;
+    if may_break(room, names, field) {
+        widen_contents(contents, field);
+    }
+    Ok(())
+}
+
+// The room of a width for the contents of two columns.
+fn room_for_two(table: &Table, width: u16) -> u16
+    ensures value { result ≡ room_for_two width table.now.style }
+    ensures below { result ≤ 65531 }
+{
+    let beside = count_border_columns(table, 2).saturating_add(4).min(65535) as u16;
+    width.saturating_sub(beside)
+}
+
+// What names leave of a room.
+fn room_beside(names: u16, room: u16) -> u16
+    ensures { result ≡ room_beside names room }
+{
+    room.saturating_sub(names.min(NEEDED_NAMES).max(1))
+}
+
+// The width of the widest number or date of the fields that has room.
+fn field_width(contents: &LazyTable, room: u16) -> Result<u16>
+    requires expanded { contents.now.rows.is_expanded ≡ true }
+    requires header { contents.now.table.header ≡ None }
+    ensures value { IfOk result (λ width. width ≡ field_width room contents.now.table) }
+    ensures within { IfOk result (λ width. width ≤ room) }
+{
+    let rows = &contents.rows;
+    let mut widest = 0;
+    for fields in rows.selected.rows() {
+        widest = rows
+            .nowrap_width(&contents.table, 0, &fields, 1, room)?
+            .max(widest);
+    }
+    Ok(widest)
+}
+
+/// The width of the widest number or date among the lines of a cell that has room, in terminal
+/// columns, or 0.
+pub(crate) fn cell_nowrap_width(
+    alloc: Global,
+    table: &Table,
+    cell: &RowCell<'_>,
+    room: u16,
+) -> Result<u16>
+    ensures value { IfOk result (λ width. width
+        ≡ cell_nowrap_width room (measured_cell table.now (cell_of cell.now))) }
+    ensures within { IfOk result (λ width. width ≤ room) }
+{
+    match cell {
+        RowCell::Lent(cell) => text_nowrap_width(alloc, cell, room),
+        RowCell::Made(cell) => Ok(lines_nowrap_width(table, cell, room)),
+    }
+}
+
+// The width of a text that is lent, if it is a number or a date and has room; else 0.
+fn text_nowrap_width(alloc: Global, cell: &TextCell<'_>, room: u16) -> Result<u16>
+    ensures value { (table : TableValue) → IfOk result (λ width. width
+        ≡ cell_nowrap_width room (measured_cell table cell.now)) }
+    ensures within { IfOk result (λ width. width ≤ room) }
+{
+    let (text, after) = cell.line();
+    if after == 0 {
+        return Ok(nowrap_width(text, room));
+    }
+    let spaced = cell.spaced(alloc)?;
+    Ok(nowrap_width(spaced.as_str(), room))
+}
+
+// The widest among the lines of a cell that is made.
+fn lines_nowrap_width(table: &Table, cell: &Cell, room: u16) -> u16
+    ensures value { result ≡ cell_nowrap_width room (measured_cell table.now cell.now) }
+    ensures within { result ≤ room }
+{
+    let (lines, _) = measured_lines(cell, table.has_custom_styling());
+    let mut widest = 0;
+    for line in lines {
+        widest = nowrap_width(line.as_str(), room).max(widest);
+    }
+    widest
+}
+
+// The width of a text line that is a number or a date and has room, or 0.
+fn nowrap_width(line: &str, room: u16) -> u16
+    ensures value { result ≡ nowrap_width room line.now }
+    ensures within { result ≤ room }
+{
+    if !is_nowrap(line) {
+        return 0;
+    }
+    let width = measure_text_width(line);
+    if width <= usize::from(room) {
+        width as u16
+    } else {
+        0
+    }
+}
+
+// Whether a field might be broken that has room beside names.
+fn may_break(room: u16, names: u16, field: u16) -> bool
+    ensures { result ≡ may_break room names field }
+{
+    u32::from(room) < u32::from(names.min(field)) + u32::from(field)
+}
+
+fn widen_contents(contents: &mut LazyTable, content: u16)
+    requires { content ≤ 65531 }
+    ensures { contents.new ≡ record contents.old {
+      table = with_field_width content contents.old.table;
+    } }
+{
+    widen_fields(&mut contents.table, content);
+}
+
+// Gives the fields' column this content, and its paddings.
+fn widen_fields(table: &mut Table, content: u16)
+    requires { content ≤ 65531 }
+    ensures { table.new ≡ with_field_width content table.old }
+{
+    if let Some(column) = table.column_mut(1) {
+        set_content(column, content);
+    }
+}
+
+fn set_content(column: &mut Column, content: u16)
+    requires { content ≤ 65531 }
+    ensures { column.new ≡ with_content content column.old }
+{
+    column.set_constraint(ColumnConstraint::Absolute(Width::Fixed(content + 2)));
+}
+
+/// Whether a field is short, and a number, one that says nothing, or of the characters of dates and
+/// times.
+pub(crate) fn is_nowrap(field: &str) -> bool
+    ensures { result ≡ is_nowrap field.now }
+{
+    is_short(field) && (are_of_dates(field.as_bytes()) || is_numeric(field))
+}
+
+// A number, or a field that says nothing in a column of numbers.
+fn is_numeric(field: &str) -> bool
+    ensures { result ≡ is_number field.now || is_neutral field.now }
+{
+    is_number(field) || is_neutral(field)
+}
+
+/// Whether a field has at most 25 characters.
+pub(crate) fn is_short(field: &str) -> bool
+    ensures { result ≡ nat_le (length (chars field.now)) 25 }
+{
+    field.len() <= LONGEST || field.chars().count() <= LONGEST
+}
+
+fn are_of_dates(bytes: &[u8]) -> bool
+    ensures { result ≡ list_all is_of_dates bytes.now }
+{
+    bytes.iter().all(|byte| is_of_dates(*byte))
+}
+
+// A digit, a mark of dates and times, or a space.
+fn is_of_dates(byte: u8) -> bool
+    ensures { result ≡ is_of_dates byte }
+{
+    byte.is_ascii_digit() || matches!(byte, b'-' | b'/' | b':' | b'.' | b'T' | b'Z' | b'+' | b' ')
+}

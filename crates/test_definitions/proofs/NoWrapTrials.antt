@@ -1,0 +1,155 @@
+-- Which fields aren't broken over lines, and what room their columns need.
+use Rattle.std.proofs.Common.{◌≡◌, ℕ, true, false, List, [], ◌∷◌, Option, Some, None, codes, map, refl}
+use Prim.Native.String.{String}
+use Rattle.std.specs.List.{list_all, list_any}
+use Rattle.std.specs.Str.{chars}
+use Rattle.csv.specs.Records.{field_at}
+use Rattle.ucd_category.proofs.Computing.{ucd_category}
+use Rattle.comfy_parts.proofs.Computing.{wrapping}
+use Rattle.comfy_parts.specs.CellValue.{ColumnValue, plain_cell, plain_row}
+use Rattle.comfy_parts.specs.Presets.{ascii_full}
+use Rattle.comfy_parts.specs.Text.{Text}
+use Rattle.comfy_parts.specs.declared.style.column.ColumnConstraint.{ColumnConstraint}
+use Rattle.comfy_parts.specs.declared.style.column.ColumnConstraint.TheVariants.{Absolute, LowerBoundary}
+use Rattle.comfy_parts.specs.declared.style.column.Width.TheVariants.{Fixed}
+use Rattle.csv_tables.specs.Summaries.{column_fields}
+use Rattle.csv_records.specs.Number.{is_neutral, is_number}
+use Rattle.comfy_table.specs.TableValue.{TableValue, new_table, with_header, with_rows}
+use Rattle.csv_tables.specs.Drawn.{is_expanded_in}
+use Rattle.csv_tables.specs.NoWrap.{by_columns, framed_width, given_in, has_room, is_nowrap, min_width, with_min_widths, with_min_field_width, least_width, fair_level, may_break, room_beside, room_for_two, width_at_level, shared_content, nowrap_width}
+use Rattle.csv_tables.specs.declared.options.Expansion.TheVariants.{Always, Auto, Never}
+
+abbrev texts : List String → List Text
+texts words = map (λ (word : String). codes word) words
+
+-- numbers, fields that say nothing, dates and times; the longest has 25 characters
+unbroken : list_all is_nowrap (texts ("" ∷ "2026-05-02" ∷ "02.05.2026" ∷ "5/2/26" ∷ "12:30" ∷ "2026-05-02 12:30" ∷ "2026-05-02T12:30:00Z" ∷ "2026-05-02T12:30:00+01:00" ∷ "-1,234.50" ∷ "12 %" ∷ "n/a" ∷ "-" ∷ [])) ≡ true
+unfolding chars lib.Utf8.encode ucd_category is_neutral is_number
+unbroken = refl
+
+-- words, and digits of 26 characters
+broken : list_any is_nowrap (texts ("none" ∷ "2026-W18" ∷ "2 May" ∷ "2026-05-02T12:30:00.5+01:00" ∷ "12345678901234567890123456" ∷ [])) ≡ false
+unfolding chars lib.Utf8.encode ucd_category is_neutral is_number
+broken = refl
+
+-- of two rows the second has one field
+columns : map (λ position. list_all is_nowrap (column_fields (texts ("1" ∷ "a" ∷ []) ∷ texts ("2" ∷ []) ∷ []) position)) (0 ∷ 1 ∷ 2 ∷ []) ≡ true ∷ false ∷ true ∷ []
+unfolding chars lib.Utf8.encode ucd_category field_at is_neutral is_number
+columns = refl
+
+-- names, and a long text below each
+abbrev names : List Text
+names = texts ("id" ∷ "id" ∷ "shipping address" ∷ "fulfillment status" ∷ "internationalization_and_more" ∷ [])
+
+abbrev named : TableValue
+named =
+    with_rows (plain_row (map (λ (name : Text). plain_cell (codes "letters and letters and letters")) names) ∷ [])
+    (with_header (plain_row (map plain_cell names)) (new_table ascii_full))
+
+-- all of the first content is kept; of the others a wide word of the name, up to 20 of it
+kept : by_columns (min_width (true ∷ false ∷ []) named) named ≡ 31 ∷ 0 ∷ 0 ∷ 11 ∷ 20 ∷ []
+unfolding wrapping
+kept = refl
+
+-- at least eight of it are needed
+needed : by_columns (width_at_level 8 (true ∷ false ∷ []) named) named ≡ 31 ∷ 8 ∷ 8 ∷ 11 ∷ 20 ∷ []
+unfolding wrapping
+needed = refl
+
+-- but no more than the content, and at least one
+needed_of_contents : map (shared_content 8 0) (0 ∷ 3 ∷ 14 ∷ []) ≡ 1 ∷ 3 ∷ 8 ∷ []
+needed_of_contents = refl
+
+-- a number and two texts; the name of the first text has a wide word
+abbrev sharing : TableValue
+sharing =
+    with_rows (plain_row (map plain_cell (texts ("12" ∷ "aaa bbb ccc ddd" ∷ "eee fff ggg hhh" ∷ []))) ∷ [])
+    (with_header (plain_row (map plain_cell (texts ("id" ∷ "responsible" ∷ "x" ∷ [])))) (new_table ascii_full))
+
+-- the texts share what borders, paddings, the number and that word leave
+levels : map (λ width. fair_level width (true ∷ false ∷ false ∷ []) sharing) (31 ∷ 33 ∷ 36 ∷ []) ≡ 8 ∷ 10 ∷ 12 ∷ []
+unfolding wrapping
+levels = refl
+
+-- the word is given beforehand where it is wider than its share
+given : map (λ width. given_in width (true ∷ false ∷ false ∷ []) sharing) (33 ∷ 36 ∷ []) ≡ (2 ∷ 11 ∷ 0 ∷ []) ∷ (2 ∷ 0 ∷ 0 ∷ []) ∷ []
+unfolding wrapping
+given = refl
+
+-- four borders, and two paddings each
+framed : framed_width ascii_full (10 ∷ 9 ∷ 8 ∷ []) ≡ 37
+framed = refl
+
+-- a column of nineteen letters without a name, with two borders and two paddings
+abbrev text : TableValue
+text = with_rows (plain_row (plain_cell (codes "letters and letters") ∷ []) ∷ []) (new_table ascii_full)
+
+-- it is needed whole, or eight of it
+least : map (λ unbroken. least_width (unbroken ∷ []) text) (true ∷ false ∷ []) ≡ 23 ∷ 12 ∷ []
+unfolding wrapping
+least = refl
+
+abbrev constraints : Option ℕ → List (Option ColumnConstraint)
+constraints width = map (λ (column : ColumnValue). column.constraint) (with_min_widths width (true ∷ []) text).columns
+
+room : constraints (Some 23) ≡ Some (LowerBoundary (Fixed 21)) ∷ []
+unfolding wrapping
+room = refl
+
+no_room : constraints (Some 22) ≡ None ∷ []
+unfolding wrapping
+no_room = refl
+
+no_width : constraints None ≡ None ∷ []
+no_width = refl
+
+-- records are expanded below that width: where the column isn't broken, and where it may be
+narrow : map (λ width. is_expanded_in Auto (has_room width (true ∷ []) text)) (Some 22 ∷ Some 23 ∷ None ∷ []) ≡ true ∷ false ∷ false ∷ []
+unfolding wrapping
+narrow = refl
+
+narrower : map (λ width. is_expanded_in Auto (has_room width (false ∷ []) text)) (Some 11 ∷ Some 12 ∷ None ∷ []) ≡ true ∷ false ∷ false ∷ []
+unfolding wrapping
+narrower = refl
+
+by_word : map (λ expansion. map (is_expanded_in expansion) (true ∷ false ∷ [])) (Always ∷ Never ∷ Auto ∷ []) ≡ (true ∷ true ∷ []) ∷ (false ∷ false ∷ []) ∷ (false ∷ true ∷ []) ∷ []
+by_word = refl
+
+-- ---- fields of expanded records
+
+-- three borders and four paddings leave 23 of 30; names have four of it, or all of a shorter one
+rooms : room_for_two 30 ascii_full ≡ 23
+rooms = refl
+
+beside : map (λ names. room_beside names 23) (30 ∷ 2 ∷ 0 ∷ []) ≡ 19 ∷ 21 ∷ 22 ∷ []
+beside = refl
+
+-- a date that has room counts, and no word does
+counted : map (nowrap_width 10) (texts ("2026-05-02" ∷ "2026-05-02 12:30" ∷ "letters" ∷ [])) ≡ 10 ∷ 0 ∷ 0 ∷ []
+unfolding wrapping chars lib.Utf8.encode ucd_category is_number is_neutral
+counted = refl
+
+-- it might be broken beside a long name; but not where the name fits, nor where half of the room is enough
+shared : map (may_break 23 30) (19 ∷ 11 ∷ []) ≡ true ∷ false ∷ []
+shared = refl
+
+short_names : may_break 23 4 19 ≡ false
+short_names = refl
+
+-- a record with a date below a number; the date has room from width 21 on
+abbrev record_of_two : TableValue
+record_of_two =
+    with_rows (plain_row (plain_cell (codes "letters") ∷ plain_cell (codes "12") ∷ []) ∷ plain_row (plain_cell (codes "seven") ∷ plain_cell (codes "2026-05-02") ∷ []) ∷ [])
+    (new_table ascii_full)
+
+abbrev pair_constraints : Option ℕ → List (Option ColumnConstraint)
+pair_constraints width = map (λ (column : ColumnValue). column.constraint) (with_min_field_width width record_of_two).columns
+
+held : pair_constraints (Some 22) ≡ None ∷ Some (Absolute (Fixed 12)) ∷ []
+unfolding wrapping chars lib.Utf8.encode ucd_category is_number is_neutral
+held = refl
+
+-- with less room for it, or with room for the names too, nothing is held
+free : map pair_constraints (Some 20 ∷ Some 24 ∷ None ∷ []) ≡ (None ∷ None ∷ []) ∷ (None ∷ None ∷ []) ∷ (None ∷ None ∷ []) ∷ []
+unfolding wrapping chars lib.Utf8.encode ucd_category is_number is_neutral
+free = refl
