@@ -15,6 +15,7 @@ mod FlatLemmas
 pub mod KeptFieldLemmas
 pub mod KeptWidthLemmas
 pub mod LeastLemmas
+mod LimitLemmas
 pub mod LineLemmas
 pub mod MarkdownDrawingLemmas
 pub mod MarkdownLineLemmas
@@ -32,6 +33,7 @@ pub mod SeparatorLemmas
 mod ShownLemmas
 pub mod SpacedLemmas
 pub mod StraightLemmas
+mod StyledLemmas
 pub mod SummaryLemmas
 pub mod TextLineLemmas
 pub mod TextTableLemmas

@@ -1,5 +1,5 @@
 -- The text of records that are drawn one after another is that of their table.
-use Rattle.std.proofs.Common.{◌≡◌, ℕ, zero, suc, ◌+◌, Bool, true, false, List, [], ◌∷◌, ◌++◌, drop, length, take, arith, refl, ap, ap₂, sym, ◌∙◌}
+use Rattle.std.proofs.Common.{◌≡◌, ℕ, zero, suc, ◌+◌, Bool, true, false, List, [], ◌∷◌, ◌++◌, drop, length, take, arith, refl, ap, ap₂, sym, subst, ◌∙◌}
 use Rattle.std.proofs.Math.Seq.{drop-append-add}
 use Rattle.std.proofs.lemmas.List.{length-map, take-append-le, take_all}
 use Rattle.std.proofs.lemmas.List.Sums.{sum_by-cons}
@@ -14,14 +14,15 @@ use Rattle.comfy_table.specs.Parts.{ArrangedValue, IsArrangedTable}
 use Rattle.comfy_table.specs.TableValue.{TableValue, with_other_rows}
 use Rattle.csv_tables.proofs.ContentLemmas.{pairs_rows}
 use Rattle.csv_tables.proofs.ExpandedLemmas.{at_place}
-use Rattle.csv_tables.proofs.OutputLemmas.{text_of_table}
 use Rattle.csv_tables.specs.Cells.{held, pair_for}
 use Rattle.csv_tables.specs.Columns.{name_at}
 use Rattle.csv_tables.specs.Contents.{AreDrawnContents, drawn_next, expanded_from, fields_text, pairs_by, rows_from}
 use Rattle.csv_tables.specs.LazyTableValue.{LazyTableValue}
-use Rattle.csv_tables.specs.Drawn.{RendersAsTable, drawn_fields, record_line, record_text, some_lines, table_text}
+use Rattle.csv_tables.specs.Drawn.{drawn_fields, record_line, record_text, some_lines, table_text}
 use Rattle.csv_tables.specs.Fields.{field_or_blank}
+use Rattle.csv_tables.specs.Styled.{RendersStyled}
 use Rattle.csv_tables.specs.declared.options.ColumnPlan.{ColumnPlan}
+use Rattle.csv_tables.specs.declared.options.ColumnSettings.{ColumnSettings}
 use Rattle.csv_tables.specs.declared.options.Look.{Look}
 use Rattle.csv_tables.specs.declared.rows.RecordRows.{RecordRows}
 
@@ -101,13 +102,17 @@ text_is contents arranged same own = by_kind contents.rows.is_expanded refl
         ∙ ap (λ (t : TableValue). terminated_text_of (drawing_of_infos t arranged.infos)) (sym (all_rows_are_the_table whole count (omega arith)))
 
 -- it is the text of a table
-pub renders : (look : Look) (contents : LazyTableValue) (infos : List ColumnInfo) → AreDrawnContents look contents.rows.selected contents → IsArrangedTable contents.table (record { table = contents.table; infos = infos })
-    → contents.table.rows ≡ rows_from contents.rows 0 contents.rows.selected.rows → RendersAsTable look contents.rows.selected (drawn_next contents.rows contents.table infos 0 true true contents.rows.selected.rows)
-renders look contents infos made arranged own =
+pub renders : (settings : List ColumnSettings) (look : Look) (contents : LazyTableValue) (infos : List ColumnInfo) → AreDrawnContents settings look contents.rows.selected contents → IsArrangedTable contents.table (record { table = contents.table; infos = infos })
+    → contents.table.rows ≡ rows_from contents.rows 0 contents.rows.selected.rows → RendersStyled settings look contents.rows.selected (drawn_next contents.rows contents.table infos 0 true true contents.rows.selected.rows)
+renders settings look contents infos made arranged own =
     record {
       is_expanded = made.is_expanded;
       expansion = made.expansion;
-      drawn = text_of_table look contents.rows.selected made.is_expanded contents.table (record { table = contents.table; infos = infos }) (drawn_next contents.rows contents.table infos 0 true true contents.rows.selected.rows)
-          made.drawn.separated arranged
-          (text_is contents (record { table = contents.table; infos = infos }) refl own ∙ ap (λ b. table_text b contents.rows.selected (record { table = contents.table; infos = infos })) made.drawn.are_contents.expanded_is);
+      drawn = record {
+            has_separators = made.drawn.separated.has_separators;
+            separators = made.drawn.separated.separators;
+            arranged = record { table = contents.table; infos = infos };
+            is_arranged = subst (λ (t : TableValue). IsArrangedTable t (record { table = contents.table; infos = infos })) made.drawn.separated.table arranged;
+            is = text_is contents (record { table = contents.table; infos = infos }) refl own ∙ ap (λ b. table_text b contents.rows.selected (record { table = contents.table; infos = infos })) made.drawn.are_contents.expanded_is;
+          };
     }

@@ -79,29 +79,50 @@ module _ (look : Look) where
         ap₂ (λ (shown : List Shown) (rest : List RowValue). cut look (cells_for look false (shown_number (number_of content.is_numbered row.0) ++ shown)) ∷ rest)
         (same_fields (columns_within row.1 content.columns) (none_reached row.1 content.columns none) row.1) (same_rows rows)
 
-    same_table : rows_table look true content ≡ rows_table look false content
+    pub same_table : rows_table look true content ≡ rows_table look false content
     same_table = ap (λ (rows : List RowValue). with_rows rows (headed_table look content.is_numbered content.columns content.names)) (same_rows (counted_from 1 content.rows))
+
+  -- with this room for the spaces, or without it
+  module _ (room : Bool → Bool) where
+    -- where marks aren't aligned, or there are none, the table is that without spaces
+    unaligned_by : (content : SelectedValue) → look.aligns_decimals && has_points content.columns ≡ false → rows_table look false content ≡ rows_table look (look.aligns_decimals && room true) content
+    unaligned_by content none = by_tests look.aligns_decimals refl
+      where
+        by_tests : (aligns : Bool) → look.aligns_decimals ≡ aligns → rows_table look false content ≡ rows_table look (aligns && room true) content
+        by_tests false is = refl
+        by_tests true is = by_room (room true)
+          where
+            by_room : (b : Bool) → rows_table look false content ≡ rows_table look b content
+            by_room true = sym (same_table content (ap (λ (a : Bool). a && has_points content.columns) (sym is) ∙ none))
+            by_room false = refl
+
+    -- nor are they where there is no room for the spaces
+    pub without_room : room true ≡ false → look.aligns_decimals && room true ≡ false
+    without_room none = ap (λ (b : Bool). look.aligns_decimals && b) none ∙ and_false look.aligns_decimals
+
+    -- what is drawn where there is room, or no marks are aligned
+    pub fits : (content : SelectedValue) (aligns has : Bool) → aligns ≡ look.aligns_decimals && has_points content.columns → has ≡ room aligns → has || not aligns ≡ true
+        → rows_table look aligns content ≡ rows_table look (look.aligns_decimals && room true) content
+    fits content false has is own drawn = unaligned_by content (sym is)
+    fits content true true is own drawn =
+        ap (λ (b : Bool). rows_table look b content) (sym (ap₂ (λ a b. a && b) (and_parts look.aligns_decimals (has_points content.columns) (sym is)).0 (sym own)))
+    fits content true false is own drawn = absurd (cc drawn)
+
+    -- and there is as much room for it
+    pub fits_in : (content : SelectedValue) (aligns has : Bool) → aligns ≡ look.aligns_decimals && has_points content.columns → has ≡ room aligns → has || not aligns ≡ true → (has_points content.columns ≡ false → room true ≡ room false)
+        → room aligns ≡ room (look.aligns_decimals && room true)
+    fits_in content true true is own drawn same = ap room (sym (ap₂ (λ a b. a && b) (and_parts look.aligns_decimals (has_points content.columns) (sym is)).0 (sym own)))
+    fits_in content true false is own drawn same = absurd (cc drawn)
+    fits_in content false has is own drawn same = by_tests look.aligns_decimals (sym is)
+      where
+        by_room : (b : Bool) → room true ≡ b → (room true ≡ room false) → room false ≡ room b
+        by_room true is alike = sym alike
+        by_room false is alike = refl
+
+        by_tests : (aligns : Bool) → aligns && has_points content.columns ≡ false → room false ≡ room (aligns && room true)
+        by_tests false none = refl
+        by_tests true none = by_room (room true) refl (same none)
 
   -- where marks aren't aligned, or there are none, the table is that without spaces
   pub unaligned : (content : SelectedValue) → look.aligns_decimals && has_points content.columns ≡ false → rows_table look false content ≡ rows_table look (is_aligned_in look content) content
-  unaligned content none = by_tests look.aligns_decimals refl
-    where
-      by_tests : (aligns : Bool) → look.aligns_decimals ≡ aligns → rows_table look false content ≡ rows_table look (aligns && has_room_for look content true) content
-      by_tests false is = refl
-      by_tests true is = by_room (has_room_for look content true)
-        where
-          by_room : (b : Bool) → rows_table look false content ≡ rows_table look b content
-          by_room true = sym (same_table content (ap (λ (a : Bool). a && has_points content.columns) (sym is) ∙ none))
-          by_room false = refl
-
-  -- nor are they where there is no room for the spaces
-  pub without_room : (content : SelectedValue) → has_room_for look content true ≡ false → is_aligned_in look content ≡ false
-  without_room content none = ap (λ (b : Bool). look.aligns_decimals && b) none ∙ and_false look.aligns_decimals
-
-  -- what is drawn where there is room, or no marks are aligned
-  pub fits : (content : SelectedValue) (aligns has : Bool) → aligns ≡ look.aligns_decimals && has_points content.columns → has ≡ has_room_for look content aligns → has || not aligns ≡ true
-      → rows_table look aligns content ≡ rows_table look (is_aligned_in look content) content
-  fits content false has is room drawn = unaligned content (sym is)
-  fits content true true is room drawn =
-      ap (λ (b : Bool). rows_table look b content) (sym (ap₂ (λ a b. a && b) (and_parts look.aligns_decimals (has_points content.columns) (sym is)).0 (sym room)))
-  fits content true false is room drawn = absurd (cc drawn)
+  unaligned content none = unaligned_by (has_room_for look content) content none

@@ -8,9 +8,11 @@ use Rattle.comfy_table.specs.Drawing.{part_of_drawing, terminated_text_of}
 use Rattle.comfy_table.specs.TableValue.{TableValue, cells_at, measured_cell}
 use Rattle.csv_tables.specs.Cells.{Shown, columns_within, is_blank, row_for, shown_in}
 use Rattle.csv_tables.specs.LazyTableValue.{LazyTableValue}
-use Rattle.csv_tables.specs.Drawn.{SelectedValue, empty_table, headed_table, is_table_expanded, output_table, pairs_of, pairs_table, record_line, rows_table, separators_in}
+use Rattle.csv_tables.specs.Drawn.{SelectedValue, empty_table, headed_table, pairs_of, pairs_table, record_line, rows_table, separators_in}
 use Rattle.csv_tables.specs.Markdown.{may_be_escaped}
 use Rattle.csv_tables.specs.Separators.{AreRowsSeparated}
+use Rattle.csv_tables.specs.Styled.{is_expanded_by, styled_table}
+use Rattle.csv_tables.specs.declared.options.ColumnSettings.{ColumnSettings}
 use Rattle.csv_tables.specs.declared.options.ColumnPlan.{ColumnPlan}
 use Rattle.csv_tables.specs.declared.options.Look.{Look}
 use Rattle.csv_tables.specs.declared.rows.RecordRows.{RecordRows}
@@ -123,17 +125,18 @@ pub record AreContentsOf (is_expanded : Bool) (look : Look) (content : SelectedV
   pub selected_is : contents.rows.selected ≡ content
   pub expanded_is : contents.rows.is_expanded ≡ is_expanded
 
--- contents are those of the table that is drawn, with lines between rows or without
+-- contents are those of a table that is drawn, with lines between rows or without
 pub record AreDrawnAs (is_expanded : Bool) (look : Look) (content : SelectedValue)
-    (contents : LazyTableValue) : Type 0 where
+    (table : TableValue) (contents : LazyTableValue) : Type 0 where
   pub are_contents : AreContentsOf is_expanded look content contents
   pub separated :
-      AreRowsSeparated (separators_in is_expanded look.separators)
-      (output_table is_expanded look content) contents.table
+      AreRowsSeparated (separators_in is_expanded look.separators) table contents.table
 
 -- whether expanded or not as it is wanted
-pub record AreDrawnContents (look : Look) (content : SelectedValue) (contents : LazyTableValue)
-    : Type 0 where
+pub record AreDrawnContents (settings : List ColumnSettings) (look : Look)
+    (content : SelectedValue) (contents : LazyTableValue) : Type 0 where
   pub is_expanded : Bool
-  pub expansion : is_expanded ≡ is_table_expanded look content
-  pub drawn : AreDrawnAs is_expanded look content contents
+  pub expansion : is_expanded ≡ is_expanded_by settings look content
+  pub drawn :
+      AreDrawnAs is_expanded look content (styled_table settings is_expanded look content)
+      contents

@@ -10,10 +10,12 @@ pub mod Kinds
 pub mod Laws
 pub mod LazyRows
 pub mod Leasts
+pub mod Limits
 pub mod Markdown
 pub mod MarkdownLines
 pub mod Pieces
 pub mod References
 pub mod Separators
+pub mod Styled
 pub mod Summaries
 pub mod NoWrap

@@ -9,6 +9,7 @@ mod drawn;
 mod expanded;
 pub mod laws;
 mod lazy_table;
+mod limits;
 mod markdown;
 mod nowrap;
 mod options;
@@ -24,6 +25,9 @@ mod table;
 pub use columns::name_at;
 pub use drawn::RecordDrawing;
 pub use markdown::escaped;
-pub use options::{ColumnPlan, Expansion, Layout, Look, RowSeparators};
-pub use output::{drawn_records, output_of_records, text_of_records};
+pub use options::{ColumnPlan, ColumnSettings, Expansion, Layout, Look, RowSeparators};
+pub use output::{
+    drawn_records, drawn_styled_records, output_of_records, output_of_styled_records,
+    text_of_records,
+};
 pub use selection::{Columns, Selection};

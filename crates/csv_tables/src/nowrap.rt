@@ -5,12 +5,18 @@ ghost use Rattle.std.specs.List.{list_all};
 ghost use Rattle.csv_records.specs.Number.{is_neutral, is_number};
 ghost use Rattle.comfy_table.specs.RowCells.{cell_of};
 ghost use Rattle.comfy_table.specs.TableValue.{TableValue, constrained, measured_cell};
-ghost use Rattle.csv_tables.specs.NoWrap.{lower_bound, by_columns, cell_nowrap_width, field_width, reserved_width, has_room, clamped_word, is_of_dates, is_nowrap, min_width, with_min_widths, with_min_field_width, fair_level, may_break, name_in, room_beside, room_for_two, shared_content, shared_width, nowrap_width, wide_word, with_content, with_field_width, word_width};
+ghost use Rattle.csv_tables.specs.Limits.{bounded_width, has_room_in, has_room_within, level_within, limited_by, with_own_limits, with_widths};
+ghost use Rattle.csv_tables.specs.NoWrap.{by_columns, cell_nowrap_width, field_width, reserved_width, clamped_word, is_of_dates, is_nowrap, min_width, with_min_field_width, may_break, name_in, room_beside, room_for_two, shared_content, nowrap_width, wide_word, with_content, with_field_width, word_width};
 ghost use Rattle.csv_tables.specs.Cells.{cell_for};
 ghost use Rattle.csv_tables.specs.Contents.{greatest_at, pairs_by};
 ghost use Rattle.csv_tables.specs.Drawn.{nowrap_in};
+ghost use Rattle.csv_tables.specs.Styled.{limits_in};
 
 use crate::lazy_table::LazyTable;
+use crate::limits::{
+    ColumnLimits, hold_points, limits_for, limits_in, pad_contents, reached_limits, taken_at,
+};
+use crate::options::ColumnSettings;
 use crate::selected::SelectedRecords;
 use comfy_parts::content_split::measure_text_width;
 use comfy_parts::for_tables::measured_lines;
@@ -31,41 +37,111 @@ const LEAST_LEVEL: u16 = 8;
 // How many terminal columns the names of expanded records need at most.
 const NEEDED_NAMES: u16 = 4;
 
-/// Lets the columns keep what they need, where a width is kept that has room for that: those of
-/// numbers and dates their whole contents. Returns whether there is room, as there is where no
-/// width is kept.
-pub(crate) fn keep_nowrap(contents: &mut LazyTable) -> std::result::Result<bool, AllocError>
+/// Gives columns their paddings, and lets them keep what they need, where a width is kept that has
+/// room for that: those of numbers and dates their whole contents. Returns whether there is room.
+/// There is if no width is kept, but never if points are lined up in texts that are wrapped.
+pub(crate) fn keep_nowrap(contents: &mut LazyTable, settings: &[ColumnSettings]) -> Result<bool>
     ensures contents { OnOk result (contents.new ≡ record contents.old {
-      table = with_min_widths contents.old.rows.look.width (nowrap_in contents.old.rows.selected)
-          contents.old.table;
+      table = limited_by (limits_in settings.now contents.old.rows.selected)
+          contents.old.rows.look.width (nowrap_in contents.old.rows.selected) contents.old.table;
     }) }
-    ensures has_room { IfOk result (λ has. has ≡ has_room contents.old.rows.look.width
+    ensures has_room { IfOk result (λ has. has
+        ≡ has_room_in (limits_in settings.now contents.old.rows.selected)
+        contents.old.rows.look.width contents.old.rows.is_aligned
+        (nowrap_in contents.old.rows.selected) contents.old.table) }
+{
+    let limits = limits_in(settings, &contents.rows.selected)?;
+    pad_contents(contents, limits.as_slice());
+    let hold_points = hold_points(limits.as_slice(), contents)? || !contents.rows.is_aligned;
+    let reached = reached_limits(limits.as_slice(), contents)?;
+    let has_room = keep_limits(contents, reached.as_slice())?;
+    Ok(hold_points && has_room)
+}
+
+// The same with these limits, after the columns have their paddings. Points aren't looked at.
+fn keep_limits(
+    contents: &mut LazyTable,
+    limits: &[ColumnLimits],
+) -> std::result::Result<bool, AllocError>
+    ensures contents { OnOk result (contents.new ≡ record contents.old {
+      table = with_widths limits.now contents.old.rows.look.width
+          (nowrap_in contents.old.rows.selected) contents.old.table;
+    }) }
+    ensures has_room { IfOk result (λ has. has
+        ≡ has_room_within limits.now contents.old.rows.look.width
         (nowrap_in contents.old.rows.selected) contents.old.table) }
 {
     match contents.rows.look.width {
-        Some(width) => keep_within(contents, width),
-        None => Ok(true),
+        Some(width) => keep_within(contents, limits, width),
+        None => {
+            keep_contents(contents, limits)?;
+            Ok(true)
+        }
     }
 }
 
-fn keep_within(contents: &mut LazyTable, width: u16) -> std::result::Result<bool, AllocError>
-    ensures contents { OnOk result (contents.new ≡ record contents.old {
-      table = with_min_widths (Some width) (nowrap_in contents.old.rows.selected)
+// Lets columns that have limits be as wide as their contents within these.
+fn keep_contents(
+    contents: &mut LazyTable,
+    limits: &[ColumnLimits],
+) -> std::result::Result<(), AllocError>
+    ensures { OnOk result (contents.new ≡ record contents.old {
+      table = with_widths limits.now None (nowrap_in contents.old.rows.selected)
           contents.old.table;
     }) }
-    ensures has_room { IfOk result (λ has. has
-        ≡ has_room (Some width) (nowrap_in contents.old.rows.selected) contents.old.table) }
+{
+    if limits.is_empty() {
+        return Ok(());
+    }
+    let alloc = contents.rows.selected.alloc;
+    let constraints = limits_for(alloc, limits, contents.widths())?;
+    constrain_contents(contents, constraints);
+    Ok(())
+}
+
+// Gives columns that have limits these alone.
+fn keep_nothing(
+    contents: &mut LazyTable,
+    limits: &[ColumnLimits],
+) -> std::result::Result<(), AllocError>
+    ensures { OnOk result (contents.new ≡ record contents.old {
+      table = with_own_limits limits.now contents.old.table;
+    }) }
+{
+    if limits.is_empty() {
+        return Ok(());
+    }
+    let alloc = contents.rows.selected.alloc;
+    let constraints = limits_for(alloc, limits, &[])?;
+    constrain_contents(contents, constraints);
+    Ok(())
+}
+
+fn keep_within(
+    contents: &mut LazyTable,
+    limits: &[ColumnLimits],
+    width: u16,
+) -> std::result::Result<bool, AllocError>
+    ensures contents { OnOk result (contents.new ≡ record contents.old {
+      table = with_widths limits.now (Some width) (nowrap_in contents.old.rows.selected)
+          contents.old.table;
+    }) }
+    ensures has_room { IfOk result (λ has. has ≡ has_room_within limits.now (Some width)
+        (nowrap_in contents.old.rows.selected) contents.old.table) }
 {
     let nowrap = nowrap_columns(&contents.rows.selected)?;
     let kept = kept_contents(contents, nowrap.as_slice())?;
-    let has_room = shared_width(contents, kept.as_slice(), LEAST_LEVEL) <= usize::from(width);
-    if has_room {
-        let level = fair_level(contents, kept.as_slice(), width);
-        let alloc = contents.rows.selected.alloc;
-        let constraints = constraints_of(alloc, kept.as_slice(), nowrap.as_slice(), level)?;
-        constrain_contents(contents, constraints);
+    let least = bounded_width(contents, limits, kept.as_slice(), LEAST_LEVEL);
+    if least > usize::from(width) {
+        keep_nothing(contents, limits)?;
+        return Ok(false);
     }
-    Ok(has_room)
+    let alloc = contents.rows.selected.alloc;
+    let level = level_within(contents, limits, kept.as_slice(), width);
+    let given = given_contents(alloc, kept.as_slice(), nowrap.as_slice(), level)?;
+    let constraints = limits_for(alloc, limits, given.as_slice())?;
+    constrain_contents(contents, constraints);
+    Ok(true)
 }
 
 // Of each drawn column, whether it holds numbers and dates alone: none does without rows.
@@ -98,16 +174,17 @@ fn kept_contents(contents: &LazyTable, nowrap: &[bool]) -> std::result::Result<V
 }
 
 // The width of the table where its columns, which keep so much, share it up to a level.
-fn shared_width(contents: &LazyTable, kept: &[u16], level: u16) -> usize
+fn bounded_width(contents: &LazyTable, limits: &[ColumnLimits], kept: &[u16], level: u16) -> usize
     ensures { (nowrap : List Bool)
         → kept.now ≡ by_columns (min_width nowrap contents.now.table) contents.now.table
-        → result ≡ min (2 ^ 64 - 1) (shared_width level nowrap contents.now.table) }
+        → result ≡ min (2 ^ 64 - 1) (bounded_width limits.now level nowrap contents.now.table) }
 {
     let widths = contents.widths();
     let mut width = count_border_columns(&contents.table, widths.len());
     for (at, content) in widths.iter().enumerate() {
         let keeps = kept.get(at).copied().unwrap_or(0);
-        width = width.saturating_add(2 + usize::from(shared_content(level, keeps, *content)));
+        let content = shared_content(level, keeps, *content);
+        width = width.saturating_add(taken_at(limits, at, content));
     }
     width
 }
@@ -119,13 +196,13 @@ fn shared_content(level: u16, kept: u16, content: u16) -> u16
 }
 
 // The greatest level for which a width has room.
-fn fair_level(contents: &LazyTable, kept: &[u16], width: u16) -> u16
+fn level_within(contents: &LazyTable, limits: &[ColumnLimits], kept: &[u16], width: u16) -> u16
     ensures { (nowrap : List Bool)
         → kept.now ≡ by_columns (min_width nowrap contents.now.table) contents.now.table
-        → result ≡ fair_level width nowrap contents.now.table }
+        → result ≡ level_within limits.now width nowrap contents.now.table }
 {
     let mut level = width;
-    while level > 0 && shared_width(contents, kept, level) > usize::from(width) {
+    while level > 0 && bounded_width(contents, limits, kept, level) > usize::from(width) {
         level -= 1;
     }
     level
@@ -217,31 +294,27 @@ fn constrain_columns(table: &mut Table, constraints: Vec<ColumnConstraint>)
     table.set_constraints(constraints);
 }
 
-// The constraints of columns that keep so much, where all share a width up to a level.
-fn constraints_of(
+// What columns that keep so much are given beforehand, where all share a width up to a level.
+fn given_contents(
     alloc: Global,
     kept: &[u16],
     nowrap: &[bool],
     level: u16,
-) -> std::result::Result<Vec<ColumnConstraint>, AllocError>
-    requires { All (λ content. content ≤ 65533) kept.now }
-    ensures { IfOk result (λ constraints. (table : TableValue)
+) -> std::result::Result<Vec<u16>, AllocError>
+    ensures { IfOk result (λ given. (table : TableValue)
         → kept.now ≡ by_columns (min_width nowrap.now table) table
-        → constraints.items ≡ map lower_bound (by_columns (reserved_width level nowrap.now table) table)) }
+        → given.items ≡ by_columns (reserved_width level nowrap.now table) table) }
 {
-    let mut constraints = Vec::with_capacity(alloc, kept.len())?;
+    let mut given = Vec::with_capacity(alloc, kept.len())?;
     for (at, keeps) in kept.iter().enumerate() {
-        let content = given_content(may_not_break(nowrap, at), level, *keeps);
-        let boundary = if content > 0 { content + 2 } else { 0 };
-        constraints.push(ColumnConstraint::LowerBoundary(Width::Fixed(boundary)))?;
+        given.push(given_content(may_not_break(nowrap, at), level, *keeps))?;
     }
-    Ok(constraints)
+    Ok(given)
 }
 
 // What a column that keeps so much is given beforehand.
 fn given_content(is_nowrap: bool, level: u16, kept: u16) -> u16
-    ensures value { result ≡ (if is_nowrap || nat_lt level kept then kept else 0) }
-    ensures within { result ≤ kept }
+    ensures { result ≡ (if is_nowrap || nat_lt level kept then kept else 0) }
 {
     if is_nowrap || level < kept { kept } else { 0 }
 }

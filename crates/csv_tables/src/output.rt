@@ -9,8 +9,9 @@ ghost use Rattle.comfy_table.specs.TableValue.{max_content_widths};
 ghost use Rattle.comfy_table.specs.Parts.{IsArrangedTable};
 ghost use Rattle.csv_tables.specs.Markdown.{rule_line};
 ghost use Rattle.csv_tables.specs.Contents.{AreContentsOf, AreDrawnAs, AreDrawnContents, rows_from};
-ghost use Rattle.csv_tables.specs.Drawn.{RendersAnyRecords, RendersAsMarkdown, RendersRecords, are_more, below_first, note_text, has_room_for, is_aligned_in, note_for, output_table, rows_table, sides, nowrap_in};
-ghost use Rattle.csv_tables.specs.NoWrap.{with_min_widths};
+ghost use Rattle.csv_tables.specs.Drawn.{RendersAnyRecords, RendersAsMarkdown, RendersRecords, are_more, below_first, note_text, note_for, output_table, rows_table, sides, nowrap_in};
+ghost use Rattle.csv_tables.specs.Limits.{limited_by};
+ghost use Rattle.csv_tables.specs.Styled.{RendersAnyStyledRecords, RendersStyledRecords, has_room_by, is_aligned_by, limited_table, limits_in};
 
 use crate::decimals::has_points;
 use crate::drawn::{RecordDrawing, Remaining, push_records};
@@ -18,7 +19,7 @@ use crate::expanded::is_expanded;
 use crate::lazy_table::LazyTable;
 use crate::markdown::push_rule;
 use crate::nowrap::{keep_nowrap, keep_nowrap_fields};
-use crate::options::{Expansion, Layout, Look};
+use crate::options::{ColumnSettings, Expansion, Layout, Look};
 use crate::rows::RecordRows;
 use crate::selected::SelectedRecords;
 use crate::separators::{separate_fields, separate_rows};
@@ -39,6 +40,25 @@ pub fn drawn_records(
 ) -> Result<RecordDrawing>
     ensures { IfOk result (λ drawn. RendersRecords count layout.now records drawn) }
 {
+    drawn_styled_records(alloc, records, count, layout, &[])
+}
+
+/// The same with settings of columns, which are found by their positions in a record. Columns past
+/// the settings have none, nor has that of numbers. Settings aren't used in Markdown, and where
+/// records are expanded.
+///
+/// If a width is kept, columns have the least widths that they need, but none above its greatest
+/// one. If points would be lined up in a column that is then wrapped, they aren't in any column.
+pub fn drawn_styled_records(
+    alloc: Global,
+    records: Records,
+    count: Option<usize>,
+    layout: &Layout,
+    settings: &[ColumnSettings],
+) -> Result<RecordDrawing>
+    ensures { IfOk result (λ drawn.
+        RendersStyledRecords settings.now count layout.now records drawn) }
+{
     let look = &layout.look;
     let note = note_of(alloc, look.is_markdown, layout.selection.limit, count)?;
     let selected = SelectedRecords::new(alloc, records, count, layout)?;
@@ -46,7 +66,7 @@ pub fn drawn_records(
         return markdown_records(selected, look, note);
     }
     let left = Remaining {
-        arranged: arranged_contents(drawn_contents(selected, look)?)?,
+        arranged: arranged_contents(drawn_contents(selected, look, settings)?)?,
         place: 0,
         is_first: true,
         note,
@@ -81,6 +101,26 @@ pub fn output_of_records(alloc: Global, records: Records, layout: &Layout) -> Re
     text_of_records(alloc, records, Some(below), layout)
 }
 
+/// The text of such a drawing with settings of columns, for records that are all there are:
+/// nothing where there are none.
+pub fn output_of_styled_records(
+    alloc: Global,
+    records: Records,
+    layout: &Layout,
+    settings: &[ColumnSettings],
+) -> Result<String>
+    ensures { IfOk result (λ output.
+        RendersAnyStyledRecords settings.now layout.now records (string_bytes output)) }
+{
+    let count = records.rows().len();
+    if count == 0 {
+        return Ok(String::new(alloc));
+    }
+    let below = count - usize::from(layout.selection.has_header);
+    let drawn = drawn_styled_records(alloc, records, Some(below), layout, settings)?;
+    Ok(joined(alloc, drawn)?)
+}
+
 // The table that is drawn of records, with the widths of its columns.
 fn arranged_contents(contents: LazyTable) -> Result<ArrangedTable<LazyTable>>
     ensures contents { IfOk result (λ arranged. arranged.contents ≡ contents) }
@@ -95,14 +135,19 @@ fn arranged_contents(contents: LazyTable) -> Result<ArrangedTable<LazyTable>>
 }
 
 // What is drawn of records: a table of rows, or of expanded records.
-fn drawn_contents(selected: SelectedRecords, look: &Look) -> Result<LazyTable>
-    ensures { IfOk result (λ contents. AreDrawnContents look.now selected contents) }
+fn drawn_contents(
+    selected: SelectedRecords,
+    look: &Look,
+    settings: &[ColumnSettings],
+) -> Result<LazyTable>
+    ensures { IfOk result (λ contents.
+        AreDrawnContents settings.now look.now selected contents) }
 {
     // The table of rows isn't needed to see this.
     if look.expansion == Expansion::Always {
         return expanded_contents(selected, look);
     }
-    let (mut contents, has_room) = fitting_contents(selected, look)?;
+    let (mut contents, has_room) = fitting_contents(selected, look, settings)?;
     let selected = &contents.rows.selected;
     if is_expanded(look.expansion, selected.rows().is_empty() || has_room) {
         return expanded_contents(contents.into_selected(), look);
@@ -113,18 +158,24 @@ fn drawn_contents(selected: SelectedRecords, look: &Look) -> Result<LazyTable>
 
 // The table of rows, with decimal points below each other where there is room for that, and whether
 // there is room for the table.
-fn fitting_contents(selected: SelectedRecords, look: &Look) -> Result<(LazyTable, bool)>
-    ensures table { IfOk result (λ x. x.0.table ≡ output_table false look.now selected) }
+fn fitting_contents(
+    selected: SelectedRecords,
+    look: &Look,
+    settings: &[ColumnSettings],
+) -> Result<(LazyTable, bool)>
+    ensures table { IfOk result (λ x.
+        x.0.table ≡ limited_table (limits_in settings.now selected) look.now selected) }
     ensures rows { IfOk result (λ x. AreContentsOf false look.now selected x.0) }
     ensures has_room { IfOk result (λ x. x.1
-        ≡ has_room_for look.now selected (is_aligned_in look.now selected)) }
+        ≡ has_room_by (limits_in settings.now selected) look.now selected
+        (is_aligned_by (limits_in settings.now selected) look.now selected)) }
 {
     let is_aligned = look.aligns_decimals && has_points(selected.columns.as_slice());
-    let (contents, has_room) = nowrap_contents(selected, is_aligned, look)?;
+    let (contents, has_room) = nowrap_contents(selected, is_aligned, look, settings)?;
     if has_room || !is_aligned {
         return Ok((contents, has_room));
     }
-    nowrap_contents(contents.into_selected(), false, look)
+    nowrap_contents(contents.into_selected(), false, look, settings)
 }
 
 // The table of rows, with decimal points below each other or not, and whether there is room for it.
@@ -132,11 +183,14 @@ fn nowrap_contents(
     selected: SelectedRecords,
     is_aligned: bool,
     look: &Look,
+    settings: &[ColumnSettings],
 ) -> Result<(LazyTable, bool)>
-    ensures table { IfOk result (λ x. x.0.table ≡ with_min_widths look.now.width
-        (nowrap_in selected) (rows_table look.now is_aligned selected)) }
+    ensures table { IfOk result (λ x. x.0.table
+        ≡ limited_by (limits_in settings.now selected) look.now.width (nowrap_in selected)
+        (rows_table look.now is_aligned selected)) }
     ensures rows { IfOk result (λ x. AreContentsOf false look.now selected x.0) }
-    ensures has_room { IfOk result (λ x. x.1 ≡ has_room_for look.now selected is_aligned) }
+    ensures has_room { IfOk result (λ x. x.1
+        ≡ has_room_by (limits_in settings.now selected) look.now selected is_aligned) }
 {
     let mut contents = LazyTable::new(RecordRows {
         selected,
@@ -144,13 +198,14 @@ fn nowrap_contents(
         is_expanded: false,
         is_aligned,
     })?;
-    let has_room = keep_nowrap(&mut contents)?;
+    let has_room = keep_nowrap(&mut contents, settings)?;
     Ok((contents, has_room))
 }
 
 // The table of expanded records.
 fn expanded_contents(selected: SelectedRecords, look: &Look) -> Result<LazyTable>
-    ensures { IfOk result (λ contents. AreDrawnAs true look.now selected contents) }
+    ensures { IfOk result (λ contents.
+        AreDrawnAs true look.now selected (output_table true look.now selected) contents) }
 {
     let mut contents = LazyTable::new(RecordRows {
         selected,

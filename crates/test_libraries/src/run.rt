@@ -9,3 +9,4 @@ mod promised;
 mod records;
 mod sizes;
 mod streams;
+mod styled;

@@ -1,10 +1,10 @@
 use Rattle.std.proofs.Common.{◌≡◌, map}
 use Rattle.std.specs.List.{range_with_len}
 use Rattle.comfy_table.specs.TableValue.{TableValue}
-use Rattle.csv_tables.specs.NoWrap.{lower_bound, by_columns, reserved_width, min_width}
-use Rattle.csv_tables.proofs.nowrap.constraints_of.Given as goal
+use Rattle.csv_tables.specs.NoWrap.{by_columns, min_width, reserved_width}
+use Rattle.csv_tables.proofs.nowrap.given_contents.Given as goal
 
 abbrev pub invariant-loop-at : goal.invariant-loop-at
 invariant-loop-at l =
     (table : TableValue) → l.kept ≡ by_columns (min_width l.nowrap table) table
-    → l.constraints.items ≡ map lower_bound (map (reserved_width l.level l.nowrap table) (range_with_len 0 l.at))
+    → l.given.items ≡ map (reserved_width l.level l.nowrap table) (range_with_len 0 l.at)

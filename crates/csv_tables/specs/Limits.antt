@@ -1,0 +1,199 @@
+-- Columns that have paddings, and least and greatest widths of their own. Widths are terminal
+-- columns.
+-- Source: this library's own.
+use Rattle.std.specs.Prelude.{ℕ, zero, suc, ◌+◌, ◌==◌, Bool, ◌||◌, ◌&&◌, true, false, not, List, [], ◌∷◌, ◌++◌, Option, Some, None, is_some, length, map, max, min, nat_le, nat_lt, option_map, slice_index, unwrap_or, if◌then◌else◌}
+use Rattle.std.specs.List.{list_all, range_with_len, slice_index_or, sum}
+use Rattle.comfy_parts.specs.CellValue.{ColumnValue}
+use Rattle.comfy_parts.specs.declared.style.column.ColumnConstraint.{ColumnConstraint}
+use Rattle.comfy_parts.specs.declared.style.column.ColumnConstraint.TheVariants.{Absolute, Boundaries, LowerBoundary}
+use Rattle.comfy_parts.specs.declared.style.column.Width.TheVariants.{Fixed}
+use Rattle.comfy_table.specs.Frame.{border_count}
+use Rattle.comfy_table.specs.Lines.{longest_line_at}
+use Rattle.comfy_table.specs.TableValue.{TableValue, column_content_width, constrained, max_content_widths}
+use Rattle.csv_tables.specs.NoWrap.{by_columns, greatest_level, has_room, lower_bound, reserved_width, shared_width, width_at_level, with_min_widths}
+use Rattle.csv_tables.specs.declared.limits.ColumnLimits.{ColumnLimits}
+use Rattle.csv_tables.specs.declared.options.ColumnSettings.{ColumnSettings}
+
+-- a column that has nothing of its own
+abbrev pub unset : ColumnSettings
+unset = record { padding = (1, 1); least = None; greatest = None }
+
+-- what the column at a position has
+abbrev pub settings_at : List ColumnSettings → ℕ → ColumnSettings
+settings_at settings position = slice_index_or settings position unset
+
+-- the least greatest width: the least width, but at least 1
+abbrev pub least_greatest : ColumnSettings → ℕ
+least_greatest settings = max 1 (unwrap_or settings.least 0)
+
+-- the widths that the texts of such a column may have
+abbrev pub limits_of : ColumnSettings → Bool → ColumnLimits
+limits_of settings has_points =
+    record {
+      padding = settings.padding;
+      least = unwrap_or settings.least 0;
+      greatest = option_map (max (least_greatest settings)) settings.greatest;
+      has_points = has_points;
+    }
+
+-- those of a column that has nothing of its own
+abbrev pub no_limits : ColumnLimits
+no_limits = limits_of unset false
+
+-- those of the column at a place
+abbrev pub limits_at : List ColumnLimits → ℕ → ColumnLimits
+limits_at limits i = slice_index_or limits i no_limits
+
+-- ---- paddings
+
+-- columns with their paddings
+abbrev pub padded : List ColumnLimits → List ColumnValue → List ColumnValue
+padded [] columns = columns
+padded (own ∷ limits) [] = []
+padded (own ∷ limits) (column ∷ columns) =
+    record column { padding = own.padding } ∷ padded limits columns
+
+-- the column at a place with its padding
+abbrev pub padded_at : ℕ → ℕ × ℕ → List ColumnValue → List ColumnValue
+padded_at i padding [] = []
+padded_at zero padding (column ∷ columns) = record column { padding = padding } ∷ columns
+padded_at (suc i) padding (column ∷ columns) = column ∷ padded_at i padding columns
+
+abbrev pub with_paddings : List ColumnLimits → TableValue → TableValue
+with_paddings limits table = record table { columns = padded limits table.columns }
+
+-- ---- widths
+
+-- a content, no more than the greatest width and no less than the least one
+abbrev pub bounded : ColumnLimits → ℕ → ℕ
+bounded limits content =
+    max limits.least (unwrap_or (option_map (min content) limits.greatest) content)
+
+-- both paddings together
+abbrev pub both_paddings : ColumnLimits → ℕ
+both_paddings limits = limits.padding.0 + limits.padding.1
+
+-- what a column takes for a content, with its paddings
+abbrev pub taken : ColumnLimits → ℕ → ℕ
+taken limits content = both_paddings limits + bounded limits content
+
+-- the width of a table of rows whose columns share it up to a level
+abbrev pub bounded_width : List ColumnLimits → ℕ → List Bool → TableValue → ℕ
+bounded_width [] level nowrap table = shared_width level nowrap table
+bounded_width (own ∷ limits) level nowrap table =
+    border_count table.style (length table.columns)
+    + sum (by_columns (λ (i : ℕ).
+    taken (limits_at (own ∷ limits) i) (width_at_level level nowrap table i)) table)
+
+-- whether a width that is kept has room for the least width of the table
+abbrev pub has_room_within : List ColumnLimits → Option ℕ → List Bool → TableValue → Bool
+has_room_within [] width nowrap table = has_room width nowrap table
+has_room_within (own ∷ limits) None nowrap table = true
+has_room_within (own ∷ limits) (Some width) nowrap table =
+    nat_le (bounded_width (own ∷ limits) 8 nowrap table) width
+
+-- the greatest level for which a width has room
+abbrev pub level_within : List ColumnLimits → ℕ → List Bool → TableValue → ℕ
+level_within limits width nowrap table =
+    greatest_level (λ level. nat_le (bounded_width limits level nowrap table) width) width
+
+-- what columns are given beforehand: their contents, if no width is kept; what they need to be
+-- whole, if a width has room; else nothing
+abbrev pub given_within : List ColumnLimits → Option ℕ → List Bool → TableValue → List ℕ
+given_within limits None nowrap table = max_content_widths table
+given_within limits (Some width) nowrap table =
+    if has_room_within limits (Some width) nowrap table
+    then by_columns (reserved_width (level_within limits width nowrap table) nowrap table) table
+    else []
+
+-- a width of a column, which is at most 65535, for one of its texts
+abbrev pub with_both_paddings : ColumnLimits → ℕ → ℕ
+with_both_paddings limits width = min 65535 (width + both_paddings limits)
+
+-- the least width of a column that is given this content; of none 0
+abbrev pub lower_limit : ColumnLimits → ℕ → ℕ
+lower_limit limits given =
+    if nat_lt 0 (bounded limits given) then with_both_paddings limits (bounded limits given) else 0
+
+-- a column has one width, or widths of a range
+abbrev pub between : ℕ → ℕ → ColumnConstraint
+between lower upper =
+    if lower == upper then Absolute (Fixed upper) else Boundaries (Fixed lower) (Fixed upper)
+
+-- the constraint of a column that is given this content
+abbrev pub limit_for : ColumnLimits → ℕ → ColumnConstraint
+limit_for limits given =
+    unwrap_or
+    (option_map (λ (greatest : ℕ). between (lower_limit limits given) (with_both_paddings limits greatest))
+    limits.greatest) (LowerBoundary (Fixed (lower_limit limits given)))
+
+-- those of columns
+abbrev pub limits_for : List ColumnLimits → List ℕ → List ColumnConstraint
+limits_for [] given = map lower_bound given
+limits_for (own ∷ limits) given =
+    map (λ (i : ℕ). limit_for (limits_at (own ∷ limits) i) (slice_index given i))
+    (range_with_len 0 (length (own ∷ limits)))
+
+-- a table with the constraints of its columns
+abbrev pub with_limits : List ColumnLimits → List ℕ → TableValue → TableValue
+with_limits limits given table =
+    record table { columns = constrained (limits_for limits given) table.columns }
+
+-- of columns that are given nothing those that have limits are constrained
+abbrev pub with_own_limits : List ColumnLimits → TableValue → TableValue
+with_own_limits [] table = table
+with_own_limits (own ∷ limits) table = with_limits (own ∷ limits) [] table
+
+-- the table with the widths that its columns may have
+abbrev pub with_widths : List ColumnLimits → Option ℕ → List Bool → TableValue → TableValue
+with_widths [] width nowrap table = with_min_widths width nowrap table
+with_widths (own ∷ limits) width nowrap table =
+    with_limits (own ∷ limits) (given_within (own ∷ limits) width nowrap table) table
+
+-- ---- decimal points
+
+-- whether texts of this width are no wider than a greatest width
+abbrev pub is_within : Option ℕ → ℕ → Bool
+is_within None content = true
+is_within (Some greatest) content = nat_le content greatest
+
+-- whether the texts of a column whose decimal points may be lined up aren't wrapped
+abbrev pub holds_points : List ColumnLimits → TableValue → ℕ → Bool
+holds_points limits table i =
+    not (limits_at limits i).has_points
+    || is_within (limits_at limits i).greatest (column_content_width table i)
+
+-- so those of each column
+abbrev pub hold_points : List ColumnLimits → TableValue → Bool
+hold_points limits table = list_all (holds_points limits table) (range_with_len 0 (length limits))
+
+-- ---- tables
+
+-- the greatest width of the column at a place, which is no greater than that of its longest line
+abbrev pub reached_greatest : TableValue → ℕ → ColumnLimits → ℕ → ℕ
+reached_greatest table i limits greatest =
+    max (max 1 limits.least) (min 65535 (longest_line_at table i greatest))
+
+-- limits with such greatest widths: a column isn't wider than what is drawn in it
+abbrev pub reached : TableValue → ℕ → ColumnLimits → ColumnLimits
+reached table i limits =
+    record limits { greatest = option_map (reached_greatest table i limits) limits.greatest }
+
+-- those of all columns
+abbrev pub reached_limits : TableValue → List ColumnLimits → List ColumnLimits
+reached_limits table limits =
+    map (λ (i : ℕ). reached table i (limits_at limits i)) (range_with_len 0 (length limits))
+
+-- a table of rows with the paddings and the constraints of its columns
+abbrev pub limited_by : List ColumnLimits → Option ℕ → List Bool → TableValue → TableValue
+limited_by limits width nowrap table =
+    with_widths (reached_limits (with_paddings limits table) limits) width nowrap
+    (with_paddings limits table)
+
+-- whether there is room for such a table: for the spaces that line up decimal points, and for its
+-- width
+abbrev pub has_room_in : List ColumnLimits → Option ℕ → Bool → List Bool → TableValue → Bool
+has_room_in limits width is_aligned nowrap table =
+    (hold_points limits (with_paddings limits table) || not is_aligned)
+    && has_room_within (reached_limits (with_paddings limits table) limits) width nowrap
+    (with_paddings limits table)

@@ -1,0 +1,99 @@
+-- What is drawn of some records whose columns have settings of their own. Without settings each
+-- definition is that of the same name of `Drawn`.
+-- Source: this library's own.
+use Rattle.std.specs.Prelude.{ℕ, ◌==◌, Bool, true, false, not, ◌&&◌, ◌||◌, ◌≡◌, List, [], ◌∷◌, ◌++◌, Option, Some, None, is_some, length, map, if◌then◌else◌}
+use Rattle.comfy_parts.specs.Text.{Text}
+use Rattle.comfy_table.specs.Parts.{ArrangedValue, IsArrangedTable}
+use Rattle.comfy_table.specs.TableValue.{TableValue}
+use Rattle.csv_tables.specs.Drawn.{HasSeparators, RendersAsMarkdown, SelectedValue, count_below, is_expanded_in, note_for, nowrap_in, output_table, rows_table, selected_of, separated_table, separators_in, table_text}
+use Rattle.csv_tables.specs.Limits.{has_room_in, limited_by, limits_of, no_limits, settings_at}
+use Rattle.csv_tables.specs.declared.limits.ColumnLimits.{ColumnLimits}
+use Rattle.csv_tables.specs.declared.options.ColumnPlan.{ColumnPlan}
+use Rattle.csv_tables.specs.declared.options.ColumnSettings.{ColumnSettings}
+use Rattle.csv_tables.specs.declared.options.Layout.{Layout}
+use Rattle.csv_tables.specs.declared.options.Look.{Look}
+
+-- what the columns that are drawn have: settings are those of the columns of records, by position
+abbrev pub column_limits : List ColumnSettings → SelectedValue → List ColumnLimits
+column_limits settings content =
+    (if content.is_numbered then no_limits ∷ [] else [])
+    ++ map (λ (column : ColumnPlan).
+    limits_of (settings_at settings column.position) (is_some column.points)) content.columns
+
+abbrev pub limits_in : List ColumnSettings → SelectedValue → List ColumnLimits
+limits_in settings content =
+    if length settings == 0 then [] else column_limits settings content
+
+-- whether there is room for the table of rows: for the spaces that line up decimal points, and for
+-- its width
+abbrev pub has_room_by : List ColumnLimits → Look → SelectedValue → Bool → Bool
+has_room_by limits look content is_aligned =
+    has_room_in limits look.width is_aligned (nowrap_in content)
+    (rows_table look is_aligned content)
+
+-- whether decimal points stand below each other: where there is room for the spaces
+abbrev pub is_aligned_by : List ColumnLimits → Look → SelectedValue → Bool
+is_aligned_by limits look content = look.aligns_decimals && has_room_by limits look content true
+
+-- the table of rows that is drawn
+abbrev pub limited_table : List ColumnLimits → Look → SelectedValue → TableValue
+limited_table limits look content =
+    limited_by limits look.width (nowrap_in content)
+    (rows_table look (is_aligned_by limits look content) content)
+
+-- the table that is drawn, with all lines of its style: expanded records have no settings
+abbrev pub styled_table : List ColumnSettings → Bool → Look → SelectedValue → TableValue
+styled_table settings true look content = output_table true look content
+styled_table settings false look content =
+    limited_table (limits_in settings content) look content
+
+-- whether records are expanded
+abbrev pub is_expanded_by : List ColumnSettings → Look → SelectedValue → Bool
+is_expanded_by settings look content =
+    is_expanded_in look.expansion
+    ((length content.rows == 0) || has_room_by (limits_in settings content) look content
+    (is_aligned_by (limits_in settings content) look content))
+
+-- the text of such a table, with lines between rows or without
+pub record RendersStyledTable (settings : List ColumnSettings) (is_expanded : Bool) (look : Look)
+    (content : SelectedValue) (text : Text) : Type 0 where
+  pub has_separators : Bool
+  pub separators :
+      HasSeparators (separators_in is_expanded look.separators)
+      (separated_table false (styled_table settings is_expanded look content)) has_separators
+  pub arranged : ArrangedValue
+  pub is_arranged :
+      IsArrangedTable
+      (separated_table has_separators (styled_table settings is_expanded look content)) arranged
+  pub is : text ≡ table_text is_expanded content arranged
+
+-- the text of a table of rows, or of expanded records
+pub record RendersStyled (settings : List ColumnSettings) (look : Look) (content : SelectedValue)
+    (text : Text) : Type 0 where
+  pub is_expanded : Bool
+  pub expansion : is_expanded ≡ is_expanded_by settings look content
+  pub drawn : RendersStyledTable settings is_expanded look content text
+
+-- Markdown has no settings
+abbrev pub RendersStyledContent : List ColumnSettings → Bool → Look → SelectedValue → Text
+    → Type 0
+RendersStyledContent settings true look content text = RendersAsMarkdown look content text
+RendersStyledContent settings false look content text = RendersStyled settings look content text
+
+-- the output for some records, of which so many stand below the header, where that is known
+pub record RendersStyledRecords (settings : List ColumnSettings) (counted : Option ℕ)
+    (layout : Layout) (records : List (List Text)) (output : Text) : Type 0 where
+  pub content : SelectedValue
+  pub is_content : selected_of counted layout records ≡ content
+  pub text : Text
+  pub is_text : RendersStyledContent settings layout.look.is_markdown layout.look content text
+  pub joined :
+      output ≡ text ++ note_for layout.look.is_markdown layout.selection.limit content.count
+
+-- the output for records that are counted: nothing where there are none
+abbrev pub RendersAnyStyledRecords : List ColumnSettings → Layout → List (List Text) → Text
+    → Type 0
+RendersAnyStyledRecords settings layout [] output = output ≡ []
+RendersAnyStyledRecords settings layout (first ∷ rest) output =
+    RendersStyledRecords settings (Some (count_below layout.selection (first ∷ rest))) layout
+    (first ∷ rest) output
