@@ -109,10 +109,10 @@ renders settings look contents infos made arranged own =
       is_expanded = made.is_expanded;
       expansion = made.expansion;
       drawn = record {
-            has_separators = made.drawn.separated.has_separators;
-            separators = made.drawn.separated.separators;
-            arranged = record { table = contents.table; infos = infos };
-            is_arranged = subst (λ (t : TableValue). IsArrangedTable t (record { table = contents.table; infos = infos })) made.drawn.separated.table arranged;
-            is = text_is contents (record { table = contents.table; infos = infos }) refl own ∙ ap (λ b. table_text b contents.rows.selected (record { table = contents.table; infos = infos })) made.drawn.are_contents.expanded_is;
-          };
+        has_separators = made.drawn.separated.has_separators;
+        separators = made.drawn.separated.separators;
+        arranged = record { table = contents.table; infos = infos };
+        is_arranged = subst (λ (t : TableValue). IsArrangedTable t (record { table = contents.table; infos = infos })) made.drawn.separated.table arranged;
+        is = text_is contents (record { table = contents.table; infos = infos }) refl own ∙ ap (λ b. table_text b contents.rows.selected (record { table = contents.table; infos = infos })) made.drawn.are_contents.expanded_is;
+      };
     }

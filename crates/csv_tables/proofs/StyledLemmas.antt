@@ -1,13 +1,14 @@
 -- Tables of columns that have settings of their own, and those without settings.
-use Rattle.std.proofs.Common.{◌≡◌, ◌&&◌, ◌||◌, ◌==◌, ◌++◌, not, ℕ, zero, suc, Bool, true, false, List, [], ◌∷◌, Option, Some, None, is_some, length, map, refl, sym, ap, ap₂, ◌∙◌}
+use Rattle.std.proofs.Common.{◌≡◌, ◌&&◌, ◌||◌, ◌==◌, ◌-◌, ◌++◌, not, ℕ, zero, suc, Bool, true, false, List, [], ◌∷◌, Option, Some, None, is_some, length, map, refl, subst, sym, ap, ap₂, ◌∙◌}
 use Rattle.std.specs.List.{list_all, list_any, range_with_len}
 use Rattle.std.specs.Prelude.{if◌then◌else◌}
 use Rattle.std.proofs.lemmas.Bool.{or_parts}
 use Rattle.comfy_parts.specs.Text.{Text}
 use Rattle.comfy_table.specs.TableValue.{TableValue, column_content_width}
+use Rattle.csv_tables.proofs.CountLemmas.{below_header}
 use Rattle.csv_tables.proofs.SpacedLemmas.{same_table}
 use Rattle.csv_tables.specs.Decimals.{has_points}
-use Rattle.csv_tables.specs.Drawn.{RendersAnyRecords, RendersAsTable, RendersContent, RendersRecords, RendersTable, SelectedValue, nowrap_in, rows_table}
+use Rattle.csv_tables.specs.Drawn.{RendersAnyRecords, RendersAsTable, RendersContent, RendersRecords, RendersTable, SelectedValue, count_below, nowrap_in, rows_table}
 use Rattle.csv_tables.specs.Limits.{has_room_in, has_room_within, hold_points, holds_points, is_within, limits_at, limits_of, no_limits, reached_limits, settings_at, with_paddings}
 use Rattle.csv_tables.specs.Styled.{RendersAnyStyledRecords, RendersStyled, RendersStyledContent, RendersStyledRecords, RendersStyledTable, column_limits, has_room_by, limits_in}
 use Rattle.csv_tables.specs.declared.limits.ColumnLimits.{ColumnLimits}
@@ -83,3 +84,17 @@ without_content false look content text is = record { is_expanded = is.is_expand
 pub without_settings : (counted : Option ℕ) (layout : Layout) (records : List (List Text)) (output : Text) → RendersStyledRecords [] counted layout records output → RendersRecords counted layout records output
 without_settings counted layout records output is =
     record { content = is.content; is_content = is.is_content; text = is.text; is_text = without_content layout.look.is_markdown layout.look is.content is.text is.is_text; joined = is.joined }
+
+-- so is one for records that are all there are
+pub without_settings_any : (layout : Layout) (records : List (List Text)) (output : Text) → RendersAnyStyledRecords [] layout records output → RendersAnyRecords layout records output
+without_settings_any layout [] output is = is
+without_settings_any layout (r ∷ rest) output is = without_settings (Some (count_below layout.selection (r ∷ rest))) layout (r ∷ rest) output is
+
+-- ---- records that are counted
+
+-- the output for some records, where all are counted
+pub any_styled_output : (settings : List ColumnSettings) (layout : Layout) (records : List (List Text)) (count : ℕ) (output : Text) → (length records ≡ 0 → ⊥) → count ≡ length records - (if layout.selection.has_header then 1 else 0)
+    → RendersStyledRecords settings (Some count) layout records output → RendersAnyStyledRecords settings layout records output
+any_styled_output settings layout [] count output some counted made = absurd (some refl)
+any_styled_output settings layout (r ∷ rest) count output some counted made =
+    subst (λ (n : ℕ). RendersStyledRecords settings (Some n) layout (r ∷ rest) output) (counted ∙ below_header layout.selection (r ∷ rest)) made

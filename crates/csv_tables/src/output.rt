@@ -93,12 +93,7 @@ pub fn output_of_records(alloc: Global, records: Records, layout: &Layout) -> Re
     ensures { IfOk result (λ output.
         RendersAnyRecords layout.now records (string_bytes output)) }
 {
-    let count = records.rows().len();
-    if count == 0 {
-        return Ok(String::new(alloc));
-    }
-    let below = count - usize::from(layout.selection.has_header);
-    text_of_records(alloc, records, Some(below), layout)
+    output_of_styled_records(alloc, records, layout, &[])
 }
 
 /// The text of such a drawing with settings of columns, for records that are all there are:

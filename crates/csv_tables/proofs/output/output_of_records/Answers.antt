@@ -1,14 +1,7 @@
-use Rattle.std.proofs.Common.{◌≡◌, ◌∙◌, ◌-◌, ℕ, ap₂, length, rules, string_bytes}
+use Rattle.std.proofs.Common.{string_bytes}
 use Rattle.std.proofs.lemmas.Result.{IfOk-weaker}
-use Rattle.std.specs.Prelude.{if◌then◌else◌}
-use Rattle.csv_tables.proofs.CountLemmas.{any_output}
+use Rattle.csv_tables.proofs.StyledLemmas.{without_settings_any}
 use Rattle.csv_tables.proofs.output.output_of_records.Goals as goal
 
 pub returns : goal.returns
-returns c =
-    let layout = c.args.layout.now in
-    let count : c.len-count.result ≡ length c.args.records = search rules in
-    let header : c.from.result ≡ (if layout.selection.has_header then 1 else 0) = search rules in
-    IfOk-weaker c.text_of_records.result _ _
-    (λ output made. any_output layout c.args.records _ (string_bytes output) (λ none. c.if-count-eq0.false (count ∙ none)) (ap₂ (λ (n m : ℕ). n - m) count header) made)
-    c.text_of_records.ensures
+returns c = IfOk-weaker c.output_of_styled_records.result _ _ (λ output is. without_settings_any c.args.layout.now c.args.records (string_bytes output) is) c.output_of_styled_records.ensures
