@@ -1,5 +1,5 @@
 -- Columns with limits: their paddings, and what they take of a width.
-use Rattle.std.proofs.Common.{◌≡◌, ◌<◌, ◌≤◌, ◌+◌, ◌&&◌, ℕ, zero, suc, Bool, true, false, List, [], ◌∷◌, Some, arith, get_or, nat_le, length, map, set, take, refl, sym, ap, ap₂, ◌∙◌}
+use Rattle.std.proofs.Common.{◌≡◌, ◌<◌, ◌≤◌, ◌+◌, ◌&&◌, ℕ, zero, suc, Bool, true, false, List, [], ◌∷◌, Some, arith, get_or, nat_le, length, map, set, take, refl, ap, ap₂, ◌∙◌}
 use Rattle.std.specs.List.{All, list_all, range_with_len, sum}
 use Rattle.std.specs.Prelude.{sum_by, if◌then◌else◌}
 use Rattle.std.proofs.lemmas.List.FromFn.{length-map-range_with_len}

@@ -1,5 +1,5 @@
 -- Tables of columns that have settings of their own, and those without settings.
-use Rattle.std.proofs.Common.{◌≡◌, ◌&&◌, ◌||◌, ◌==◌, ◌-◌, ◌++◌, not, ℕ, zero, suc, Bool, true, false, List, [], ◌∷◌, Option, Some, None, is_some, length, map, refl, subst, sym, ap, ap₂, ◌∙◌}
+use Rattle.std.proofs.Common.{◌≡◌, ◌&&◌, ◌||◌, ◌==◌, ◌-◌, ◌++◌, not, ℕ, zero, suc, Bool, true, false, List, [], ◌∷◌, Option, Some, is_some, length, map, refl, subst, sym, ap, ap₂, ◌∙◌}
 use Rattle.std.specs.List.{list_all, list_any, range_with_len}
 use Rattle.std.specs.Prelude.{if◌then◌else◌}
 use Rattle.std.proofs.lemmas.Bool.{or_parts}
@@ -8,9 +8,9 @@ use Rattle.comfy_table.specs.TableValue.{TableValue, column_content_width}
 use Rattle.csv_tables.proofs.CountLemmas.{below_header}
 use Rattle.csv_tables.proofs.SpacedLemmas.{same_table}
 use Rattle.csv_tables.specs.Decimals.{has_points}
-use Rattle.csv_tables.specs.Drawn.{RendersAnyRecords, RendersAsTable, RendersContent, RendersRecords, RendersTable, SelectedValue, count_below, nowrap_in, rows_table}
+use Rattle.csv_tables.specs.Drawn.{RendersAnyRecords, RendersContent, RendersRecords, RendersTable, SelectedValue, count_below, nowrap_in, rows_table}
 use Rattle.csv_tables.specs.Limits.{has_room_in, has_room_within, hold_points, holds_points, is_within, limits_at, limits_of, no_limits, reached_limits, settings_at, with_paddings}
-use Rattle.csv_tables.specs.Styled.{RendersAnyStyledRecords, RendersStyled, RendersStyledContent, RendersStyledRecords, RendersStyledTable, column_limits, has_room_by, limits_in}
+use Rattle.csv_tables.specs.Styled.{RendersAnyStyledRecords, RendersStyledContent, RendersStyledRecords, RendersStyledTable, column_limits, has_room_by, limits_in}
 use Rattle.csv_tables.specs.declared.limits.ColumnLimits.{ColumnLimits}
 use Rattle.csv_tables.specs.declared.options.ColumnPlan.{ColumnPlan}
 use Rattle.csv_tables.specs.declared.options.ColumnSettings.{ColumnSettings}

@@ -1,7 +1,7 @@
 -- Columns that have paddings, and least and greatest widths of their own. Widths are terminal
 -- columns.
 -- Source: this library's own.
-use Rattle.std.specs.Prelude.{ℕ, zero, suc, ◌+◌, ◌==◌, Bool, ◌||◌, ◌&&◌, true, false, not, List, [], ◌∷◌, ◌++◌, Option, Some, None, is_some, length, map, max, min, nat_le, nat_lt, option_map, slice_index, unwrap_or, if◌then◌else◌}
+use Rattle.std.specs.Prelude.{ℕ, zero, suc, ◌+◌, ◌==◌, Bool, ◌||◌, ◌&&◌, true, false, not, List, [], ◌∷◌, Option, Some, None, length, map, max, min, nat_le, nat_lt, option_map, slice_index, unwrap_or, if◌then◌else◌}
 use Rattle.std.specs.List.{list_all, range_with_len, slice_index_or, sum}
 use Rattle.comfy_parts.specs.CellValue.{ColumnValue}
 use Rattle.comfy_parts.specs.declared.style.column.ColumnConstraint.{ColumnConstraint}

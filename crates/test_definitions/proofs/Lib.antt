@@ -16,6 +16,7 @@ mod HiddenColumnTrials
 mod InputTrials
 mod KeptTrials
 mod LawTrials
+mod LimitTrials
 mod MarkdownLineTrials
 mod NumberLawTrials
 mod OutcomeTrials

@@ -35,19 +35,49 @@ fn assert_drawn<const N: usize>(
         look: options.look,
     };
     let settings = Vec::from_array(rt.alloc(), settings).expect(rt, "memory");
-    let drawing = output_of_styled_records(rt.alloc(), records, &layout, settings.as_slice())
-        .expect(rt, "memory");
-    assert!(rt; drawing.as_str() == wanted, "{}", drawing.as_str());
+    let drawing = output_of_styled_records(
+        rt.alloc(),
+        records,
+        &layout,
+        settings.as_slice(),
+    ).expect(rt, "memory");
+    assert!(rt; drawing.as_str() == wanted);
 }
 
 #[test]
 fn columns_have_paddings(rt: HostRuntime) {
-    assert_drawn(&rt, None, [column((0, 2), None, None)], "x");
+    assert_drawn(
+        &rt,
+        None,
+        [column((0, 2), None, None)],
+        "+-----------------+-------+
+|name             |  days |
++=========================+
+|oats and barley  |  3    |
+|-----------------+-------|
+|rye              | 14.25 |
++-----------------+-------+
+",
+    );
 }
 
+// A column is as wide as its longest line.
 #[test]
 fn columns_have_greatest_widths(rt: HostRuntime) {
-    assert_drawn(&rt, None, [column((1, 1), None, Some(9))], "x");
+    assert_drawn(
+        &rt,
+        None,
+        [column((1, 1), None, Some(9))],
+        "+----------+-------+
+| name     |  days |
++==================+
+| oats and |  3    |
+| barley   |       |
+|----------+-------|
+| rye      | 14.25 |
++----------+-------+
+",
+    );
 }
 
 #[test]
@@ -59,10 +89,19 @@ fn columns_have_least_widths(rt: HostRuntime) {
             column((1, 1), None, Some(13)),
             column((1, 1), Some(8), None),
         ],
-        "x",
+        "+----------+----------+
+| name     |     days |
++=====================+
+| oats and |     3    |
+| barley   |          |
+|----------+----------|
+| rye      |    14.25 |
++----------+----------+
+",
     );
 }
 
+// The greatest width is as great as the least one.
 #[test]
 fn a_width_is_kept(rt: HostRuntime) {
     assert_drawn(
@@ -70,21 +109,35 @@ fn a_width_is_kept(rt: HostRuntime) {
         Some(40),
         [
             column((1, 1), None, Some(9)),
-            column((2, 1), Some(8), Some(8)),
+            column((2, 1), Some(8), Some(3)),
         ],
-        "x",
+        "+----------+-----------+
+| name     |      days |
++======================+
+| oats and |      3    |
+| barley   |           |
+|----------+-----------|
+| rye      |     14.25 |
++----------+-----------+
+",
     );
 }
 
+// The numbers with spaces are wider than four.
 #[test]
-fn a_width_has_no_room(rt: HostRuntime) {
+fn points_are_not_in_wrapped_texts(rt: HostRuntime) {
     assert_drawn(
         &rt,
-        Some(24),
-        [
-            column((1, 1), None, Some(9)),
-            column((2, 1), Some(8), Some(3)),
-        ],
-        "x",
+        Some(40),
+        [column((1, 1), None, None), column((1, 1), None, Some(4))],
+        "+-----------------+------+
+| name            | days |
++========================+
+| oats and barley |    3 |
+|-----------------+------|
+| rye             | 14.2 |
+|                 |    5 |
++-----------------+------+
+",
     );
 }

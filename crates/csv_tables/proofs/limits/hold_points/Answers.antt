@@ -1,8 +1,8 @@
-use Rattle.std.proofs.Common.{◌≡◌, ◌&&◌, ◌||◌, ◌∙◌, ◌+◌, suc, ℕ, Bool, ap, ap₂, arith, not, rules, sym}
+use Rattle.std.proofs.Common.{◌≡◌, ◌&&◌, ◌||◌, ◌∙◌, ◌+◌, suc, ℕ, Bool, ap, ap₂, arith, not, sym}
 use Rattle.std.specs.List.{list_all, range_with_len}
 use Rattle.comfy_table.specs.TableValue.{TableValue, column_content_width}
 use Rattle.csv_tables.proofs.LimitLemmas.{all_more}
-use Rattle.csv_tables.specs.Limits.{holds_points, is_within, limits_at}
+use Rattle.csv_tables.specs.Limits.{holds_points, is_within}
 use Rattle.csv_tables.specs.declared.limits.ColumnLimits.{ColumnLimits}
 use Rattle.csv_tables.proofs.limits.hold_points.Goals as goal
 

@@ -1,9 +1,9 @@
-use Rattle.std.proofs.Common.{◌≡◌, ◌∙◌, ◌+◌, suc, ℕ, List, ap, ap₂, arith, take, rules}
+use Rattle.std.proofs.Common.{◌≡◌, ◌∙◌, ◌+◌, suc, ℕ, List, ap, ap₂, arith, take}
 use Rattle.std.proofs.lemmas.List.{take_all}
 use Rattle.comfy_parts.specs.CellValue.{ColumnValue}
 use Rattle.comfy_table.specs.TableValue.{TableValue}
 use Rattle.csv_tables.proofs.LimitLemmas.{padded_more}
-use Rattle.csv_tables.specs.Limits.{limits_at, no_limits, padded, padded_at, with_paddings}
+use Rattle.csv_tables.specs.Limits.{no_limits, padded_at, with_paddings}
 use Rattle.csv_tables.specs.declared.limits.ColumnLimits.{ColumnLimits}
 use Rattle.csv_tables.proofs.limits.pad_columns.Goals as goal
 

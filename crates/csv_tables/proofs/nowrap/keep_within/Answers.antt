@@ -1,10 +1,10 @@
-use Rattle.std.proofs.Common.{◌≡◌, ◌≤◌, ◌-◌, ◌^◌, ◌∙◌, All, [], Bool, List, ℕ, Some, ap, ap₂, arith, false, min, nat_le, rules, subst, sym, true}
+use Rattle.std.proofs.Common.{◌≡◌, ◌≤◌, ◌-◌, ◌^◌, ◌∙◌, All, Bool, List, ℕ, Some, ap, ap₂, arith, false, min, nat_le, rules, subst, sym, true}
 use Rattle.std.proofs.lemmas.Bool.Decides.{nat_tests}
 use Rattle.comfy_table.specs.TableValue.{TableValue, constrained}
 use Rattle.csv_tables.proofs.LimitLemmas.{given_within_room, room-is, widths_with_room, widths_without_room}
 use Rattle.csv_tables.proofs.NoWrapLemmas.{stopped}
 use Rattle.csv_tables.specs.Drawn.{nowrap_in}
-use Rattle.csv_tables.specs.Limits.{bounded_width, has_room_within, level_within, limits_for, with_limits}
+use Rattle.csv_tables.specs.Limits.{bounded_width, has_room_within, level_within, limits_for}
 use Rattle.csv_tables.specs.NoWrap.{by_columns, least_width, min_width, reserved_width}
 use Rattle.csv_tables.proofs.nowrap.keep_within.Goals as goal
 
