@@ -1,5 +1,5 @@
 -- Paddings and widths that columns have of their own.
-use Rattle.std.proofs.Common.{◌≡◌, ℕ, true, false, List, [], ◌∷◌, Option, Some, None, codes, map, refl}
+use Rattle.std.proofs.Common.{◌≡◌, ℕ, true, false, [], ◌∷◌, Option, Some, None, codes, map, refl}
 use Rattle.comfy_parts.proofs.Computing.{wrapping}
 use Rattle.comfy_parts.specs.CellValue.{plain_cell, plain_row}
 use Rattle.comfy_parts.specs.Presets.{ascii_full}
