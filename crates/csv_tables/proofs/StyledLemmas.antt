@@ -1,5 +1,5 @@
 -- Tables of columns that have settings of their own, and those without settings.
-use Rattle.std.proofs.Common.{◌≡◌, ◌&&◌, ◌||◌, ◌==◌, ◌-◌, ◌++◌, not, ℕ, zero, suc, Bool, true, false, List, [], ◌∷◌, Option, Some, is_some, length, map, refl, subst, sym, ap, ap₂, ◌∙◌}
+use Rattle.std.proofs.Common.{◌≡◌, ◌&&◌, ◌||◌, ◌==◌, ◌-◌, ◌++◌, not, ℕ, zero, suc, Bool, true, false, List, [], ◌∷◌, Option, Some, None, is_some, length, map, min, refl, subst, sym, ap, ap₂, ◌∙◌}
 use Rattle.std.specs.List.{list_all, list_any, range_with_len}
 use Rattle.std.specs.Prelude.{if◌then◌else◌}
 use Rattle.std.proofs.lemmas.Bool.{or_parts}
@@ -7,10 +7,12 @@ use Rattle.comfy_parts.specs.Text.{Text}
 use Rattle.comfy_table.specs.TableValue.{TableValue, column_content_width}
 use Rattle.csv_tables.proofs.CountLemmas.{below_header}
 use Rattle.csv_tables.proofs.SpacedLemmas.{same_table}
+use Rattle.comfy_parts.specs.declared.style.cell.CellAlignment.TheVariants.{Center}
 use Rattle.csv_tables.specs.Decimals.{has_points}
 use Rattle.csv_tables.specs.Drawn.{RendersAnyRecords, RendersContent, RendersRecords, RendersTable, SelectedValue, count_below, nowrap_in, rows_table}
+use Rattle.csv_tables.specs.Leasts.{least_position, least_positions}
 use Rattle.csv_tables.specs.Limits.{has_room_in, has_room_within, hold_points, holds_points, is_within, limits_at, limits_of, no_limits, reached_limits, settings_at, with_paddings}
-use Rattle.csv_tables.specs.Styled.{RendersAnyStyledRecords, RendersStyledContent, RendersStyledRecords, RendersStyledTable, column_limits, has_room_by, limits_in}
+use Rattle.csv_tables.specs.Styled.{RendersAnyStyledRecords, RendersStyledContent, RendersStyledRecords, RendersStyledTable, centered, column_limits, has_room_by, limits_in}
 use Rattle.csv_tables.specs.declared.limits.ColumnLimits.{ColumnLimits}
 use Rattle.csv_tables.specs.declared.options.ColumnPlan.{ColumnPlan}
 use Rattle.csv_tables.specs.declared.options.ColumnSettings.{ColumnSettings}
@@ -98,3 +100,21 @@ pub any_styled_output : (settings : List ColumnSettings) (layout : Layout) (reco
 any_styled_output settings layout [] count output some counted made = absurd (some refl)
 any_styled_output settings layout (r ∷ rest) count output some counted made =
     subst (λ (n : ℕ). RendersStyledRecords settings (Some n) layout (r ∷ rest) output) (counted ∙ below_header layout.selection (r ∷ rest)) made
+
+-- ---- columns in the middle
+
+centered-position : (settings : List ColumnSettings) (column : ColumnPlan) → (centered settings column).position ≡ column.position
+centered-position settings column = by_test (settings_at settings column.position).is_centered
+  where
+    by_test : (b : Bool) → (if b then record column { alignment = Some Center; points = None } else column).position ≡ column.position
+    by_test true = refl
+    by_test false = refl
+
+centered-least : (settings : List ColumnSettings) (columns : List ColumnPlan) → least_position (map (centered settings) columns) ≡ least_position columns
+centered-least settings [] = refl
+centered-least settings (column ∷ columns) = ap₂ (λ (n m : ℕ). min n m) (centered-position settings column) (centered-least settings columns)
+
+-- their positions stay
+pub centered-leasts : (settings : List ColumnSettings) (columns : List ColumnPlan) → least_positions (map (centered settings) columns) ≡ least_positions columns
+centered-leasts settings [] = refl
+centered-leasts settings (column ∷ columns) = ap₂ (λ (n : ℕ) (ns : List ℕ). n ∷ ns) (centered-least settings (column ∷ columns)) (centered-leasts settings columns)

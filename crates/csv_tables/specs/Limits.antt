@@ -16,7 +16,7 @@ use Rattle.csv_tables.specs.declared.options.ColumnSettings.{ColumnSettings}
 
 -- a column that has nothing of its own
 abbrev pub unset : ColumnSettings
-unset = record { padding = (1, 1); least = None; greatest = None }
+unset = record { padding = (1, 1); least = None; greatest = None; is_centered = false }
 
 -- what the column at a position has
 abbrev pub settings_at : List ColumnSettings → ℕ → ColumnSettings

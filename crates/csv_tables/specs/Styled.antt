@@ -1,10 +1,11 @@
 -- What is drawn of some records whose columns have settings of their own. Without settings each
 -- definition is that of the same name of `Drawn`.
 -- Source: this library's own.
-use Rattle.std.specs.Prelude.{ℕ, ◌==◌, Bool, true, false, ◌&&◌, ◌||◌, ◌≡◌, List, [], ◌∷◌, ◌++◌, Option, Some, is_some, length, map, if◌then◌else◌}
+use Rattle.std.specs.Prelude.{ℕ, ◌==◌, Bool, true, false, ◌&&◌, ◌||◌, ◌≡◌, List, [], ◌∷◌, ◌++◌, Option, Some, None, is_some, length, map, if◌then◌else◌}
 use Rattle.comfy_parts.specs.Text.{Text}
 use Rattle.comfy_table.specs.Parts.{ArrangedValue, IsArrangedTable}
 use Rattle.comfy_table.specs.TableValue.{TableValue}
+use Rattle.comfy_parts.specs.declared.style.cell.CellAlignment.TheVariants.{Center}
 use Rattle.csv_tables.specs.Drawn.{HasSeparators, RendersAsMarkdown, SelectedValue, count_below, is_expanded_in, note_for, nowrap_in, output_table, rows_table, selected_of, separated_table, separators_in, table_text}
 use Rattle.csv_tables.specs.Limits.{has_room_in, limited_by, limits_of, no_limits, settings_at}
 use Rattle.csv_tables.specs.declared.limits.ColumnLimits.{ColumnLimits}
@@ -12,6 +13,19 @@ use Rattle.csv_tables.specs.declared.options.ColumnPlan.{ColumnPlan}
 use Rattle.csv_tables.specs.declared.options.ColumnSettings.{ColumnSettings}
 use Rattle.csv_tables.specs.declared.options.Layout.{Layout}
 use Rattle.csv_tables.specs.declared.options.Look.{Look}
+
+-- a column with its side: in the middle no decimal points are below each other
+abbrev pub centered : List ColumnSettings → ColumnPlan → ColumnPlan
+centered settings column =
+    if (settings_at settings column.position).is_centered
+    then record column { alignment = Some Center; points = None }
+    else column
+
+abbrev pub with_centers : List ColumnSettings → SelectedValue → SelectedValue
+with_centers settings content =
+    if length settings == 0
+    then content
+    else record content { columns = map (centered settings) content.columns }
 
 -- what the columns that are drawn have: settings are those of the columns of records, by position
 abbrev pub column_limits : List ColumnSettings → SelectedValue → List ColumnLimits
@@ -78,7 +92,8 @@ pub record RendersStyled (settings : List ColumnSettings) (look : Look) (content
 abbrev pub RendersStyledContent : List ColumnSettings → Bool → Look → SelectedValue → Text
     → Type 0
 RendersStyledContent settings true look content text = RendersAsMarkdown look content text
-RendersStyledContent settings false look content text = RendersStyled settings look content text
+RendersStyledContent settings false look content text =
+    RendersStyled settings look (with_centers settings content) text
 
 -- the output for some records, of which so many stand below the header, where that is known
 pub record RendersStyledRecords (settings : List ColumnSettings) (counted : Option ℕ)

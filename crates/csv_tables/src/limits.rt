@@ -48,7 +48,8 @@ pub(crate) fn limits_in(
     Ok(limits)
 }
 
-fn settings_at(settings: &[ColumnSettings], position: usize) -> ColumnSettings
+/// What the column at a position has of its own.
+pub(crate) fn settings_at(settings: &[ColumnSettings], position: usize) -> ColumnSettings
     ensures { result ≡ settings_at settings.now position }
 {
     match settings.get(position) {

@@ -103,6 +103,9 @@ pub struct ColumnSettings {
     /// How many its texts have at most, but never fewer than `least`, and never fewer than 1.
     /// Longer texts are wrapped.
     pub greatest: Option<u16>,
+    /// Whether its texts are in the middle, whatever side `Columns` gives them. Their decimal
+    /// points aren't below each other then.
+    pub is_centered: bool,
 }
 
 impl ColumnSettings {
@@ -114,6 +117,7 @@ impl ColumnSettings {
             padding: (1, 1),
             least: None,
             greatest: None,
+            is_centered: false,
         }
     }
 }

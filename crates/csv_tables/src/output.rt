@@ -65,6 +65,7 @@ pub fn drawn_styled_records(
     if look.is_markdown {
         return markdown_records(selected, look, note);
     }
+    let selected = selected.with_centers(settings)?;
     let left = Remaining {
         arranged: arranged_contents(drawn_contents(selected, look, settings)?)?,
         place: 0,

@@ -1,13 +1,15 @@
 //! What is drawn of some records.
 
-ghost use Rattle.std.specs.Prelude.{◌≡◌, All, IfOk, [], unwrap_or};
+ghost use Rattle.std.specs.Prelude.{◌≡◌, All, IfOk, [], map, unwrap_or};
 ghost use Rattle.csv.specs.Records.{AllText};
 ghost use Rattle.csv_tables.specs.Cells.{columns_within};
 ghost use Rattle.csv_tables.specs.Drawn.{selected_of, markdown_content, sides};
 ghost use Rattle.csv_tables.specs.Leasts.{least_positions};
+ghost use Rattle.csv_tables.specs.Styled.{centered, with_centers};
 
 use crate::columns::drawn_columns;
-use crate::options::{ColumnPlan, Layout};
+use crate::limits::settings_at;
+use crate::options::{ColumnPlan, ColumnSettings, Layout};
 use crate::selection::{limited, names_of, records_below};
 use comfy_parts::Result;
 use comfy_parts::style::CellAlignment;
@@ -90,6 +92,22 @@ impl SelectedRecords {
         selected
     }
 
+    /// The same with columns in the middle, if settings have them there.
+    pub(crate) fn with_centers(
+        self,
+        settings: &[ColumnSettings],
+    ) -> std::result::Result<SelectedRecords, AllocError>
+        ensures { IfOk result (λ selected. selected ≡ with_centers settings.now self) }
+    {
+        if settings.is_empty() {
+            return Ok(self);
+        }
+        let columns = centered_columns(self.alloc, self.columns.as_slice(), settings)?;
+        let mut selected = self;
+        selected.columns = columns;
+        Ok(selected)
+    }
+
     /// The header, where there is one.
     pub(crate) fn names(&self) -> Option<Record<'_>>
         ensures { result ≡ self.now.names }
@@ -158,6 +176,35 @@ impl SelectedRecords {
         ensures { result ≡ self.now.count }
     {
         self.count
+    }
+}
+
+// Columns, some of them in the middle.
+fn centered_columns(
+    alloc: Global,
+    columns: &[ColumnPlan],
+    settings: &[ColumnSettings],
+) -> std::result::Result<Vec<ColumnPlan>, AllocError>
+    ensures { IfOk result (λ made. made.items ≡ map (centered settings.now) columns.now) }
+{
+    let mut made = Vec::with_capacity(alloc, columns.len())?;
+    for column in columns {
+        made.push(centered(*column, settings))?;
+    }
+    Ok(made)
+}
+
+fn centered(column: ColumnPlan, settings: &[ColumnSettings]) -> ColumnPlan
+    ensures { result ≡ centered settings.now column }
+{
+    if settings_at(settings, column.position).is_centered {
+        ColumnPlan {
+            alignment: Some(CellAlignment::Center),
+            points: None,
+            ..column
+        }
+    } else {
+        column
     }
 }
 

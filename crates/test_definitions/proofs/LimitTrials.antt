@@ -11,7 +11,7 @@ use Rattle.csv_tables.specs.declared.options.ColumnSettings.{ColumnSettings}
 
 -- from four to ten terminal columns, and three that are free at the right
 abbrev own : ColumnSettings
-own = record { padding = (0, 3); least = Some 4; greatest = Some 10 }
+own = record { padding = (0, 3); least = Some 4; greatest = Some 10; is_centered = false }
 
 contents : map (bounded (limits_of own false)) (2 ∷ 7 ∷ 19 ∷ []) ≡ 4 ∷ 7 ∷ 10 ∷ []
 contents = refl
@@ -20,7 +20,7 @@ with_paddings : map (taken (limits_of own false)) (2 ∷ 19 ∷ []) ≡ 7 ∷ 13
 with_paddings = refl
 
 -- a greatest width is at least 1, and at least the least width
-greatest : map (λ (least : Option ℕ). (limits_of (record { padding = (1, 1); least = least; greatest = Some 0 }) false).greatest) (None ∷ Some 8 ∷ []) ≡ Some 1 ∷ Some 8 ∷ []
+greatest : map (λ (least : Option ℕ). (limits_of (record { padding = (1, 1); least = least; greatest = Some 0; is_centered = false }) false).greatest) (None ∷ Some 8 ∷ []) ≡ Some 1 ∷ Some 8 ∷ []
 greatest = refl
 
 -- a column that is given as much as it may have has that width

@@ -15,6 +15,7 @@ fn column(padding: (u16, u16), least: Option<u16>, greatest: Option<u16>) -> Col
         padding,
         least,
         greatest,
+        is_centered: false,
     }
 }
 
@@ -138,6 +139,25 @@ fn points_are_not_in_wrapped_texts(rt: HostRuntime) {
 | rye             | 14.2 |
 |                 |    5 |
 +-----------------+------+
+",
+    );
+}
+
+#[test]
+fn columns_are_in_the_middle(rt: HostRuntime) {
+    let mut centered = ColumnSettings::none();
+    centered.is_centered = true;
+    assert_drawn(
+        &rt,
+        None,
+        [centered, centered],
+        "+-----------------+-------+
+|       name      |  days |
++=========================+
+| oats and barley |   3   |
+|-----------------+-------|
+|       rye       | 14.25 |
++-----------------+-------+
 ",
     );
 }

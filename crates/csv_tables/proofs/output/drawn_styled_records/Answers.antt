@@ -5,7 +5,7 @@ use Rattle.csv_tables.proofs.RecordTextLemmas.{renders}
 use Rattle.csv_tables.specs.Contents.{AreDrawnContents, drawn_next}
 use Rattle.csv_tables.specs.LazyTableValue.{LazyTableValue}
 use Rattle.csv_tables.specs.Drawn.{SelectedValue, note_for}
-use Rattle.csv_tables.specs.Styled.{RendersStyled, RendersStyledContent}
+use Rattle.csv_tables.specs.Styled.{RendersStyled, RendersStyledContent, with_centers}
 use Rattle.csv_tables.proofs.output.drawn_styled_records.Goals as goal
 
 pub returns-then-look : goal.returns-then-look
@@ -30,20 +30,21 @@ returns c =
     let layout = c.args.layout.now in
     let look = layout.look in
     let settings = c.args.settings.now in
-    let selected = c.in_ok-selected.selected in
+    let content = c.in_ok-selected.selected in
+    let selected = with_centers settings content in
     let contents = c.in_ok-drawn_contents.field-0 in
     let arranged = c.in_ok-arranged_contents.field-0 in
     let text = drawn_next contents.rows contents.table arranged.infos 0 true true contents.rows.selected.rows in
-    let made : AreDrawnContents settings look selected contents = c.in_ok-drawn_contents.ensures in
+    let made : AreDrawnContents settings look selected contents = subst (λ (s : SelectedValue). AreDrawnContents settings look s contents) c.in_ok-selected-2.ensures c.in_ok-drawn_contents.ensures in
     let same : contents.rows.selected ≡ selected = made.drawn.are_contents.selected_is in
     let drawn : RendersStyled settings look selected text =
     subst (λ (s : SelectedValue). RendersStyled settings look s text) same
     (renders settings look contents arranged.infos (subst (λ (s : SelectedValue). AreDrawnContents settings look s contents) (sym same) made) c.in_ok-arranged_contents.ensures.infos c.in_ok-arranged_contents.ensures.rows) in
-    let kind : RendersStyledContent settings look.is_markdown look selected text = subst (λ b. RendersStyledContent settings b look selected text) (sym c.if-look.false) drawn in
+    let kind : RendersStyledContent settings look.is_markdown look content text = subst (λ b. RendersStyledContent settings b look content text) (sym c.if-look.false) drawn in
     let count = ap (λ (s : SelectedValue). s.count) c.in_ok-selected.ensures in
     IfOk-weaker c.of_records.result _ _
     (λ output is. record {
-      content = selected;
+      content = content;
       is_content = sym c.in_ok-selected.ensures;
       text = text;
       is_text = kind;
