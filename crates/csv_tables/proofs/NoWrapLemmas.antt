@@ -24,9 +24,6 @@ kept_within kept needed less n (suc count) within =
     let sums = sum_by-cons (λ (content : ℕ). 2 + content) (needed n) (map needed (range_with_len (n + 1) count)) in
     All-cons (λ (content : ℕ). content ≤ 65533) (kept n) (map kept (range_with_len (n + 1) count)) (omega (arith, own, sums, within)) (kept_within kept needed less (n + 1) count (omega (arith, sums, within)))
 
-pub kept_is_shared : (level : ℕ) (nowrap : List Bool) (table : TableValue) (i : ℕ) → min_width nowrap table i ≤ width_at_level level nowrap table i
-kept_is_shared level nowrap table i = omega arith
-
 pub given_is_shared : (level level2 : ℕ) (nowrap : List Bool) (table : TableValue) (i : ℕ) → max 1 (reserved_width level nowrap table i) ≤ width_at_level level2 nowrap table i
 given_is_shared level level2 nowrap table i = by_test (unwrap_or (slice_get nowrap i) false || nat_lt level (min_width nowrap table i))
   where

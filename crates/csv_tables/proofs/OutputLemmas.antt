@@ -1,5 +1,5 @@
--- The texts of tables: a line below the first one, and a text from what the calls of a table say.
-use Rattle.std.proofs.Common.{◌≡◌, ◌<◌, ◌+◌, ◌==◌, Bool, true, false, List, [], ◌∷◌, ◌++◌, Option, Some, None, arith, drop, length, take, lit<, refl, sym, ap, ap₂, ◌∙◌, subst, append-nil, append_assoc}
+-- The texts of tables: a line below the first one.
+use Rattle.std.proofs.Common.{◌≡◌, ◌<◌, ◌+◌, ◌==◌, true, false, List, [], ◌∷◌, ◌++◌, Option, Some, None, arith, drop, length, take, lit<, refl, sym, ap, ap₂, ◌∙◌, subst, append-nil, append_assoc}
 use Rattle.std.specs.List.{All, after_first, before_first, list_any, position_or_len}
 use Rattle.std.specs.Option.{MatchOption}
 use Rattle.std.proofs.Math.Seq.{drop-append-add, take-append_seam}
@@ -19,8 +19,7 @@ use Rattle.comfy_table.specs.Laws.{HasNoBreak, HasUnbrokenStyle}
 use Rattle.comfy_table.specs.TableValue.{TableValue}
 use Rattle.csv_tables.specs.declared.options.Look.{Look}
 use Rattle.csv_tables.proofs.LineLemmas.{any_built}
-use Rattle.csv_tables.specs.Drawn.{SelectedValue, RendersTable, below_first, markdown_content, markdown_lines, markdown_look, markdown_style, markdown_table, output_table, separators_in, table_text}
-use Rattle.csv_tables.specs.Separators.{AreRowsSeparated}
+use Rattle.csv_tables.specs.Drawn.{SelectedValue, below_first, markdown_content, markdown_lines, markdown_look, markdown_style, markdown_table}
 
 -- ---- a line below the first one
 
@@ -124,14 +123,3 @@ each_markdown_line P look content arranged rule is each own =
         let all : All P (x ∷ (xs ++ below)) = subst (All P) parts each in
         let some = ap length parts in
         All-cons P x (rule ∷ (xs ++ below)) (All-head P x (xs ++ below) all) (All-cons P rule (xs ++ below) (own (omega (arith, some))) (All-tail P x (xs ++ below) all))
-
--- ---- texts of tables
-
-module _ (look : Look) (content : SelectedValue) (is_expanded : Bool) where
-  abbrev table : TableValue
-  table = output_table is_expanded look content
-
-  -- the text of a table after its lines between rows were left out where they aren't wanted
-  pub text_of_table : (after : TableValue) (arranged : ArrangedValue) (text : Text) → AreRowsSeparated (separators_in is_expanded look.separators) table after → IsArrangedTable after arranged → text ≡ table_text is_expanded content arranged → RendersTable is_expanded look content text
-  text_of_table after arranged text made found is =
-      record { has_separators = made.has_separators; separators = made.separators; arranged = arranged; is_arranged = subst (λ t. IsArrangedTable t arranged) made.table found; is = is }
