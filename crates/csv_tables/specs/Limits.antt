@@ -106,7 +106,7 @@ given_within limits (Some width) nowrap table =
     then by_columns (reserved_width (level_within limits width nowrap table) nowrap table) table
     else []
 
--- a width of a column, which is at most 65535, for one of its texts
+-- the width of a column whose texts have this width, at most 65535
 abbrev pub with_both_paddings : ColumnLimits → ℕ → ℕ
 with_both_paddings limits width = min 65535 (width + both_paddings limits)
 
@@ -124,8 +124,9 @@ between lower upper =
 abbrev pub limit_for : ColumnLimits → ℕ → ColumnConstraint
 limit_for limits given =
     unwrap_or
-    (option_map (λ (greatest : ℕ). between (lower_limit limits given) (with_both_paddings limits greatest))
-    limits.greatest) (LowerBoundary (Fixed (lower_limit limits given)))
+    (option_map (λ (greatest : ℕ).
+    between (lower_limit limits given) (with_both_paddings limits greatest)) limits.greatest)
+    (LowerBoundary (Fixed (lower_limit limits given)))
 
 -- those of columns
 abbrev pub limits_for : List ColumnLimits → List ℕ → List ColumnConstraint

@@ -37,9 +37,10 @@ const LEAST_LEVEL: u16 = 8;
 // How many terminal columns the names of expanded records need at most.
 const NEEDED_NAMES: u16 = 4;
 
-/// Gives columns their paddings, and lets them keep what they need, where a width is kept that has
-/// room for that: those of numbers and dates their whole contents. Returns whether there is room.
-/// There is if no width is kept, but never if points are lined up in texts that are wrapped.
+/// Gives columns their paddings and their limits. If a width is kept that has room for that, columns
+/// keep what they need, those of numbers and dates their whole contents. Returns whether there is
+/// room: never if decimal points are lined up in texts that are wrapped, else always if no width is
+/// kept.
 pub(crate) fn keep_nowrap(contents: &mut LazyTable, settings: &[ColumnSettings]) -> Result<bool>
     ensures contents { OnOk result (contents.new ≡ record contents.old {
       table = limited_by (limits_in settings.now contents.old.rows.selected)
@@ -58,7 +59,8 @@ pub(crate) fn keep_nowrap(contents: &mut LazyTable, settings: &[ColumnSettings])
     Ok(hold_points && has_room)
 }
 
-// The same with these limits, after the columns have their paddings. Points aren't looked at.
+// Gives columns their limits, after they have their paddings. Returns whether a width that is kept
+// has room.
 fn keep_limits(
     contents: &mut LazyTable,
     limits: &[ColumnLimits],
@@ -80,7 +82,7 @@ fn keep_limits(
     }
 }
 
-// Lets columns that have limits be as wide as their contents within these.
+// Lets columns be as wide as their contents, within their limits, if they have limits.
 fn keep_contents(
     contents: &mut LazyTable,
     limits: &[ColumnLimits],
@@ -99,7 +101,7 @@ fn keep_contents(
     Ok(())
 }
 
-// Gives columns that have limits these alone.
+// Gives columns their limits, and nothing beforehand.
 fn keep_nothing(
     contents: &mut LazyTable,
     limits: &[ColumnLimits],

@@ -43,12 +43,14 @@ pub fn drawn_records(
     drawn_styled_records(alloc, records, count, layout, &[])
 }
 
-/// The same with settings of columns, which are found by their positions in a record. Columns past
-/// the settings have none, nor has that of numbers. Settings aren't used in Markdown, and where
-/// records are expanded.
+/// Draws records as `drawn_records` does, with settings of columns. The item at a position is for
+/// the fields at this position of the records. Columns past the last item have no settings, and
+/// neither has the column of numbers. Markdown, and records that are expanded, have none.
 ///
-/// If a width is kept, columns have the least widths that they need, but none above its greatest
-/// one. If points would be lined up in a column that is then wrapped, they aren't in any column.
+/// If a width is kept, columns get what they need to keep numbers, dates and wide words whole, but
+/// no more than their greatest widths. A column with a greatest width is as wide as its longest line
+/// at most, or as its least width. If points would be in texts that are wrapped at a greatest width,
+/// no column has its decimal points below each other.
 pub fn drawn_styled_records(
     alloc: Global,
     records: Records,
@@ -97,8 +99,8 @@ pub fn output_of_records(alloc: Global, records: Records, layout: &Layout) -> Re
     output_of_styled_records(alloc, records, layout, &[])
 }
 
-/// The text of such a drawing with settings of columns, for records that are all there are:
-/// nothing where there are none.
+/// The text of `drawn_styled_records` for records that are all there are: nothing if there are
+/// none.
 pub fn output_of_styled_records(
     alloc: Global,
     records: Records,
