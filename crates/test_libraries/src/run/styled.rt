@@ -21,6 +21,7 @@ fn column(padding: (u16, u16), least: Option<u16>, greatest: Option<u16>) -> Col
 
 fn assert_drawn<const N: usize>(
     rt: &(impl Abort + Alloc<A = Global>),
+    is_numbered: bool,
     width: Option<u16>,
     settings: [ColumnSettings; N],
     wanted: &str,
@@ -28,6 +29,7 @@ fn assert_drawn<const N: usize>(
     let mut options = options(rt.alloc(), width, false);
     options.input.delimiter = Delimiter::Byte(b',');
     options.look.aligns_decimals = true;
+    options.selection.is_numbered = is_numbered;
     let records = read_records(rt.alloc(), TEXT, &options.input).expect(rt, "records");
     let drawn = Vec::from_array(rt.alloc(), [0, 1]).expect(rt, "memory");
     let layout = Layout {
@@ -49,6 +51,7 @@ fn assert_drawn<const N: usize>(
 fn columns_have_paddings(rt: HostRuntime) {
     assert_drawn(
         &rt,
+        false,
         None,
         [column((0, 2), None, None)],
         "+-----------------+-------+
@@ -67,6 +70,7 @@ fn columns_have_paddings(rt: HostRuntime) {
 fn columns_have_greatest_widths(rt: HostRuntime) {
     assert_drawn(
         &rt,
+        false,
         None,
         [column((1, 1), None, Some(9))],
         "+----------+-------+
@@ -85,6 +89,7 @@ fn columns_have_greatest_widths(rt: HostRuntime) {
 fn columns_have_least_widths(rt: HostRuntime) {
     assert_drawn(
         &rt,
+        false,
         None,
         [
             column((1, 1), None, Some(13)),
@@ -107,6 +112,7 @@ fn columns_have_least_widths(rt: HostRuntime) {
 fn a_width_is_kept(rt: HostRuntime) {
     assert_drawn(
         &rt,
+        false,
         Some(40),
         [
             column((1, 1), None, Some(9)),
@@ -129,6 +135,7 @@ fn a_width_is_kept(rt: HostRuntime) {
 fn points_are_not_in_wrapped_texts(rt: HostRuntime) {
     assert_drawn(
         &rt,
+        false,
         Some(40),
         [column((1, 1), None, None), column((1, 1), None, Some(4))],
         "+-----------------+------+
@@ -149,6 +156,7 @@ fn columns_are_in_the_middle(rt: HostRuntime) {
     centered.is_centered = true;
     assert_drawn(
         &rt,
+        false,
         None,
         [centered, centered],
         "+-----------------+-------+
@@ -158,6 +166,26 @@ fn columns_are_in_the_middle(rt: HostRuntime) {
 |-----------------+-------|
 |       rye       | 14.25 |
 +-----------------+-------+
+",
+    );
+}
+
+// The column of numbers has no settings.
+#[test]
+fn rows_have_numbers(rt: HostRuntime) {
+    assert_drawn(
+        &rt,
+        true,
+        None,
+        [column((0, 0), None, Some(8))],
+        "+---+--------+-------+
+| # |name    |  days |
++====================+
+| 1 |oats and|  3    |
+|   |barley  |       |
+|---+--------+-------|
+| 2 |rye     | 14.25 |
++---+--------+-------+
 ",
     );
 }
