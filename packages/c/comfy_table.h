@@ -64,7 +64,7 @@ enum {
     COMFY_LENGTHS_REFUSED
 };
 
-/* The presets for the frame, and behind them that of csvtable, COMFY_UTF8_FULL with round corners. */
+/* The presets for the frame. After them comes the frame of csvtable, COMFY_UTF8_FULL with round corners. */
 enum {
     COMFY_ASCII_FULL,
     COMFY_ASCII_FULL_CONDENSED,
@@ -80,6 +80,44 @@ enum {
     COMFY_UTF8_HORIZONTAL_ONLY,
     COMFY_NOTHING,
     COMFY_ROUNDED
+};
+
+/* The style of the lines in the field `frame` of the settings. */
+#define COMFY_OWN_STYLE UINT32_MAX
+
+/* A field for a character has the character's number. 0 stands for none, and COMFY_NUL for U+0000. Any other number that isn't
+ * that of a character stands for none. */
+#define COMFY_NUL 0x110000
+
+/* The characters of a line of the frame. */
+struct comfy_line {
+    uint32_t left;
+    uint32_t fill;
+    uint32_t junction;
+    uint32_t right;
+};
+
+/* The characters of a line that holds contents. */
+struct comfy_content_line {
+    uint32_t left;
+    uint32_t junction;
+    uint32_t right;
+};
+
+/*
+ * A frame of your own. A border line or separator is drawn if it has any character. A border at the left or right, or a line
+ * between columns, is drawn if any of the six lines has a character for it. A space is drawn in place of a missing character.
+ *
+ * The promises on the lines of rows hold for such a frame if each of its characters takes one terminal column, and none is a
+ * control character or turns the direction of text.
+ */
+struct comfy_frame {
+    struct comfy_line top_border;
+    struct comfy_content_line header_lines;
+    struct comfy_line header_separator;
+    struct comfy_content_line content_lines;
+    struct comfy_line row_separator;
+    struct comfy_line bottom_border;
 };
 
 /* Stands for no width, as every width above 65535 does. */
@@ -103,7 +141,7 @@ enum { COMFY_COLUMN_BY_CONTENTS, COMFY_COLUMN_LEFT, COMFY_COLUMN_RIGHT, COMFY_CO
 struct comfy_rows_settings {
     size_t max_height;        /* how many lines a row below the header has at most, or COMFY_NO_LIMIT */
     size_t limit;             /* how many rows are drawn, or COMFY_NO_LIMIT; where there are more, a line below says so */
-    uint32_t style;           /* a preset or COMFY_ROUNDED */
+    uint32_t style;           /* a preset, COMFY_ROUNDED or COMFY_OWN_STYLE */
     uint32_t width;           /* in terminal columns, or COMFY_NO_WIDTH */
     uint32_t fills_width;     /* a flag: the width is filled */
     uint32_t row_lines;       /* COMFY_LINES_.. */
@@ -114,6 +152,7 @@ struct comfy_rows_settings {
     uint32_t aligns_decimals; /* a flag: decimal points of a column of numbers stand below each other */
     uint32_t has_sequences;   /* a flag: SGR sequences in texts stay, and count no columns */
     uint32_t is_markdown;     /* a flag: the table is one for Markdown, whatever else is set */
+    struct comfy_frame frame; /* the lines of COMFY_OWN_STYLE, which no other style reads */
 };
 
 /*
@@ -122,9 +161,12 @@ struct comfy_rows_settings {
  * texts are the texts of all cells, one behind another; lengths has the bytes of each. counts has for each row how many cells it
  * has; rows may have different numbers. columns has a byte for each column, or for the first ones.
  *
- * COMFY_INPUT_REFUSED says that a text isn't UTF-8. COMFY_SETTINGS_REFUSED says that a setting or a column's byte is none of those
- * above, that a byte but COMFY_COLUMN_BY_CONTENTS is for a column that isn't there, or that no column is left.
- * COMFY_LENGTHS_REFUSED says that the lengths aren't those of the texts, or the counts those of the lengths.
+ * These are looked at in this order, so the first that holds is returned:
+ *
+ *   COMFY_SETTINGS_REFUSED  a setting or a column's byte is none of those above
+ *   COMFY_LENGTHS_REFUSED   the lengths aren't those of the texts, or the counts not those of the lengths
+ *   COMFY_INPUT_REFUSED     lengths and counts add up, but a text isn't UTF-8
+ *   COMFY_SETTINGS_REFUSED  a byte other than COMFY_COLUMN_BY_CONTENTS is for a column that isn't there, or no column is left
  */
 uint32_t comfy_rows_draw(const uint8_t *texts, size_t texts_length, const size_t *lengths, size_t lengths_length,
                          const size_t *counts, size_t counts_length, const uint8_t *columns, size_t columns_length,
@@ -133,10 +175,6 @@ uint32_t comfy_rows_draw(const uint8_t *texts, size_t texts_length, const size_t
 /* ---- cells with settings of their own */
 
 /* In the structs of this part 0 stands for nothing that is set, but as a width and as a padding. */
-
-/* Where a character is asked for, its number stands, 0 stands for none, and this stands for U+0000. Any other number stands for
- * none. */
-#define COMFY_NUL 0x110000
 
 /* Where texts stand; any other number stands for the first. */
 enum { COMFY_ALIGNED_BY_COLUMN, COMFY_ALIGNED_LEFT, COMFY_ALIGNED_RIGHT, COMFY_ALIGNED_CENTER };
@@ -247,29 +285,12 @@ struct comfy_column {
     struct comfy_width upper; /* the greatest of COMFY_CONSTRAINT_BOUNDARIES */
 };
 
-/* The characters of a line of the frame, and of one that holds contents. */
-struct comfy_line {
-    uint32_t left;
-    uint32_t fill;
-    uint32_t junction;
-    uint32_t right;
-};
-
-struct comfy_content_line {
-    uint32_t left;
-    uint32_t junction;
-    uint32_t right;
-};
-
 /* What is written: the lines; the lines without white space at their ends, and without the last line feed; or the greatest width
  * of each column's contents, in decimal with a line feed behind it. */
 enum { COMFY_FORM_LINES, COMFY_FORM_TRIMMED, COMFY_FORM_CONTENT_WIDTHS };
 
 /* How the widths of the columns are found: by their contents alone, within the table's width, or so that they fill it. */
 enum { COMFY_DISABLED, COMFY_DYNAMIC, COMFY_DYNAMIC_FULL_WIDTH };
-
-/* Stands for the frame of the struct's own lines. */
-#define COMFY_OWN_STYLE UINT32_MAX
 
 /* How a table of cells is drawn. A flag is set where it isn't 0. */
 struct comfy_cells_settings {
@@ -282,12 +303,7 @@ struct comfy_cells_settings {
     uint32_t enforce_styling; /* a flag: colours and attributes are written */
     uint32_t style_text_only; /* a flag: they stand round the texts alone, and not round the paddings */
     uint32_t custom_styling;  /* a flag: SGR sequences in texts count no columns */
-    struct comfy_line top_border; /* from here on the lines of COMFY_OWN_STYLE, which no other style reads */
-    struct comfy_content_line header_lines;
-    struct comfy_line header_separator;
-    struct comfy_content_line content_lines;
-    struct comfy_line row_separator;
-    struct comfy_line bottom_border;
+    struct comfy_frame frame; /* the lines of COMFY_OWN_STYLE, which no other style reads */
 };
 
 /*
@@ -298,9 +314,11 @@ struct comfy_cells_settings {
  * row has, and columns each column of the table; a cell that has no column isn't drawn. indicator is UTF-8, and stands behind a
  * line at which a row's height cuts a text; comfy-table has "\xe2\x80\xa6".
  *
- * COMFY_INPUT_REFUSED says that a text or the indicator isn't UTF-8. COMFY_SETTINGS_REFUSED says that form, style or arrangement
- * is none of those above. COMFY_LENGTHS_REFUSED says that the lengths aren't those of the texts, or the counts not those of the
- * cells.
+ * These are looked at in this order, so the first that holds is returned:
+ *
+ *   COMFY_SETTINGS_REFUSED  form, style or arrangement is none of those above
+ *   COMFY_LENGTHS_REFUSED   the lengths aren't those of the texts, or the counts not those of the cells
+ *   COMFY_INPUT_REFUSED     lengths and counts add up, but a text or the indicator isn't UTF-8
  */
 uint32_t comfy_cells_draw(const uint8_t *texts, size_t texts_length, const struct comfy_cell *cells, size_t cells_length,
                           const struct comfy_row *rows, size_t rows_length, const struct comfy_column *columns,

@@ -1,5 +1,5 @@
 -- What a call returns, and what it makes of the caller's buffer.
-use Rattle.std.proofs.Common.{◌≡◌, ◌∙◌, true, cond, List, ℕ, ◌++◌, ap, ap₂, drop, inl, length, nat_le, refl, subst, sym, take}
+use Rattle.std.proofs.Common.{◌≡◌, ◌∙◌, true, cond, List, ℕ, ◌++◌, Err, IsOkAnd, IfOk, Ok, Result, ap, ap₂, drop, inl, length, nat_le, refl, subst, sym, take}
 use Rattle.std.proofs.lemmas.List.{take_at}
 use Rattle.std.proofs.lemmas.Str.{IsUtf8-string_bytes}
 use Rattle.std.specs.Prelude.{IsUtf8}
@@ -28,6 +28,19 @@ module _ (P : Text → Type 0) (bytes buffer : Text) {text after : Text} {needed
   -- and of what was handed to the caller
   pub handed : IsHanded P buffer after needed
   handed = record { text = bytes; is_so = subst P (sym same) so; is_counted = counted; is_put = put }
+
+-- ---- drawings
+
+module _ {T E : Type 0} (P : Text → Type 0) (bytes : T → Text) where
+  -- what holds of a drawing holds of the bytes that a caller gets
+  pub of_drawing : (made : Result T E) → IfOk made (λ drawing. P (bytes drawing)) → {text : Text} → IsOkAnd made (λ drawing. bytes drawing ≡ text) → P text
+  of_drawing (Ok drawing) so same = subst P same so
+  of_drawing (Err refusal) so same = absurd same
+
+  -- or of a drawing of the length that a caller gets
+  pub of_length : (made : Result T E) → IfOk made (λ drawing. P (bytes drawing)) → {needed : ℕ} → IsOkAnd made (λ drawing. length (bytes drawing) ≡ needed) → (drawing : Text) × (needed ≡ length drawing) × P drawing
+  of_length (Ok drawing) so same = (bytes drawing, sym same, so)
+  of_length (Err refusal) so same = absurd same
 
 -- ---- CSV
 

@@ -17,13 +17,14 @@ use Rattle.comfy_table.specs.Laws.{count}
 use Rattle.comfy_table.specs.TableValue.{TableValue, shown_columns}
 use Rattle.promises.specs.Headline.{AreLinesOfRow, IsHeadline, IsPlainDrawing, widths_shown}
 use Rattle.comfy_c.specs.CellCalls.{AreWritten, IsDescribed, table_with}
-use Rattle.comfy_c.specs.Numbers.{own_style}
+use Rattle.comfy_c.specs.Frames.{own_style}
 use Rattle.comfy_c.specs.Promised.{ShowTable}
 use Rattle.comfy_c.specs.declared.cells_columns.ColumnNumbers.{ColumnNumbers}
 use Rattle.comfy_c.specs.declared.cells_columns.WidthNumbers.{WidthNumbers}
 use Rattle.comfy_c.specs.declared.cells_settings.CellsSettings.{CellsSettings}
-use Rattle.comfy_c.specs.declared.cells_settings.ContentLineNumbers.{ContentLineNumbers}
-use Rattle.comfy_c.specs.declared.cells_settings.LineNumbers.{LineNumbers}
+use Rattle.comfy_c.specs.declared.frame.ContentLineNumbers.{ContentLineNumbers}
+use Rattle.comfy_c.specs.declared.frame.FrameNumbers.{FrameNumbers}
+use Rattle.comfy_c.specs.declared.frame.LineNumbers.{LineNumbers}
 
 -- ---- a table of one column and no rows in three terminal columns, under a line of `=`
 
@@ -32,6 +33,17 @@ no_line = record { left = 0; fill = 0; junction = 0; right = 0 }
 
 abbrev no_content_line : ContentLineNumbers
 no_content_line = record { left = 0; junction = 0; right = 0 }
+
+abbrev frame : FrameNumbers
+frame =
+    record {
+      top_border = record { left = 0; fill = 0x3D; junction = 0; right = 0 };
+      header_lines = no_content_line;
+      header_separator = no_line;
+      content_lines = no_content_line;
+      row_separator = no_line;
+      bottom_border = no_line;
+    }
 
 abbrev settings : CellsSettings
 settings =
@@ -45,12 +57,7 @@ settings =
       enforce_styling = 0;
       style_text_only = 0;
       custom_styling = 0;
-      top_border = record { left = 0; fill = 0x3D; junction = 0; right = 0 };
-      header_lines = no_content_line;
-      header_separator = no_line;
-      content_lines = no_content_line;
-      row_separator = no_line;
-      bottom_border = no_line;
+      frame = frame;
     }
 
 abbrev no_width : WidthNumbers
@@ -63,7 +70,7 @@ abbrev Shows : Text → Type 0
 Shows bytes = ShowTable [] [] [] columns [] settings bytes
 
 abbrev the_table : TableValue
-the_table = table_with [] columns [] settings (own_style settings) Dynamic
+the_table = table_with [] columns [] settings (own_style frame) Dynamic
 
 -- the numbers describe it
 described_is : (table : TableValue) → IsDescribed [] [] [] columns [] settings table → table ≡ the_table
@@ -84,14 +91,14 @@ line_of_plain lines is =
       w = 0 + is.framed.width 0 + 0;
       are = by_rows is.framed.frame.rows is.framed.frame.are_rows is.framed.frame.drawn ∙ ap (λ (line : Text). line ∷ []) line_is;
       keeps =
-          let total : count top ≡ is.total = is.frame_total (own_style settings).top_border in
+          let total : count top ≡ is.total = is.frame_total (own_style frame).top_border in
           let kept : is.total ≤ 3 = is.keeps_to_width 3 refl unconstrained refl in
           let same : count top ≡ count (repeat (0 + is.framed.width 0 + 0) (codes "=")) = ap count line_is in
           omega (arith, total, kept, same);
     }
   where
     top : Text
-    top = frame_line (own_style settings) (own_style settings).top_border (widths_shown the_table is.framed.width)
+    top = frame_line (own_style frame) (own_style frame).top_border (widths_shown the_table is.framed.width)
 
     line_is : top ≡ repeat (0 + is.framed.width 0 + 0) (codes "=")
     line_is = append-nil (repeat (0 + is.framed.width 0 + 0) (codes "=") ++ []) ∙ append-nil (repeat (0 + is.framed.width 0 + 0) (codes "="))
@@ -99,7 +106,7 @@ line_of_plain lines is =
     unconstrained : All (λ (p : ℕ × ColumnValue). p.1.constraint ≡ None) (shown_columns the_table)
     unconstrained = All-from_recursion (λ (p : ℕ × ColumnValue). p.1.constraint ≡ None) (shown_columns the_table) (refl, tt)
 
-    by_rows : (rows : List (List Text)) → AllZip (AreLinesOfRow the_table is.framed.width is.framed.cell_lines (own_style settings).content_lines) [] rows → lines ≡ (top ∷ []) ++ (is.framed.frame.header ++ (join_by (λ block. block) [] rows ++ [])) → lines ≡ top ∷ []
+    by_rows : (rows : List (List Text)) → AllZip (AreLinesOfRow the_table is.framed.width is.framed.cell_lines (own_style frame).content_lines) [] rows → lines ≡ (top ∷ []) ++ (is.framed.frame.header ++ (join_by (λ block. block) [] rows ++ [])) → lines ≡ top ∷ []
     by_rows [] each drawn = drawn ∙ ap (λ (header : List Text). (top ∷ []) ++ (header ++ [])) is.framed.frame.is_header
     by_rows (block ∷ rows) each drawn = absurd each
 

@@ -1,5 +1,5 @@
 -- What is drawn of rows is straight, and keeps to a width.
-use Rattle.std.proofs.Common.{◌⊎◌, ◌≡◌, ◌≤◌, ◌<◌, ◌==◌, ◌&&◌, ◌||◌, ℕ, zero, suc, Bool, true, false, not, List, [], ◌∷◌, Option, Some, None, inl, inr, length, option_map, unwrap_or, refl, sym, ap, ◌∙◌, subst, arith, drop, take, slice_get}
+use Rattle.std.proofs.Common.{◌⊎◌, ◌≡◌, ◌≤◌, ◌<◌, ◌==◌, ◌&&◌, ◌||◌, ℕ, zero, suc, Bool, true, false, not, List, [], ◌∷◌, Option, Some, None, inl, inr, length, option_map, unwrap_or, refl, sym, ap, ◌∙◌, subst, arith, drop, eqb-true, take, slice_get}
 use Rattle.std.specs.List.{All, list_all, list_any, range_with_len}
 use Rattle.std.specs.Prelude.{if◌then◌else◌}
 use Rattle.std.specs.Str.{IsUtf8}
@@ -38,8 +38,12 @@ use Rattle.csv_tables.specs.declared.options.RowSeparators.{RowSeparators}
 use Rattle.csv_tables.specs.declared.selection.Selection.{Selection}
 use Rattle.promises.specs.Shown.{ShowsColumns}
 use Rattle.promises.specs.Tables.{HasCharactersWithin}
-use Rattle.comfy_c.specs.PromisedRows.{AreStraightLines, EachRowsLine, FitTheWidth, IsCountOf, IsPlainLook, KeepToWidth, ShowAllTexts, ShowRows}
-use Rattle.comfy_c.specs.RowCalls.{IsRowsDrawing, are_bytes, are_there, byte_at, can_be_drawn, columns_by, columns_for, count_in_all, expansions, layout_by, layout_for, look_by, look_for, rows_of, selection_for, separators, style_at}
+use Rattle.comfy_c.specs.Frames.{own_number, own_style, style_at, style_for}
+use Rattle.comfy_c.specs.PromisedRows.{AreStraightLines, EachRowsLine, FitTheWidth, HasHarmlessFrame, HasOneColumnFrame, HaveRoom, IsCountOf, IsPlainLook, KeepToWidth, ShowAllTexts, ShowRows}
+use Rattle.comfy_c.specs.RowCalls.{IsRowsDrawing, IsRowsRefusal, are_bytes, are_there, byte_at, can_be_drawn, columns_by, columns_for, count_in_all, expansions, layout_by, layout_for, look_by, look_for, selection_for, separators}
+use Rattle.comfy_c.specs.Texts.{IsTextsRefusal, rows_of}
+use Rattle.comfy_c.specs.declared.refusal.DrawRefusal.{DrawRefusal}
+use Rattle.comfy_c.specs.declared.refusal.DrawRefusal.TheVariants.{Lengths, NotUtf8, OutOfMemory, Settings}
 use Rattle.comfy_c.specs.declared.rows_settings.RowsSettings.{RowsSettings}
 
 -- ---- styles
@@ -62,19 +66,28 @@ module _ (p : TableStyle → Bool) where
       by_position true found = subst (λ (s : TableStyle). p s ≡ true) (same_Some compact_style style found) own
       by_position false found = style_passes named_presets all position style found
 
-style_is_one_column : (position : ℕ) (style : TableStyle) → style_at position ≡ Some style → IsOneColumnStyle style
-style_is_one_column position style is = one_column_characters style (asked_passes has_frame_characters refl refl position style is)
+preset_is_one_column : (position : ℕ) (style : TableStyle) → style_at position ≡ Some style → IsOneColumnStyle style
+preset_is_one_column position style is = one_column_characters style (asked_passes has_frame_characters refl refl position style is)
 
-style_is_harmless : (position : ℕ) (style : TableStyle) → style_at position ≡ Some style → IsHarmlessStyle style
-style_is_harmless position style is = not-true _ (asked_passes (λ s. not (list_any (λ (c : Option ℕ). is_replaced (unwrap_or c 0x20)) (style_characters s))) refl refl position style is)
+preset_is_harmless : (position : ℕ) (style : TableStyle) → style_at position ≡ Some style → IsHarmlessStyle style
+preset_is_harmless position style is = not-true _ (asked_passes (λ s. not (list_any (λ (c : Option ℕ). is_replaced (unwrap_or c 0x20)) (style_characters s))) refl refl position style is)
+
+-- what holds of each preset and of a frame of one's own holds of the style that is asked for
+module _ (settings : RowsSettings) (P : TableStyle → Type 0) (of_preset : (position : ℕ) (style : TableStyle) → style_at position ≡ Some style → P style) (of_own : settings.style ≡ own_number → P (own_style settings.frame)) where
+  of_asked : (style : TableStyle) → style_for settings.style settings.frame ≡ Some style → P style
+  of_asked style is = by_number (settings.style == own_number) refl is
+    where
+      by_number : (b : Bool) → (settings.style == own_number) ≡ b → (if b then Some (own_style settings.frame) else style_at settings.style) ≡ Some style → P style
+      by_number true own found = subst P (same_Some (own_style settings.frame) style found) (of_own (eqb-true settings.style own_number own))
+      by_number false other found = of_preset settings.style style found
 
 -- ---- layouts
 
-own_style : (settings : RowsSettings) (style : Option TableStyle) (lines : Option RowSeparators) (expansion : Option Expansion) (look : Look) → look_by settings style lines expansion ≡ Some look → style ≡ Some look.style
-own_style settings (Some style) (Some lines) (Some expansion) look is = ap (λ (l : Look). Some l.style) (same_Some _ look is)
-own_style settings (Some style) (Some lines) None look is = absurd (cc is)
-own_style settings (Some style) None expansion look is = absurd (cc is)
-own_style settings None lines expansion look is = absurd (cc is)
+look_style : (settings : RowsSettings) (style : Option TableStyle) (lines : Option RowSeparators) (expansion : Option Expansion) (look : Look) → look_by settings style lines expansion ≡ Some look → style ≡ Some look.style
+look_style settings (Some style) (Some lines) (Some expansion) look is = ap (λ (l : Look). Some l.style) (same_Some _ look is)
+look_style settings (Some style) (Some lines) None look is = absurd (cc is)
+look_style settings (Some style) None expansion look is = absurd (cc is)
+look_style settings None lines expansion look is = absurd (cc is)
 
 -- what a layout has of settings and bytes
 record IsAsked (settings : RowsSettings) (bytes : List ℕ) (rows : List (List Text)) (layout : Layout) : Type 0 where
@@ -151,41 +164,50 @@ module _ (settings : RowsSettings) (bytes : List ℕ) (layout : Layout) (output 
     abbrev MayCount : Option ℕ → Type 0
     MayCount = IsCountOf layout rows
 
-    style : style_at settings.style ≡ Some layout.look.style
-    style = own_style settings (style_at settings.style) (slice_get separators settings.row_lines) (slice_get expansions settings.expansion) layout.look own.look
+    style : style_for settings.style settings.frame ≡ Some layout.look.style
+    style = look_style settings (style_for settings.style settings.frame) (slice_get separators settings.row_lines) (slice_get expansions settings.expansion) layout.look own.look
 
-    plain : IsPlainLook layout.look → IsPlainOutput known layout rows output
-    plain is =
+    clear : HasHarmlessFrame settings → IsHarmlessStyle layout.look.style
+    clear harmless = of_asked settings IsHarmlessStyle preset_is_harmless harmless layout.look.style style
+
+    plain : HasHarmlessFrame settings → HasOneColumnFrame settings → IsPlainLook layout.look → IsPlainOutput known layout rows output
+    plain harmless narrow is =
         record {
           kind = is.unmarked;
           unkept = is.unkept;
-          one_column = style_is_one_column settings.style layout.look.style style;
-          clear = style_is_harmless settings.style layout.look.style style;
+          one_column = of_asked settings IsOneColumnStyle preset_is_one_column narrow layout.look.style style;
+          clear = clear harmless;
           text = texts;
           made = made;
         }
 
-    some_shown : ShowAllTexts layout rows output
-    some_shown is uncut =
+    some_shown : HasHarmlessFrame settings → ShowAllTexts layout rows output
+    some_shown harmless is uncut =
         all_shown layout
-        (record { unkept = is.unkept; table = is.unmarked; uncut = uncut; style = unbroken_without layout.look.style (style_is_harmless settings.style layout.look.style style) })
+        (record { unkept = is.unkept; table = is.unmarked; uncut = uncut; style = unbroken_without layout.look.style (clear harmless) })
         known rows texts output made (some_left layout.selection bytes rows layout.columns own.columns some) (are_below layout.selection bytes rows layout.columns own.columns) MayCount refl
 
-    some_harmless : IsHarmlessFor layout.look output
-    some_harmless = harmless_output known layout rows output (style_is_harmless settings.style layout.look.style style) texts made
+    some_harmless : HasHarmlessFrame settings → IsHarmlessFor layout.look output
+    some_harmless harmless = harmless_output known layout rows output (clear harmless) texts made
 
-    some_straight : AreStraightLines layout rows output
-    some_straight is (inl (inl (inl narrow))) = narrow_law known layout rows output (plain is) MayCount rows refl refl narrow
-    some_straight is (inl (inl (inr (two, room)))) = fitting_law known layout rows output (plain is) MayCount rows refl refl (two_fit known layout rows is.unkept is.unmarked texts two room)
-    some_straight is (inl (inr whole)) = whole_law known layout rows output (plain is) MayCount rows refl refl whole.no_width whole.uncut whole.plain
-    some_straight is (inr fit) = fitting_law known layout rows output (plain is) MayCount rows refl refl fit
+    some_straight : HasHarmlessFrame settings → HasOneColumnFrame settings → AreStraightLines layout rows output
+    some_straight harmless narrow is room = by_room room
+      where
+        own_output : IsPlainOutput known layout rows output
+        own_output = plain harmless narrow is
 
-    some_kept : KeepToWidth layout rows output
-    some_kept w wide is room =
-        keep w known layout rows output wide (plain is) (fits room) (some_left layout.selection bytes rows layout.columns own.columns some) (are_below layout.selection bytes rows layout.columns own.columns) MayCount rows refl refl
+        by_room : HaveRoom layout rows → (columns : ℕ) × EachRowsLine (ShowsColumns columns) layout rows output
+        by_room (inl (inl (inl each))) = narrow_law known layout rows output own_output MayCount rows refl refl each
+        by_room (inl (inl (inr (two, has_room)))) = fitting_law known layout rows output own_output MayCount rows refl refl (two_fit known layout rows is.unkept is.unmarked texts two has_room)
+        by_room (inl (inr whole)) = whole_law known layout rows output own_output MayCount rows refl refl whole.no_width whole.uncut whole.plain
+        by_room (inr fit) = fitting_law known layout rows output own_output MayCount rows refl refl fit
+
+    some_kept : HasHarmlessFrame settings → HasOneColumnFrame settings → KeepToWidth layout rows output
+    some_kept harmless narrow w wide is room =
+        keep w known layout rows output wide (plain harmless narrow is) (fits room) (some_left layout.selection bytes rows layout.columns own.columns some) (are_below layout.selection bytes rows layout.columns own.columns) MayCount rows refl refl
       where
         fits : FitTheWidth layout rows → EachField (HasCharactersWithin 1) rows ⊎ CharactersFitEachWidth known layout rows
-        fits (inl narrow) = inl narrow
+        fits (inl each) = inl each
         fits (inr (two, has_room)) = inr (two_fit known layout rows is.unkept is.unmarked texts two has_room)
 
   -- no rows are counted
@@ -199,12 +221,13 @@ module _ (settings : RowsSettings) (bytes : List ℕ) (layout : Layout) (output 
       (nothing_drawn P layout (IsCountOf layout []) no_count)
 
   rows_keep : (rows : List (List Text)) → layout_for settings bytes rows ≡ Some layout → All AllText rows → RendersAnyRecords layout rows output
-      → ShowAllTexts layout rows output × IsHarmlessFor layout.look output × AreStraightLines layout rows output × KeepToWidth layout rows output
+      → (HasHarmlessFrame settings → ShowAllTexts layout rows output) × (HasHarmlessFrame settings → IsHarmlessFor layout.look output)
+      × (HasHarmlessFrame settings → HasOneColumnFrame settings → AreStraightLines layout rows output) × (HasHarmlessFrame settings → HasOneColumnFrame settings → KeepToWidth layout rows output)
   rows_keep [] is texts made = (
-    λ look uncut. subst (ShowsAllFields (IsCountOf layout []) layout []) (sym made) (none_of_all (IsCountOf layout []) no_count layout),
-    subst (IsHarmlessFor layout.look) (sym made) (nothing_is_harmless layout.look),
-    λ look room. (0, none (ShowsColumns 0) made),
-    λ w wide look within. none _ made,
+    λ harmless look uncut. subst (ShowsAllFields (IsCountOf layout []) layout []) (sym made) (none_of_all (IsCountOf layout []) no_count layout),
+    λ harmless. subst (IsHarmlessFor layout.look) (sym made) (nothing_is_harmless layout.look),
+    λ harmless narrow look room. (0, none (ShowsColumns 0) made),
+    λ harmless narrow w wide look within. none _ made,
   )
   rows_keep (row ∷ rows) is texts made =
       let own = asked settings bytes (row ∷ rows) layout is in
@@ -228,3 +251,13 @@ shows_rows texts lengths counts columns settings bytes is =
       straight = kept.2;
       width = kept.3;
     }
+
+-- ---- refusals
+
+-- the reason for which texts are refused is that for which there is no drawing
+pub rows_refused : (texts : Text) (lengths counts columns : List ℕ) (settings : RowsSettings) (refusal : DrawRefusal)
+    → IsTextsRefusal texts lengths counts refusal → IsRowsRefusal texts lengths counts columns settings refusal
+rows_refused texts lengths counts columns settings Lengths is = is
+rows_refused texts lengths counts columns settings NotUtf8 is = is
+rows_refused texts lengths counts columns settings Settings is = absurd is
+rows_refused texts lengths counts columns settings OutOfMemory is = tt

@@ -1,6 +1,6 @@
 -- What numbers and arguments mean that a caller passes, and what is made of its buffer.
 -- Source: this library's own.
-use Rattle.std.specs.Prelude.{◌≡◌, ◌⊎◌, ◌-◌, ℕ, nat_le, ◌==◌, List, [], ◌∷◌, ◌++◌, All, Option, Some, None, IsUtf8, codes, drop, flat_map, length, slice_index, string_bytes, if◌then◌else◌}
+use Rattle.std.specs.Prelude.{◌≡◌, ◌⊎◌, ◌-◌, ◌^◌, ℕ, Bool, not, nat_le, ◌==◌, List, [], ◌∷◌, ◌++◌, All, Option, Some, None, IsUtf8, codes, drop, flat_map, length, slice_index, string_bytes, if◌then◌else◌}
 use Rattle.comfy_parts.specs.Text.{HasNo, Text}
 use Rattle.csv_command.specs.Ending.{argument_not_utf8}
 use Rattle.csv_command.specs.Refusals.{IsRendered, IsSaidOfInput, IsSaidOfArguments}
@@ -26,6 +26,14 @@ pub record IsHanded (P : Text → Type 0) (buffer : Text) (after : Text) (needed
 -- a width up to 65535; any greater number stands for none
 abbrev pub width_of : ℕ → Option ℕ
 width_of width = if nat_le width 65535 then Some width else None
+
+-- a flag is set if it isn't 0
+abbrev pub is_set : ℕ → Bool
+is_set flag = not (flag == 0)
+
+-- a limit, unless it is the greatest number of 64 bits
+abbrev pub limit_of : ℕ → Option ℕ
+limit_of number = if number == 2 ^ 64 - 1 then None else Some number
 
 -- ---- CSV
 

@@ -8,18 +8,17 @@ use Rattle.comfy_parts.specs.declared.style.table_style.TableStyle.{TableStyle}
 use Rattle.comfy_table.specs.Drawing.{terminated_text_of, trimmed_text_of}
 use Rattle.comfy_table.specs.Headline.{IsTableDrawing}
 use Rattle.comfy_table.specs.TableValue.{TableValue, max_content_widths, no_terminal}
-use Rattle.csv_records.specs.CutLists.{cut_by, total}
-use Rattle.comfy_c.specs.Calls.{width_of}
-use Rattle.comfy_c.specs.Numbers.{arrangements, cell_with, char_of, columns_with, row_with, style_for}
-use Rattle.comfy_c.specs.RowCalls.{AddUp, is_set}
+use Rattle.csv_records.specs.CutLists.{cut_by}
+use Rattle.comfy_c.specs.Calls.{is_set, width_of}
+use Rattle.comfy_c.specs.Frames.{style_for}
+use Rattle.comfy_c.specs.Numbers.{arrangements, cell_with, char_of, columns_with, row_with}
+use Rattle.comfy_c.specs.Texts.{AddUp}
 use Rattle.comfy_c.specs.declared.cells_columns.ColumnNumbers.{ColumnNumbers}
 use Rattle.comfy_c.specs.declared.cells_rows.CellNumbers.{CellNumbers}
 use Rattle.comfy_c.specs.declared.cells_rows.RowNumbers.{RowNumbers}
 use Rattle.comfy_c.specs.declared.cells_settings.CellsSettings.{CellsSettings}
 use Rattle.comfy_c.specs.declared.refusal.DrawRefusal.{DrawRefusal}
-use Rattle.comfy_c.specs.declared.refusal.DrawRefusal.TheVariants.{Texts, Settings, OutOfMemory as NoMemory}
-use Rattle.comfy_c.specs.declared.texts.TextsRefusal.{TextsRefusal}
-use Rattle.comfy_c.specs.declared.texts.TextsRefusal.TheVariants.{Lengths, NotUtf8, OutOfMemory}
+use Rattle.comfy_c.specs.declared.refusal.DrawRefusal.TheVariants.{Lengths, NotUtf8, OutOfMemory, Settings}
 
 -- ---- rows
 
@@ -31,13 +30,15 @@ lengths_of cells = map (λ (cell : CellNumbers). cell.length) cells
 abbrev pub counts_of : List RowNumbers → List ℕ
 counts_of rows = map (λ (row : RowNumbers). row.cells) rows
 
--- cells whose texts stand one behind another
-abbrev pub cells_with : List CellNumbers → Text → List CellValue
-cells_with cells texts =
-    map (λ (p : CellNumbers × Text). cell_with p.0 p.1)
-    (zip cells (cut_by (lengths_of cells) texts))
+-- cells with these texts
+abbrev pub cells_by : List CellNumbers → List Text → List CellValue
+cells_by cells texts = map (λ (p : CellNumbers × Text). cell_with p.0 p.1) (zip cells texts)
 
--- rows whose cells stand one behind another
+-- cells with the texts of one block
+abbrev pub cells_with : List CellNumbers → Text → List CellValue
+cells_with cells texts = cells_by cells (cut_by (lengths_of cells) texts)
+
+-- rows with these cells
 abbrev pub rows_with : List RowNumbers → List CellValue → List RowValue
 rows_with rows cells =
     map (λ (p : RowNumbers × List CellValue). row_with p.0 p.1)
@@ -80,7 +81,7 @@ pub record IsDescribed (texts : Text) (cells : List CellNumbers) (rows : List Ro
     (table : TableValue) : Type 0 where
   pub add_up : AddUp texts (lengths_of cells) (counts_of rows)
   pub style : TableStyle
-  pub is_style : style_for settings ≡ Some style
+  pub is_style : style_for settings.style settings.frame ≡ Some style
   pub arrangement : ContentArrangement
   pub is_arrangement : slice_get arrangements settings.arrangement ≡ Some arrangement
   pub value : table
@@ -121,30 +122,23 @@ pub record IsCellsDrawing (texts : Text) (cells : List CellNumbers) (rows : List
 abbrev pub DoNotAddUp : Text → List CellNumbers → List RowNumbers → Type 0
 DoNotAddUp texts cells rows = ¬ (AddUp texts (lengths_of cells) (counts_of rows))
 
--- a cell's text isn't UTF-8, or the indicator isn't
-abbrev pub AreNotTexts : Text → List CellNumbers → Text → Type 0
-AreNotTexts texts cells indicator =
-    ¬ (All IsUtf8 (cut_by (lengths_of cells) texts)) ⊎ ¬ (IsUtf8 indicator)
+-- lengths and counts add up, but a cell's text or the indicator isn't UTF-8
+abbrev pub AreNotTexts : Text → List CellNumbers → List RowNumbers → Text → Type 0
+AreNotTexts texts cells rows indicator =
+    AddUp texts (lengths_of cells) (counts_of rows)
+    × (¬ (All IsUtf8 (cut_by (lengths_of cells) texts)) ⊎ ¬ (IsUtf8 indicator))
 
 -- the form, the style or the arrangement stands for nothing
 abbrev pub IsUnknown : CellsSettings → Type 0
 IsUnknown settings =
-    (2 < settings.form) ⊎ (style_for settings ≡ None)
+    (2 < settings.form) ⊎ (style_for settings.style settings.frame ≡ None)
     ⊎ (slice_get arrangements settings.arrangement ≡ None)
-
--- why there are no texts of these lengths at the front of a block: it is too short, or one of them
--- isn't UTF-8
-abbrev pub IsFrontRefusal : List ℕ → Text → TextsRefusal → Type 0
-IsFrontRefusal lengths texts Lengths = length texts < total lengths
-IsFrontRefusal lengths texts NotUtf8 = ¬ (All IsUtf8 (cut_by lengths texts))
-IsFrontRefusal lengths texts OutOfMemory = Unit {0}
 
 -- why there is no drawing
 abbrev pub IsCellsRefusal : Text → List CellNumbers → List RowNumbers → Text → CellsSettings
     → DrawRefusal → Type 0
-IsCellsRefusal texts cells rows indicator settings (Texts Lengths) = DoNotAddUp texts cells rows
-IsCellsRefusal texts cells rows indicator settings (Texts NotUtf8) =
-    AreNotTexts texts cells indicator
-IsCellsRefusal texts cells rows indicator settings (Texts OutOfMemory) = Unit {0}
+IsCellsRefusal texts cells rows indicator settings Lengths = DoNotAddUp texts cells rows
+IsCellsRefusal texts cells rows indicator settings NotUtf8 =
+    AreNotTexts texts cells rows indicator
 IsCellsRefusal texts cells rows indicator settings Settings = IsUnknown settings
-IsCellsRefusal texts cells rows indicator settings NoMemory = Unit {0}
+IsCellsRefusal texts cells rows indicator settings OutOfMemory = Unit {0}

@@ -1,4 +1,4 @@
--- What the numbers of cells, rows, columns and lines stand for.
+-- What the numbers of cells, rows and columns stand for.
 -- Source: this library's own.
 use Rattle.std.specs.Prelude.{◌||◌, ◌%◌, ◌/◌, ◌-◌, ◌^◌, ◌==◌, nat_lt, ℕ, List, [], ◌∷◌, Option, Some, None, map, slice_index_or, if◌then◌else◌}
 use Rattle.std.specs.Int.{is_in_range}
@@ -16,19 +16,13 @@ use Rattle.comfy_parts.specs.declared.style.column.Width.{Width}
 use Rattle.comfy_parts.specs.declared.style.column.Width.TheVariants.{Fixed, Percentage}
 use Rattle.comfy_parts.specs.declared.style.table.ContentArrangement.{ContentArrangement}
 use Rattle.comfy_parts.specs.declared.style.table.ContentArrangement.TheVariants.{Disabled, Dynamic, DynamicFullWidth}
-use Rattle.comfy_parts.specs.declared.style.table_style.ContentLineStyle.{ContentLineStyle}
-use Rattle.comfy_parts.specs.declared.style.table_style.LineStyle.{LineStyle}
-use Rattle.comfy_parts.specs.declared.style.table_style.TableStyle.{TableStyle}
 use Rattle.comfy_table.specs.Styling.{all_attributes}
-use Rattle.comfy_c.specs.RowCalls.{is_set, limit_of, style_at}
+use Rattle.comfy_c.specs.Calls.{is_set, limit_of}
 use Rattle.comfy_c.specs.declared.cells_columns.ColumnNumbers.{ColumnNumbers}
 use Rattle.comfy_c.specs.declared.cells_columns.WidthNumbers.{WidthNumbers}
 use Rattle.comfy_c.specs.declared.cells_numbers.ColorNumbers.{ColorNumbers}
 use Rattle.comfy_c.specs.declared.cells_rows.CellNumbers.{CellNumbers}
 use Rattle.comfy_c.specs.declared.cells_rows.RowNumbers.{RowNumbers}
-use Rattle.comfy_c.specs.declared.cells_settings.CellsSettings.{CellsSettings}
-use Rattle.comfy_c.specs.declared.cells_settings.ContentLineNumbers.{ContentLineNumbers}
-use Rattle.comfy_c.specs.declared.cells_settings.LineNumbers.{LineNumbers}
 
 -- ---- cells
 
@@ -128,41 +122,6 @@ columns_with columns =
     map (λ (p : ℕ × ColumnNumbers). column_with p.0 p.1) (enumerate_from 0 columns)
 
 -- ---- settings
-
-abbrev pub line_with : LineNumbers → LineStyle
-line_with line =
-    record {
-      left = char_of line.left;
-      fill = char_of line.fill;
-      junction = char_of line.junction;
-      right = char_of line.right;
-    }
-
-abbrev pub content_line_with : ContentLineNumbers → ContentLineStyle
-content_line_with line =
-    record {
-      left = char_of line.left;
-      junction = char_of line.junction;
-      right = char_of line.right;
-    }
-
--- the frame of a caller's own lines
-abbrev pub own_style : CellsSettings → TableStyle
-own_style settings =
-    record {
-      top_border = line_with settings.top_border;
-      header_lines = content_line_with settings.header_lines;
-      header_separator = line_with settings.header_separator;
-      content_lines = content_line_with settings.content_lines;
-      row_separator = line_with settings.row_separator;
-      bottom_border = line_with settings.bottom_border;
-    }
-
--- the frame, where its number stands for one; the greatest number of 32 bits stands for that of the
--- caller's own lines
-abbrev pub style_for : CellsSettings → Option TableStyle
-style_for settings =
-    if settings.style == 2 ^ 32 - 1 then Some (own_style settings) else style_at settings.style
 
 -- the arrangements, counted from 0
 abbrev pub arrangements : List ContentArrangement

@@ -1,6 +1,7 @@
 -- What a caller in C is promised of a table of rows.
 -- Source: this library's own.
 use Rattle.std.specs.Prelude.{◌≡◌, ◌⊎◌, ℕ, false, List, Option, Some, None, IsUtf8}
+use Rattle.comfy_parts.specs.Columns.{IsOneColumnStyle}
 use Rattle.comfy_parts.specs.Text.{Text}
 use Rattle.csv_promises.specs.Counted.{EachLineFor}
 use Rattle.csv_promises.specs.Fields.{ShowsAllFields}
@@ -8,18 +9,32 @@ use Rattle.csv_promises.specs.Harmless.{IsHarmlessFor}
 use Rattle.csv_promises.specs.Straight.{EachField, IsPlainField}
 use Rattle.csv_promises.specs.WideTexts.{HaveRoomEach}
 use Rattle.csv_promises.specs.Width.{KeepsTo, frame_room, framed_columns_in}
+use Rattle.csv_tables.specs.Controls.{IsHarmlessStyle}
 use Rattle.csv_tables.specs.Drawn.{count_below}
 use Rattle.csv_tables.specs.Laws.{CharactersFitEachWidth}
 use Rattle.csv_tables.specs.declared.options.Layout.{Layout}
 use Rattle.csv_tables.specs.declared.options.Look.{Look}
 use Rattle.promises.specs.Shown.{ShowsColumns}
-use Rattle.comfy_c.specs.RowCalls.{layout_for, rows_of}
+use Rattle.comfy_c.specs.Frames.{own_number, own_style}
+use Rattle.comfy_c.specs.RowCalls.{layout_for}
+use Rattle.comfy_c.specs.Texts.{rows_of}
 use Rattle.comfy_c.specs.declared.rows_settings.RowsSettings.{RowsSettings}
 
 -- a table isn't for Markdown, and no sequences of texts are kept
 pub record IsPlainLook (look : Look) : Type 0 where
   pub unmarked : look.is_markdown ≡ false
   pub unkept : look.has_sequences ≡ false
+
+-- a frame of the caller's own, if it is asked for, has no control character, and none that turns
+-- the direction of text
+abbrev pub HasHarmlessFrame : RowsSettings → Type 0
+HasHarmlessFrame settings =
+    settings.style ≡ own_number → IsHarmlessStyle (own_style settings.frame)
+
+-- and each of its characters takes one terminal column
+abbrev pub HasOneColumnFrame : RowsSettings → Type 0
+HasOneColumnFrame settings =
+    settings.style ≡ own_number → IsOneColumnStyle (own_style settings.frame)
 
 -- all rows below the header are counted
 abbrev pub IsCountOf : Layout → List (List Text) → Option ℕ → Type 0
@@ -75,7 +90,9 @@ pub record ShowRows (texts : Text) (lengths counts columns : List ℕ) (settings
   pub are_text : IsUtf8 bytes
   pub layout : Layout
   pub is_layout : layout_for settings columns (rows_of texts lengths counts) ≡ Some layout
-  pub all : ShowAllTexts layout (rows_of texts lengths counts) bytes
-  pub harmless : IsHarmlessFor layout.look bytes
-  pub straight : AreStraightLines layout (rows_of texts lengths counts) bytes
-  pub width : KeepToWidth layout (rows_of texts lengths counts) bytes
+  pub all : HasHarmlessFrame settings → ShowAllTexts layout (rows_of texts lengths counts) bytes
+  pub harmless : HasHarmlessFrame settings → IsHarmlessFor layout.look bytes
+  pub straight : HasHarmlessFrame settings → HasOneColumnFrame settings
+      → AreStraightLines layout (rows_of texts lengths counts) bytes
+  pub width : HasHarmlessFrame settings → HasOneColumnFrame settings
+      → KeepToWidth layout (rows_of texts lengths counts) bytes

@@ -1,18 +1,16 @@
 -- What settings and columns of a table of rows mean, and what is drawn of its texts.
 -- Source: this library's own.
-use Rattle.std.specs.Prelude.{◌≡◌, ◌-◌, ◌^◌, ◌==◌, ◌&&◌, ◌||◌, not, nat_le, ℕ, Bool, List, [], ◌∷◌, All, Option, Some, None, IsUtf8, drop, length, slice_get, if◌then◌else◌}
+use Rattle.std.specs.Prelude.{◌≡◌, ◌==◌, ◌&&◌, ◌||◌, not, nat_le, ℕ, Bool, List, [], ◌∷◌, All, Option, Some, None, IsUtf8, drop, length, slice_get, if◌then◌else◌}
 use Rattle.std.specs.List.{filter, list_all, range_with_len, slice_index_or}
-use Rattle.comfy_parts.specs.Presets.{preset_at}
 use Rattle.comfy_parts.specs.Text.{Text}
 use Rattle.comfy_parts.specs.declared.style.table_style.TableStyle.{TableStyle}
-use Rattle.comfy_c.specs.Calls.{width_of}
+use Rattle.comfy_c.specs.Calls.{is_set, limit_of, width_of}
+use Rattle.comfy_c.specs.Frames.{style_for}
+use Rattle.comfy_c.specs.Texts.{AddUp, IsTextsRefusal, rows_of}
 use Rattle.comfy_c.specs.declared.refusal.DrawRefusal.{DrawRefusal}
-use Rattle.comfy_c.specs.declared.refusal.DrawRefusal.TheVariants.{Texts, Settings, OutOfMemory as NoMemory}
+use Rattle.comfy_c.specs.declared.refusal.DrawRefusal.TheVariants.{Lengths, NotUtf8, OutOfMemory, Settings}
 use Rattle.comfy_c.specs.declared.rows_settings.RowsSettings.{RowsSettings}
-use Rattle.comfy_c.specs.declared.texts.TextsRefusal.{TextsRefusal}
-use Rattle.comfy_c.specs.declared.texts.TextsRefusal.TheVariants.{Lengths, NotUtf8, OutOfMemory}
-use Rattle.csv_command.specs.Styles.{compact_style}
-use Rattle.csv_records.specs.CutLists.{cut_by, total}
+use Rattle.csv_records.specs.CutLists.{cut_by}
 use Rattle.csv_tables.specs.Columns.{ColumnsValue}
 use Rattle.csv_tables.specs.Drawn.{RendersAnyRecords, column_count}
 use Rattle.csv_tables.specs.declared.options.Expansion.{Expansion}
@@ -23,37 +21,9 @@ use Rattle.csv_tables.specs.declared.options.RowSeparators.{RowSeparators}
 use Rattle.csv_tables.specs.declared.options.RowSeparators.TheVariants.{Needed, Never, Styled}
 use Rattle.csv_tables.specs.declared.selection.Selection.{Selection}
 
--- ---- texts
-
--- the rows of texts that have these lengths, with so many texts each
-abbrev pub rows_of : Text → List ℕ → List ℕ → List (List Text)
-rows_of texts lengths counts = cut_by counts (cut_by lengths texts)
-
--- the lengths are those of all texts, and the counts those of all rows
-abbrev pub AddUp : Text → List ℕ → List ℕ → Type 0
-AddUp texts lengths counts = (total lengths ≡ length texts) × (total counts ≡ length lengths)
-
--- why texts make no records: lengths or counts don't add up, or a text isn't UTF-8
-abbrev pub IsTextsRefusal : Text → List ℕ → List ℕ → TextsRefusal → Type 0
-IsTextsRefusal texts lengths counts Lengths = ¬ (AddUp texts lengths counts)
-IsTextsRefusal texts lengths counts NotUtf8 = ¬ (All IsUtf8 (cut_by lengths texts))
-IsTextsRefusal texts lengths counts OutOfMemory = Unit {0}
-
 -- ---- settings
 
--- a flag is set where it isn't 0
-abbrev pub is_set : ℕ → Bool
-is_set flag = not (flag == 0)
-
--- a limit, where it isn't the greatest number of 64 bits
-abbrev pub limit_of : ℕ → Option ℕ
-limit_of number = if number == 2 ^ 64 - 1 then None else Some number
-
--- a preset by its position; the one behind the last is that of `csvtable`
-abbrev pub style_at : ℕ → Option TableStyle
-style_at position = if position == 13 then Some compact_style else preset_at position
-
--- where lines between rows are drawn, and when rows are expanded, counted from 0
+-- when lines between rows are drawn, and when rows are expanded, counted from 0
 abbrev pub separators : List RowSeparators
 separators = Styled ∷ Needed ∷ Never ∷ []
 
@@ -81,8 +51,8 @@ look_by settings _ _ _ = None
 -- how a table looks for these settings, where each number stands for something
 abbrev pub look_for : RowsSettings → Option Look
 look_for settings =
-    look_by settings (style_at settings.style) (slice_get separators settings.row_lines)
-    (slice_get expansions settings.expansion)
+    look_by settings (style_for settings.style settings.frame)
+    (slice_get separators settings.row_lines) (slice_get expansions settings.expansion)
 
 -- which rows are drawn
 abbrev pub selection_for : RowsSettings → Selection
@@ -172,8 +142,10 @@ IsSettingRefused rows columns settings = layout_for settings columns rows ≡ No
 
 -- why rows have no drawing
 abbrev pub IsRowsRefusal : Text → List ℕ → List ℕ → List ℕ → RowsSettings → DrawRefusal → Type 0
-IsRowsRefusal texts lengths counts columns settings (Texts refusal) =
-    IsTextsRefusal texts lengths counts refusal
+IsRowsRefusal texts lengths counts columns settings Lengths =
+    IsTextsRefusal texts lengths counts Lengths
+IsRowsRefusal texts lengths counts columns settings NotUtf8 =
+    IsTextsRefusal texts lengths counts NotUtf8
 IsRowsRefusal texts lengths counts columns settings Settings =
     IsSettingRefused (rows_of texts lengths counts) columns settings
-IsRowsRefusal texts lengths counts columns settings NoMemory = Unit {0}
+IsRowsRefusal texts lengths counts columns settings OutOfMemory = Unit {0}

@@ -3,15 +3,13 @@
 ghost use Rattle.std.specs.Prelude.{◌≡◌, ◌≢◌, ◌≤◌, ◌<◌, IfErr, IfOk, List, ℕ, drop, length, string_bytes, take};
 ghost use Rattle.comfy_c.specs.CellCalls.{AreNotTexts, DoNotAddUp, IsCellsDrawing, IsCellsRefusal, IsDescribed, IsUnknown, below_header, header_among, listed};
 
+use crate::buffer::hand_over;
 use crate::cells_columns::{ColumnNumbers, columns_of};
 use crate::cells_numbers::char_of;
 use crate::cells_rows::{CellNumbers, RowNumbers, rows_of};
 use crate::cells_settings::CellsSettings;
+use crate::frame::style_for;
 use crate::refusal::DrawRefusal;
-use crate::room::{
-    DRAWN, INPUT_REFUSED, LENGTHS_REFUSED, OUT_OF_MEMORY, ROOM_TOO_SMALL, SETTINGS_REFUSED, put,
-};
-use crate::texts::TextsRefusal;
 use comfy_table::{Row, Table, TableParts, Terminal};
 use simdutf8::basic::from_utf8;
 use std::alloc::{AllocError, Global};
@@ -27,20 +25,23 @@ const CONTENT_WIDTHS: u32 = 2;
 /// Draws a table into the caller's buffer: one of cells, rows, columns and settings as
 /// `comfy_table::Table` has them.
 ///
-/// `texts` are the texts of all cells, one behind another. `cells` has their lengths and settings,
-/// `rows` how many cells each row has, and `columns` the settings of the columns; a cell that has
-/// no column isn't drawn. `indicator` stands behind a line that a row's height cuts.
+/// `texts` has the texts of all cells in their order, without anything between them. `cells` has
+/// their lengths and settings, `rows` the number of cells of each row, and `columns` the settings
+/// of the columns. A cell that has no column isn't drawn. `indicator` is drawn at the end of a line
+/// at which a row's height cuts a text.
 ///
 /// | Returned | Meaning | `needed` |
 /// |---|---|---|
-/// | 0 | the drawing stands at the front of the buffer | its length in bytes |
-/// | 1 | the buffer is too small | the bytes that the drawing takes |
-/// | 2 | a text or the indicator isn't UTF-8 | unchanged |
+/// | 0 | the drawing is at the front of the buffer | its length in bytes |
+/// | 1 | the buffer is too small | the length of the drawing in bytes |
+/// | 2 | lengths and counts add up, but a text or the indicator isn't UTF-8 | unchanged |
 /// | 3 | memory ran out | unchanged |
-/// | 4 | `form`, `style` or `arrangement` stands for nothing | unchanged |
+/// | 4 | `form`, `style` or `arrangement` has no meaning | unchanged |
 /// | 5 | lengths or counts don't add up | unchanged |
 ///
-/// With 1 to 5 the buffer is unchanged; with 0 it is unchanged behind the drawing.
+/// Settings are looked at first, then lengths and counts, and last the texts and the indicator.
+///
+/// With 1 to 5 the buffer is unchanged. With 0 it is unchanged after the drawing.
 #[unsafe(no_mangle)]
 pub extern "C" fn comfy_cells_draw(
     alloc: Global,
@@ -61,7 +62,8 @@ pub extern "C" fn comfy_cells_draw(
         → (length output.old < needed.new) × (drawing : List ℕ) × (needed.new ≡ length drawing)
         × IsCellsDrawing texts.now cells.now rows.now columns.now indicator.now settings.now
         drawing }
-    ensures input_refused { result ≡ 2 → AreNotTexts texts.now cells.now indicator.now }
+    ensures input_refused { result ≡ 2
+        → AreNotTexts texts.now cells.now rows.now indicator.now }
     ensures settings_refused { result ≡ 4 → IsUnknown settings.now }
     ensures lengths_refused { result ≡ 5 → DoNotAddUp texts.now cells.now rows.now }
     ensures no_other { result ≤ 5 }
@@ -69,23 +71,11 @@ pub extern "C" fn comfy_cells_draw(
     ensures untouched { result ≢ 0 → output.new ≡ output.old }
     ensures needed_kept { result ≢ 0 → result ≢ 1 → needed.new ≡ needed.old }
 {
-    match cells_drawing(alloc, texts, cells, rows, columns, indicator, settings) {
-        Ok(drawing) => {
-            if put(drawing.as_bytes(), output, needed) {
-                DRAWN
-            } else {
-                ROOM_TOO_SMALL
-            }
-        }
-        Err(DrawRefusal::Texts(TextsRefusal::NotUtf8)) => INPUT_REFUSED,
-        Err(DrawRefusal::Texts(TextsRefusal::Lengths)) => LENGTHS_REFUSED,
-        Err(DrawRefusal::Settings) => SETTINGS_REFUSED,
-        Err(DrawRefusal::Texts(TextsRefusal::OutOfMemory)) => OUT_OF_MEMORY,
-        Err(DrawRefusal::OutOfMemory) => OUT_OF_MEMORY,
-    }
+    let made = cells_drawing(alloc, texts, cells, rows, columns, indicator, settings);
+    hand_over(made, output, needed)
 }
 
-// What is asked for of the table, or why there is none.
+// The drawing that `form` asks for, or the reason for which there is none.
 fn cells_drawing(
     alloc: Global,
     texts: &[u8],
@@ -101,12 +91,14 @@ fn cells_drawing(
     ensures refused { IfErr result (λ refusal.
         IsCellsRefusal texts.now cells.now rows.now indicator.now settings.now refusal) }
 {
+    if settings.form > CONTENT_WIDTHS {
+        return Err(DrawRefusal::Settings);
+    }
     let table = table_of(alloc, texts, cells, rows, columns, indicator, settings)?;
     match settings.form {
         LINES => Ok(table.to_terminated_text()?),
         TRIMMED => Ok(table.trim_fmt()?),
-        CONTENT_WIDTHS => Ok(listed(alloc, table.column_max_content_widths()?.as_slice())?),
-        _ => Err(DrawRefusal::Settings),
+        _ => Ok(listed(alloc, table.column_max_content_widths()?.as_slice())?),
     }
 }
 
@@ -125,16 +117,16 @@ fn table_of(
     ensures refused { IfErr result (λ refusal.
         IsCellsRefusal texts.now cells.now rows.now indicator.now settings.now refusal) }
 {
-    let Some(style) = settings.table_style() else {
+    let Some(style) = style_for(settings.style, &settings.frame) else {
         return Err(DrawRefusal::Settings);
     };
     let Some(arrangement) = settings.content_arrangement() else {
         return Err(DrawRefusal::Settings);
     };
-    let Ok(indicator) = from_utf8(indicator) else {
-        return Err(DrawRefusal::Texts(TextsRefusal::NotUtf8));
-    };
     let (header, rows) = parted(settings, rows_of(alloc, rows, cells, texts)?);
+    let Ok(indicator) = from_utf8(indicator) else {
+        return Err(DrawRefusal::NotUtf8);
+    };
     Ok(Table::from_parts(TableParts {
         columns: columns_of(alloc, columns)?,
         header,
@@ -153,7 +145,7 @@ fn table_of(
     }))
 }
 
-// The first row, where it is the header, and the rows below it.
+// The first row, if it is the header, and the rows below it.
 fn parted(settings: &CellsSettings, mut rows: Vec<Row>) -> (Option<Row>, Vec<Row>)
     ensures header { result.0 ≡ header_among settings.now rows.items }
     ensures below { result.1.items ≡ below_header settings.now rows.items }
@@ -165,7 +157,7 @@ fn parted(settings: &CellsSettings, mut rows: Vec<Row>) -> (Option<Row>, Vec<Row
     (Some(header), rows)
 }
 
-// Numbers in decimal, each with a line feed behind it.
+// Numbers in decimal, each with a line feed after it.
 fn listed(alloc: Global, numbers: &[u16]) -> Result<String, AllocError>
     ensures { IfOk result (λ text. string_bytes text ≡ listed numbers.now) }
 {

@@ -1,28 +1,28 @@
-//! The rows of a table of cells, of numbers and of texts as one block of bytes.
+//! The rows of a table of cells, from numbers and from texts in one block of bytes.
 
-ghost use Rattle.std.specs.Prelude.{◌≡◌, ◌≤◌, IfErr, IfOk, drop, length};
+ghost use Rattle.std.specs.Prelude.{◌≡◌, IfErr, IfOk, length, map};
 ghost use Rattle.csv_records.specs.CutLists.{total};
-ghost use Rattle.comfy_c.specs.CellCalls.{IsFrontRefusal, cells_with, counts_of, lengths_of, rows_with};
+ghost use Rattle.comfy_c.specs.CellCalls.{cells_by, cells_with, counts_of, lengths_of, rows_with};
 ghost use Rattle.comfy_c.specs.Numbers.{cell_with, height_of, row_with};
-ghost use Rattle.comfy_c.specs.RowCalls.{AddUp, IsTextsRefusal};
+ghost use Rattle.comfy_c.specs.Texts.{AddUp, IsTextsRefusal};
 
 use crate::cells_numbers::{ColorNumbers, alignment_of, attributes_of, char_of, color_of};
+use crate::refusal::DrawRefusal;
 use crate::rows_settings::limit_of;
-use crate::texts::TextsRefusal;
+use crate::texts::texts_of;
 use comfy_parts::{Cell, Cells, IntoRow, Row, TableError};
-use simdutf8::basic::from_utf8;
-use std::alloc::Global;
+use std::alloc::{AllocError, Global};
 
 /// A cell.
 #[derive(Clone, Copy, Debug)]
 #[repr(C)]
 pub struct CellNumbers {
-    /// How many bytes its text has.
+    /// The length of its text in bytes.
     pub length: usize,
     /// The character at which its text may break; 0 for none.
     pub delimiter: u32,
-    /// Where its text stands: 1 at the left, 2 at the right, 3 in the middle. Any other number says
-    /// nothing.
+    /// The alignment of its text: 1 for left, 2 for right, 3 for centred. Any other number sets
+    /// none.
     pub alignment: u32,
     /// A bit for each attribute, in the order of `Attribute`, that of the first one worth 1.
     pub attributes: u32,
@@ -34,19 +34,19 @@ pub struct CellNumbers {
 #[derive(Clone, Copy, Debug)]
 #[repr(C)]
 pub struct RowNumbers {
-    /// How many cells it has.
+    /// The number of its cells.
     pub cells: usize,
-    /// How many lines it has at most; 0 and the greatest number stand for no limit.
+    /// The most lines that it has. 0 and the greatest number set no limit.
     pub max_height: usize,
 }
 
-/// The rows of these numbers, whose cells and texts stand one behind another.
+/// The rows of these numbers, with cells and texts in their order.
 pub(crate) fn rows_of(
     alloc: Global,
     rows: &[RowNumbers],
     cells: &[CellNumbers],
     texts: &[u8],
-) -> Result<Vec<Row>, TextsRefusal>
+) -> Result<Vec<Row>, DrawRefusal>
     ensures rows { IfOk result (λ made. made.items
         ≡ rows_with rows.now (cells_with cells.now texts.now)) }
     ensures all { IfOk result (λ _.
@@ -54,79 +54,82 @@ pub(crate) fn rows_of(
     ensures refused { IfErr result
         (IsTextsRefusal texts.now (lengths_of cells.now) (counts_of rows.now)) }
 {
-    let mut made = Vec::with_capacity(alloc, rows.len())?;
-    let mut others = cells;
-    let mut behind = texts;
-    for row in rows {
-        let Some((own, rest)) = others.split_at_checked(row.cells) else {
-            return Err(TextsRefusal::Lengths);
-        };
-        let (row, left) = row_of(alloc, row, own, behind)?;
-        made.push(row)?;
-        others = rest;
-        behind = left;
-    }
-    if others.is_empty() && behind.is_empty() {
-        Ok(made)
-    } else {
-        Err(TextsRefusal::Lengths)
-    }
+    let lengths = lengths_of(alloc, cells)?;
+    let counts = counts_of(alloc, rows)?;
+    let texts = texts_of(alloc, texts, lengths.as_slice(), counts.as_slice())?;
+    Ok(rows_by(alloc, rows, cells, texts.as_slice())?)
 }
 
-// The row of cells whose texts stand at the front of a block, and what stands behind them.
-fn row_of<'a>(
+// The bytes of the text of each cell.
+fn lengths_of(alloc: Global, cells: &[CellNumbers]) -> Result<Vec<usize>, AllocError>
+    ensures { IfOk result (λ lengths. lengths.items ≡ lengths_of cells.now) }
+{
+    cells.iter().map(|cell| cell.length).collect(alloc)
+}
+
+// The number of cells of each row.
+fn counts_of(alloc: Global, rows: &[RowNumbers]) -> Result<Vec<usize>, AllocError>
+    ensures { IfOk result (λ counts. counts.items ≡ counts_of rows.now) }
+{
+    rows.iter().map(|row| row.cells).collect(alloc)
+}
+
+// The rows of cells that have these texts.
+fn rows_by(
+    alloc: Global,
+    rows: &[RowNumbers],
+    cells: &[CellNumbers],
+    texts: &[&str],
+) -> Result<Vec<Row>, TableError>
+    requires counted { total (counts_of rows.now) ≡ length cells.now }
+    requires paired { length texts.now ≡ length cells.now }
+    ensures { IfOk result (λ made. made.items
+        ≡ rows_with rows.now (cells_by cells.now (map (λ text. text.now) texts.now))) }
+{
+    let mut made = Vec::with_capacity(alloc, rows.len())?;
+    let mut start = 0;
+    for row in rows {
+        let end = start + row.cells;
+        made.push(row_of(alloc, row, &cells[start..end], &texts[start..end])?)?;
+        start = end;
+    }
+    Ok(made)
+}
+
+// The row of cells that have these texts.
+fn row_of(
     alloc: Global,
     row: &RowNumbers,
     cells: &[CellNumbers],
-    texts: &'a [u8],
-) -> Result<(Row, &'a [u8]), TextsRefusal>
-    ensures row { IfOk result (λ found. found.0
-        ≡ row_with row.now (cells_with cells.now texts.now)) }
-    ensures rest { IfOk result (λ found. found.1.now
-        ≡ drop (total (lengths_of cells.now)) texts.now) }
-    ensures fits { IfOk result (λ _. total (lengths_of cells.now) ≤ length texts.now) }
-    ensures refused { IfErr result (IsFrontRefusal (lengths_of cells.now) texts.now) }
+    texts: &[&str],
+) -> Result<Row, TableError>
+    ensures { IfOk result (λ made. made
+        ≡ row_with row.now (cells_by cells.now (map (λ text. text.now) texts.now))) }
 {
-    let (made, rest) = cells_of(alloc, cells, texts)?;
-    let mut made = Cells(made).into_row(alloc)?;
+    let mut made = Cells(cells_by(alloc, cells, texts)?).into_row(alloc)?;
     if let Some(height) = height_of(row.max_height) {
         made.max_height(height);
     }
-    Ok((made, rest))
+    Ok(made)
 }
 
-// A row's greatest height; 0 stands for none, too.
+// The most lines of a row; none for 0 and for the greatest number.
 fn height_of(number: usize) -> Option<usize>
     ensures { result ≡ height_of number }
 {
     if number == 0 { None } else { limit_of(number) }
 }
 
-// The cells whose texts stand at the front of a block, and what stands behind them.
-fn cells_of<'a>(
-    alloc: Global,
-    cells: &[CellNumbers],
-    texts: &'a [u8],
-) -> Result<(Vec<Cell>, &'a [u8]), TextsRefusal>
-    ensures cells { IfOk result (λ found. found.0.items ≡ cells_with cells.now texts.now) }
-    ensures rest { IfOk result (λ found. found.1.now
-        ≡ drop (total (lengths_of cells.now)) texts.now) }
-    ensures fits { IfOk result (λ _. total (lengths_of cells.now) ≤ length texts.now) }
-    ensures refused { IfErr result (IsFrontRefusal (lengths_of cells.now) texts.now) }
+// The cells that have these texts.
+fn cells_by(alloc: Global, cells: &[CellNumbers], texts: &[&str]) -> Result<Vec<Cell>, TableError>
+    ensures { IfOk result (λ made. made.items
+        ≡ cells_by cells.now (map (λ text. text.now) texts.now)) }
 {
     let mut made = Vec::with_capacity(alloc, cells.len())?;
-    let mut behind = texts;
-    for cell in cells {
-        let Some((bytes, rest)) = behind.split_at_checked(cell.length) else {
-            return Err(TextsRefusal::Lengths);
-        };
-        let Ok(text) = from_utf8(bytes) else {
-            return Err(TextsRefusal::NotUtf8);
-        };
+    for (cell, text) in cells.iter().zip(texts) {
         made.push(cell_of(alloc, cell, text)?)?;
-        behind = rest;
     }
-    Ok((made, behind))
+    Ok(made)
 }
 
 // The cell of a text.

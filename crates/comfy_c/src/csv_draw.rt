@@ -4,7 +4,7 @@ ghost use Rattle.std.specs.Prelude.{◌≡◌, ◌≢◌, ◌≤◌, ◌<◌, If
 ghost use Rattle.comfy_c.specs.Calls.{IsHanded, IsCsvDrawing, IsCsvRefusal, IsInputMessage, IsArgumentsMessage};
 
 use crate::arguments::command_line;
-use crate::room::{DRAWN, INPUT_REFUSED, OUT_OF_MEMORY, ROOM_TOO_SMALL, SETTINGS_REFUSED, put};
+use crate::buffer::{DRAWN, INPUT_REFUSED, OUT_OF_MEMORY, ROOM_TOO_SMALL, SETTINGS_REFUSED, put};
 use csv_command::{ARGUMENT_NOT_UTF8, Refusal, render_csv};
 use std::alloc::Global;
 

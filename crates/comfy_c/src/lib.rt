@@ -3,15 +3,16 @@
 #![tactic(auto)]
 
 mod arguments;
+mod buffer;
 mod cells_columns;
 mod cells_draw;
 mod cells_numbers;
 mod cells_rows;
 mod cells_settings;
 mod csv_draw;
+mod frame;
 pub mod promised;
 mod refusal;
-mod room;
 mod rows_columns;
 mod rows_draw;
 mod rows_settings;
@@ -21,8 +22,9 @@ pub use cells_columns::{ColumnNumbers, WidthNumbers};
 pub use cells_draw::comfy_cells_draw;
 pub use cells_numbers::ColorNumbers;
 pub use cells_rows::{CellNumbers, RowNumbers};
-pub use cells_settings::{CellsSettings, ContentLineNumbers, LineNumbers};
+pub use cells_settings::CellsSettings;
 pub use csv_draw::comfy_csv_draw;
+pub use frame::{ContentLineNumbers, FrameNumbers, LineNumbers};
 pub use rows_draw::comfy_rows_draw;
 pub use rows_settings::RowsSettings;
 

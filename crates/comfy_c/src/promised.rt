@@ -46,6 +46,10 @@ pub fn drawn_cells(
 /// no character of what it shows is a control character but a line feed, and none turns the
 /// direction of text. Its only sequences begin bold and end it, unless sequences of texts are kept.
 ///
+/// The promises on what it shows are for a preset, or for a frame of the caller's own without
+/// control characters and characters that turn the direction of text. Those on columns and widths
+/// are for a frame whose characters each take one terminal column, as those of all presets do.
+///
 /// For a table that isn't for Markdown, and in which no sequences are kept:
 ///
 /// - All drawn texts are shown, as they are cleaned, each in its row and column, unless a height

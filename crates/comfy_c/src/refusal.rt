@@ -3,14 +3,15 @@
 ghost use Rattle.std.specs.Prelude.{◌≡◌};
 ghost use Rattle.comfy_c.specs.declared.refusal.DrawRefusal.TheVariants as refusal;
 
-use crate::texts::TextsRefusal;
 use comfy_parts::TableError;
-use std::alloc::AllocError;
+use std::alloc::{AllocError, AllocFailed};
 
 /// Why texts have no drawing.
 pub(crate) enum DrawRefusal {
-    /// They aren't the texts that they are said to be.
-    Texts(TextsRefusal),
+    /// The lengths aren't those of the texts, or the counts not those of the lengths.
+    Lengths,
+    /// A text isn't UTF-8.
+    NotUtf8,
     /// Settings ask for nothing that can be drawn.
     Settings,
     /// Memory ran out.
@@ -25,18 +26,18 @@ impl From<AllocError> for DrawRefusal {
     }
 }
 
+impl<T: Drop> From<AllocFailed<T>> for DrawRefusal {
+    ghost from_gives = { λ _ r. r ≡ refusal.OutOfMemory };
+
+    fn from(_error: AllocFailed<T>) -> DrawRefusal {
+        DrawRefusal::OutOfMemory
+    }
+}
+
 impl From<TableError> for DrawRefusal {
     ghost from_gives = { λ _ r. r ≡ refusal.OutOfMemory };
 
     fn from(_error: TableError) -> DrawRefusal {
         DrawRefusal::OutOfMemory
-    }
-}
-
-impl From<TextsRefusal> for DrawRefusal {
-    ghost from_gives = { λ texts r. r ≡ refusal.Texts texts };
-
-    fn from(texts: TextsRefusal) -> DrawRefusal {
-        DrawRefusal::Texts(texts)
     }
 }

@@ -1,39 +1,39 @@
 //! Tables of rows, as values.
 
 ghost use Rattle.std.specs.Prelude.{◌≡◌, ◌≢◌, ◌≤◌, ◌<◌, IfErr, IfOk, List, ℕ, drop, length, string_bytes, take};
-ghost use Rattle.comfy_c.specs.declared.texts.TextsRefusal.TheVariants.{Lengths, NotUtf8};
-ghost use Rattle.comfy_c.specs.RowCalls.{IsRowsDrawing, IsRowsRefusal, IsSettingRefused, IsTextsRefusal, rows_of};
+ghost use Rattle.comfy_c.specs.declared.refusal.DrawRefusal.TheVariants.{Lengths, NotUtf8};
+ghost use Rattle.comfy_c.specs.RowCalls.{IsRowsDrawing, IsRowsRefusal, IsSettingRefused};
+ghost use Rattle.comfy_c.specs.Texts.{IsTextsRefusal, rows_of};
 
+use crate::buffer::hand_over;
 use crate::refusal::DrawRefusal;
-use crate::room::{
-    DRAWN, INPUT_REFUSED, LENGTHS_REFUSED, OUT_OF_MEMORY, ROOM_TOO_SMALL, SETTINGS_REFUSED, put,
-};
 use crate::rows_columns::{are_bytes, columns_of};
 use crate::rows_settings::RowsSettings;
-use crate::texts::{TextsRefusal, records_of};
+use crate::texts::records_of;
 use csv_tables::{Layout, output_of_records};
 use std::alloc::Global;
 
 /// Draws the table of rows into the caller's buffer, as `csvtable` draws records of these texts.
 ///
-/// `texts` are the texts of all cells, one behind another, and `lengths` has the bytes of each.
-/// `counts` has for each row how many cells it has; the first row may be the header. `columns` has
-/// a byte for each column, or for the first ones: 0 where numbers stand at the right and texts at
-/// the left, 1 and 2 where all stands at the left or at the right, 3 where it isn't drawn.
+/// `texts` has the texts of all cells in their order, without anything between them. `lengths` has
+/// the length of each in bytes, and `counts` the number of cells of each row. The first row may be
+/// the header. `columns` has a byte for each column, or for the first ones: 0 aligns numbers right
+/// and texts left, 1 aligns all left, 2 aligns all right, and 3 leaves the column out.
 ///
 /// | Returned | Meaning | `needed` |
 /// |---|---|---|
-/// | 0 | the drawing stands at the front of the buffer | its length in bytes |
-/// | 1 | the buffer is too small | the bytes that the drawing takes |
-/// | 2 | a text isn't UTF-8 | unchanged |
+/// | 0 | the drawing is at the front of the buffer | its length in bytes |
+/// | 1 | the buffer is too small | the length of the drawing in bytes |
+/// | 2 | lengths and counts add up, but a text isn't UTF-8 | unchanged |
 /// | 3 | memory ran out | unchanged |
 /// | 4 | settings or columns ask for nothing that can be drawn | unchanged |
 /// | 5 | lengths or counts don't add up | unchanged |
 ///
-/// 4 says that a setting or a column's byte stands for nothing, that a byte but 0 is for a column
-/// that isn't there, or that no column is left.
+/// Settings and the bytes of columns are looked at first: 4 is returned if one has no meaning. Then
+/// lengths and counts are looked at, and after them the texts. Last, 4 is returned if a byte other
+/// than 0 is for a column that no row has, or if no column is left.
 ///
-/// With 1 to 5 the buffer is unchanged; with 0 it is unchanged behind the drawing.
+/// With 1 to 5 the buffer is unchanged. With 0 it is unchanged after the drawing.
 #[unsafe(no_mangle)]
 pub extern "C" fn comfy_rows_draw(
     alloc: Global,
@@ -63,23 +63,11 @@ pub extern "C" fn comfy_rows_draw(
     ensures untouched { result ≢ 0 → output.new ≡ output.old }
     ensures needed_kept { result ≢ 0 → result ≢ 1 → needed.new ≡ needed.old }
 {
-    match rows_drawing(alloc, texts, lengths, counts, columns, settings) {
-        Ok(drawing) => {
-            if put(drawing.as_bytes(), output, needed) {
-                DRAWN
-            } else {
-                ROOM_TOO_SMALL
-            }
-        }
-        Err(DrawRefusal::Texts(TextsRefusal::NotUtf8)) => INPUT_REFUSED,
-        Err(DrawRefusal::Texts(TextsRefusal::Lengths)) => LENGTHS_REFUSED,
-        Err(DrawRefusal::Settings) => SETTINGS_REFUSED,
-        Err(DrawRefusal::Texts(TextsRefusal::OutOfMemory)) => OUT_OF_MEMORY,
-        Err(DrawRefusal::OutOfMemory) => OUT_OF_MEMORY,
-    }
+    let made = rows_drawing(alloc, texts, lengths, counts, columns, settings);
+    hand_over(made, output, needed)
 }
 
-// The drawing of rows, or why there is none.
+// The drawing of rows, or the reason for which there is none.
 fn rows_drawing(
     alloc: Global,
     texts: &[u8],

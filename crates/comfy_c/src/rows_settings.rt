@@ -1,32 +1,32 @@
 //! The settings of a table of rows, as numbers.
 
 ghost use Rattle.std.specs.Prelude.{◌≡◌, slice_get};
-ghost use Rattle.comfy_c.specs.RowCalls.{expansions, limit_of, look_for, selection_for, separators, style_at};
+ghost use Rattle.comfy_c.specs.Calls.{limit_of};
+ghost use Rattle.comfy_c.specs.RowCalls.{expansions, look_for, selection_for, separators};
 
-use comfy_parts::style::TableStyle;
-use comfy_parts::style::presets::{UTF8_FULL, by_position};
+use crate::frame::{FrameNumbers, style_for};
 use csv_tables::{Expansion, Look, RowSeparators, Selection};
 
-/// How a table of rows is drawn. A flag is set where it isn't 0.
+/// How a table of rows is drawn. A flag is set if it isn't 0.
 #[derive(Clone, Copy, Debug)]
 #[repr(C)]
 pub struct RowsSettings {
-    /// How many lines a row below the header has at most; the greatest number stands for no limit.
+    /// The most lines that a row below the header has. The greatest number sets no limit.
     pub max_height: usize,
-    /// How many rows are drawn; the greatest number stands for all.
+    /// The most rows that are drawn. The greatest number draws all.
     pub limit: usize,
-    /// The frame: the position of a preset, as `presets::by_position` counts them, or 13 for
-    /// `UTF8_FULL` with round corners.
+    /// The frame: the position of a preset, as `presets::by_position` counts them, 13 for
+    /// `UTF8_FULL` with round corners, or the greatest number for the lines of `frame`.
     pub style: u32,
-    /// The width to keep to, in terminal columns. A number above 65535 stands for none.
+    /// The greatest width of the table, in terminal columns. A number above 65535 sets none.
     pub width: u32,
     /// A flag: the width is filled.
     pub fills_width: u32,
-    /// Where the style's lines between rows are drawn: 0 everywhere, 1 where a drawn row has more
-    /// than one line, 2 nowhere.
+    /// Whether the style's lines between rows are drawn: 0 for always, 1 for if a drawn row has
+    /// more than one line, 2 for never.
     pub row_lines: u32,
-    /// When a row is drawn as a table of its own: 0 never, 1 where a width has no room for the
-    /// table of all rows, 2 always.
+    /// Whether each row is drawn as a table of its own: 0 for never, 1 for if the width has no room
+    /// for the table of all rows, 2 for always.
     pub expansion: u32,
     /// A flag: the first row is the header.
     pub has_header: u32,
@@ -34,15 +34,15 @@ pub struct RowsSettings {
     pub has_bold_header: u32,
     /// A flag: a first column has the numbers of the rows.
     pub is_numbered: u32,
-    /// A flag: decimal points of a column of numbers stand below each other.
+    /// A flag: decimal points of a column of numbers are aligned.
     pub aligns_decimals: u32,
     /// A flag: SGR sequences in texts stay, and count no columns.
     pub has_sequences: u32,
     /// A flag: the table is one for Markdown, whatever else is set.
     pub is_markdown: u32,
+    /// The lines of a style of the caller's own, which no other style reads.
+    pub frame: FrameNumbers,
 }
-
-const ROUNDED: u32 = 13;
 
 impl RowsSettings {
     /// Which of the rows are drawn.
@@ -56,12 +56,12 @@ impl RowsSettings {
         }
     }
 
-    /// How the table looks; none where a number stands for nothing.
+    /// The look of the table; none if a number has no meaning.
     pub(crate) fn look(&self) -> Option<Look>
         ensures { result ≡ look_for self.now }
     {
         Some(Look {
-            style: style_at(self.style)?,
+            style: style_for(self.style, &self.frame)?,
             separators: separators_at(self.row_lines)?,
             expansion: expansion_at(self.expansion)?,
             width: u16::try_from(self.width).ok(),
@@ -73,16 +73,6 @@ impl RowsSettings {
             is_markdown: self.is_markdown != 0,
         })
     }
-}
-
-/// The frame at a position, as `RowsSettings::style` counts them.
-pub(crate) fn style_at(position: u32) -> Option<TableStyle>
-    ensures { result ≡ style_at position }
-{
-    if position == ROUNDED {
-        return Some(UTF8_FULL.with_rounded_corners());
-    }
-    by_position(position as usize)
 }
 
 fn separators_at(number: u32) -> Option<RowSeparators>
@@ -107,7 +97,7 @@ fn expansion_at(number: u32) -> Option<Expansion>
     }
 }
 
-/// A limit; the greatest number stands for none.
+/// A limit; none for the greatest number.
 pub(crate) fn limit_of(number: usize) -> Option<usize>
     ensures { result ≡ limit_of number }
 {

@@ -259,6 +259,12 @@ static void expect_rows_are_drawn(void) {
     settings.is_markdown = 1;
     expect_rows("rows are drawn for Markdown", &rows, settings, TEXT("| name | days |\n|------|-----:|\n| oats |    3 |\n"));
     settings = plain_settings();
+    settings.style = COMFY_OWN_STYLE;
+    settings.frame.top_border = settings.frame.bottom_border = (struct comfy_line){'(', '=', '^', ')'};
+    settings.frame.header_lines = settings.frame.content_lines = (struct comfy_content_line){'[', 0x2502, ']'};
+    expect_rows("rows have a frame of their own", &rows, settings,
+                TEXT("(======^======)\n[ name \xe2\x94\x82 days ]\n[ oats \xe2\x94\x82    3 ]\n(======^======)\n"));
+    settings = plain_settings();
     settings.limit = 0;
     expect_rows("rows are limited", &rows, settings, TEXT("+------+------+\n| name | days |\n+=============+\n+------+------+\n0 of 1 records\n"));
 }
@@ -281,6 +287,12 @@ static void expect_rows_are_refused(void) {
     expect_rows_refused("a count is the greatest number", &rows, plain, COMFY_LENGTHS_REFUSED);
     rows.counts[1] = 1;
     expect_rows_refused("a cell is in no row", &rows, plain, COMFY_LENGTHS_REFUSED);
+    rows = (struct rows){{"\xff" "a", 2}, {1, 5}, 2, {2}, 1, {"", 0}};
+    expect_rows_refused("lengths are looked at before texts", &rows, plain, COMFY_LENGTHS_REFUSED);
+    rows = (struct rows){{"\xff" "a", 2}, {1, 1}, 2, {3}, 1, {"", 0}};
+    expect_rows_refused("counts are looked at before texts", &rows, plain, COMFY_LENGTHS_REFUSED);
+    rows.columns = TEXT("\4");
+    expect_rows_refused("a column's byte is looked at first", &rows, plain, COMFY_SETTINGS_REFUSED);
     rows = ROWS;
     rows.columns = TEXT("\4");
     expect_rows_refused("there is no column's byte 4", &rows, plain, COMFY_SETTINGS_REFUSED);

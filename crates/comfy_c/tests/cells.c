@@ -163,6 +163,16 @@ static void expect_texts_are_refused(void) {
     expect_refused("a cell is missing", &table, COMFY_LENGTHS_REFUSED);
     table.rows[1].cells = 1;
     expect_refused("a cell is in no row", &table, COMFY_LENGTHS_REFUSED);
+    table = plain();
+    table.texts = "\xff" "amedaysoats3";
+    table.cells[3].length = 5;
+    expect_refused("lengths are looked at before texts", &table, COMFY_LENGTHS_REFUSED);
+    table = plain();
+    table.indicator = "\xe2\x80";
+    table.rows[1].cells = 3;
+    expect_refused("counts are looked at before the indicator", &table, COMFY_LENGTHS_REFUSED);
+    table.settings.form = COMFY_FORM_CONTENT_WIDTHS + 1;
+    expect_refused("settings are looked at first", &table, COMFY_SETTINGS_REFUSED);
 }
 
 static void expect_settings_are_refused(void) {
@@ -197,7 +207,7 @@ static void expect_unknown_numbers_are_none(void) {
     table.settings.delimiter = COMFY_NUL + 1;
     table.settings.width = 65536;
     table.settings.arrangement = COMFY_DYNAMIC_FULL_WIDTH;
-    table.settings.top_border.left = '*';
+    table.settings.frame.top_border.left = '*';
     expect_drawn("numbers that stand for nothing are none", &table, PLAIN);
 }
 
@@ -225,8 +235,8 @@ static void expect_settings_are_kept(void) {
     table.rows[1].max_height = 1;
     table.indicator = "~";
     table.settings.style = COMFY_OWN_STYLE;
-    table.settings.header_lines = table.settings.content_lines = (struct comfy_content_line){0, 0, 0x2502};
-    table.settings.header_separator = (struct comfy_line){0, '-', 0, COMFY_NUL - 1};
+    table.settings.frame.header_lines = table.settings.frame.content_lines = (struct comfy_content_line){0, 0, 0x2502};
+    table.settings.frame.header_separator = (struct comfy_line){0, '-', 0, COMFY_NUL - 1};
     table.settings.form = COMFY_FORM_TRIMMED;
     expect_drawn("a row is cut, without the cells that have no column", &table,
                  "  na\xe2\x94\x82\n"

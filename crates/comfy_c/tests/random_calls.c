@@ -153,21 +153,6 @@ static size_t put_parts(struct caller *caller, struct region region, size_t sum,
     return count;
 }
 
-static uint32_t call_rows(struct caller *caller, size_t length, size_t room, size_t *needed) {
-    struct comfy_rows_settings settings = {
-        .max_height = below(caller, 4) ? COMFY_NO_LIMIT : below(caller, 4), .limit = below(caller, 4) ? COMFY_NO_LIMIT : below(caller, 4),
-        .style = any_number(caller, 14), .width = any_number(caller, 120), .fills_width = any_number(caller, 2), .row_lines = any_number(caller, 3),
-        .expansion = any_number(caller, 3), .has_header = any_number(caller, 2), .has_bold_header = any_number(caller, 2),
-        .has_sequences = any_number(caller, 2), .is_markdown = below(caller, 8) == 0};
-    size_t texts = put_parts(caller, caller->lengths, length, 12);
-    size_t rows = put_parts(caller, caller->arguments, texts, 5);
-    uint8_t columns[4];
-    size_t count = below(caller, 4);
-    for (size_t i = 0; i < count; i++) columns[i] = (uint8_t)(below(caller, 32) ? below(caller, 4) : next(caller));
-    return comfy_rows_draw(caller->input.end - length, length, (size_t *)(void *)caller->lengths.end - texts, texts,
-                           (size_t *)(void *)caller->arguments.end - rows, rows, columns, count, &settings, caller->output.end - room, room, needed);
-}
-
 /* A number that mostly stands for one of a few things. */
 static uint32_t any_of(struct caller *caller, uint32_t count) {
     return below(caller, 32) ? (uint32_t)below(caller, count) : (uint32_t)next(caller);
@@ -199,6 +184,26 @@ static struct comfy_content_line any_content_line(struct caller *caller) {
     return (struct comfy_content_line){any_character(caller), any_character(caller), any_character(caller)};
 }
 
+static struct comfy_frame any_frame(struct caller *caller) {
+    return (struct comfy_frame){any_line(caller), any_content_line(caller), any_line(caller), any_content_line(caller), any_line(caller), any_line(caller)};
+}
+
+static uint32_t call_rows(struct caller *caller, size_t length, size_t room, size_t *needed) {
+    struct comfy_rows_settings settings = {
+        .max_height = below(caller, 4) ? COMFY_NO_LIMIT : below(caller, 4), .limit = below(caller, 4) ? COMFY_NO_LIMIT : below(caller, 4),
+        .style = below(caller, 4) ? any_number(caller, 14) : COMFY_OWN_STYLE, .width = any_number(caller, 120),
+        .fills_width = any_number(caller, 2), .row_lines = any_number(caller, 3),
+        .expansion = any_number(caller, 3), .has_header = any_number(caller, 2), .has_bold_header = any_number(caller, 2),
+        .has_sequences = any_number(caller, 2), .is_markdown = below(caller, 8) == 0, .frame = any_frame(caller)};
+    size_t texts = put_parts(caller, caller->lengths, length, 12);
+    size_t rows = put_parts(caller, caller->arguments, texts, 5);
+    uint8_t columns[4];
+    size_t count = below(caller, 4);
+    for (size_t i = 0; i < count; i++) columns[i] = (uint8_t)(below(caller, 32) ? below(caller, 4) : next(caller));
+    return comfy_rows_draw(caller->input.end - length, length, (size_t *)(void *)caller->lengths.end - texts, texts,
+                           (size_t *)(void *)caller->arguments.end - rows, rows, columns, count, &settings, caller->output.end - room, room, needed);
+}
+
 /* Cells of the lengths that stand at the end of some pages, in their place. */
 static struct comfy_cell *put_cells(struct caller *caller, size_t count) {
     size_t lengths[64];
@@ -228,8 +233,7 @@ static struct comfy_column *put_columns(struct caller *caller, size_t count) {
 
 static uint32_t call_cells(struct caller *caller, size_t length, size_t room, size_t *needed) {
     const struct comfy_cells_settings settings = {any_of(caller, 3), below(caller, 4) ? any_of(caller, 14) : COMFY_OWN_STYLE, any_of(caller, 3),
-        any_number(caller, 120), any_character(caller), any_of(caller, 2), any_of(caller, 2), any_of(caller, 2), any_of(caller, 2), any_line(caller),
-        any_content_line(caller), any_line(caller), any_content_line(caller), any_line(caller), any_line(caller)};
+        any_number(caller, 120), any_character(caller), any_of(caller, 2), any_of(caller, 2), any_of(caller, 2), any_of(caller, 2), any_frame(caller)};
     size_t texts = put_parts(caller, caller->lengths, length, 12), rows = put_parts(caller, caller->arguments, texts, 5), columns = below(caller, 6);
     const struct comfy_cell *cells = put_cells(caller, texts);
     const struct comfy_row *all = put_rows(caller, rows);

@@ -200,8 +200,7 @@ def _settings(frame: Frame, **others: int) -> CellsSettings:
     for at in 1, 3:
         left, _, junction, right = lines[at]
         lines[at] = left, junction, right
-    names = "top_border", "header_lines", "header_separator", "content_lines", "row_separator", "bottom_border"
-    return CellsSettings(style=_OWN_STYLE, **{"width": NO_WIDTH, **others}, **dict(zip(names, lines)))
+    return CellsSettings(style=_OWN_STYLE, frame=tuple(lines), **{"width": NO_WIDTH, **others})
 
 
 def _has_tall_row(table: CellsTable, drawing: str) -> bool:

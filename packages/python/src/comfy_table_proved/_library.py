@@ -24,6 +24,25 @@ NO_LIMIT = 2**64 - 1
 NO_WIDTH = 2**32 - 1
 
 
+class _Line(ctypes.Structure):
+    _fields_ = [(name, _NUMBER) for name in ("left", "fill", "junction", "right")]
+
+
+class _ContentLine(ctypes.Structure):
+    _fields_ = [(name, _NUMBER) for name in ("left", "junction", "right")]
+
+
+class _Frame(ctypes.Structure):
+    _fields_ = [
+        ("top_border", _Line),
+        ("header_lines", _ContentLine),
+        ("header_separator", _Line),
+        ("content_lines", _ContentLine),
+        ("row_separator", _Line),
+        ("bottom_border", _Line),
+    ]
+
+
 class RowsSettings(ctypes.Structure):
     """The settings of rows of texts, in the order of comfy_table.h."""
 
@@ -41,6 +60,7 @@ class RowsSettings(ctypes.Structure):
         ("aligns_decimals", _NUMBER),
         ("has_sequences", _NUMBER),
         ("is_markdown", _NUMBER),
+        ("frame", _Frame),
     ]
 
 
@@ -79,14 +99,6 @@ class _Column(ctypes.Structure):
     ]
 
 
-class _Line(ctypes.Structure):
-    _fields_ = [(name, _NUMBER) for name in ("left", "fill", "junction", "right")]
-
-
-class _ContentLine(ctypes.Structure):
-    _fields_ = [(name, _NUMBER) for name in ("left", "junction", "right")]
-
-
 class CellsSettings(ctypes.Structure):
     """The settings of a table of cells, in the order of comfy_table.h."""
 
@@ -100,12 +112,7 @@ class CellsSettings(ctypes.Structure):
         ("enforce_styling", _NUMBER),
         ("style_text_only", _NUMBER),
         ("custom_styling", _NUMBER),
-        ("top_border", _Line),
-        ("header_lines", _ContentLine),
-        ("header_separator", _Line),
-        ("content_lines", _ContentLine),
-        ("row_separator", _Line),
-        ("bottom_border", _Line),
+        ("frame", _Frame),
     ]
 
 

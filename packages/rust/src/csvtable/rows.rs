@@ -6,7 +6,8 @@ use crate::csvtable::into_cells::IntoCells;
 #[cfg(feature = "tty")]
 use crate::csvtable::sequences::between_sequences;
 use crate::csvtable::style::Style;
-use crate::library::{Texts, draw_rows, numbers::RowsSettings};
+use crate::library::numbers::{Frame, RowsSettings};
+use crate::library::{Texts, draw_rows};
 #[cfg(feature = "tty")]
 use crate::terminal;
 #[cfg(feature = "tty")]
@@ -316,6 +317,8 @@ impl Rows {
             aligns_decimals: (!leaves_decimals).into(),
             has_sequences: has_sequences.into(),
             is_markdown: (self.style == Style::Markdown).into(),
+            // None of the styles here is one of own lines.
+            frame: Frame::default(),
         }
     }
 }

@@ -57,6 +57,7 @@ pub struct Column {
 }
 
 #[repr(C)]
+#[derive(Clone, Copy, Default)]
 pub struct Line {
     pub left: u32,
     pub fill: u32,
@@ -65,14 +66,26 @@ pub struct Line {
 }
 
 #[repr(C)]
+#[derive(Clone, Copy, Default)]
 pub struct ContentLine {
     pub left: u32,
     pub junction: u32,
     pub right: u32,
 }
 
-/// Stands for the lines of `CellsSettings`, where a style is asked for.
+/// The style of the lines in `frame`.
 pub const OWN_STYLE: u32 = u32::MAX;
+
+#[repr(C)]
+#[derive(Clone, Copy, Default)]
+pub struct Frame {
+    pub top_border: Line,
+    pub header_lines: ContentLine,
+    pub header_separator: Line,
+    pub content_lines: ContentLine,
+    pub row_separator: Line,
+    pub bottom_border: Line,
+}
 
 #[repr(C)]
 pub struct CellsSettings {
@@ -85,12 +98,7 @@ pub struct CellsSettings {
     pub enforce_styling: u32,
     pub style_text_only: u32,
     pub custom_styling: u32,
-    pub top_border: Line,
-    pub header_lines: ContentLine,
-    pub header_separator: Line,
-    pub content_lines: ContentLine,
-    pub row_separator: Line,
-    pub bottom_border: Line,
+    pub frame: Frame,
 }
 
 #[repr(C)]
@@ -108,4 +116,5 @@ pub struct RowsSettings {
     pub aligns_decimals: u32,
     pub has_sequences: u32,
     pub is_markdown: u32,
+    pub frame: Frame,
 }

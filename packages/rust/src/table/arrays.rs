@@ -62,7 +62,6 @@ pub fn room_for(table: &Table, cells: &CellTable, width: Option<u16>) -> usize {
 
 /// The other settings of a table, for a form of drawing within a width.
 pub fn settings_of(table: &Table, width: Option<u16>, form: Form) -> numbers::CellsSettings {
-    let TableStyle { top_border, header_lines, header_separator, content_lines, row_separator, bottom_border } = &table.style;
     numbers::CellsSettings {
         form: match form {
             Form::Lines => 0,
@@ -81,6 +80,13 @@ pub fn settings_of(table: &Table, width: Option<u16>, form: Form) -> numbers::Ce
         enforce_styling: table.writes_styles().into(),
         style_text_only: table.styles_texts_only().into(),
         custom_styling: cfg!(feature = "custom_styling").into(),
+        frame: of_style(&table.style),
+    }
+}
+
+fn of_style(style: &TableStyle) -> numbers::Frame {
+    let TableStyle { top_border, header_lines, header_separator, content_lines, row_separator, bottom_border } = style;
+    numbers::Frame {
         top_border: of_line(top_border),
         header_lines: of_content_line(header_lines),
         header_separator: of_line(header_separator),

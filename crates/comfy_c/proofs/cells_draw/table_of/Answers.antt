@@ -1,17 +1,17 @@
 use Rattle.std.proofs.Common.{◌≡◌, ◌∙◌, List, Some, false, inr, rules, slice_get, string_bytes}
 use Rattle.comfy_parts.specs.CellValue.{RowValue}
 use Rattle.comfy_table.specs.TableValue.{no_terminal}
-use Rattle.comfy_c.specs.Calls.{width_of}
+use Rattle.comfy_c.specs.Calls.{is_set, width_of}
 use Rattle.comfy_c.specs.CellCalls.{below_header, cells_with, header_among, rows_with}
-use Rattle.comfy_c.specs.Numbers.{arrangements, char_of, columns_with, style_for}
-use Rattle.comfy_c.specs.RowCalls.{is_set}
+use Rattle.comfy_c.specs.Frames.{style_for}
+use Rattle.comfy_c.specs.Numbers.{arrangements, char_of, columns_with}
 use Rattle.comfy_c.proofs.cells_draw.table_of.Goals as goal
 
 pub returns-clause-table : goal.returns-clause-table
 returns-clause-table c =
     let settings = c.args.settings.now in
     let all : List RowValue = rows_with c.args.rows.now (cells_with c.args.cells.now c.args.texts.now) in
-    let is_style : style_for settings ≡ Some c.in-Some.style = search rules in
+    let is_style : style_for settings.style settings.frame ≡ Some c.in-Some.style = search rules in
     let is_arrangement : slice_get arrangements settings.arrangement ≡ Some c.in-Some-content_arrangement.arrangement = search rules in
     let columns : c.in_ok-columns_of.field-0.items ≡ columns_with c.args.columns.now = search rules in
     let header : c.parted-header.result.0 ≡ header_among settings all = search rules in
@@ -47,4 +47,4 @@ returns-clause-table c =
     }
 
 pub returns-in_default-from_utf8-clause-refused : goal.returns-in_default-from_utf8-clause-refused
-returns-in_default-from_utf8-clause-refused c = inr (search rules)
+returns-in_default-from_utf8-clause-refused c = (search rules, inr (search rules))

@@ -2,7 +2,8 @@ use Rattle.std.proofs.Common.{◌≡◌, ◌∙◌, Bool, List, None, Some, ap, 
 use Rattle.std.proofs.lemmas.Str.{IsUtf8-string_bytes}
 use Rattle.std.specs.Prelude.{if◌then◌else◌}
 use Rattle.comfy_parts.specs.Text.{Text}
-use Rattle.comfy_c.specs.RowCalls.{are_bytes, columns_for, layout_by, look_for, rows_of, selection_for}
+use Rattle.comfy_c.specs.RowCalls.{are_bytes, columns_for, layout_by, look_for, selection_for}
+use Rattle.comfy_c.specs.Texts.{rows_of}
 use Rattle.csv_tables.specs.Drawn.{RendersAnyRecords}
 use Rattle.csv_tables.specs.declared.options.Layout.{Layout}
 use Rattle.csv_tables.specs.declared.selection.Selection.{Selection}

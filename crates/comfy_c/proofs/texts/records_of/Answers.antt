@@ -1,27 +1,14 @@
-use Rattle.std.proofs.Common.{◌≡◌, ◌≢◌, ◌∙◌, Err, ap, length, rules, sym}
+use Rattle.std.proofs.Common.{◌≡◌, ◌∙◌, IfNone, IsSome, None, Option, Some, ap, length, refl, sym}
 use Rattle.std.proofs.lemmas.List.{length-map}
-use Rattle.csv_records.specs.CutLists.{total}
 use Rattle.comfy_c.proofs.TextLemmas.{length-cut_by}
 use Rattle.comfy_c.proofs.texts.records_of.Goals as goal
 
-pub returns-in_err-cells-clause-refused : goal.returns-in_err-cells-clause-refused
-returns-in_err-cells-clause-refused c =
-    let e = c.in_err-cells.field-0.0 in
-    let same : c.from_residual.result ≡ Err e = search rules in
-    rw same (c.in_err-cells.ensures.refused c.args.counts.now)
+some_unless : {A P : Type 0} (found : Option A) → IfNone found (¬ P) → P → IsSome found
+some_unless (Some records) none is = refl
+some_unless None none is = absurd (none is)
 
-pub returns-in-Some-clause-all : goal.returns-in-Some-clause-all
-returns-in-Some-clause-all c =
-    let cells = c.in_ok-cells.cells.items in
-    let many : length cells ≡ length c.args.lengths.now = sym (length-map cells (λ cell. cell.now)) ∙ ap length c.in_ok-cells.ensures.cells ∙ length-cut_by c.args.lengths.now c.args.texts.now in
-    let all : total c.args.counts.now ≡ length c.as_slice.result.now = search rules in
-    let same : length c.as_slice.result.now ≡ length cells = search rules in
-    (search rules, all ∙ same ∙ many)
-
-pub returns-clause-refused : goal.returns-clause-refused
-returns-clause-refused c add_up =
-    let cells = c.in_ok-cells.cells.items in
-    let many : length cells ≡ length c.args.lengths.now = sym (length-map cells (λ cell. cell.now)) ∙ ap length c.in_ok-cells.ensures.cells ∙ length-cut_by c.args.lengths.now c.args.texts.now in
-    let none : total c.args.counts.now ≢ length c.as_slice.result.now = search rules in
-    let same : length c.as_slice.result.now ≡ length cells = search rules in
-    none (add_up.1 ∙ sym (same ∙ many))
+pub unwrap-requires : goal.unwrap-requires
+unwrap-requires c =
+    let texts = c.in_ok-texts.texts.items in
+    let many : length texts ≡ length c.args.lengths.now = sym (length-map texts (λ text. text.now)) ∙ ap length c.in_ok-texts.ensures.cut ∙ length-cut_by c.args.lengths.now c.args.texts.now in
+    some_unless c.in_ok-records.records c.in_ok-records.ensures.none (c.in_ok-texts.ensures.all.1 ∙ sym many ∙ sym (ap length c.as_slice.ensures.value))

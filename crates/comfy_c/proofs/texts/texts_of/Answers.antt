@@ -7,31 +7,31 @@ use Rattle.std.proofs.lemmas.List.Elements.{All-append, All-cons, All-nil}
 use Rattle.std.proofs.lemmas.Str.{IsCharBoundary-from_take, IsUtf8-drop, IsUtf8-take}
 use Rattle.comfy_parts.specs.Text.{Text}
 use Rattle.csv_records.specs.CutLists.{cut_by, total}
+use Rattle.comfy_c.specs.Texts.{AddUp}
 use Rattle.comfy_c.proofs.TextLemmas.{in_cut, one_cut, whole_text}
-use Rattle.comfy_c.proofs.texts.cells_of.Goals as goal
+use Rattle.comfy_c.proofs.texts.texts_of.Goals as goal
 
 pub returns-in_default-clause-refused : goal.returns-in_default-clause-refused
-returns-in_default-clause-refused c counts all =
-    let add_up : total c.args.lengths.now ≡ length c.args.texts.now = search rules in
-    c.in_default.ensures (whole_text c.args.lengths.now c.args.texts.now add_up all)
+returns-in_default-clause-refused c =
+    let add_up : AddUp c.args.texts.now c.args.lengths.now c.args.counts.now = search rules in
+    (add_up, λ all. c.in_default.ensures (whole_text c.args.lengths.now c.args.texts.now add_up.0 all))
 
 pub returns-in_default-split_at_checked-clause-refused : goal.returns-in_default-split_at_checked-clause-refused
-returns-in_default-split_at_checked-clause-refused c counts all =
+returns-in_default-split_at_checked-clause-refused c =
+    let add_up : AddUp c.args.texts.now c.args.lengths.now c.args.counts.now = search rules in
     let lengths : List ℕ = c.args.lengths.now in
     let texts : Text = c.args.texts.now in
     let i : ℕ = c.loop-length.length-index in
     let n : ℕ = slice_index_or lengths i 0 in
     let below : i < length lengths = search rules in
     let inv = c.loop-length.invariant in
-    let add_up : total lengths ≡ length texts = search rules in
     let step = one_cut lengths i 0 below texts in
     let most = sum_by-take-le (λ m. m) lengths (i + 1) in
     let long : length c.loop-length.behind.now ≡ length texts - total (take i lengths) = ap length inv.1 ∙ length-drop (total (take i lengths)) texts in
-    let fits : n ≤ length c.loop-length.behind.now = omega (arith, step.1, most, add_up, long) in
-    let own : IsUtf8 (take n c.loop-length.behind.now) = subst (λ (t : Text). IsUtf8 (take n t)) (sym inv.1) (in_cut IsUtf8 lengths i 0 below texts all) in
-    let boundary : IsCharBoundary c.loop-length.behind.now n = IsCharBoundary-from_take c.loop-length.behind.now n inv.3 fits own in
+    let fits : n ≤ length c.loop-length.behind.now = omega (arith, step.1, most, add_up.0, long) in
+    let own : All IsUtf8 (cut_by lengths texts) → IsUtf8 (take n c.loop-length.behind.now) = λ all. subst (λ (t : Text). IsUtf8 (take n t)) (sym inv.1) (in_cut IsUtf8 lengths i 0 below texts all) in
     let none : IsCharBoundary c.loop-length.behind.now n → ⊥ = search rules in
-    none boundary
+    (add_up, λ all. none (IsCharBoundary-from_take c.loop-length.behind.now n inv.3 fits (own all)))
 
 pub loop-length-preserved : goal.loop-length-preserved
 loop-length-preserved c =
@@ -46,9 +46,9 @@ loop-length-preserved c =
     let rest : c.in-Some.rest.now ≡ drop n c.loop-length.behind.now = search rules in
     let boundary : IsCharBoundary c.loop-length.behind.now n = search rules in
     let back : length c.in-Some.rest.now + n ≡ length c.loop-length.behind.now = search rules in
-    let pushed : c.push.new.self.items ≡ c.loop-length.cells.items ++ c.in-Some.text ∷ [] = search rules in
+    let pushed : c.push.new.self.items ≡ c.loop-length.found.items ++ c.in-Some.text ∷ [] = search rules in
     let long : length c.loop-length.behind.now ≡ length texts - total (take i lengths) = ap length inv.1 ∙ length-drop (total (take i lengths)) texts in (
-      ap (map (λ cell. cell.now)) pushed ∙ map-append (λ cell. cell.now) c.loop-length.cells.items (c.in-Some.text ∷ []) ∙ ap₂ (λ (cells : List Text) (text : Text). cells ++ text ∷ []) inv.0 (part ∙ ap (take n) inv.1) ∙ sym step.0,
+      ap (map (λ text. text.now)) pushed ∙ map-append (λ text. text.now) c.loop-length.found.items (c.in-Some.text ∷ []) ∙ ap₂ (λ (cells : List Text) (text : Text). cells ++ text ∷ []) inv.0 (part ∙ ap (take n) inv.1) ∙ sym step.0,
       rest ∙ ap (drop n) inv.1 ∙ drop-drop n (total (take i lengths)) texts ∙ ap (λ (k : ℕ). drop k texts) (sym step.1),
       omega (arith, step.1, back, long, inv.2),
       subst IsUtf8 (sym rest) (IsUtf8-drop c.loop-length.behind.now n inv.3 boundary),
