@@ -28,7 +28,7 @@ use Rattle.csv_tables.proofs.WholeColumnLemmas.{IsPaddedColumn, all_shown, both_
 use Rattle.csv_tables.proofs.WholeTableLemmas.{IsDrawn, drawn-is, fewer_borders, field_separated, still_fits}
 use Rattle.csv_tables.specs.Drawn.{SelectedValue, arrangement_for, empty_table, is_aligned_in, is_expanded_for, is_expanded_in, is_table_expanded, output_table, pairs_table, rows_table, separated_table, nowrap_in}
 use Rattle.csv_tables.specs.Laws.{IsDrawnTable}
-use Rattle.csv_tables.specs.NoWrap.{at_least, boundary_for, by_columns, field_width, framed_width, reserved_width, has_room, min_width, with_min_widths, with_min_field_width, least_width, fair_level, may_break, name_in, room_beside, room_for_two, width_at_level, wide_word, with_content, with_field_width, with_lower_bounds, word_width}
+use Rattle.csv_tables.specs.NoWrap.{lower_bound, boundary_for, by_columns, field_width, framed_width, reserved_width, has_room, min_width, with_min_widths, with_min_field_width, least_width, fair_level, may_break, name_in, room_beside, room_for_two, width_at_level, wide_word, with_content, with_field_width, with_lower_bounds, word_width}
 use Rattle.csv_tables.specs.declared.options.Expansion.{Expansion}
 use Rattle.csv_tables.specs.declared.options.Expansion.TheVariants.{Always, Auto, Never}
 use Rattle.csv_tables.specs.declared.options.Look.{Look}
@@ -103,7 +103,7 @@ boundary-room (suc n) = let l = boundary-some (suc n) (omega arith) in omega (ar
 module _ (table : TableValue) where
   -- a new column that is given so much
   given_two : (kept needed i : ℕ) (column : ColumnValue) → GivesTwo (column_content_width table i) kept → max (max 1 kept) (min 2 (column_content_width table i)) ≤ needed → IsNewColumn column
-      → IsTwo (needs_of table (i, record column { constraint = Some (at_least kept) })) needed
+      → IsTwo (needs_of table (i, record column { constraint = Some (lower_bound kept) })) needed
   given_two kept needed i column gives within new =
       record {
         padding = two;
@@ -132,7 +132,7 @@ module _ (table : TableValue) where
       two = paddings column new
 
       need : ColumnNeeds
-      need = needs_of table (i, record column { constraint = Some (at_least kept) })
+      need = needs_of table (i, record column { constraint = Some (lower_bound kept) })
 
   given_all : (kept needed : ℕ → ℕ) → ((i : ℕ) → GivesTwo (column_content_width table i) (kept i)) → ((i : ℕ) → max (max 1 (kept i)) (min 2 (column_content_width table i)) ≤ needed i) → (columns : List ColumnValue) (n : ℕ) → AllByRecursion IsNewColumn columns
       → AreTwo (map (needs_of table) (enumerate_from n (leasts_on (map kept (range_with_len n (length columns))) columns))) (map needed (range_with_len n (length columns)))
