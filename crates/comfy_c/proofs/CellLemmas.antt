@@ -1,5 +1,5 @@
 -- Attributes by their bits, and rows of cells by their counts.
-use Rattle.std.proofs.Common.{◌≡◌, ◌<◌, ◌+◌, ◌/◌, ◌%◌, ◌==◌, ◌++◌, ◌∷◌, ◌∙◌, [], ℕ, Bool, true, false, zero, suc, cond, List, ap, ap₂, append_assoc, arith, drop, get_or, inl, length, map, refl, slice_range, sym, take, zip}
+use Rattle.std.proofs.Common.{◌≡◌, ◌<◌, ◌+◌, ◌/◌, ◌%◌, ◌==◌, ◌++◌, ◌∷◌, ◌∙◌, [], ℕ, Bool, true, false, zero, suc, cond, List, ap, ap₂, append_assoc, arith, drop, get_or, length, map, refl, slice_range, sym, take, zip}
 use Rattle.std.proofs.lemmas.List.{at_drop_more, drop-drop}
 use Rattle.std.proofs.lemmas.List.Sums.{sum_by-cons}
 use Rattle.std.specs.Borrow.{Bor}
@@ -7,14 +7,10 @@ use Rattle.comfy_parts.specs.CellValue.{CellValue, RowValue}
 use Rattle.comfy_parts.specs.Text.{Text}
 use Rattle.comfy_parts.specs.declared.style.attribute.Attribute.{Attribute}
 use Rattle.csv_records.specs.CutLists.{total}
-use Rattle.comfy_c.specs.CellCalls.{IsCellsRefusal, cells_by, counts_of, lengths_of, rows_with}
+use Rattle.comfy_c.specs.CellCalls.{cells_by, counts_of, rows_with}
 use Rattle.comfy_c.specs.Numbers.{attributes_by, cell_with, row_with}
-use Rattle.comfy_c.specs.Texts.{IsTextsRefusal}
 use Rattle.comfy_c.specs.declared.cells_rows.CellNumbers.{CellNumbers}
 use Rattle.comfy_c.specs.declared.cells_rows.RowNumbers.{RowNumbers}
-use Rattle.comfy_c.specs.declared.cells_settings.CellsSettings.{CellsSettings}
-use Rattle.comfy_c.specs.declared.refusal.DrawRefusal.{DrawRefusal}
-use Rattle.comfy_c.specs.declared.refusal.DrawRefusal.TheVariants.{Lengths, NotUtf8, OutOfMemory, Settings}
 
 -- ---- the row past the last one
 
@@ -97,13 +93,3 @@ module _ (all : List RowNumbers) (i : ℕ) (below : i < length all) where
   -- the number of its cells, and of the others
   pub counts_more : total (counts_of (drop i all)) ≡ own.cells + total (counts_of (drop (i + 1) all))
   counts_more = at_drop_more (λ xs. total (counts_of xs)) all i no_row below ∙ sum_by-cons (λ n. n) own.cells (counts_of (drop (i + 1) all))
-
--- ---- refusals
-
--- the reason for which texts are refused is that for which there is no drawing
-pub cells_refused : (texts : Text) (cells : List CellNumbers) (rows : List RowNumbers) (indicator : Text) (settings : CellsSettings) (refusal : DrawRefusal)
-    → IsTextsRefusal texts (lengths_of cells) (counts_of rows) refusal → IsCellsRefusal texts cells rows indicator settings refusal
-cells_refused texts cells rows indicator settings Lengths is = is
-cells_refused texts cells rows indicator settings NotUtf8 is = (is.0, inl is.1)
-cells_refused texts cells rows indicator settings Settings is = absurd is
-cells_refused texts cells rows indicator settings OutOfMemory is = tt

@@ -40,10 +40,8 @@ use Rattle.promises.specs.Shown.{ShowsColumns}
 use Rattle.promises.specs.Tables.{HasCharactersWithin}
 use Rattle.comfy_c.specs.Frames.{own_number, own_style, style_at, style_for}
 use Rattle.comfy_c.specs.PromisedRows.{AreStraightLines, EachRowsLine, FitTheWidth, HasHarmlessFrame, HasOneColumnFrame, HaveRoom, IsCountOf, IsPlainLook, KeepToWidth, ShowAllTexts, ShowRows}
-use Rattle.comfy_c.specs.RowCalls.{IsRowsDrawing, IsRowsRefusal, are_bytes, are_there, byte_at, can_be_drawn, columns_by, columns_for, count_in_all, expansions, layout_by, layout_for, look_by, look_for, selection_for, separators}
-use Rattle.comfy_c.specs.Texts.{IsTextsRefusal, rows_of}
-use Rattle.comfy_c.specs.declared.refusal.DrawRefusal.{DrawRefusal}
-use Rattle.comfy_c.specs.declared.refusal.DrawRefusal.TheVariants.{Lengths, NotUtf8, OutOfMemory, Settings}
+use Rattle.comfy_c.specs.RowCalls.{IsRowsDrawing, are_bytes, are_there, byte_at, can_be_drawn, columns_by, columns_for, count_in_all, expansions, layout_by, layout_for, look_by, look_for, selection_for, separators}
+use Rattle.comfy_c.specs.Texts.{rows_of}
 use Rattle.comfy_c.specs.declared.rows_settings.RowsSettings.{RowsSettings}
 
 -- ---- styles
@@ -251,13 +249,3 @@ shows_rows texts lengths counts columns settings bytes is =
       straight = kept.2;
       width = kept.3;
     }
-
--- ---- refusals
-
--- the reason for which texts are refused is that for which there is no drawing
-pub rows_refused : (texts : Text) (lengths counts columns : List ℕ) (settings : RowsSettings) (refusal : DrawRefusal)
-    → IsTextsRefusal texts lengths counts refusal → IsRowsRefusal texts lengths counts columns settings refusal
-rows_refused texts lengths counts columns settings Lengths is = is
-rows_refused texts lengths counts columns settings NotUtf8 is = is
-rows_refused texts lengths counts columns settings Settings is = absurd is
-rows_refused texts lengths counts columns settings OutOfMemory is = tt

@@ -1,6 +1,6 @@
 -- The table that numbers and texts describe, and what is drawn of it.
 -- Source: this library's own.
-use Rattle.std.specs.Prelude.{◌≡◌, ◌⊎◌, ◌<◌, ◌∷◌, ◌++◌, [], ℕ, false, List, All, Option, Some, None, IsUtf8, decimal, drop, flat_map, length, map, slice_get, zip, if◌then◌else◌}
+use Rattle.std.specs.Prelude.{◌≡◌, ◌⊎◌, ◌<◌, ◌∷◌, ◌++◌, [], ℕ, false, List, All, Option, Some, None, IsUtf8, decimal, drop, flat_map, map, slice_get, zip, if◌then◌else◌}
 use Rattle.comfy_parts.specs.CellValue.{CellValue, RowValue}
 use Rattle.comfy_parts.specs.Text.{Text}
 use Rattle.comfy_parts.specs.declared.style.table.ContentArrangement.{ContentArrangement}

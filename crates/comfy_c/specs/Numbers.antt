@@ -1,6 +1,6 @@
 -- What the numbers of cells, rows and columns stand for.
 -- Source: this library's own.
-use Rattle.std.specs.Prelude.{◌||◌, ◌%◌, ◌/◌, ◌-◌, ◌^◌, ◌==◌, nat_lt, ℕ, List, [], ◌∷◌, Option, Some, None, map, slice_index_or, if◌then◌else◌}
+use Rattle.std.specs.Prelude.{◌||◌, ◌%◌, ◌/◌, ◌==◌, nat_lt, ℕ, List, [], ◌∷◌, Option, Some, None, map, slice_index_or, if◌then◌else◌}
 use Rattle.std.specs.Int.{is_in_range}
 use Rattle.std.specs.List.{enumerate_from}
 use Rattle.comfy_parts.specs.CellValue.{CellValue, ColumnValue, RowValue, plain_cell}

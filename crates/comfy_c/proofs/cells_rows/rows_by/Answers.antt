@@ -1,4 +1,4 @@
-use Rattle.std.proofs.Common.{◌≡◌, ◌<◌, ◌+◌, ◌++◌, ◌∷◌, ◌∙◌, [], ℕ, List, ap, arith, length, rules}
+use Rattle.std.proofs.Common.{◌≡◌, ◌<◌, ◌++◌, ◌∷◌, ◌∙◌, [], ℕ, List, ap, arith, length, rules}
 use Rattle.comfy_parts.specs.CellValue.{RowValue}
 use Rattle.comfy_c.proofs.CellLemmas.{counts_more, rows_more}
 use Rattle.comfy_c.specs.declared.cells_rows.RowNumbers.{RowNumbers}
