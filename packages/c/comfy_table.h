@@ -15,6 +15,7 @@
  *  - COMFY_OUT_OF_MEMORY comes only after malloc or realloc returned null.
  *  - A call keeps no memory, and several threads may be inside one at once.
  *  - Null stands for no bytes.
+ *  - Settings are looked at before lengths, counts and texts. That lengths and counts are looked at before texts is proved.
  *  - What csvtable says of arguments. Proved is that it has no control character but line feeds.
  *  - The functions of this header that allocate.
  *
@@ -158,8 +159,9 @@ struct comfy_rows_settings {
 /*
  * Draws the table of rows into the caller's buffer, as csvtable draws records of these texts into a pipe, all of them counted.
  *
- * texts are the texts of all cells, one behind another; lengths has the bytes of each. counts has for each row how many cells it
- * has; rows may have different numbers. columns has a byte for each column, or for the first ones.
+ * texts has the texts of all cells in their order, without anything between them. lengths has the length of each in bytes, and
+ * counts the number of cells of each row; rows may have different numbers. columns has a byte for each column, or for the first
+ * ones.
  *
  * These are looked at in this order, so the first that holds is returned:
  *
