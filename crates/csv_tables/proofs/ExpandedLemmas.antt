@@ -1,10 +1,12 @@
 -- The rows of expanded records, record by record.
-use Rattle.std.proofs.Common.{◌≡◌, ◌<◌, ◌≤◌, ℕ, Bool, true, false, zero, suc, List, [], ◌∷◌, Some, None, cond, drop, length, map, nat_lt, arith, ap, ◌∙◌}
+use Rattle.std.proofs.Common.{◌≡◌, ◌<◌, ◌≤◌, ℕ, Bool, true, false, zero, suc, List, [], ◌∷◌, ◌++◌, Some, None, cond, drop, length, map, nat_lt, arith, ap, ◌∙◌}
+use Rattle.std.proofs.lemmas.List.{map-append}
+use Rattle.std.proofs.lemmas.List.Elements.{filter-append}
 use Rattle.std.specs.List.{slice_index_or}
 use Rattle.comfy_parts.specs.CellValue.{RowValue}
 use Rattle.comfy_parts.specs.Text.{Text}
 use Rattle.csv.specs.Records.{field_at}
-use Rattle.csv_tables.specs.Cells.{held, pair_for}
+use Rattle.csv_tables.specs.Cells.{has_field, held, pair_for}
 use Rattle.csv_tables.specs.Fields.{field_or_blank}
 use Rattle.csv_tables.specs.Columns.{name_at}
 use Rattle.csv_tables.specs.Drawn.{pairs_of}
@@ -53,3 +55,7 @@ pub none_behind : {X : Type 0} (xs : List X) (k : ℕ) → drop k xs ≡ [] → 
 none_behind [] k is = omega arith
 none_behind (x ∷ xs) zero is = absurd (cc is)
 none_behind (x ∷ xs) (suc k) is = let more = none_behind xs k is in omega (arith, more)
+
+-- the rows of some columns and others
+pub pairs-append : (look : Look) (columns more : List ColumnPlan) (names fields : List Text) → pairs_of look (columns ++ more) names fields ≡ pairs_of look columns names fields ++ pairs_of look more names fields
+pairs-append look columns more names fields = ap (map (pair_of look names fields)) (filter-append (has_field fields) columns more) ∙ map-append (pair_of look names fields) (held fields columns) (held fields more)

@@ -8,6 +8,7 @@ pub mod DecimalLawLemmas
 mod ExpandedLemmas
 pub mod FieldControlLemmas
 pub mod FieldLemmas
+mod PairWidthLemmas
 mod PieceLemmas
 mod PlainRowLemmas
 pub mod FittingLemmas

@@ -4,31 +4,24 @@ use Rattle.std.proofs.lemmas.List.{map-append}
 use Rattle.std.proofs.lemmas.List.Folds.{list_all-append}
 use Rattle.std.proofs.lemmas.Option.{slice_get-map}
 use Rattle.std.specs.List.{list_any, slice_index_or}
-use Rattle.std.specs.Prelude.{not, option_map, slice_get, unwrap_or, if◌then◌else◌}
+use Rattle.std.specs.Prelude.{option_map, slice_get, if◌then◌else◌}
 use Rattle.std.specs.Str.{IsUtf8}
 use Rattle.comfy_parts.proofs.CallerLemmas.{IsUtf8-printable}
-use Rattle.comfy_parts.specs.CellValue.{CellValue, RowValue, plain_cell}
+use Rattle.comfy_parts.specs.CellValue.{CellValue, plain_cell}
 use Rattle.comfy_parts.specs.Text.{Text, is_printable_ascii, spaces}
 use Rattle.comfy_parts.specs.declared.style.cell.CellAlignment.{CellAlignment}
 use Rattle.comfy_parts.specs.declared.style.cell.CellAlignment.TheVariants.{Right}
-use Rattle.comfy_table.specs.RowCells.{row_with}
 use Rattle.csv_records.proofs.CleaningLemmas.{drawn_so, none_replaced}
 use Rattle.csv_records.specs.Cleaning.{cleaned, is_replaced}
 use Rattle.csv_tables.proofs.BuiltLemmas.{blank_drawn}
 use Rattle.csv_tables.proofs.ShownLemmas.{shown_behind, spaces_printable}
-use Rattle.csv_tables.specs.Cells.{Shown, cell_for, columns_within, field_text, is_blank, marked, number_of, pair_for, shown_cells, shown_fields, shown_number, text_in, unless_blank, with_weight}
+use Rattle.csv_tables.specs.Cells.{Shown, cell_for, columns_within, field_text, is_blank, marked, number_of, shown_cells, shown_fields, shown_number, text_in, unless_blank, with_weight}
 use Rattle.csv_tables.proofs.MarkedLemmas.{marked_stays}
-use Rattle.csv_tables.proofs.ReachedLemmas.{held-reached}
-use Rattle.csv_tables.specs.Columns.{name_at}
-use Rattle.csv_tables.specs.Contents.{IsKept, made_by, pairs_by, rows_at, rows_left, shown_by}
-use Rattle.csv_tables.specs.Fields.{field_or_blank}
-use Rattle.csv_tables.specs.LazyRows.{row_by}
+use Rattle.csv_tables.specs.Contents.{IsKept, made_by, shown_by}
 use Rattle.csv_tables.specs.Markdown.{may_be_escaped}
 use Rattle.csv_tables.specs.declared.options.ColumnPlan.{ColumnPlan}
 use Rattle.csv_tables.specs.declared.options.Look.{Look}
 use Rattle.csv_tables.specs.declared.rows.RecordRows.{RecordRows}
-use Rattle.csv_tables.specs.declared.rows.RowSource.{RowSource}
-use Rattle.csv_tables.specs.declared.rows.RowSource.TheVariants.{Field, Record}
 
 -- ---- texts that are what their cells have
 
@@ -118,25 +111,3 @@ weighted is_bold alignment text styled is = ap with_text is ∙ by_weight is_bol
     by_weight : (b : Bool) → with_text (with_weight b (plain_cell [])) ≡ with_weight b (record (plain_cell text) { alignment = alignment })
     by_weight true = refl
     by_weight false = refl
-
--- ---- rows
-
--- the greatest height of a row is that which is wanted
-pub limited_row : (rows : RecordRows) (source : RowSource) → row_by rows source ≡ row_with (row_by rows source).cells rows.look.max_height
-limited_row rows (Record at fields columns) = refl
-limited_row rows (Field position name field) = refl
-
--- a row is that of its cells
-pub listed_row : (row : RowValue) (cells : List CellValue) (limit : Option ℕ) → cells ≡ row.cells → row ≡ row_with row.cells limit → row_with cells limit ≡ row
-listed_row row cells limit all limited = ap (λ (own : List CellValue). row_with own limit) all ∙ sym limited
-
--- ---- rows that are still to come
-
--- all rows of a record
-pub rows_begin : (rows : RecordRows) (at : ℕ) (fields : List Text)
-    → rows_left rows at fields (not rows.is_expanded) (if rows.is_expanded then columns_within fields rows.selected.columns else []) ≡ rows_at rows at fields
-rows_begin rows at fields = by_kind rows.is_expanded
-  where
-    by_kind : (b : Bool) → rows_left rows at fields (not b) (if b then columns_within fields rows.selected.columns else []) ≡ (if b then pairs_by rows fields else made_by rows at fields ∷ [])
-    by_kind true = ap (map (λ (column : ColumnPlan). pair_for rows.look (name_at (unwrap_or rows.selected.names []) column.position) (field_or_blank fields column.position))) (held-reached fields rows.selected.columns)
-    by_kind false = refl

@@ -1,5 +1,5 @@
 -- The columns that records reach.
-use Rattle.std.proofs.Common.{◌≡◌, ◌<◌, ◌≤◌, ℕ, Bool, true, false, ◌||◌, zero, suc, ◌^◌, List, [], ◌∷◌, ◌++◌, ◌⊎◌, inl, inr, Option, Some, None, drop, length, map, min, nat_lt, take, arith, refl, sym, ap, ◌∙◌}
+use Rattle.std.proofs.Common.{◌≡◌, ◌<◌, ◌≤◌, ◌-◌, ℕ, Bool, true, false, ◌||◌, zero, suc, ◌^◌, List, [], ◌∷◌, ◌++◌, ◌⊎◌, inl, inr, Option, Some, None, drop, length, map, min, nat_lt, take, arith, refl, sym, ap, ◌∙◌}
 use Rattle.std.specs.List.{list_any, slice_get, slice_index_or}
 use Rattle.std.specs.Prelude.{if◌then◌else◌, option_map}
 use Rattle.std.proofs.lemmas.Bool.{or_parts}
@@ -163,3 +163,38 @@ shown-at look is_aligned false columns row k d found = by_column (slice_get colu
         let both : Some (show look is_aligned row.1 column) ≡ Some d = sym (mapped_at (show look is_aligned row.1) columns k column some) ∙ found in
         let same : show look is_aligned row.1 column ≡ d = cc both in
         by_reached column same (reached-at row.1 columns k column some)
+
+-- a record that has the field of the last column reaches all
+any_at : (fields : List Text) (columns : List ColumnPlan) (i : ℕ) (column : ColumnPlan) → slice_get columns i ≡ Some column → has_field fields column ≡ true → list_any (has_field fields) columns ≡ true
+any_at fields [] i column is own = absurd (cc is)
+any_at fields (first ∷ columns) zero column is own =
+    let same : first ≡ column = cc is in
+    ap (λ (c : ColumnPlan). has_field fields c || list_any (has_field fields) columns) same ∙ ap (λ b. b || list_any (has_field fields) columns) own
+any_at fields (first ∷ columns) (suc i) column is own = by_first (has_field fields first) (any_at fields columns i column is own)
+  where
+    by_first : (b : Bool) → list_any (has_field fields) columns ≡ true → (b || list_any (has_field fields) columns) ≡ true
+    by_first true rest = refl
+    by_first false rest = rest
+
+pub last-reached : (fields : List Text) (columns : List ColumnPlan) (last : ColumnPlan) → slice_get columns (length columns - 1) ≡ Some last → has_field fields last ≡ true → columns_within fields columns ≡ columns
+last-reached fields [] last is own = refl
+last-reached fields (column ∷ []) last is own = rw (any_at fields (column ∷ []) 0 last is own) refl
+last-reached fields (column ∷ (other ∷ columns)) last is own =
+    let before : length (column ∷ other ∷ columns) - 1 ≡ suc (length (other ∷ columns) - 1) = omega arith in
+    let rest : slice_get (other ∷ columns) (length (other ∷ columns) - 1) ≡ Some last = sym (ap (slice_get (column ∷ other ∷ columns)) before) ∙ is in
+    rw (any_at fields (column ∷ other ∷ columns) (length (column ∷ other ∷ columns) - 1) last is own)
+    (ap (λ (more : List ColumnPlan). column ∷ more) (last-reached fields (other ∷ columns) last rest own))
+
+-- a column that is reached is at its place among all
+pub own_place : (fields : List Text) (columns : List ColumnPlan) (k : ℕ) (own : ColumnPlan) → slice_get (columns_within fields columns) k ≡ Some own → slice_get columns k ≡ Some own
+own_place fields [] k own is = absurd (cc is)
+own_place fields (column ∷ columns) zero own is = by_any (list_any (has_field fields) (column ∷ columns)) is
+  where
+    by_any : (b : Bool) → slice_get (if b then column ∷ columns_within fields columns else []) 0 ≡ Some own → Some column ≡ Some own
+    by_any true found = found
+    by_any false found = absurd (cc found)
+own_place fields (column ∷ columns) (suc k) own is = by_any (list_any (has_field fields) (column ∷ columns)) is (own_place fields columns k own)
+  where
+    by_any : (b : Bool) → slice_get (if b then column ∷ columns_within fields columns else []) (suc k) ≡ Some own → (slice_get (columns_within fields columns) k ≡ Some own → slice_get columns k ≡ Some own) → slice_get columns k ≡ Some own
+    by_any true found rest = rest found
+    by_any false found rest = absurd (cc found)

@@ -94,3 +94,24 @@ all_cells table cells n i all = by_test (nat_lt i n) refl
     by_test false is =
         let past : length cells ≤ i = grind (arith, nat_tests, is, all) in
         sym (ap (measured_at table cell_content_width) (slice_get_past cells i past))
+
+-- ---- a number, and fields behind it
+
+pub start_width : (had m first i : ℕ) → had ≡ max had (if nat_lt i (first + 0) then (if nat_lt i first then 0 else m) else 0)
+start_width had m first i =
+    let same : first + 0 ≡ first = omega arith in
+    by_test (nat_lt i first) ∙ ap (λ n. max had (if nat_lt i n then (if nat_lt i first then 0 else m) else 0)) (sym same)
+  where
+    by_test : (b : Bool) → had ≡ max had (if b then (if b then 0 else m) else 0)
+    by_test true = omega arith
+    by_test false = omega arith
+
+-- the width for the number, and then for the fields, is that for all cells
+pub joined_width : (old m had now first n i : ℕ) → had ≡ max old (if nat_lt i first then m else 0) → now ≡ max had (if nat_lt i n then (if nat_lt i first then 0 else m) else 0) → (if nat_lt i n then m else 0) ≡ m → now ≡ max old m
+joined_width old m had now first n i = by_tests (nat_lt i first) (nat_lt i n)
+  where
+    by_tests : (p q : Bool) → had ≡ max old (if p then m else 0) → now ≡ max had (if q then (if p then 0 else m) else 0) → (if q then m else 0) ≡ m → now ≡ max old m
+    by_tests true true one two all = omega (arith, one, two, all)
+    by_tests true false one two all = omega (arith, one, two, all)
+    by_tests false true one two all = omega (arith, one, two, all)
+    by_tests false false one two all = omega (arith, one, two, all)

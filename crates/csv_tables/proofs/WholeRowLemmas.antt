@@ -113,7 +113,7 @@ module _ (look : Look) where
   cell_whole true alignment field utf8 = record { text_lines = has_lines (field_text look field) (text_whole field utf8); delimiter = tt }
   cell_whole false alignment field utf8 = record { text_lines = has_lines (field_text look field) (text_whole field utf8); delimiter = tt }
 
-  high : (limit : Option ℕ) → IfSome (option_map (max 1) limit) (λ h. 1 ≤ h)
+  pub high : (limit : Option ℕ) → IfSome (option_map (max 1) limit) (λ h. 1 ≤ h)
   high None = tt
   high (Some h) = omega arith
 

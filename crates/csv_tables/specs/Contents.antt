@@ -39,12 +39,6 @@ abbrev pub rows_at : RecordRows → ℕ → List Text → List RowValue
 rows_at rows at fields =
     if rows.is_expanded then pairs_by rows fields else made_by rows at fields ∷ []
 
--- those that are still to come: that of the whole record, or those of the fields of some columns
-abbrev pub rows_left : RecordRows → ℕ → List Text → Bool → List ColumnPlan → List RowValue
-rows_left rows at fields is_whole columns =
-    (if is_whole then made_by rows at fields ∷ [] else [])
-    ++ pairs_of rows.look columns (unwrap_or rows.selected.names []) fields
-
 -- those of records from a place on
 abbrev pub rows_from : RecordRows → ℕ → List (List Text) → List RowValue
 rows_from rows at [] = []

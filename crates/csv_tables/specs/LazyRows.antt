@@ -1,25 +1,37 @@
--- Private: rows whose cells are made or lent when they are asked for.
+-- Private: rows whose cells are made or lent when they are drawn.
 -- Source: this library's own.
-use Rattle.std.specs.Prelude.{◌≡◌, ◌≤◌, ◌<◌, ℕ, ⊤, All, IfSome, List, Some, length, option_map, slice_get, slice_index_or}
+use Rattle.std.specs.Prelude.{◌≡◌, ◌≤◌, ◌<◌, ◌*◌, ℕ, All, IfSome, List, [], None, Some, filter, length, map, nat_lt, slice_get, slice_index_or, unwrap_or}
 use Rattle.comfy_parts.specs.CellValue.{CellValue, ColumnInfo, RowValue}
-use Rattle.csv_tables.specs.Cells.{columns_within, pair_for}
-use Rattle.csv_tables.specs.Columns.{name_or_number}
-use Rattle.csv_tables.specs.Contents.{made_by}
+use Rattle.comfy_parts.specs.Text.{Text, greatest}
+use Rattle.comfy_table.specs.TableValue.{TableValue, cell_content_width, measured_cell}
+use Rattle.csv_tables.specs.Cells.{cell_for, pair_for, with_weight}
+use Rattle.csv_tables.specs.Columns.{name_at}
+use Rattle.csv_tables.specs.declared.options.ColumnPlan.{ColumnPlan}
 use Rattle.csv_tables.specs.declared.rows.RecordRows.{RecordRows}
-use Rattle.csv_tables.specs.declared.rows.RowSource.{RowSource}
-use Rattle.csv_tables.specs.declared.rows.RowSource.TheVariants.{Field, Record}
 
--- the row of a record, or of a name and a field
-abbrev pub row_by : RecordRows → RowSource → RowValue
-row_by rows (Record at fields columns) = made_by rows at fields.now
-row_by rows (Field position name field) =
-    pair_for rows.look (name_or_number (option_map (λ s. s.now) name) position) field.now
+-- the name of a column, as the cell of a row of its field has it
+abbrev pub name_cell : RecordRows → ColumnPlan → CellValue
+name_cell rows column =
+    with_weight rows.look.has_bold_header
+    (cell_for rows.look None (name_at (unwrap_or rows.selected.names []) column.position))
 
--- a record's columns are those up to the last one of which it has the field
-abbrev pub IsSourceIn : RecordRows → RowSource → Type 0
-IsSourceIn rows (Record at fields columns) =
-    columns.now ≡ columns_within fields.now rows.selected.columns
-IsSourceIn rows (Field position name field) = ⊤
+-- the row of a field of a column
+abbrev pub pair_in : RecordRows → ColumnPlan → Text → RowValue
+pair_in rows column field =
+    pair_for rows.look (name_at (unwrap_or rows.selected.names []) column.position) field
+
+-- the widest name of the columns at the first positions, as cells are measured in a table
+abbrev pub names_width : TableValue → RecordRows → ℕ → ℕ
+names_width table rows count =
+    greatest (map (λ column. cell_content_width (measured_cell table (name_cell rows column)))
+    (filter (λ (column : ColumnPlan). nat_lt column.position count) rows.selected.columns))
+
+-- every second cell is a name, that of each column in their order
+pub record AreNamed (rows : RecordRows) (cells : List CellValue) : Type 0 where
+  pub count : length cells ≡ 2 * length rows.selected.columns
+  pub names :
+      (k : ℕ) (column : ColumnPlan) → slice_get rows.selected.columns k ≡ Some column
+      → slice_get cells (2 * k) ≡ Some (name_cell rows column)
 
 -- no cell has several text lines, and the greatest height is at least 1
 pub record IsFlat (row : RowValue) : Type 0 where

@@ -1,18 +1,20 @@
 //! The drawing of records, which comes in pieces.
 
-ghost use Rattle.std.specs.Prelude.{◌≡◌, ◌==◌, ◌<◌, ◌≤◌, ◌+◌, ◌++◌, ◌^◌, [], IfNone, IfOk, IfSome, None, OnErr, OnOk, Ok, Some, false, length, string_bytes, true};
+ghost use Rattle.std.specs.Prelude.{◌≡◌, ◌==◌, ◌<◌, ◌≤◌, ◌+◌, ◌++◌, ◌^◌, [], IfNone, IfOk, IfSome, None, OnErr, OnOk, Ok, Some, false, length, map, string_bytes, true};
 ghost use Rattle.std.specs.List.{All};
 ghost use Rattle.comfy_parts.specs.CellValue.{IsRow};
 ghost use Rattle.comfy_table.specs.Drawing.{part_of_drawing, terminated_text_of};
-ghost use Rattle.csv_tables.specs.Contents.{drawn_next, expanded_from, fields_text, rows_from};
+ghost use Rattle.comfy_table.specs.RowCells.{cell_of};
+ghost use Rattle.csv_tables.specs.Contents.{drawn_next, expanded_from, fields_text, pairs_by, rows_from};
+ghost use Rattle.csv_tables.specs.LazyRows.{AreNamed};
 ghost use Rattle.csv_tables.specs.Pieces.{rest_of};
 ghost use Rattle.devices.specs.Pieces.{text_left};
 
 use crate::expanded::push_record_line;
 use crate::lazy_table::LazyTable;
-use crate::rows::LazyRows;
+use crate::rows::RecordRows;
 use comfy_table::{ArrangedTable, PartEnds, Result, RowCell, RowWriter};
-use csv_records::Rows;
+use csv_records::{Record, Rows};
 use devices::Pieces;
 use std::alloc::{AllocError, Global};
 use std::marker::Model;
@@ -198,8 +200,8 @@ fn push_rows(
     let mut at = place;
     let mut is_first = extent.is_first;
     for fields in next.iter() {
-        let row = contents.rows.whole_row(at, &fields);
-        row.push(text, &mut writer, &mut cells, is_first)?;
+        let rows = &contents.rows;
+        rows.push_row(text, &mut writer, &mut cells, at, &fields, is_first)?;
         at += 1;
         is_first = false;
     }
@@ -223,18 +225,13 @@ fn push_expanded(
         ++ expanded_from arranged.now.contents.rows arranged.now.contents.table arranged.now.infos
         place next.now) }
 {
-    let contents = arranged.contents();
+    let rows = &arranged.contents().rows;
     let mut writer = arranged.row_writer()?;
-    let mut cells = Vec::new(contents.rows.selected.alloc);
+    let mut cells = rows.pair_cells()?;
     let mut at = place;
     for fields in next.iter() {
-        push_record_line(text, at, contents.rows.selected.count())?;
-        push_fields(
-            text,
-            contents.rows.rows_of(at, &fields),
-            &mut writer,
-            &mut cells,
-        )?;
+        push_record_line(text, at, rows.selected.count())?;
+        push_fields(text, rows, &fields, &mut writer, &mut cells)?;
         at += 1;
     }
     Ok(())
@@ -243,18 +240,23 @@ fn push_expanded(
 // Appends the rows of an expanded record as a table, or nothing if it has none.
 fn push_fields<'r>(
     text: &mut String,
-    rows: LazyRows<'_, 'r>,
+    rows: &'r RecordRows,
+    fields: &Record<'r>,
     writer: &mut RowWriter<'_>,
     cells: &mut Vec<RowCell<'r>>,
 ) -> Result<()>
+    requires { AreNamed rows.now (map cell_of cells.old.items) }
     ensures text { OnOk result (string_bytes text.new ≡ string_bytes text.old
-        ++ fields_text writer.old.table writer.old.infos rows.entry) }
+        ++ fields_text writer.old.table writer.old.infos (pairs_by rows.now fields.now)) }
     ensures kept { writer.new ≡ writer.old }
+    ensures named { OnOk result (AreNamed rows.now (map cell_of cells.new.items)) }
 {
     let mut is_first = true;
-    for row in rows {
-        row.push(text, writer, cells, is_first)?;
-        is_first = false;
+    for (place, column) in rows.selected.columns_within(fields).iter().enumerate() {
+        if let Some(field) = fields.get(column.position) {
+            rows.push_pair(text, writer, cells, place, field, is_first)?;
+            is_first = false;
+        }
     }
     if is_first {
         return Ok(());

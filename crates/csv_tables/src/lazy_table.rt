@@ -3,8 +3,8 @@
 ghost use Rattle.std.specs.Prelude.{◌≡◌, ℕ, All, IfOk, false, length, map, max, nat_lt, true};
 ghost use Rattle.std.specs.List.{list_any, slice_index_or};
 ghost use Rattle.comfy_table.specs.Pieces.{row_height};
-ghost use Rattle.comfy_table.specs.TableValue.{column_content_width, max_content_widths, with_other_rows};
-ghost use Rattle.csv_tables.specs.Contents.{headed_by, most_cells, rows_from, table_by};
+ghost use Rattle.comfy_table.specs.TableValue.{cell_content_width, column_content_width, max_content_widths, with_other_rows};
+ghost use Rattle.csv_tables.specs.Contents.{greatest_at, headed_by, most_cells, rows_from, table_by};
 ghost use Rattle.csv_tables.specs.LazyRows.{AreWithin, IsFlat};
 
 use crate::rows::RecordRows;
@@ -93,7 +93,8 @@ impl LazyTable {
 // The content width of each column of a table that has these rows, which are none of its own, and
 // whether no cell of the rows has several text lines.
 fn content_widths(rows: &RecordRows, table: &Table) -> Result<(Vec<u16>, bool)>
-    ensures each { table.now ≡ headed_by rows.now → IfOk result (λ found. (i : ℕ)
+    requires { table.now ≡ headed_by rows.now }
+    ensures each { IfOk result (λ found. (i : ℕ)
         → slice_index_or found.0.items i 0 ≡ column_content_width
         (with_other_rows (rows_from rows.now 0 rows.now.selected.rows) table.now) i) }
     ensures count { IfOk result (λ found. length found.0.items ≡ max (length table.now.columns)
@@ -101,14 +102,40 @@ fn content_widths(rows: &RecordRows, table: &Table) -> Result<(Vec<u16>, bool)>
     ensures flat { IfOk result (λ found. found.1 ≡ true
         → All IsFlat (rows_from rows.now 0 rows.now.selected.rows)) }
 {
+    if rows.is_expanded {
+        return Ok((pair_widths(rows, table)?, false));
+    }
     let mut widths = table.column_max_content_widths()?;
     let mut is_flat = true;
-    let selected = &rows.selected;
-    let mut cells = Vec::new(selected.alloc);
-    for (at, fields) in selected.rows().enumerate() {
-        is_flat &= rows.widen(&mut widths, table, at, &fields, &mut cells)?;
+    for (at, fields) in rows.selected.rows().enumerate() {
+        is_flat &= rows.widen(&mut widths, table, at, &fields)?;
     }
     Ok((widths, is_flat))
+}
+
+// The content widths of the names and the fields of expanded records. There are none if no record
+// has a field.
+fn pair_widths(rows: &RecordRows, table: &Table) -> Result<Vec<u16>>
+    requires { rows.now.is_expanded ≡ true }
+    ensures each { IfOk result (λ widths. (i : ℕ) → slice_index_or widths.items i 0
+        ≡ greatest_at table.now cell_content_width
+        (rows_from rows.now 0 rows.now.selected.rows) i) }
+    ensures count { IfOk result (λ widths. length widths.items
+        ≡ most_cells (rows_from rows.now 0 rows.now.selected.rows)) }
+{
+    let mut longest = 0;
+    let mut field = 0;
+    for fields in rows.selected.rows() {
+        longest = fields.len().max(longest);
+        field = rows.field_width(table, &fields)?.max(field);
+    }
+    let name = rows.name_width(table, longest)?;
+    let mut widths = Vec::new(rows.selected.alloc);
+    if name > 0 {
+        widths.push(name)?;
+        widths.push(field)?;
+    }
+    Ok(widths)
 }
 
 // Whether each column has room for this content width. A width of 65535 may mean more.

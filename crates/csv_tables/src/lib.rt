@@ -14,6 +14,7 @@ mod markdown;
 mod nowrap;
 mod options;
 mod output;
+mod pairs;
 mod references;
 mod rows;
 mod selected;

@@ -336,6 +336,9 @@ pub(crate) fn keep_nowrap_fields(contents: &mut LazyTable) -> Result<()>
     };
     let names = contents.widths().first().copied().unwrap_or(0);
     let room = room_for_two(&contents.table, width);
+    if !may_break(room, names, contents.widths().get(1).copied().unwrap_or(0)) {
+        return Ok(());
+    }
     let field = field_width(contents, room_beside(names, room))?;
     if may_break(room, names, field) {
         widen_contents(contents, field);
@@ -370,7 +373,7 @@ fn field_width(contents: &LazyTable, room: u16) -> Result<u16>
     let mut widest = 0;
     for fields in rows.selected.rows() {
         widest = rows
-            .nowrap_width(&contents.table, 0, &fields, 1, room)?
+            .nowrap_width(&contents.table, &fields, room)?
             .max(widest);
     }
     Ok(widest)

@@ -1,6 +1,6 @@
 //! What is drawn of some records.
 
-ghost use Rattle.std.specs.Prelude.{◌≡◌, All, IfOk, [], map, unwrap_or};
+ghost use Rattle.std.specs.Prelude.{◌≡◌, All, IfOk, [], map, true, unwrap_or};
 ghost use Rattle.csv.specs.Records.{AllText};
 ghost use Rattle.csv_tables.specs.Cells.{columns_within};
 ghost use Rattle.csv_tables.specs.Drawn.{selected_of, markdown_content, sides};
@@ -149,12 +149,26 @@ impl SelectedRecords {
     pub(crate) fn columns_within(&self, row: &Record<'_>) -> &[ColumnPlan]
         ensures { result.now ≡ columns_within row.now self.now.columns }
     {
+        if self.has_last(row) {
+            return self.columns.as_slice();
+        }
         for (count, least) in self.least_behind.iter().enumerate() {
             if row.len() <= *least {
                 return &self.columns[..count];
             }
         }
         self.columns.as_slice()
+    }
+
+    // Whether a record has the field of the last column, as most records do.
+    #[inline(always)]
+    fn has_last(&self, row: &Record<'_>) -> bool
+        ensures { result ≡ true → columns_within row.now self.now.columns ≡ self.now.columns }
+    {
+        match self.columns.last() {
+            Some(last) => last.position < row.len(),
+            None => false,
+        }
     }
 
     /// The alignment of each column, that of numbers too.

@@ -104,8 +104,7 @@ fn is_any_tall(rows: &RecordRows, writer: &RowWriter<'_>) -> Result<bool>
     let selected = &rows.selected;
     let mut cells = Vec::new(selected.alloc);
     for (at, fields) in selected.rows().enumerate() {
-        let row = rows.whole_row(at, &fields);
-        if row.is_tall(writer, &mut cells)? {
+        if rows.is_tall(writer, &mut cells, at, &fields)? {
             return Ok(true);
         }
     }

@@ -1,12 +1,14 @@
-use Rattle.std.proofs.Common.{rules, ◌≡◌, ◌+◌, ◌++◌, ◌∷◌, [], Bool, List, ap, append_assoc, arith, length, string_bytes, sym, ◌∙◌}
-use Rattle.std.specs.Prelude.{if◌then◌else◌}
-use Rattle.comfy_parts.specs.CellValue.{ColumnInfo, RowValue}
+use Rattle.std.proofs.Common.{rules, ◌≡◌, ◌+◌, ◌++◌, ◌∷◌, List, ap, append_assoc, arith, length, map, string_bytes, subst, sym, ◌∙◌}
+use Rattle.comfy_parts.specs.CellValue.{ColumnInfo}
 use Rattle.comfy_parts.specs.Text.{Text}
 use Rattle.comfy_table.specs.Parts.{ArrangedValue}
 use Rattle.comfy_table.specs.TableValue.{with_other_rows}
 use Rattle.csv_tables.proofs.PieceLemmas.{fields_as}
-use Rattle.csv_tables.specs.Contents.{expanded_from, fields_text, made_by, pairs_by, rows_at}
+use Rattle.csv_tables.specs.Contents.{expanded_from, fields_text, pairs_by}
 use Rattle.csv_tables.specs.Drawn.{record_line}
+use Rattle.csv_tables.specs.LazyRows.{AreNamed}
+use Rattle.csv_tables.specs.declared.rows.RecordRows.{RecordRows}
+use Rattle.comfy_table.specs.RowCells.{cell_of}
 use Rattle.csv_tables.proofs.drawn.push_expanded.Goals as goal
 
 pub loop-fields-preserved : goal.loop-fields-preserved
@@ -22,14 +24,12 @@ loop-fields-preserved c =
     let left : List (List Text) = c.next.new.self in
     let is : c.loop-fields.fields-iterator ≡ x ∷ left = search rules in
     let kept : c.push_fields.new.writer ≡ writer = search rules in
-    let pairs : rows_at rows at x ≡ pairs_by rows x = ap (λ (b : Bool). if b then pairs_by rows x else made_by rows at x ∷ []) c.requires.expanded in
-    let shown : c.rows_of.result ≡ rows_at rows at x = search rules in
     let above = record_line (at + 1) rows.selected.count in
     let made = pairs_by rows x in
     let rest = expanded_from rows table infos (at + 1) left in
     let line : string_bytes c.push_record_line.new.text ≡ before ++ above = search rules in
     let pushed : string_bytes c.push_fields.new.text ≡ string_bytes c.push_record_line.new.text ++ fields_text writer.table writer.infos made =
-    c.in_ok-push_fields.ensures.text ∙ ap (λ (rs : List RowValue). string_bytes c.push_record_line.new.text ++ fields_text writer.table writer.infos rs) (shown ∙ pairs) in
+    search rules in
     let drawn : string_bytes c.push_fields.new.text ≡ before ++ (above ++ fields_text table infos made) =
     pushed
     ∙ ap (λ (t : Text). t ++ fields_text writer.table writer.infos made) line
@@ -44,4 +44,5 @@ loop-fields-preserved c =
       omega (arith, count, had.1),
       ap (λ (a : ArrangedValue). with_other_rows table.rows a.table) kept ∙ had.2,
       ap (λ (a : ArrangedValue). a.infos) kept ∙ had.3,
+      subst (λ (rs : RecordRows). AreNamed rs (map cell_of c.push_fields.new.cells.items)) (ap (λ v. v.rows) (c.behind-arranged.view_is ∙ c.contents.ensures)) c.in_ok-push_fields.ensures.named,
     )

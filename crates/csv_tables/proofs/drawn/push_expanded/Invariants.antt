@@ -1,4 +1,6 @@
-use Rattle.std.proofs.Common.{◌≡◌, ◌+◌, ◌++◌, length, string_bytes}
+use Rattle.std.proofs.Common.{◌≡◌, ◌+◌, ◌++◌, length, map, string_bytes}
+use Rattle.comfy_table.specs.RowCells.{cell_of}
+use Rattle.csv_tables.specs.LazyRows.{AreNamed}
 use Rattle.comfy_table.specs.TableValue.{with_other_rows}
 use Rattle.csv_tables.specs.Contents.{expanded_from}
 use Rattle.csv_tables.proofs.drawn.push_expanded.Given as goal
@@ -11,3 +13,4 @@ invariant-loop-fields l =
     × (l.at + length l.fields-iterator ≡ l.place + length l.next)
     × (with_other_rows l.arranged.contents.table.rows l.writer.table ≡ l.arranged.contents.table)
     × (l.writer.infos ≡ l.arranged.infos)
+    × AreNamed l.arranged.contents.rows (map cell_of l.cells.items)

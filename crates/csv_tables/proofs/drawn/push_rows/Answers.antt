@@ -1,6 +1,6 @@
 use Rattle.std.proofs.Common.{rules, ◌≡◌, ◌+◌, ◌++◌, ◌∷◌, [], List, ap, false, append_assoc, arith, length, string_bytes, sym, ◌∙◌}
 use Rattle.std.proofs.lemmas.Result.{on_ok_weaker}
-use Rattle.comfy_parts.specs.CellValue.{ColumnInfo, RowValue}
+use Rattle.comfy_parts.specs.CellValue.{ColumnInfo}
 use Rattle.comfy_parts.specs.Text.{Text}
 use Rattle.comfy_table.specs.Drawing.{part_of_drawing, terminated_text_of}
 use Rattle.comfy_table.specs.Parts.{ArrangedValue}
@@ -21,14 +21,13 @@ loop-fields-preserved c =
     let x : List Text = c.in-Some.fields in
     let left : List (List Text) = c.next.new.self in
     let is : c.loop-fields.fields-iterator ≡ x ∷ left = search rules in
-    let kept : c.push.new.writer ≡ writer = search rules in
+    let kept : c.push_row.new.writer ≡ writer = search rules in
     let made = made_by rows at x ∷ [] in
     let one = terminated_text_of (part_of_drawing table infos c.loop-fields.is_first false made) in
     let rest = terminated_text_of (part_of_drawing table infos false c.args.extent.is_last (rows_from rows (at + 1) left)) in
-    let shown : c.whole_row-row.result ≡ made_by rows at x = search rules in
-    let pushed : string_bytes c.push.new.text ≡ before ++ terminated_text_of (part_of_drawing writer.table writer.infos c.loop-fields.is_first false made) =
-    c.in_ok-push.ensures.text ∙ ap (λ (row : RowValue). before ++ terminated_text_of (part_of_drawing writer.table writer.infos c.loop-fields.is_first false (row ∷ []))) shown in
-    let drawn : string_bytes c.push.new.text ≡ before ++ one =
+    let pushed : string_bytes c.push_row.new.text ≡ before ++ terminated_text_of (part_of_drawing writer.table writer.infos c.loop-fields.is_first false made) =
+    search rules in
+    let drawn : string_bytes c.push_row.new.text ≡ before ++ one =
     pushed
     ∙ ap (λ (is : List ColumnInfo). before ++ terminated_text_of (part_of_drawing writer.table is c.loop-fields.is_first false made)) had.3
     ∙ ap (λ (ls : List Text). before ++ terminated_text_of ls) (part_as writer.table table infos had.2 c.loop-fields.is_first false made) in

@@ -1,10 +1,9 @@
-use Rattle.std.proofs.Common.{◌≡◌, ◌∷◌, [], Bool, List, ap, arith, flat_map, max, subst, ◌∙◌, rules}
-use Rattle.std.specs.Prelude.{if◌then◌else◌}
+use Rattle.std.proofs.Common.{◌≡◌, [], List, ap, arith, flat_map, max, subst, ◌∙◌, rules}
 use Rattle.comfy_parts.specs.CellValue.{RowValue}
 use Rattle.comfy_parts.specs.Text.{Text}
 use Rattle.comfy_table.specs.TableValue.{TableValue, with_other_rows}
 use Rattle.csv_tables.proofs.ContentLemmas.{fields_are, greatest_at-append, measured_alike}
-use Rattle.csv_tables.specs.Contents.{greatest_at, made_by, pairs_by, rows_at, rows_from}
+use Rattle.csv_tables.specs.Contents.{greatest_at, pairs_by, rows_from}
 use Rattle.csv_tables.specs.NoWrap.{cell_nowrap_width, field_width}
 use Rattle.csv_tables.proofs.nowrap.field_width.Goals as goal
 
@@ -34,9 +33,7 @@ loop-fields-preserved c =
     let later : List RowValue = flat_map (pairs_by rows) c.next.new.self in
     let before = ap (λ (left : List (List Text)). greatest_at table f (flat_map (pairs_by rows) left) 1) steps ∙ greatest_at-append table f here later 1 in
     let same : greatest_at own f here 1 ≡ greatest_at table f here 1 = subst (λ (w : TableValue). greatest_at own f here 1 ≡ greatest_at w f here 1) view (measured_alike f own (rows_from rows 0 rows.selected.rows) here 1) in
-    let expanded = ap (λ v. v.rows.is_expanded) c.contents.view_is ∙ c.requires.expanded in
-    let pairs : greatest_at own f (rows_at rows 0 fields) 1 ≡ greatest_at own f here 1 = ap (λ (b : Bool). greatest_at own f (if b then here else made_by rows 0 fields ∷ []) 1) expanded in
-    let one = c.in_ok-nowrap_width.ensures.value ∙ pairs ∙ same in
+    let one = c.in_ok-nowrap_width.ensures.value ∙ same in
     let low = c.in_ok-nowrap_width.ensures.within in
     let so = c.loop-fields.invariant in
     let greater = c.max-widest.ensures in (omega (arith, before, one, so.0, greater), omega (arith, low, so.1, greater))

@@ -37,7 +37,6 @@ loop-at-preserved c =
     let rest : List (List Text) = enumerate_source c.next.new.self in
     let low : nat_lt 1 (row_height table.table table.infos (made_by rows k fields)) ≡ false =
     sym (c.in_ok-is_tall.ensures
-    ∙ ap (λ (row : RowValue). nat_lt 1 (row_height table.table table.infos row)) c.whole_row-row.ensures
     ∙ ap (λ n. nat_lt 1 (row_height table.table table.infos (made_by rows n fields))) steps.1) ∙ c.if-branch.false in
     ap (λ n. any table (rows_from rows n rest)) steps.2
     ∙ sym (from_one table rows c.requires k fields rest ∙ ap (λ b. b || any table (rows_from rows (k + 1) rest)) low)
@@ -54,7 +53,6 @@ returns-then-branch c =
     let rest : List (List Text) = enumerate_source c.next.new.self in
     let tall : nat_lt 1 (row_height table.table table.infos (made_by rows k fields)) ≡ true =
     sym (c.in_ok-is_tall.ensures
-    ∙ ap (λ (row : RowValue). nat_lt 1 (row_height table.table table.infos row)) c.whole_row-row.ensures
     ∙ ap (λ n. nat_lt 1 (row_height table.table table.infos (made_by rows n fields))) steps.1) ∙ c.if-branch.true in
     sym (from_one table rows c.requires k fields rest ∙ ap (λ b. b || any table (rows_from rows (k + 1) rest)) tall)
     ∙ ap (λ (left : List (List Text)). any table (rows_from rows k left)) (sym steps.0)

@@ -29,6 +29,6 @@ invariant_of-result c =
     let columns = no_fewer_columns c.len.result c.in_ok-table.table.columns in (
       ap (λ (t : TableValue). t.rows) (is) ∙ ap (λ (t : TableValue). t.rows) headed ∙ no_rows rows,
       omega (arith, count, most, grown, columns),
-      λ i. c.in_ok-widths.ensures.each headed i ∙ sym (ap (λ (t : TableValue). column_content_width (with_other_rows all t) i) is),
+      λ i. c.in_ok-widths.ensures.each i ∙ sym (ap (λ (t : TableValue). column_content_width (with_other_rows all t) i) is),
       c.in_ok-widths.ensures.flat,
     )

@@ -1,14 +1,19 @@
-use Rattle.std.proofs.Common.{◌≡◌, ℕ, length, max}
+use Rattle.std.proofs.Common.{◌≡◌, ◌≤◌, ◌<◌, ◌+◌, ℕ, List, Some, true, length, max}
+use Rattle.std.specs.Prelude.{nat_lt, slice_get, if◌then◌else◌}
 use Rattle.std.specs.List.{slice_index_or}
-use Rattle.comfy_table.specs.TableValue.{cell_content_width}
-use Rattle.csv_tables.specs.Contents.{greatest_at, most_cells}
+use Rattle.comfy_parts.specs.CellValue.{CellValue}
+use Rattle.comfy_table.specs.TableValue.{TableValue, cell_content_width}
+use Rattle.csv_tables.specs.Contents.{made_by, measured_at}
 use Rattle.csv_tables.proofs.rows.RecordRows.widen.Given as goal
 
--- the widths so far, and those of the rows that are left
-abbrev pub invariant-loop-row : goal.invariant-loop-row
-invariant-loop-row l =
-    let left = l.row-iterator in
-    let all = l.initial.row-iterator in
-    ((i : ℕ) → max (slice_index_or l.widths.items i 0) (greatest_at l.table cell_content_width left i)
-    ≡ max (slice_index_or l.initial.widths.items i 0) (greatest_at l.table cell_content_width all i))
-    × (max (length l.widths.items) (most_cells left) ≡ max (length l.initial.widths.items) (most_cells all))
+-- the width of the cell at a position behind the number, or 0
+abbrev pub behind : TableValue → List CellValue → ℕ → ℕ → ℕ
+behind table cells first i = if nat_lt i first then 0 else measured_at table cell_content_width (slice_get cells i)
+
+-- the widths have room for the number and the columns so far
+abbrev pub invariant-loop-place : goal.invariant-loop-place
+invariant-loop-place l =
+    let cells = (made_by l.self l.at l.fields).cells in
+    ((i : ℕ) → slice_index_or l.widths.items i 0 ≡ max (slice_index_or l.initial.widths.items i 0) (if nat_lt i (l.first + l.place) then behind l.table cells l.first i else 0))
+    × (length l.widths.items ≡ max (length l.initial.widths.items) (l.first + l.place))
+    × (l.is_flat ≡ true → (l.initial.is_flat ≡ true) × ((i : ℕ) (cell : CellValue) → l.first ≤ i → i < l.first + l.place → slice_get cells i ≡ Some cell → length cell.text_lines ≤ 1))

@@ -69,5 +69,5 @@ returns c =
     let test = c.loop-count-test.false in
     let all : length columns ≤ k = omega (arith, long, test) in
     let rest : drop k columns ≡ [] = drop_all k columns all in
-    c.as_slice.ensures.value ∙ own ∙ sym (take_all k columns all) ∙ sym (append-nil (take k columns))
+    c.as_slice-2.ensures.value ∙ own ∙ sym (take_all k columns all) ∙ sym (append-nil (take k columns))
     ∙ sym (c.loop-count.invariant ∙ ap (λ (columns' : List ColumnPlan). take k columns ++ columns_within fields columns') rest)

@@ -1,0 +1,209 @@
+//! The rows of expanded records: each field has a row, with the name of its column.
+
+ghost use Rattle.std.specs.Prelude.{◌≡◌, ◌<◌, ◌≤◌, ◌++◌, ◌∷◌, [], IfOk, None, OnOk, Some, false, length, map, max, option_map, slice_get, string_bytes};
+ghost use Rattle.comfy_table.specs.Drawing.{part_of_drawing, terminated_text_of};
+ghost use Rattle.comfy_table.specs.LongestLine.{cell_longest_line};
+ghost use Rattle.comfy_table.specs.RowCells.{cell_of};
+ghost use Rattle.comfy_table.specs.TableValue.{cell_content_width, measured_cell};
+ghost use Rattle.csv_tables.specs.Cells.{cell_for, pair_for};
+ghost use Rattle.csv_tables.specs.Columns.{name_or_number};
+ghost use Rattle.csv_tables.specs.Contents.{greatest_at, measured_at, pairs_by};
+ghost use Rattle.csv_tables.specs.LazyRows.{AreNamed, names_width, pair_in};
+ghost use Rattle.csv_tables.specs.NoWrap.{cell_nowrap_width};
+ghost use Rattle.csv_tables.specs.declared.options.ColumnPlan.{ColumnPlan};
+
+use crate::cells::{name_cell, push_name, push_text, row_cell};
+use crate::nowrap::cell_nowrap_width;
+use crate::rows::RecordRows;
+use comfy_parts::content_split::ColumnDisplayInfo;
+use comfy_table::{PartEnds, Result, RowCell, RowWriter, Table};
+use csv_records::Record;
+
+impl RecordRows {
+    /// The greatest content width of the fields of a record, in terminal columns, or 0.
+    pub fn field_width(&self, table: &Table, fields: &Record<'_>) -> Result<u16>
+        ensures { IfOk result (λ width. width
+            ≡ greatest_at table.now cell_content_width (pairs_by self.now fields.now) 1) }
+    {
+        let mut widest = 0;
+        for column in self.selected.columns_within(fields) {
+            if let Some(field) = fields.get(column.position) {
+                widest = self.width_of_field(table, field)?.max(widest);
+            }
+        }
+        Ok(widest)
+    }
+
+    // The content width of a field of an expanded record, in terminal columns.
+    #[inline(always)]
+    fn width_of_field(&self, table: &Table, field: &str) -> Result<u16>
+        ensures { IfOk result (λ width. width ≡ cell_content_width
+            (measured_cell table.now (cell_for self.now.look None field.now))) }
+    {
+        let cell = row_cell(self.alloc(), field, 0, None, false, &self.look)?;
+        Ok(cell.content_width(table))
+    }
+
+    /// The greatest content width of the names of the columns of which a record of `count` fields
+    /// has one, in terminal columns, or 0 if it has none.
+    pub fn name_width(&self, table: &Table, count: usize) -> Result<u16>
+        ensures { IfOk result (λ width. width ≡ names_width table.now self.now count) }
+    {
+        let names = self.selected.names_or_blank();
+        let mut widest = 0;
+        for column in &self.selected.columns {
+            if column.position < count {
+                let position = column.position;
+                let cell = name_cell(self.alloc(), names.get(position), position, &self.look)?;
+                widest = cell.content_width(table).max(widest);
+            }
+        }
+        Ok(widest)
+    }
+
+    /// The names of the columns as cells, each with an empty cell after it for a field.
+    pub fn pair_cells(&self) -> Result<Vec<RowCell<'_>>>
+        ensures { IfOk result (λ cells. AreNamed self.now (map cell_of cells.items)) }
+    {
+        let names = self.selected.names_or_blank();
+        let mut cells = Vec::with_capacity(self.alloc(), self.selected.columns.len())?;
+        for column in &self.selected.columns {
+            let position = column.position;
+            push_name(
+                &mut cells,
+                self.alloc(),
+                names.get(position),
+                position,
+                &self.look,
+            )?;
+            push_text(&mut cells, self.alloc(), "", 0, None, false, &self.look)?;
+        }
+        Ok(cells)
+    }
+
+    /// Appends the row of a field in the column at a place, below the top border if it is the first,
+    /// else below the row separator. `cells` are the names, as `pair_cells` returns them; the field
+    /// takes the place of the one before.
+    pub fn push_pair<'r>(
+        &'r self,
+        text: &mut String,
+        writer: &mut RowWriter<'_>,
+        cells: &mut Vec<RowCell<'r>>,
+        place: usize,
+        field: &'r str,
+        is_first: bool,
+    ) -> Result<()>
+        requires named { AreNamed self.now (map cell_of cells.old.items) }
+        requires place { place < length self.now.selected.columns }
+        ensures text { (column : ColumnPlan)
+            → slice_get self.now.selected.columns place ≡ Some column
+            → OnOk result (string_bytes text.new ≡ string_bytes text.old
+            ++ terminated_text_of (part_of_drawing writer.old.table writer.old.infos is_first false
+            (pair_in self.now column field.now ∷ []))) }
+        ensures kept { writer.new ≡ writer.old }
+        ensures named { OnOk result (AreNamed self.now (map cell_of cells.new.items)) }
+    {
+        let name = 2 * place;
+        cells[name + 1] = row_cell(self.alloc(), field, 0, None, false, &self.look)?;
+        let extent = PartEnds {
+            is_first,
+            is_last: false,
+        };
+        let pair = &cells[name..name + 2];
+        writer.push_cells(text, pair, self.look.max_height, extent)
+    }
+
+    /// The width of the widest number or date of the fields of a record that has room, in terminal
+    /// columns, or 0.
+    pub fn nowrap_width(&self, table: &Table, fields: &Record<'_>, room: u16) -> Result<u16>
+        ensures value { IfOk result (λ width. width ≡ greatest_at table.now
+            (cell_nowrap_width room) (pairs_by self.now fields.now) 1) }
+        ensures within { IfOk result (λ width. width ≤ room) }
+    {
+        let mut widest = 0;
+        for column in self.selected.columns_within(fields) {
+            if let Some(field) = fields.get(column.position) {
+                widest = self.nowrap_width_of(table, field, room)?.max(widest);
+            }
+        }
+        Ok(widest)
+    }
+
+    // The width of the widest number or date of a field that has room.
+    fn nowrap_width_of(&self, table: &Table, field: &str, room: u16) -> Result<u16>
+        ensures value { IfOk result (λ width. width ≡ cell_nowrap_width room
+            (measured_cell table.now (cell_for self.now.look None field.now))) }
+        ensures within { IfOk result (λ width. width ≤ room) }
+    {
+        let cell = row_cell(self.alloc(), field, 0, None, false, &self.look)?;
+        cell_nowrap_width(self.alloc(), table, &cell, room)
+    }
+
+    /// The longest line of the cells at a position of the rows of the fields of a record, as they
+    /// are wrapped in a column, in terminal columns; 0 if there are none.
+    pub fn longest_in_pairs(
+        &self,
+        table: &Table,
+        fields: &Record<'_>,
+        position: usize,
+        info: &ColumnDisplayInfo,
+    ) -> Result<usize>
+        ensures { IfOk result (λ longest. longest ≡ greatest_at table.now
+            (cell_longest_line table.now info.now) (pairs_by self.now fields.now) position) }
+    {
+        let names = self.selected.names_or_blank();
+        let mut longest = 0;
+        for column in self.selected.columns_within(fields) {
+            if let Some(field) = fields.get(column.position) {
+                let name = names.get(column.position);
+                longest = self
+                    .longest_of_pair(table, column.position, name, field, position, info)?
+                    .max(longest);
+            }
+        }
+        Ok(longest)
+    }
+
+    // The longest line of the cell at a position of the row of a field, or 0 if there is none.
+    fn longest_of_pair(
+        &self,
+        table: &Table,
+        column: usize,
+        name: Option<&str>,
+        field: &str,
+        position: usize,
+        info: &ColumnDisplayInfo,
+    ) -> Result<usize>
+        ensures { IfOk result (λ longest. longest ≡ measured_at table.now
+            (cell_longest_line table.now info.now) (slice_get (pair_for self.now.look
+            (name_or_number (option_map (λ s. s.now) name.entry) column) field.now).cells
+            position)) }
+    {
+        if position < 2 {
+            let cell = self.cell_of_pair(column, name, field, position)?;
+            cell.longest_line(table, info)
+        } else {
+            Ok(0)
+        }
+    }
+
+    // The cell at a position of the row of one field: the name of its column, or the field.
+    fn cell_of_pair<'r>(
+        &'r self,
+        column: usize,
+        name: Option<&'r str>,
+        field: &'r str,
+        position: usize,
+    ) -> Result<RowCell<'r>>
+        requires { position < 2 }
+        ensures { IfOk result (λ cell. slice_get (pair_for self.now.look
+            (name_or_number (option_map (λ s. s.now) name.entry) column) field.now).cells position
+            ≡ Some (cell_of cell)) }
+    {
+        if position == 0 {
+            name_cell(self.alloc(), name, column, &self.look)
+        } else {
+            row_cell(self.alloc(), field, 0, None, false, &self.look)
+        }
+    }
+}
