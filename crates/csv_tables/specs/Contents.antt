@@ -13,7 +13,6 @@ use Rattle.csv_tables.specs.Markdown.{may_be_escaped}
 use Rattle.csv_tables.specs.Separators.{AreRowsSeparated}
 use Rattle.csv_tables.specs.Styled.{is_expanded_by, styled_table}
 use Rattle.csv_tables.specs.declared.options.ColumnSettings.{ColumnSettings}
-use Rattle.csv_tables.specs.declared.options.ColumnPlan.{ColumnPlan}
 use Rattle.csv_tables.specs.declared.options.Look.{Look}
 use Rattle.csv_tables.specs.declared.rows.RecordRows.{RecordRows}
 
