@@ -13,7 +13,7 @@ use Rattle.csv_records.specs.Number.{is_neutral}
 use Rattle.csv_records.specs.declared.decimals.Points.{Points}
 use Rattle.csv_tables.specs.Cells.{Shown, cells_for, counted_from, cut, has_field, number_of, columns_within, row_for, shown_fields, shown_number, text_in}
 use Rattle.csv_tables.specs.Decimals.{has_points, spaced}
-use Rattle.csv_tables.specs.Drawn.{SelectedValue, has_room_for, headed_table, is_aligned_in, rows_table}
+use Rattle.csv_tables.specs.Drawn.{SelectedValue, headed_table, rows_table}
 use Rattle.csv_tables.specs.Fields.{field_or_blank}
 use Rattle.csv_tables.specs.declared.options.ColumnPlan.{ColumnPlan}
 use Rattle.csv_tables.specs.declared.options.Look.{Look}
@@ -122,7 +122,3 @@ module _ (look : Look) where
         by_tests : (aligns : Bool) → aligns && has_points content.columns ≡ false → room false ≡ room (aligns && room true)
         by_tests false none = refl
         by_tests true none = by_room (room true) refl (same none)
-
-  -- where marks aren't aligned, or there are none, the table is that without spaces
-  pub unaligned : (content : SelectedValue) → look.aligns_decimals && has_points content.columns ≡ false → rows_table look false content ≡ rows_table look (is_aligned_in look content) content
-  unaligned content none = unaligned_by (has_room_for look content) content none

@@ -107,7 +107,8 @@ lower_bound content = LowerBoundary (Fixed (boundary_for content))
 
 -- so the columns of a table
 abbrev pub with_lower_bounds : List ℕ → TableValue → TableValue
-with_lower_bounds kept table = record table { columns = constrained (map lower_bound kept) table.columns }
+with_lower_bounds kept table =
+    record table { columns = constrained (map lower_bound kept) table.columns }
 
 -- what the column at a position is given beforehand: what it keeps, where it isn't broken, or
 -- where that is more than the level that columns share a width up to

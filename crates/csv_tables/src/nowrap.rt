@@ -37,10 +37,10 @@ const LEAST_LEVEL: u16 = 8;
 // How many terminal columns the names of expanded records need at most.
 const NEEDED_NAMES: u16 = 4;
 
-/// Gives columns their paddings and their limits. If a width is kept that has room for that, columns
-/// keep what they need, those of numbers and dates their whole contents. Returns whether there is
-/// room: never if decimal points are lined up in texts that are wrapped, else always if no width is
-/// kept.
+/// Gives columns their paddings and their limits. If a width is kept that has room for that,
+/// columns keep what they need, those of numbers and dates their whole contents. Returns whether
+/// there is room: never if decimal points are lined up in texts that are wrapped, else always if no
+/// width is kept.
 pub(crate) fn keep_nowrap(contents: &mut LazyTable, settings: &[ColumnSettings]) -> Result<bool>
     ensures contents { OnOk result (contents.new ≡ record contents.old {
       table = limited_by (limits_in settings.now contents.old.rows.selected)

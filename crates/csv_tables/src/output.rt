@@ -48,9 +48,9 @@ pub fn drawn_records(
 /// neither has the column of numbers. Markdown, and records that are expanded, have none.
 ///
 /// If a width is kept, columns get what they need to keep numbers, dates and wide words whole, but
-/// no more than their greatest widths. A column with a greatest width is as wide as its longest line
-/// at most, or as its least width. If points would be in texts that are wrapped at a greatest width,
-/// no column has its decimal points below each other.
+/// no more than their greatest widths. A column with a greatest width is at most as wide as its
+/// longest line, or as its least width. If decimal points would be in texts that are wrapped at a
+/// greatest width, no column has its points below each other.
 pub fn drawn_styled_records(
     alloc: Global,
     records: Records,

@@ -81,9 +81,9 @@ impl RecordRows {
         Ok(cells)
     }
 
-    /// Appends the row of a field in the column at a place, below the top border if it is the first,
-    /// else below the row separator. `cells` are the names, as `pair_cells` returns them; the field
-    /// takes the place of the one before.
+    /// Appends the row of a field in the column at a place, below the top border if it is the
+    /// first, else below the row separator. `cells` are the names, as `pair_cells` returns them;
+    /// the field takes the place of the one before.
     pub fn push_pair<'r>(
         &'r self,
         text: &mut String,

@@ -98,8 +98,8 @@ impl RecordRows {
         Ok(has_one_line(&cell))
     }
 
-    /// Appends the lines of the row of the record at a place, below the top border and the header if
-    /// it is the first, else below the row separator. `cells` is memory that is used again.
+    /// Appends the lines of the row of the record at a place, below the top border and the header
+    /// if it is the first, else below the row separator. `cells` is memory that is used again.
     pub fn push_row<'r>(
         &'r self,
         text: &mut String,
