@@ -35,7 +35,7 @@ void __wrap_free(void *block) {
     __real_free(block);
 }
 
-static uint8_t output[8192];
+static uint8_t output[8192], written[8192];
 
 /* Calls that end with one result where memory is there. */
 
@@ -101,14 +101,15 @@ static int is_untouched(void) {
 }
 
 /*
- * Refuses each request of a call in turn, until none is left. A drawing needs them all. What is said of arguments may do without
- * some, and is as long then.
+ * Refuses each request of a call in turn, until none is left. A call may do without some: a list that can't double grows by as
+ * much as it needs. Then the call writes the same bytes.
  */
 static long wrong_in(const char *what, uint32_t (*call)(size_t *), uint32_t wanted) {
     long wrong = 0, spared = 0;
     size_t whole = 7;
     refused_one = 0;
-    if (call(&whole) != wanted) wrong++;
+    if (call(&whole) != wanted || whole > sizeof output) wrong++;
+    memcpy(written, output, sizeof output);
     do {
         size_t needed = 7;
         memset(output, 9, sizeof output);
@@ -116,10 +117,10 @@ static long wrong_in(const char *what, uint32_t (*call)(size_t *), uint32_t want
         requests = held = 0;
         uint32_t status = call(&needed);
         if (held != 0) wrong++;
-        if (status == COMFY_OUT_OF_MEMORY ? needed != 7 || !is_untouched() : status != wanted || needed != whole) wrong++;
+        if (status == COMFY_OUT_OF_MEMORY ? needed != 7 || !is_untouched() : status != wanted || needed != whole || memcmp(output, written, whole)) wrong++;
         if (status == wanted && refused_one <= requests) spared++;
     } while (refused_one <= requests);
-    if (refused_one == 1 || (spared && wanted != COMFY_SETTINGS_REFUSED)) wrong++;
+    if (refused_one == 1 || spared == refused_one - 1) wrong++;
     printf("%s: %ld requests refused in turn, %ld of them spared, %ld wrong\n", what, refused_one - 1, spared, wrong);
     return wrong;
 }
