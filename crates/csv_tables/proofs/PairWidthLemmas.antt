@@ -24,7 +24,7 @@ module _ (t : TableValue) (rows : RecordRows) where
   abbrev pub name_width : ColumnPlan → ℕ
   name_width column = cell_content_width (measured_cell t (name_cell rows column))
 
-  -- the widest name of those of some columns that a record of so many fields has
+  -- the widest name of those columns of some that a record of `n` fields has
   abbrev widest : ℕ → List ColumnPlan → ℕ
   widest n columns = greatest (map name_width (filter (λ (column : ColumnPlan). nat_lt column.position n) columns))
 

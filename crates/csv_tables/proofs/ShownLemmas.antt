@@ -95,7 +95,7 @@ all_cells table cells n i all = by_test (nat_lt i n) refl
         let past : length cells ≤ i = grind (arith, nat_tests, is, all) in
         sym (ap (measured_at table cell_content_width) (slice_get_past cells i past))
 
--- ---- a number, and fields behind it
+-- ---- a number, and fields after it
 
 pub start_width : (had m first i : ℕ) → had ≡ max had (if nat_lt i (first + 0) then (if nat_lt i first then 0 else m) else 0)
 start_width had m first i =

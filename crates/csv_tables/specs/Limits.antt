@@ -18,7 +18,7 @@ use Rattle.csv_tables.specs.declared.options.ColumnSettings.{ColumnSettings}
 abbrev pub unset : ColumnSettings
 unset = record { padding = (1, 1); least = None; greatest = None; is_centered = false }
 
--- what the column at a position has
+-- the settings of the column at a position
 abbrev pub settings_at : List ColumnSettings → ℕ → ColumnSettings
 settings_at settings position = slice_index_or settings position unset
 
@@ -73,7 +73,7 @@ bounded limits content =
 abbrev pub both_paddings : ColumnLimits → ℕ
 both_paddings limits = limits.padding.0 + limits.padding.1
 
--- what a column takes for a content, with its paddings
+-- the width that a column takes for a content, with its paddings
 abbrev pub taken : ColumnLimits → ℕ → ℕ
 taken limits content = both_paddings limits + bounded limits content
 

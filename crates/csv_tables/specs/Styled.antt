@@ -1,5 +1,5 @@
--- What is drawn of some records whose columns have settings of their own. Without settings each
--- definition is that of the same name of `Drawn`.
+-- Drawings of records whose columns have settings of their own. Without settings each definition
+-- computes to the one of `Drawn` that it is made after.
 -- Source: this library's own.
 use Rattle.std.specs.Prelude.{ℕ, ◌==◌, Bool, true, false, ◌&&◌, ◌||◌, ◌≡◌, List, [], ◌∷◌, ◌++◌, Option, Some, None, is_some, length, map, if◌then◌else◌}
 use Rattle.comfy_parts.specs.Text.{Text}
@@ -27,7 +27,7 @@ with_centers settings content =
     then content
     else record content { columns = map (centered settings) content.columns }
 
--- what the columns that are drawn have: settings are those of the columns of records, by position
+-- the limits of the columns that are drawn: settings are by the positions of fields in records
 abbrev pub column_limits : List ColumnSettings → SelectedValue → List ColumnLimits
 column_limits settings content =
     (if content.is_numbered then no_limits ∷ [] else [])
@@ -45,7 +45,7 @@ has_room_by limits look content is_aligned =
     has_room_in limits look.width is_aligned (nowrap_in content)
     (rows_table look is_aligned content)
 
--- whether decimal points stand below each other: where there is room for the spaces
+-- whether decimal points are lined up: if there is room for the spaces
 abbrev pub is_aligned_by : List ColumnLimits → Look → SelectedValue → Bool
 is_aligned_by limits look content = look.aligns_decimals && has_room_by limits look content true
 
@@ -95,7 +95,7 @@ RendersStyledContent settings true look content text = RendersAsMarkdown look co
 RendersStyledContent settings false look content text =
     RendersStyled settings look (with_centers settings content) text
 
--- the output for some records, of which so many stand below the header, where that is known
+-- the output for some records, and for the count of those below the header, if that is known
 pub record RendersStyledRecords (settings : List ColumnSettings) (counted : Option ℕ)
     (layout : Layout) (records : List (List Text)) (output : Text) : Type 0 where
   pub content : SelectedValue
@@ -105,7 +105,7 @@ pub record RendersStyledRecords (settings : List ColumnSettings) (counted : Opti
   pub joined :
       output ≡ text ++ note_for layout.look.is_markdown layout.selection.limit content.count
 
--- the output for records that are counted: nothing where there are none
+-- the output for records that are counted: nothing if there are none
 abbrev pub RendersAnyStyledRecords : List ColumnSettings → Layout → List (List Text) → Text
     → Type 0
 RendersAnyStyledRecords settings layout [] output = output ≡ []

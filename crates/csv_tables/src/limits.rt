@@ -17,7 +17,7 @@ use std::alloc::{AllocError, Global};
 /// The widths that the texts of a column may have, in terminal columns.
 #[derive(Clone, Copy)]
 pub(crate) struct ColumnLimits {
-    // what is left free to the left and to the right
+    // the terminal columns that stay free to the left and to the right
     pub padding: (u16, u16),
     // 0 if there is no least width
     pub least: u16,
@@ -27,7 +27,7 @@ pub(crate) struct ColumnLimits {
     pub has_points: bool,
 }
 
-/// Those of each column of the table of rows; none if no column has settings.
+/// The limits of each column of the table of rows; none if no column has settings.
 pub(crate) fn limits_in(
     settings: &[ColumnSettings],
     selected: &SelectedRecords,
@@ -48,7 +48,7 @@ pub(crate) fn limits_in(
     Ok(limits)
 }
 
-/// What the column at a position has of its own.
+/// The settings of the column at a position.
 pub(crate) fn settings_at(settings: &[ColumnSettings], position: usize) -> ColumnSettings
     ensures { result ≡ settings_at settings.now position }
 {
@@ -128,7 +128,7 @@ fn set_padding(column: &mut Column, padding: (u16, u16))
     column.set_padding(padding);
 }
 
-/// What the column at a place takes for a content, with its paddings.
+/// The width that the column at a place takes for a content, with its paddings.
 pub(crate) fn taken_at(limits: &[ColumnLimits], at: usize, content: u16) -> usize
     ensures { result ≡ taken (limits_at limits.now at) content }
 {

@@ -101,7 +101,7 @@ fn keep_contents(
     Ok(())
 }
 
-// Gives columns their limits, and nothing beforehand.
+// Gives columns their limits, and no contents first.
 fn keep_nothing(
     contents: &mut LazyTable,
     limits: &[ColumnLimits],
@@ -296,7 +296,7 @@ fn constrain_columns(table: &mut Table, constraints: Vec<ColumnConstraint>)
     table.set_constraints(constraints);
 }
 
-// What columns that keep so much are given beforehand, where all share a width up to a level.
+// The contents that columns which keep these are given first, if all share a width up to a level.
 fn given_contents(
     alloc: Global,
     kept: &[u16],

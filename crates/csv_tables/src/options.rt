@@ -93,7 +93,7 @@ pub struct ColumnPlan {
     pub is_nowrap: bool,
 }
 
-/// What a column has of its own in a table of rows. Numbers count terminal columns.
+/// The settings of a column in a table of rows. Numbers count terminal columns.
 #[derive(Clone, Copy, Debug, PartialEq, Eq)]
 pub struct ColumnSettings {
     /// How many are left free to the left and to the right of its texts.

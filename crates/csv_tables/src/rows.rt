@@ -164,7 +164,7 @@ impl RecordRows {
     }
 
     /// The memory that is used.
-    pub fn alloc(&self) -> Global {
+    pub(crate) fn alloc(&self) -> Global {
         let selected = &self.selected;
         selected.alloc
     }

@@ -6,7 +6,7 @@ use Rattle.comfy_table.specs.TableValue.{TableValue, cell_content_width}
 use Rattle.csv_tables.specs.Contents.{made_by, measured_at}
 use Rattle.csv_tables.proofs.rows.RecordRows.widen.Given as goal
 
--- the width of the cell at a position behind the number, or 0
+-- the width of the cell at a position after the number, or 0
 abbrev pub behind : TableValue → List CellValue → ℕ → ℕ → ℕ
 behind table cells first i = if nat_lt i first then 0 else measured_at table cell_content_width (slice_get cells i)
 
