@@ -193,6 +193,7 @@ fn fitting_text<'a>(
 }
 
 // The columns and the text of a cell's one text line, if it fits and is written as it is.
+#[inline(always)]
 fn fitting_line<'a>(
     table: &Table,
     cell: &'a Cell,
@@ -224,7 +225,7 @@ fn is_custom_styled(table: &Table, cell: &Cell) -> bool
 }
 
 // The lines of a cell in its row, in an empty list. Most cells need none.
-#[inline(never)]
+#[inline(always)]
 fn listed_lines<'a>(
     table: &'a Table,
     limit: Option<usize>,
@@ -336,6 +337,7 @@ fn cell_lines<'a>(
 }
 
 // Appends the lines of a text line of so many columns.
+#[inline(always)]
 fn push_lines<'a>(
     lines: &mut Vec<Line<'a>>,
     text: &'a str,
@@ -356,6 +358,7 @@ fn push_lines<'a>(
 }
 
 // Appends the wrapped lines of a text line.
+#[inline(always)]
 fn push_wrapped<'a>(
     lines: &mut Vec<Line<'a>>,
     text: &'a str,
@@ -399,6 +402,7 @@ fn uncut_lines<'a>(
 }
 
 // Lines of a cell that is made as they are measured, with what is written for each.
+#[inline(always)]
 fn written_cell_lines<'a>(
     table: &Table,
     cell: &Cell,

@@ -366,6 +366,7 @@ fn push_frame_line<O: Output>(output: &mut O, line: &Option<String>) -> Result<(
 
 // Appends the first `height` lines of a row. The first is drawn in the text already, and each other
 // one is drawn there.
+#[inline(always)]
 fn push_row<'a, O: Output>(
     output: &mut O,
     text: &mut String,

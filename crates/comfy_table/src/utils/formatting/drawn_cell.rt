@@ -52,6 +52,7 @@ impl<'a, 'r> DrawnCell<'a, 'r> {
     }
 
     /// The piece of the cell in a line of its row, which is counted from 0.
+    #[inline(always)]
     pub fn piece_at(&self, line: usize) -> Piece<'_>
         ensures { result ≡ piece_at line self.now }
     {

@@ -114,6 +114,7 @@ impl Output for TrimmedText {
 }
 
 // Appends a line and a line feed.
+#[inline(always)]
 fn push_terminated(text: &mut String, line: &str) -> Result<()>
     ensures ok { OnOk result (string_bytes text.new
         ≡ string_bytes text.old ++ (line.now ++ 0x0A ∷ [])) }

@@ -55,6 +55,7 @@ impl RowGaps {
     }
 
     /// Appends what ends a line: so many spaces and the last gap.
+    #[inline(always)]
     pub fn push_end(&self, text: &mut String, free: usize) -> Result<()>
         ensures { OnOk result (string_bytes text.new
             ≡ string_bytes text.old ++ (spaces free ++ self.now.right)) }
