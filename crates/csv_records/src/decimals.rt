@@ -1,4 +1,4 @@
-//! The decimal mark of a column of numbers, so that fractions stand below each other.
+//! The decimal mark of a column of numbers, so that fractions are below each other.
 
 ghost use Rattle.std.specs.Prelude.{◌≡◌, ◌<◌, ◌==◌, ◌&&◌, ◌||◌, ◌∷◌, ◌++◌, ℕ, Bool, List, [], chars, false, max, not, true};
 ghost use Rattle.std.specs.Char.{is_ascii_digit};
@@ -61,7 +61,7 @@ impl DecimalMark {
 }
 
 impl Points {
-    /// How many spaces stand behind a field of the column, so that its mark stands below those of
+    /// How many spaces are after a field of the column, so that its mark is below those of
     /// the others.
     pub fn spaces_behind(self, field: &str) -> usize
         ensures { result ≡ spaces_behind self field.now }

@@ -1,4 +1,4 @@
-//! What stands between the fields of a text.
+//! What is between the fields of a text.
 
 ghost use Rattle.std.specs.Prelude.{◌≡◌, ◌==◌, IfOk, option_map};
 ghost use Rattle.std.specs.List.{count_by, list_all};
@@ -7,10 +7,10 @@ ghost use Rattle.csv_records.specs.Lines.{EndsIn};
 
 use crate::counting::field_counts;
 use crate::lines::split_line;
-use crate::text::without_mark;
+use crate::text::without_utf8_mark;
 use std::alloc::{AllocError, Global};
 
-/// What stands between the fields of a record.
+/// What is between the fields of a record.
 #[derive(Clone, Copy, Debug)]
 pub enum Delimiter {
     /// This byte.
@@ -28,7 +28,7 @@ pub enum Delimiter {
 /// The byte between the fields of a text, and the text of its records: all of it, or what follows a
 /// first line `sep=X`.
 ///
-/// Such a line is looked for unless a byte is asked for, also behind a byte-order mark. X is one
+/// Such a line is looked for unless a byte is asked for, also after a byte-order mark. X is one
 /// ASCII character that is no quote. The letters may be capitals.
 ///
 /// `Auto` takes that of TAB, `;`, `,` and `|` by which the most of the first ten records have one
@@ -60,7 +60,7 @@ pub(crate) fn delimited<'a>(
     }
 }
 
-/// Whether a text whose lines are whole shows what stands between fields, however it goes on: a
+/// Whether a text whose lines are whole shows what is between fields, however it goes on: a
 /// byte is asked for, which is no line feed, or its first line names one, or each that is tried
 /// gives it more records than are looked at. Where spaces part fields, a text is read whole.
 pub(crate) fn shows_delimiter(
@@ -85,23 +85,26 @@ pub(crate) fn shows_delimiter(
 fn named_delimiter(text: &str) -> Option<(u8, &str)>
     ensures { option_map (λ parts. (parts.0, parts.1.now)) result ≡ named_delimiter text.now }
 {
-    let (line, below) = split_line(without_mark(text));
+    let (line, below) = split_line(without_utf8_mark(text));
     Some((delimiter_in(line.as_bytes())?, below))
 }
+
+// The word before a delimiter that a line names, in letters of either case.
+const NAMING_WORD: &[u8] = b"sep=";
 
 // The delimiter that a line names.
 fn delimiter_in(line: &[u8]) -> Option<u8>
     ensures { result ≡ delimiter_in line.now }
 {
-    let (word, name) = line.split_at_checked(4)?;
-    if word.eq_ignore_ascii_case(b"sep=") {
+    let (word, name) = line.split_at_checked(NAMING_WORD.len())?;
+    if word.eq_ignore_ascii_case(NAMING_WORD) {
         only_ascii(name)
     } else {
         None
     }
 }
 
-// The ASCII character that is all of a word, where it may stand between fields.
+// The ASCII character that is all of a word, where it may be between fields.
 pub fn only_ascii(word: &[u8]) -> Option<u8>
     ensures { result ≡ only_ascii word.now }
 {
@@ -118,7 +121,7 @@ const TRIED: [u8; 4] = [b'\t', b';', b',', b'|'];
 // How many records are looked at.
 const FIRST_RECORDS: usize = 10;
 
-// The first of them by which the most records agree, a comma where none do.
+// The first of them by which the most records agree, a comma if none do.
 fn found_delimiter(alloc: Global, text: &str, has_quotes: bool) -> Result<u8, AllocError>
     ensures { IfOk result (λ delimiter. delimiter ≡ found_delimiter has_quotes text.now) }
 {

@@ -3,7 +3,7 @@
 ghost use Rattle.std.specs.Prelude.{◌≡◌};
 ghost use Rattle.csv_records.specs.Lines.{EndsIn, below_line, below_lines, end_len, first_line, line_len};
 
-/// The bytes below the first `count` lines, none where there aren't more. A line ends at a line
+/// The bytes below the first `count` lines, none if there aren't more. A line ends at a line
 /// feed, a carriage return, or a carriage return with a line feed, also between quotes.
 pub(crate) fn below_lines(bytes: &[u8], count: usize) -> &[u8]
     ensures below { result.now ≡ below_lines count bytes.now }
@@ -36,7 +36,7 @@ pub(crate) fn split_line(text: &str) -> (&str, &str)
     (line, rest.split_at(end_len(rest.as_bytes())).1)
 }
 
-// How many bytes stand before the first line end.
+// How many bytes are before the first line end.
 fn line_len(bytes: &[u8]) -> usize
     ensures { result ≡ line_len bytes.now }
 {
