@@ -20,7 +20,7 @@ const LINE_FEED: u8 = b'\n';
 
 /// The first `most` records of an input of which these bytes were read, and how many these have,
 /// where their whole lines are enough: their text ends with a line feed and outside quotes, it has
-/// more records, and it shows what is between fields. None where more has to be read, be it
+/// more records, and it shows its delimiter. None where more has to be read, be it
 /// since no text ends there. An input in UTF-16 is read whole, and so is one that doesn't have more
 /// line feeds.
 pub fn read_beginning(
@@ -109,7 +109,7 @@ fn ends_with_line(bytes: &[u8]) -> bool
     }
 }
 
-// What was read, up to its last line feed.
+// The bytes that were read, up to their last line feed.
 fn whole_lines(read: &[u8]) -> &[u8]
     ensures { result.now ≡ whole_lines read.now }
 {

@@ -47,7 +47,7 @@ pub(crate) fn field_counts(
     Ok(counts)
 }
 
-/// How many fields the first record of these bytes has, and what follows it.
+/// How many fields the first record of these bytes has, and the rest after it.
 pub(crate) fn first_count(bytes: &[u8], delimiter: u8, has_quotes: bool) -> Option<(usize, &[u8])>
     ensures { option_map (λ found. (found.0, found.1.now)) result
         ≡ count_from (config_for delimiter has_quotes) st.StartRecord 1 bytes.now }

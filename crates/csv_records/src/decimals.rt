@@ -17,7 +17,7 @@ pub enum DecimalMark {
     Comma,
 }
 
-/// The decimal mark of a column, and what its longest fraction takes.
+/// The decimal mark of a column, and the room of its longest fraction.
 #[derive(Clone, Copy, Debug, PartialEq, Eq)]
 pub struct Points {
     /// The mark.
@@ -37,7 +37,7 @@ pub struct MarkUse {
     pub longest: usize,
 }
 
-/// What the fields of a column say of its decimal mark.
+/// The signs of a decimal mark in the fields of a column.
 #[derive(Clone, Copy, Debug)]
 pub struct ColumnMarks {
     /// Whether all are neutral, or numbers that end with a digit and have no exponent.
@@ -88,7 +88,7 @@ impl MarkUse {
         }
     }
 
-    // Adds what the digits of one field more say. Those without the mark say nothing of it.
+    // Adds the digits of one field more. Those without the mark are no sign of it.
     fn add(&mut self, field: &str, fraction: Fraction, mark: DecimalMark)
         ensures { fraction ≡ fraction_of (halves (byte_of mark) (digits_in field.now))
             → self.new ≡ use_with mark self.old (digits_in field.now) }
@@ -109,7 +109,7 @@ impl MarkUse {
 }
 
 impl ColumnMarks {
-    /// What no field says.
+    /// The signs in no field.
     pub fn new() -> ColumnMarks
         ensures { result ≡ marks_of [] }
     {
@@ -120,7 +120,7 @@ impl ColumnMarks {
         }
     }
 
-    /// Adds what one field more says, by what it says as a number.
+    /// Adds one field more, by its reading as a number.
     pub fn add(&mut self, field: &str, number: FieldNumber)
         ensures { number ≡ number_of field.now → (fields : List (List ℕ))
             → self.old ≡ marks_of fields → self.new ≡ marks_of (fields ++ field.now ∷ []) }

@@ -1,4 +1,4 @@
-//! What is between the fields of a text.
+//! The delimiter between the fields of a text.
 
 ghost use Rattle.std.specs.Prelude.{◌≡◌, ◌==◌, IfOk, option_map};
 ghost use Rattle.std.specs.List.{count_by, list_all};
@@ -10,23 +10,24 @@ use crate::lines::split_line;
 use crate::text::without_utf8_mark;
 use std::alloc::{AllocError, Global};
 
-/// What is between the fields of a record.
+/// The delimiter between the fields of a record.
 #[derive(Clone, Copy, Debug)]
 pub enum Delimiter {
     /// This byte.
     Byte(u8),
-    /// What a first line `sep=X` names, else what most of the first records agree on, else a comma.
+    /// The one that a first line `sep=X` names, else one that most of the first records agree on,
+    /// else a comma.
     Auto,
-    /// What a first line `sep=X` names, else TAB.
+    /// The one that a first line `sep=X` names, else TAB.
     NamedOrTab,
-    /// Runs of spaces and TABs, as in what `df -h` and `ps aux` write. White space at the ends of a
+    /// Runs of spaces and TABs, as `df -h` and `ps aux` write. White space at the ends of a
     /// line doesn't count, the last column takes all that is left of it, and quotes are characters
     /// like others.
     Spaces,
 }
 
-/// The byte between the fields of a text, and the text of its records: all of it, or what follows a
-/// first line `sep=X`.
+/// The byte between the fields of a text, and the text of its records: all of it, or the rest after
+/// a first line `sep=X`.
 ///
 /// Such a line is looked for unless a byte is asked for, also after a byte-order mark. X is one
 /// ASCII character that is no quote. The letters may be capitals.
@@ -60,7 +61,7 @@ pub(crate) fn delimited<'a>(
     }
 }
 
-/// Whether a text whose lines are whole shows what is between fields, however it goes on: a
+/// Whether a text whose lines are whole shows its delimiter, however it goes on: a
 /// byte is asked for, which is no line feed, or its first line names one, or each that is tried
 /// gives it more records than are looked at. Where spaces part fields, a text is read whole.
 pub(crate) fn shows_delimiter(
@@ -81,7 +82,7 @@ pub(crate) fn shows_delimiter(
     }
 }
 
-// The delimiter that a first line names, and what follows that line.
+// The delimiter that a first line names, and the rest after that line.
 fn named_delimiter(text: &str) -> Option<(u8, &str)>
     ensures { option_map (λ parts. (parts.0, parts.1.now)) result ≡ named_delimiter text.now }
 {

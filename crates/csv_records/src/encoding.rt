@@ -168,7 +168,7 @@ fn order_of(input: &[u8]) -> ByteOrder
     marked_order(input).unwrap_or(ByteOrder::LittleEndian)
 }
 
-// What follows the mark.
+// The bytes after the mark.
 fn without_utf16_mark(input: &[u8]) -> &[u8]
     ensures { result.now ≡ without_utf16_mark input.now }
 {
@@ -200,7 +200,7 @@ fn utf16_text(alloc: Global, input: &[u8], skip: usize) -> Result<String, Decode
     Ok(text)
 }
 
-// The error where what follows these characters, which are below this many lines, is none.
+// The error if no character follows these, which are below this many lines.
 fn not_utf16(above: usize, before: &str) -> DecodeError
     ensures { result ≡ DecodeError.NotUtf16 (line_number above before.now) }
 {
@@ -244,7 +244,7 @@ impl<'a> Units<'a> {
         self.bytes.len() < 2
     }
 
-    // What follows the first line and its end.
+    // The rest after the first line and its end.
     fn below_line(self) -> Units<'a>
         ensures { result ≡ below_line self.entry }
     {
@@ -260,7 +260,7 @@ impl<'a> Units<'a> {
         rest
     }
 
-    // What follows the line end of which a carriage return was read.
+    // The rest after the line end of which a carriage return was read.
     fn behind_feed(self) -> Units<'a>
         ensures { result ≡ drop (end_len (0x0D ∷ self.entry) - 1) self.entry }
     {

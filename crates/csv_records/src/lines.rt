@@ -19,7 +19,7 @@ pub(crate) fn below_lines(bytes: &[u8], count: usize) -> &[u8]
     rest
 }
 
-// What follows the first line and its end.
+// The rest after the first line and its end.
 fn below_line(bytes: &[u8]) -> &[u8]
     ensures { result.now ≡ below_line bytes.now }
 {
@@ -27,7 +27,7 @@ fn below_line(bytes: &[u8]) -> &[u8]
     rest.split_at(end_len(rest)).1
 }
 
-/// The first line without its end, and what follows that end.
+/// The first line without its end, and the rest after that end.
 pub(crate) fn split_line(text: &str) -> (&str, &str)
     ensures line { result.0.now ≡ first_line text.now }
     ensures below { result.1.now ≡ below_line text.now }

@@ -87,7 +87,7 @@ fn skip_records(bytes: &[u8], before: usize, delimiter: u8, has_quotes: bool) ->
     skip_newlines(rest)
 }
 
-// What follows the first record of these bytes.
+// The rest after the first record of these bytes.
 fn skip_record(bytes: &[u8], delimiter: u8, has_quotes: bool) -> &[u8]
     ensures { result.now ≡ skip_record (config_for delimiter has_quotes) bytes.now }
 {

@@ -76,7 +76,7 @@ fn without_spaces_behind(text: &str) -> &str
     rest
 }
 
-// What is before the first digit or decimal mark, from there to the last, and after it.
+// The texts before the first digit or decimal mark, from there to the last, and after it.
 pub(crate) fn parts_of(text: &str) -> (&str, &str, &str)
     ensures front { result.0.now ≡ front_of text.now }
     ensures figure { result.1.now ≡ figure_of text.now }
@@ -122,7 +122,7 @@ pub(crate) fn is_inner(byte: u8) -> bool
     byte.is_ascii_digit() || byte == b'.' || byte == b','
 }
 
-// What may be around a figure, with a sign or without.
+// Whether these may be around a figure, with a sign or without.
 fn is_signed(front: &str, back: &str) -> bool
     ensures { result ≡ is_signed front.now back.now }
 {
@@ -132,7 +132,7 @@ fn is_signed(front: &str, back: &str) -> bool
     }
 }
 
-// What may be around a figure in parentheses.
+// Whether these may be around a figure in parentheses.
 fn is_enclosed(front: &str, back: &str) -> bool
     ensures { result ≡ is_enclosed front.now back.now }
 {
@@ -171,7 +171,7 @@ fn is_end(back: &str) -> bool
     back.is_empty() || is_unit(behind_blank(back))
 }
 
-// What a number is counted in.
+// The unit of a number.
 fn is_unit(text: &str) -> bool
     ensures { result ≡ is_unit text.now }
 {
@@ -275,7 +275,7 @@ fn without_last(text: &str) -> &str
     }
 }
 
-// The last character, and what is before it.
+// The last character, and the rest before it.
 pub(crate) fn split_last(text: &str) -> Option<(&str, char)>
     ensures some { IfSome result (λ parts. text.now ≡ parts.0.now ++ encode_utf8 parts.1) }
     ensures characters { IfSome result (λ parts.

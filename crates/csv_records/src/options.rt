@@ -1,4 +1,4 @@
-//! What a caller may choose about the way an input is read.
+//! Options of a caller for the way in which an input is read.
 
 use crate::delimiter::Delimiter;
 use crate::encoding::Encoding;
@@ -12,7 +12,7 @@ pub struct InputOptions {
     /// How many lines at the input's front are left out, in whatever encoding they are. A line ends
     /// at a line feed, a carriage return, or both, also between quotes.
     pub skip: usize,
-    /// What is between fields.
+    /// The delimiter between fields.
     pub delimiter: Delimiter,
     /// Whether quotes around a field aren't part of it. A quote that opens one and is never closed
     /// is refused then.

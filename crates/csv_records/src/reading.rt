@@ -1,4 +1,4 @@
-//! The records of a text, by what is asked for.
+//! The records of a text, by the options of a caller.
 
 ghost use Rattle.std.specs.Prelude.{◌≡◌, ◌<◌, ◌^◌, IfErr, IfOk};
 ghost use Rattle.csv_records.specs.First.{AreFirst};

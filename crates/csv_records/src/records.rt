@@ -134,7 +134,7 @@ impl<'a> Rows<'a> {
         self.places.is_empty()
     }
 
-    /// Does nothing. What it ensures is that fields are whole characters.
+    /// Does nothing. It ensures that fields are whole characters.
     pub fn hold_texts(&self)
         ensures { All AllText self.now }
     {
@@ -324,7 +324,7 @@ impl<'a> Iterator for RecordFields<'a> {
     }
 }
 
-// What reads the records of a text, whose fields are between delimiters. Records may have
+// A reader of the records of a text, whose fields are between delimiters. Records may have
 // different numbers of fields. A byte-order mark at the beginning is dropped. Without quotes, a
 // quote is a character of its field.
 fn reader_of(alloc: Global, text: &str, delimiter: u8, has_quotes: bool) -> Reader<&[u8]>

@@ -195,7 +195,7 @@ fn push_tabbed(text: &mut String, line: &str, gaps: usize) -> Result<(), AllocEr
     push_spaced(text, rest)
 }
 
-// The first field of a line, and what is after the gap that follows it.
+// The first field of a line, and the rest after the gap that follows it.
 fn split_field(line: &str) -> (&str, &str)
     ensures field { result.0.now ≡ first_field line.now }
     ensures behind { result.1.now ≡ behind_field line.now }
@@ -218,7 +218,7 @@ fn gap_len(bytes: &[u8]) -> usize
     bytes.iter().take_while(|byte| is_gap(**byte)).count()
 }
 
-// Appends what is left of a line, with a space for each TAB.
+// Appends the rest of a line, with a space for each TAB.
 fn push_spaced(text: &mut String, line: &str) -> Result<(), AllocError>
     ensures { OnOk result (string_bytes text.new ≡ string_bytes text.old ++ spaced line.now) }
 {
@@ -232,7 +232,7 @@ fn push_spaced(text: &mut String, line: &str) -> Result<(), AllocError>
     Ok(())
 }
 
-// What is before the first TAB, and after it.
+// The texts before the first TAB and after it.
 fn split_tab(line: &str) -> Option<(&str, &str)>
     ensures { option_map (λ parts. (parts.0.now, parts.1.now)) result ≡ halves 0x09 line.now }
 {
