@@ -1,13 +1,13 @@
 -- A table has the drawing that it has without its hidden columns.
 use Rattle.std.proofs.Common.{◌≡◌, ℕ, suc, ◌+◌, ◌-◌, Bool, true, false, not, cond, List, [], ◌∷◌, ◌++◌, Option, Some, None, length, map, max, arith, refl, sym, ap, ap₂, ◌∙◌, subst, slice_index}
 use Rattle.std.specs.List.{enumerate_from, filter, filter_map, cons_option, slice_get}
-use Rattle.std.specs.Prelude.{MatchOption, flat_map, option_map, option_to_list, unwrap_or}
+use Rattle.std.specs.Prelude.{MatchOption, option_map, option_to_list, unwrap_or}
 use Rattle.std.proofs.lemmas.List.{length-map}
 use Rattle.std.proofs.lemmas.Simd.{map-map}
 use Rattle.std.proofs.lemmas.Option.{unwrap_or-slice_get}
 use Rattle.comfy_parts.proofs.CallerLemmas.{join_by-map}
-use Rattle.comfy_parts.specs.CellValue.{CellValue, ColumnInfo, ColumnValue, RowValue, column_padding, info_of, info_width, is_hidden_column}
-use Rattle.comfy_parts.specs.Text.{Text, greatest, measure}
+use Rattle.comfy_parts.specs.CellValue.{CellValue, ColumnInfo, ColumnValue, RowValue, info_of, info_width, is_hidden_column}
+use Rattle.comfy_parts.specs.Text.{Text}
 use Rattle.comfy_parts.specs.declared.style.table_style.ContentLineStyle.{ContentLineStyle}
 use Rattle.comfy_table.proofs.AllWidthsLemmas.{AreFrom, arranged_by_widths, behind_first, first_from, from_start}
 use Rattle.comfy_table.proofs.BoundaryLemmas.{fixed_same, lower_same, upper_same}
@@ -23,9 +23,8 @@ use Rattle.comfy_table.specs.Dynamic.{IsDynamicLayout}
 use Rattle.comfy_table.specs.Frame.{border_count}
 use Rattle.comfy_table.specs.HiddenColumns.{HiddenColumnsTellNothing, IsDrawnWithoutHidden, beside_shown, is_shown, shown_row, without_hidden}
 use Rattle.comfy_table.specs.Pieces.{pieces_at, row_height, row_line, shown_infos}
-use Rattle.comfy_table.specs.TableValue.{TableValue, cell_content_width, column_cells, column_content_width, header_and_rows, shown_columns, table_width}
-use Rattle.comfy_table.specs.Widths.{ColumnNeeds, capped_content, disabled_width, fixed_by_constraint, lower_boundary, needs_of, shown_count, shown_needs, upper_boundary}
-use Rattle.comfy_table.specs.Lines.{cell_delimiter, cell_lines}
+use Rattle.comfy_table.specs.TableValue.{TableValue, column_cells, column_content_width, header_and_rows, shown_columns, table_width}
+use Rattle.comfy_table.specs.Widths.{ColumnNeeds, capped_content, disabled_width, needs_of, shown_count, shown_needs}
 
 -- ---- positions
 
@@ -119,19 +118,6 @@ module _ (table : TableValue) where
   count_same =
       let own : ℕ × ColumnValue → ColumnValue = λ p. p.1 in
       sym (length-map (shown_columns table) own) ∙ ap length (shown_same table own own (λ i j column at. refl)) ∙ length-map (shown_columns (without_hidden table)) own
-
-  -- the needs of a column that has these cells, beside so many shown columns
-  abbrev needs_with : TableValue → ColumnValue → ℕ → List CellValue → ColumnNeeds
-  needs_with t column n cells =
-      let content = greatest (map cell_content_width cells) in
-      record {
-        content = content;
-        padding = column_padding column;
-        fixed = fixed_by_constraint t n content (column_padding column) column.constraint;
-        lower = lower_boundary t n column.constraint;
-        upper = upper_boundary t n column.constraint;
-        longest = λ w. greatest (map measure (flat_map (λ (cell : CellValue). cell_lines w (cell_delimiter t column.delimiter cell) cell) cells));
-      }
 
   needs_same : (i j : ℕ) (column : ColumnValue) → IsMoved table.columns i j → needs_of table (i, column) ≡ needs_of (without_hidden table) (j, column)
   needs_same i j column at = grind (arith, count_same, cells_same, fixed_same, lower_same, upper_same)
