@@ -41,7 +41,7 @@ LAWS_ELSEWHERE = {("comfy_parts", "presets_are_as_tabled")}  # not in `laws`, an
 LAWS_IN_PROSE = ["cluster_width", "promises"]  # PROVED names some of theirs outside of its tables
 COUNTS = "no one two three four five six seven eight nine ten eleven twelve".split()
 CALLERS = ["test_callers", "csv_promises"]
-TOLD_WITH = {"comfy_run": ["devices"], "csv_tables": ["csv_records", "csv_command"]}  # by one CALLING.md
+PAGE_WITH = {"comfy_run": ["devices"], "csv_tables": ["csv_records", "csv_command"]}  # by one CALLING.md
 STORED = ["csvtable/stdout"]
 LINKED = ["README.md", "CONTRIBUTING.md", "docs/*.md", "crates/*/CALLING.md", "crates/case_files/FORMAT.md", "packages/*/README.md"]
 # Names in backquotes of a CALLING.md that the sources don't have, each with the reason.
@@ -96,7 +96,7 @@ def quoted_in(page):
 
 def wrong_in_calling(crate):
     """The clauses and signatures that a CALLING.md quotes and its library doesn't have."""
-    sources = [it for name in (crate, *TOLD_WITH.get(crate, []), *CALLERS) for it in sources_of(name)]
+    sources = [it for name in (crate, *PAGE_WITH.get(crate, []), *CALLERS) for it in sources_of(name)]
     source = on_one_line(" ".join(text_of(it) for it in sources))
     quoted = quoted_in(text_of(f"crates/{crate}/CALLING.md"))
     return [

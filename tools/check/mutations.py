@@ -18,8 +18,8 @@ can't be applied and those whose name is in both folders of the crate.
 
 It works on a copy of the crate and of the crates below it, with what earlier checks kept in their out/, so `rt check` in
 the crate's folder beforehand saves time. A check tries mutations of different functions together: each function's line
-says whether it is proved. A function that only calls a mutated one is tried again in a later check. What can't be told
-so is tried by itself.
+says whether it is proved. A function that only calls a mutated one is tried again in a later check. A mutation of
+which no line says that is tried by itself.
 
 It prints a line for each mutation: refused, SURVIVED (the crate is proved with it), STALE (no goal is left unproved: it
 fails only because an answer that was written by hand names what it takes away, so it shows nothing of a clause), CANNOT
@@ -203,12 +203,12 @@ def is_in(mutation, place):
 
 def is_stale(mutation, lines, is_alone):
     """Whether no goal is left unproved, and written answers fail only for names that they use."""
-    told = r"^(?:note: )?(?:\./)?((?:src|proofs)/[^: ]+:\d+:\d+): (.*(?:\n  .*)?)"
-    told = re.finditer(told, "\n".join(lines), re.M)  # a long message goes on in the next line
-    told = [it for it in told if is_alone or is_in(mutation, it[1])]
-    if any("it is not proved that" in it[2] for it in told):
+    messages = r"^(?:note: )?(?:\./)?((?:src|proofs)/[^: ]+:\d+:\d+): (.*(?:\n  .*)?)"
+    messages = re.finditer(messages, "\n".join(lines), re.M)  # a long message goes on in the next line
+    messages = [it for it in messages if is_alone or is_in(mutation, it[1])]
+    if any("it is not proved that" in it[2] for it in messages):
         return False
-    errors = [it[2] for it in told if it[2].startswith("error")]
+    errors = [it[2] for it in messages if it[2].startswith("error")]
     return bool(errors) and all(re.search(STALE, it) for it in errors)
 
 

@@ -169,7 +169,7 @@ def resized():
 
 
 def waits():
-    """A terminal gives the input, and is told so."""
+    """A terminal gives the input, and gets a message about it."""
     said = "csvtable: reading from the terminal; end with Ctrl-D\n"
     for arguments in ([], ["-"]):
         ours, theirs = terminal(80)
@@ -177,7 +177,7 @@ def waits():
         process = subprocess.Popen([PROGRAM, *arguments], stdin=theirs, **pipes)
         is_said = select.select([process.stderr], [], [], 10)[0]
         first = process.stderr.read(len(said)).decode() if is_said else ""
-        see(f"a terminal is told before it is read {' '.join(arguments)}", first == said and process.poll() is None, first)
+        see(f"a terminal gets a message before it is read {' '.join(arguments)}", first == said and process.poll() is None, first)
         os.write(ours, b"a,b\nx,y\n\x04")
         out, err = process.communicate(timeout=10)
         see("and what it gives is drawn", process.returncode == 0 and err == b"" and "│ x ┆ y │" in out.decode(), out.decode())

@@ -1,5 +1,5 @@
 -- A cursor over the parts of a text line: what it passes, and where it stands then.
-use Rattle.std.proofs.Common.{◌≡◌, ◌⊎◌, inl, inr, ◌<◌, ◌≤◌, ℕ, zero, suc, ◌+◌, ◌-◌, true, false, List, [], ◌∷◌, ◌++◌, length, map, take, drop, replicate, refl, sym, ap, ap₂, ◌∙◌, subst, arith, append_assoc, append-nil, length-append}
+use Rattle.std.proofs.Common.{◌≡◌, ◌<◌, ◌≤◌, ℕ, zero, suc, ◌+◌, ◌-◌, true, false, List, [], ◌∷◌, ◌++◌, length, map, take, drop, replicate, refl, sym, ap, ap₂, ◌∙◌, subst, arith, append_assoc, append-nil, length-append}
 use Rattle.std.specs.List.{concat, flat_map}
 use Rattle.std.specs.Prelude.{if◌then◌else◌, encode_utf8, encode_utf8_all, IsUtf8}
 use Rattle.std.specs.Str.{all_scalars, IsCharBoundary}
@@ -12,7 +12,7 @@ use Rattle.std.proofs.lemmas.List.{length-take-le, take-append-le}
 use Rattle.std.proofs.lemmas.Str.{IsCharBoundary-from_take, IsUtf8-drop}
 use Rattle.comfy_parts.specs.Cursor.{CursorValue, StandsAt, at_byte, begins_with_sequence, behind_bytes, bytes_up_to, character_parts, open_at_end, parts_behind, visible_part}
 use Rattle.comfy_parts.specs.Text.{Text, IsOnly, begins_with}
-use Rattle.comfy_parts.specs.VisibleText.{Part, opened, parts, parts_before, parts_from, parts_up_to, sequence_len, visible_bytes, visible_text}
+use Rattle.comfy_parts.specs.VisibleText.{Part, opened, parts, parts_before, parts_from, parts_up_to, visible_bytes, visible_text}
 use Rattle.comfy_parts.proofs.FrontLemmas.{parts-behind_sequence, visible_bytes-visible}
 use Rattle.comfy_parts.proofs.LineTextLemmas.{before_from, before_further}
 use Rattle.comfy_parts.proofs.OpenLemmas.{opened-append}
@@ -36,8 +36,7 @@ from_sequence (suc k) p ps is = ap (λ b. parts_from (if b then suc k else k) ps
 -- nor are those before the next visible byte
 from_zero : (k : ℕ) (ps : List Part) → parts_from k (parts_from zero ps) ≡ parts_from k ps
 from_zero k [] = refl
-from_zero k (p ∷ ps) =
-    cond_both p.is_sequence _ _ (λ qs. parts_from k qs ≡ parts_from k (p ∷ ps)) (λ is. from_zero k ps ∙ sym (from_sequence k p ps is)) (λ _. refl)
+from_zero k (p ∷ ps) = grind (arith, cond_both, from_sequence, from_zero k ps)
 
 from_nil : (n : ℕ) → parts_from n [] ≡ []
 from_nil zero = refl
@@ -45,9 +44,7 @@ from_nil (suc n) = refl
 
 -- the parts from a later visible byte on
 from_further : (n k m : ℕ) (ps : List Part) → m ≡ n + k → parts_from k (parts_from n ps) ≡ parts_from m ps
-from_further zero k m ps is =
-    let same : k ≡ m = omega (arith, is) in
-    from_zero k ps ∙ ap (λ j. parts_from j ps) same
+from_further zero k m ps is = grind (arith, from_zero)
 from_further (suc n) k m [] is = from_nil k ∙ sym (from_nil m)
 from_further (suc n) k zero (p ∷ ps) is = absurd (omega (arith, is))
 from_further (suc n) k (suc m) (p ∷ ps) is =
@@ -111,31 +108,25 @@ end-stands n new old stands = sym (end-at 0 new) ∙ ap open_at_end stands ∙ e
 -- after the sequences none comes next
 pub front-free : (ps : List Part) → begins_with_sequence (parts_from zero ps) ≡ false
 front-free [] = refl
-front-free (p ∷ ps) = cond_both p.is_sequence _ _ (λ qs. begins_with_sequence qs ≡ false) (λ _. front-free ps) (λ is. is)
+front-free (p ∷ ps) = grind (arith, cond_both, front-free ps)
 
 -- no more parts are left there
 pub from-fewer : (ps : List Part) → length (parts_from zero ps) ≤ length ps
 from-fewer [] = omega arith
-from-fewer (p ∷ ps) = cond_both p.is_sequence _ _ (λ qs. length qs ≤ suc (length ps)) (λ _. omega (arith, from-fewer ps)) (λ _. omega arith)
+from-fewer (p ∷ ps) = grind (arith, cond_both, from-fewer ps)
 
 -- sequences aren't visible
 pub visible-front : (ps : List Part) → flat_map visible_bytes (parts_from zero ps) ≡ flat_map visible_bytes ps
 visible-front [] = refl
-visible-front (p ∷ ps) =
-    cond_both p.is_sequence _ _ (λ qs. flat_map visible_bytes qs ≡ flat_map visible_bytes (p ∷ ps))
-    (λ is. visible-front ps ∙ ap (λ t. (if t then [] else p.bytes) ++ flat_map visible_bytes ps) (sym is)) (λ _. refl)
+visible-front (p ∷ ps) = grind (arith, cond_both, visible-front ps)
 
 -- ---- visible bytes are passed
 
 -- fewer visible bytes are left to pass
 pub visible-behind : (n : ℕ) (ss : List Text) (bs : Text) (ps : List Part) → length bs ≤ n → behind_bytes n (at ss (map visible_part bs ++ ps)) ≡ behind_bytes (n - length bs) (at ss ps)
-visible-behind n ss [] ps few =
-    let same : n ≡ n - 0 = omega arith in
-    ap (λ k. behind_bytes k (at ss ps)) same
+visible-behind n ss [] ps few = grind arith
 visible-behind zero ss (b ∷ bs) ps few = absurd (omega (arith, few))
-visible-behind (suc n) ss (b ∷ bs) ps few =
-    let same : n - length bs ≡ suc n - suc (length bs) = omega arith in
-    visible-behind n ss bs ps (omega (arith, few)) ∙ ap (λ k. behind_bytes k (at ss ps)) same
+visible-behind (suc n) ss (b ∷ bs) ps few = grind (arith, visible-behind n ss bs ps (omega (arith, few)))
 
 -- a cursor after a character stands as many bytes on
 visible-stands : (ss : List Text) (bs : Text) (ps : List Part) → StandsAt (at ss ps) (length bs) (at ss (map visible_part bs ++ ps))
@@ -149,17 +140,11 @@ character-stands ss c ps = visible-stands ss (encode_utf8 c) ps
 
 -- where no sequence comes next, the text has none at its front
 pub none_ahead : (text : Text) → begins_with_sequence (parts text) ≡ false → begins text ≡ false
-none_ahead text none = none_at_front text (by_len (sequence_len text) refl)
-  where
-    by_len : (n : ℕ) → sequence_len text ≡ n → sequence_len text ≡ 0
-    by_len zero is = is
-    by_len (suc n) is =
-        let some : 0 < sequence_len text = omega (arith, is) in
-        absurd (true≢false (sym (ap begins_with_sequence (parts-behind_sequence text some)) ∙ none))
+none_ahead text none = grind (arith, none_at_front, true≢false, parts-behind_sequence)
 
 -- what is visible of it begins as the text does
 pub begins_visible : (d : ℕ) (text : Text) → IsUtf8 text → begins text ≡ false → begins_with d text ≡ false → begins_with d (visible_text text) ≡ false
-begins_visible d text ([], (scalars, is)) free otherwise = subst (λ t. begins_with d (visible_text t) ≡ false) is (ap (begins_with d) is ∙ otherwise)
+begins_visible d text ([], (scalars, is)) free otherwise = grind arith
 begins_visible d text (c ∷ cs, (scalars, is)) free otherwise =
     let more = encode_utf8_all cs in
     let one = one_character c (and_parts (scalar_of c) (all_scalars cs) scalars).0 in
@@ -189,26 +174,12 @@ whole-behind n run rest whole few all =
 
 -- what is left of it is the same
 pub drops-behind : (n : ℕ) (run rest : Text) → length run ≤ n → drop n (run ++ rest) ≡ drop (n - length run) rest
-drops-behind n run rest few =
-    let same : n ≡ length run + (n - length run) = omega (arith, few) in
-    ap (λ k. drop k (run ++ rest)) same ∙ drop-append-add run rest (n - length run)
+drops-behind n run rest few = grind (arith, drop-append-add)
 
 -- visible bytes at a text's front end where a character does
 pub run-place : (n most : ℕ) (text : Text) → IsUtf8 text → n ≤ most → n ≤ length text → (n < most → IsCharBoundary text n)
     → parts text ≡ map visible_part (take n text) ++ parts (drop n text) → (most ≤ length text → IsUtf8 (take most (visible_text text))) → IsCharBoundary text n
-run-place n most text utf8 within inside before divides whole = by_order (cases_lt n most)
-  where
-    front : take n (visible_text text) ≡ take n text
-    front =
-        let all = ap (flat_map visible_bytes) divides ∙ visible_bytes-visible (take n text) (parts (drop n text)) in
-        let long = length-take-le n text inside in
-        ap (take n) all ∙ take-append-le n (take n text) (visible_text (drop n text)) (omega (arith, long)) ∙ ap (λ k. take k (take n text)) (sym long) ∙ take-length (take n text)
-
-    by_order : (n < most) ⊎ (most ≤ n) → IsCharBoundary text n
-    by_order (inl less) = before less
-    by_order (inr equal) =
-        let same : most ≡ n = omega (arith, equal, within) in
-        IsCharBoundary-from_take text n utf8 inside (subst IsUtf8 (ap (λ k. take k (visible_text text)) same ∙ front) (whole (omega (arith, equal, inside))))
+run-place n most text utf8 within inside before divides whole = grind (arith, cases_lt, visible_bytes-visible, length-take-le, take-append-le, take-length, IsCharBoundary-from_take)
 
 -- ---- delimiters
 

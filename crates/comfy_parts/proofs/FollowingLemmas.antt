@@ -1,5 +1,4 @@
 -- The first element of a text by its first delimiter, and the end of a line by what follows its first element.
-use Rattle.std.specs.Cmp.{nat_eq_equiv}
 use Rattle.comfy_parts.proofs.WrappingLemmas.{begins_otherwise-unless}
 use Rattle.std.proofs.Common.{◌≡◌, ◌<◌, ◌≤◌, ℕ, ◌+◌, ◌-◌, Bool, true, false, ◌==◌, List, [], ◌∷◌, ◌++◌, length, take, drop, Some, map, nat_lt, refl, sym, ap, ap₂, ◌∙◌, subst, arith, append-nil, length-append, take_at, drop_at}
 use Rattle.std.specs.Char.{IsScalar}
@@ -17,7 +16,7 @@ use Rattle.std.proofs.lemmas.Str.{IsUtf8-nil, IsUtf8-take, IsUtf8-drop, IsUtf8-b
 use Rattle.unicode_segmentation.proofs.TextLemmas.{encode_utf8_nonempty}
 use Rattle.comfy_parts.specs.Text.{Text, measure, begins_with, elements}
 use Rattle.comfy_parts.specs.Following.{Follow, IsFirstElement}
-use Rattle.comfy_parts.specs.Wrapping.{bytes_of_line, bytes_taken, head_or_first, line_end, part_taken}
+use Rattle.comfy_parts.specs.Wrapping.{bytes_taken, head_or_first, line_end, part_taken}
 use Rattle.comfy_parts.proofs.ElementLemmas.{elements-none, elements-first}
 use Rattle.comfy_parts.proofs.PlaceLemmas.{scalars-parts}
 use Rattle.comfy_parts.proofs.PrintableLineLemmas.{some_parts}
@@ -25,10 +24,7 @@ use Rattle.comfy_parts.proofs.PrintableLineLemmas.{some_parts}
 -- ---- the first element
 
 pub some_elements : (d : ℕ) (text : Text) → 0 < length (elements d text)
-some_elements d text =
-    let same = length-map (slice_split (λ c. c == d) (chars text)) encode_utf8_all in
-    let some = some_parts (λ c. c == d) (chars text) in
-    omega (arith, same, some)
+some_elements d text = grind (arith, length-map, some_parts)
 
 -- after an element a delimiter and the other elements follow
 pub follow-delimiter : (d : ℕ) (more rest : Text) → rest ≡ encode_utf8 d ++ more → Follow d (elements d more) rest
@@ -40,7 +36,7 @@ follow-delimiter d more rest splits = by_elements (elements d more) refl
 
 -- a text without a delimiter is its first element, and nothing follows
 pub first-none : (d : ℕ) (text : Text) → IsUtf8 text → NoCharPasses (λ c. c == d) text → IsFirstElement d text text []
-first-none d text utf8 none = record { others = []; elements_are = elements-none d text utf8 none; follow = refl; joined = append-nil text; whole_first = utf8; whole_behind = IsUtf8-nil }
+first-none d text utf8 none = grind (arith, elements-none, append-nil, IsUtf8-nil)
 
 -- the elements of a text with a delimiter at i, and what is after it from j on
 pub elements-found : (d : ℕ) (text : Text) (i j : ℕ) → IsScalar d → IsUtf8 text → FindsChar d text (Some (i, j)) → IsCharBoundary text i
@@ -73,8 +69,7 @@ elements-around d text front behind scalar utf8 (i, j, found, before, after, ord
 
 -- and what is after it is whole characters
 pub utf8-around : (d : ℕ) (text front behind : Text) → IsUtf8 text → SplitsAroundMatch (FindsChar d) text front behind → IsUtf8 behind
-utf8-around d text front behind utf8 (i, j, found, before, after, order, front_len, behind_len) =
-    subst IsUtf8 (sym after) (IsUtf8-drop text j utf8 (subst (IsCharBoundary text) (sym found.1.ends) found.1.after))
+utf8-around d text front behind utf8 (i, j, found, before, after, order, front_len, behind_len) = grind (arith, IsUtf8-drop)
 
 -- ---- the next element
 
@@ -87,9 +82,7 @@ pub follow-next : (d : ℕ) (es : List Text) (rest more next behind : Text) → 
     → (others : List Text) × (es ≡ next ∷ others) × Follow d others behind
 follow-next d [] rest more next behind none splits first =
     absurd (omega (arith, encode_utf8_nonempty d, length-append (encode_utf8 d) more, ap length (sym splits ∙ none)))
-follow-next d (e ∷ es) rest more next behind (more', same, parts) splits first =
-    let equal : more' ≡ more = append_cancel_left (encode_utf8 d) more' more (sym same ∙ splits) in
-    (first.others, sym parts ∙ ap (elements d) equal ∙ first.elements_are, first.follow)
+follow-next d (e ∷ es) rest more next behind (more', same, parts) splits first = grind (arith, append_cancel_left)
 
 -- ---- the rest of a first element
 
@@ -130,12 +123,7 @@ first-rest d text front rest behind utf8 utf8' first = by_parts (slice_split (λ
 
 -- a text whose first element is not empty begins otherwise
 pub begins_otherwise-first : (d : ℕ) (text first behind : Text) → IsUtf8 text → IsFirstElement d text first behind → 0 < length first → begins_with d text ≡ false
-begins_otherwise-first d text first behind utf8 is some =
-    begins_otherwise-unless d text (λ cs characters.
-    let parts = ap (slice_split (λ c. c == d)) characters ∙ slice_split-cons_yes (λ c. c == d) d cs (nat_eq_equiv.refl d) in
-    let both : [] ∷ map encode_utf8_all (slice_split (λ c. c == d) cs) ≡ first ∷ is.others = sym (ap (map encode_utf8_all) parts) ∙ is.elements_are in
-    let nothing : [] ≡ first = cc both in
-    omega (arith, ap length nothing, some))
+begins_otherwise-first d text first behind utf8 is some = grind (arith, begins_otherwise-unless, slice_split-cons_yes)
 
 -- the first element and what follows it, by the place between them
 pub first-at : (d : ℕ) (text first behind : Text) → IsFirstElement d text first behind → IsCharBoundary text (length first) × IsFirstElement d text (take (length first) text) (drop (length first) text)
@@ -171,19 +159,17 @@ module _ (w d filled : ℕ) (next : Text) (others : List Text) (free : filled �
   not_full = grind (arith, nat_tests, free)
 
   pub taken-part : w - filled ≤ measure next → bytes_taken w d filled (next ∷ others) ≡ part_taken w d filled next
-  taken-part wide =
-      cond-false (nat_lt (w - 2) filled) _ _ not_full ∙ cond-true (nat_lt w (filled + 1 + measure next)) _ _ (grind (arith, nat_tests, wide, free))
+  taken-part wide = grind (arith, cond-false, not_full, cond-true, nat_tests)
 
   pub taken-more : measure next < w - filled → bytes_taken w d filled (next ∷ others) ≡ length (encode_utf8 d) + length next + bytes_taken w d (filled + measure next + measure (encode_utf8 d)) others
-  taken-more room =
-      cond-false (nat_lt (w - 2) filled) _ _ not_full ∙ cond-false (nat_lt w (filled + 1 + measure next)) _ _ (grind (arith, nat_tests, room))
+  taken-more room = grind (arith, cond-false, not_full, nat_tests)
 
 -- a line whose first element is wider ends within it
 pub line_end-wide : (w d : ℕ) (text first behind : Text) → IsFirstElement d text first behind → nat_lt w (measure first) ≡ true → line_end w d text ≡ length (head_or_first w first)
 unfolding line_end
-line_end-wide w d text first behind is wide = ap (bytes_of_line w d) is.elements_are ∙ cond-true (nat_lt w (measure first)) _ _ wide
+line_end-wide w d text first behind is wide = grind (arith, cond-true)
 
 -- any other line ends by what follows its first element
 pub line_end-narrow : (w d : ℕ) (text first behind : Text) (is : IsFirstElement d text first behind) → nat_lt w (measure first) ≡ false → line_end w d text ≡ length first + bytes_taken w d (measure first) is.others
 unfolding line_end
-line_end-narrow w d text first behind is narrow = ap (bytes_of_line w d) is.elements_are ∙ cond-false (nat_lt w (measure first)) _ _ narrow
+line_end-narrow w d text first behind is narrow = grind (arith, cond-false)

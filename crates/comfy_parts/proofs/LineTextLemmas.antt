@@ -34,18 +34,14 @@ before_nil (suc n) = refl
 pub before_from : (n : ℕ) (ps : List Part) → parts_before n ps ++ parts_from n ps ≡ ps
 before_from zero [] = refl
 before_from (suc n) [] = refl
-before_from zero (p ∷ ps) =
-    elim p.is_sequence as (λ b. (if b then p ∷ parts_before zero ps else []) ++ (if b then parts_from zero ps else p ∷ ps) ≡ p ∷ ps)
-    [ true ↦ ap (λ xs. p ∷ xs) (before_from zero ps) | false ↦ refl ]
+before_from zero (p ∷ ps) = grind (arith, before_from zero ps)
 before_from (suc n) (p ∷ ps) = ap (λ xs. p ∷ xs) (before_from (if p.is_sequence then suc n else n) ps)
 
 -- the parts up to a visible byte are the first ones
 up_to_more : (n : ℕ) (ps : List Part) → (more : List Part) × (ps ≡ parts_up_to n ps ++ more)
 up_to_more zero ps = (ps, refl)
 up_to_more (suc n) [] = ([], refl)
-up_to_more (suc n) (p ∷ ps) =
-    let rest = up_to_more (if p.is_sequence then suc n else n) ps in
-    (rest.0, ap (λ xs. p ∷ xs) rest.1)
+up_to_more (suc n) (p ∷ ps) = grind (arith, up_to_more (if p.is_sequence then suc n else n) ps)
 
 -- a sequence stands before each visible byte after it
 before_sequence : (k : ℕ) (p : Part) (ps : List Part) → p.is_sequence ≡ true → parts_before k (p ∷ ps) ≡ p ∷ parts_before k ps
@@ -55,24 +51,16 @@ before_sequence (suc k) p ps is = ap (λ b. p ∷ parts_before (if b then suc k 
 -- sequences in front stand before it
 before_sequences : (k : ℕ) (ss : List Text) (ps : List Part) → parts_before k (map sequence_part ss ++ ps) ≡ map sequence_part ss ++ parts_before k ps
 before_sequences k [] ps = refl
-before_sequences k (s ∷ ss) ps =
-    before_sequence k (sequence_part s) (map sequence_part ss ++ ps) refl ∙ ap (λ xs. sequence_part s ∷ xs) (before_sequences k ss ps)
+before_sequences k (s ∷ ss) ps = grind (arith, before_sequence, before_sequences k ss ps)
 
 -- the parts before a visible byte begin with those before the first one
 before_zero : (k : ℕ) (ps : List Part) → parts_before k ps ≡ parts_before zero ps ++ parts_before k (parts_from zero ps)
 before_zero k [] = refl
-before_zero k (p ∷ ps) = by_test p.is_sequence refl (before_zero k ps)
-  where
-    by_test : (b : Bool) → p.is_sequence ≡ b → parts_before k ps ≡ parts_before zero ps ++ parts_before k (parts_from zero ps)
-        → parts_before k (p ∷ ps) ≡ (if b then p ∷ parts_before zero ps else []) ++ parts_before k (if b then parts_from zero ps else p ∷ ps)
-    by_test true is more = before_sequence k p ps is ∙ ap (λ xs. p ∷ xs) more
-    by_test false is more = refl
+before_zero k (p ∷ ps) = grind (arith, before_sequence, before_zero k ps)
 
 -- and with those before each earlier one
 pub before_further : (n k m : ℕ) (ps : List Part) → m ≡ n + k → parts_before m ps ≡ parts_before n ps ++ parts_before k (parts_from n ps)
-before_further zero k m ps is =
-    let same : m ≡ k = omega (arith, is) in
-    ap (λ j. parts_before j ps) same ∙ before_zero k ps
+before_further zero k m ps is = grind (arith, before_zero)
 before_further (suc n) k m [] is = before_nil m ∙ sym (before_nil k)
 before_further (suc n) k zero (p ∷ ps) is = absurd (omega (arith, is))
 before_further (suc n) k (suc m) (p ∷ ps) is =
@@ -107,31 +95,23 @@ before_within k (suc len) (p ∷ ps) more short some =
 visible_bytes_from : (n : ℕ) (ps : List Part) (rest : Text) → AreScanned ps rest → visible_bytes_of (parts_from n ps) ≡ drop n (visible_bytes_of ps)
 visible_bytes_from zero [] rest scanned = refl
 visible_bytes_from (suc n) [] rest scanned = refl
-visible_bytes_from zero (p ∷ ps) rest (inl part, more) =
-    subst (λ (x : Part). visible_bytes_of (parts_from zero (x ∷ ps)) ≡ visible_bytes_of (x ∷ ps)) (sym part.is) (visible_bytes_from zero ps rest more)
-visible_bytes_from zero (p ∷ ps) rest (inr part, more) =
-    subst (λ (x : Part). visible_bytes_of (parts_from zero (x ∷ ps)) ≡ visible_bytes_of (x ∷ ps)) (sym part.is) refl
-visible_bytes_from (suc n) (p ∷ ps) rest (inl part, more) =
-    subst (λ (x : Part). visible_bytes_of (parts_from (suc n) (x ∷ ps)) ≡ drop (suc n) (visible_bytes_of (x ∷ ps))) (sym part.is) (visible_bytes_from (suc n) ps rest more)
-visible_bytes_from (suc n) (p ∷ ps) rest (inr part, more) =
-    subst (λ (x : Part). visible_bytes_of (parts_from (suc n) (x ∷ ps)) ≡ drop (suc n) (visible_bytes_of (x ∷ ps))) (sym part.is) (visible_bytes_from n ps rest more)
+visible_bytes_from zero (p ∷ ps) rest (inl part, more) = grind (arith, visible_bytes_from zero ps rest more)
+visible_bytes_from zero (p ∷ ps) rest (inr part, more) = grind arith
+visible_bytes_from (suc n) (p ∷ ps) rest (inl part, more) = grind (arith, visible_bytes_from (suc n) ps rest more)
+visible_bytes_from (suc n) (p ∷ ps) rest (inr part, more) = grind (arith, visible_bytes_from n ps rest more)
 
 -- the visible bytes up to one
 visible_bytes_up_to : (n : ℕ) (ps : List Part) (rest : Text) → AreScanned ps rest → visible_bytes_of (parts_up_to n ps) ≡ take n (visible_bytes_of ps)
 visible_bytes_up_to zero ps rest scanned = refl
 visible_bytes_up_to (suc n) [] rest scanned = refl
-visible_bytes_up_to (suc n) (p ∷ ps) rest (inl part, more) =
-    subst (λ (x : Part). visible_bytes_of (parts_up_to (suc n) (x ∷ ps)) ≡ take (suc n) (visible_bytes_of (x ∷ ps))) (sym part.is) (visible_bytes_up_to (suc n) ps rest more)
-visible_bytes_up_to (suc n) (p ∷ ps) rest (inr part, more) =
-    subst (λ (x : Part). visible_bytes_of (parts_up_to (suc n) (x ∷ ps)) ≡ take (suc n) (visible_bytes_of (x ∷ ps))) (sym part.is) (ap (λ xs. part.byte ∷ xs) (visible_bytes_up_to n ps rest more))
+visible_bytes_up_to (suc n) (p ∷ ps) rest (inl part, more) = grind (arith, visible_bytes_up_to (suc n) ps rest more)
+visible_bytes_up_to (suc n) (p ∷ ps) rest (inr part, more) = grind (arith, visible_bytes_up_to n ps rest more)
 
 -- as many are counted
 count-visible : (ps : List Part) (rest : Text) → AreScanned ps rest → visible_count ps ≡ length (visible_bytes_of ps)
 count-visible [] rest scanned = refl
-count-visible (p ∷ ps) rest (inl part, more) =
-    subst (λ (x : Part). visible_count (x ∷ ps) ≡ length (visible_bytes_of (x ∷ ps))) (sym part.is) (count-visible ps rest more)
-count-visible (p ∷ ps) rest (inr part, more) =
-    subst (λ (x : Part). visible_count (x ∷ ps) ≡ length (visible_bytes_of (x ∷ ps))) (sym part.is) (ap suc (count-visible ps rest more))
+count-visible (p ∷ ps) rest (inl part, more) = grind (arith, count-visible ps rest more)
+count-visible (p ∷ ps) rest (inr part, more) = grind (arith, count-visible ps rest more)
 
 -- ---- closed texts
 
@@ -162,26 +142,19 @@ none_open text =
 
 -- as much is visible of it as of the text
 pub visible-closed : (text : Text) → visible_text (closed text) ≡ visible_text text
-visible-closed text =
-    ap visible_bytes_of (parts-closed text)
-    ∙ flat_map-append visible_bytes (parts text) (closing_part (open_after (parts text)))
-    ∙ ap (λ xs. visible_text text ++ xs) (cond_both (length (open_after (parts text)) == 0) _ _ (λ ps. visible_bytes_of ps ≡ []) (λ _. refl) (λ _. refl))
-    ∙ append-nil (visible_text text)
+visible-closed text = grind (arith, parts-closed, flat_map-append, cond_both, append-nil)
 
 -- ---- sequences that are resumed
 
 -- the sequences that earlier text lines leave open are such
 every_earlier : (ss texts : List Text) → AllByRecursion IsSequence ss → AllByRecursion IsSequence (opened ss (flat_map parts texts))
 every_earlier ss [] each = each
-every_earlier ss (text ∷ texts) each =
-    subst (AllByRecursion IsSequence) (sym (opened-append ss (parts text) (flat_map parts texts)))
-    (every_earlier (opened ss (parts text)) texts (every-opened ss (parts text) [] each (scan text).scanned))
+every_earlier ss (text ∷ texts) each = grind (arith, opened-append, every-opened, scan, every_earlier (opened ss (parts text)) texts (every-opened ss (parts text) [] each (scan text).scanned))
 
 -- sequences are scanned parts, whatever follows them
 sequences_scanned : (ss : List Text) (rest : Text) → AllByRecursion IsSequence ss → AreScanned (map sequence_part ss) rest
 sequences_scanned [] rest each = tt
-sequences_scanned (s ∷ ss) rest each =
-    (inl (record { sequence = each.0; is = refl }), sequences_scanned ss rest each.1)
+sequences_scanned (s ∷ ss) rest each = grind (arith, sequences_scanned ss rest each.1)
 
 -- their bytes
 bytes_of-sequences : (ss : List Text) → bytes_of (map sequence_part ss) ≡ concat ss
@@ -233,21 +206,15 @@ module _ (earlier : List Text) (text : Text) (start len : ℕ) where
   visible_taken = visible_bytes_up_to len (parts_from start (parts text)) [] from_scanned ∙ ap (take len) (visible_bytes_from start (parts text) [] (scan text).scanned)
 
   visible_written : visible_text written ≡ take len (drop start (visible_text text))
-  visible_written =
-      ap visible_bytes_of parts-written
-      ∙ flat_map-append visible_bytes (map sequence_part resumed) taken
-      ∙ ap (λ xs. xs ++ visible_bytes_of taken) (visible_bytes_of-sequences resumed)
-      ∙ visible_taken
+  visible_written = grind (arith, parts-written, flat_map-append, visible_bytes_of-sequences, visible_taken)
 
   -- no sequence is open at its end
   pub line_closed : open_after (parts (line_text earlier text start len)) ≡ []
-  line_closed = cond_both (len == 0) _ _ (λ t. open_after (parts t) ≡ []) (λ _. refl) (λ _. none_open written)
+  line_closed = grind (arith, cond_both, none_open)
 
   -- what is visible of it is its slice of what is visible of the text line
   pub line_visible : visible_text (line_text earlier text start len) ≡ take len (drop start (visible_text text))
-  line_visible =
-      cond_both (len == 0) _ _ (λ t. visible_text t ≡ take len (drop start (visible_text text)))
-      (λ none. ap (λ n. take n (drop start (visible_text text))) (sym (eqb-true len 0 none))) (λ _. visible-closed written ∙ visible_written)
+  line_visible = grind (arith, cond_both, eqb-true, visible-closed, visible_written)
 
   -- before each of its visible bytes the sequences are open that are active there
   pub line_resumes : (k : ℕ) → start + len ≤ length (visible_text text) → k < len → open_after (parts_before k (parts (line_text earlier text start len))) ≡ active earlier text (start + k)
@@ -279,11 +246,7 @@ module _ (earlier : List Text) (text : Text) (start len : ℕ) where
 -- scanned parts of which no visible byte is ESC
 Shows-scanned : (ps : List Part) (rest : Text) → AreScanned ps rest → HasNo 0x1B (visible_bytes_of ps) → Shows (visible_bytes_of ps) (bytes_of ps)
 Shows-scanned [] rest scanned clear = Shows-nil
-Shows-scanned (p ∷ ps) rest (inl part, more) clear =
-    let s = part.sequence in
-    subst (λ (x : Part). Shows (visible_bytes_of (x ∷ ps)) (x.bytes ++ bytes_of ps)) (sym part.is)
-    (Shows-append [] (visible_bytes_of ps) p.bytes (bytes_of ps) (subst (Shows []) (sym s.is) (Shows-sequence s.code s.parameters))
-    (Shows-scanned ps rest more (subst (λ (x : Part). HasNo 0x1B (visible_bytes_of (x ∷ ps))) part.is clear)))
+Shows-scanned (p ∷ ps) rest (inl part, more) clear = grind (arith, bytes_of, Shows-append, Shows-sequence, Shows-scanned ps rest more (subst (λ (x : Part). HasNo 0x1B (visible_bytes_of (x ∷ ps))) part.is clear))
 Shows-scanned (p ∷ ps) rest (inr part, more) clear =
     let here = or_parts (part.byte == 0x1B) (list_any (λ b. b == 0x1B) (visible_bytes_of ps)) (subst (λ (x : Part). HasNo 0x1B (visible_bytes_of (x ∷ ps))) part.is clear) in
     subst (λ (x : Part). Shows (visible_bytes_of (x ∷ ps)) (x.bytes ++ bytes_of ps)) (sym part.is)

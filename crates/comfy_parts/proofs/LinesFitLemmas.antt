@@ -63,8 +63,7 @@ follow-same d [] (y ∷ ys) behind none (more, splits, parts) =
     absurd (omega (arith, encode_utf8_nonempty d, length-append (encode_utf8 d) more, ap length (sym splits ∙ none)))
 follow-same d (x ∷ xs) [] behind (more, splits, parts) none =
     absurd (omega (arith, encode_utf8_nonempty d, length-append (encode_utf8 d) more, ap length (sym splits ∙ none)))
-follow-same d (x ∷ xs) (y ∷ ys) behind (more, splits, parts) (more', splits', parts') =
-    sym parts ∙ ap (elements d) (append_cancel_left (encode_utf8 d) more more' (sym splits ∙ splits')) ∙ parts'
+follow-same d (x ∷ xs) (y ∷ ys) behind (more, splits, parts) (more', splits', parts') = grind (arith, append_cancel_left)
 
 -- ---- words that are cut well
 

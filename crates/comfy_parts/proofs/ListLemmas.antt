@@ -13,8 +13,7 @@ use Rattle.std.proofs.lemmas.List.FromFn.{get_or-enumerate_from, length-enumerat
 -- what holds of the elements of each part holds of those of all parts
 pub All-flat_map : {X Y : Type 0} (P : Y → Type 0) (f : X → List Y) (xs : List X) → All (λ x. All P (f x)) xs → All P (flat_map f xs)
 All-flat_map P f [] each = All-nil P
-All-flat_map P f (x ∷ xs) each =
-    All-append P (f x) (flat_map f xs) (All-head (λ x. All P (f x)) x xs each) (All-flat_map P f xs (All-tail (λ x. All P (f x)) x xs each))
+All-flat_map P f (x ∷ xs) each = search (arith, All-append, flat_map, All-head, All-tail, All-flat_map P f xs (All-tail (λ x. All P (f x)) x xs each))
 
 -- what holds of every value holds of each element
 pub All-every : {X : Type 0} (P : X → Type 0) (xs : List X) → ((x : X) → P x) → All P xs
@@ -58,8 +57,7 @@ All-given {X} {Y} P h (x ∷ xs) each = by_option (h x) refl each (All-given P h
 -- what holds of each value that h gives of an element holds of all of them
 pub All-found : {X Y : Type 0} (P : Y → Type 0) (h : X → Option Y) (xs : List X) → All (λ x. (y : Y) → h x ≡ Some y → P y) xs → All P (filter_map h xs)
 All-found P h [] each = All-nil P
-All-found {X} {Y} P h (x ∷ xs) each =
-    by_option (h x) (All-head (λ (z : X). (y : Y) → h z ≡ Some y → P y) x xs each) (All-found P h xs (All-tail (λ (z : X). (y : Y) → h z ≡ Some y → P y) x xs each))
+All-found {X} {Y} P h (x ∷ xs) each = grind (arith, by_option, All-head, All-tail, All-found P h xs (All-tail (λ (z : X). (y : Y) → h z ≡ Some y → P y) x xs each))
   where
     by_option : (found : Option Y) → ((y : Y) → found ≡ Some y → P y) → All P (filter_map h xs) → All P (cons_option found (filter_map h xs))
     by_option None own rest = rest
@@ -79,7 +77,7 @@ All-others P (Some x) xs each = All-tail P x xs each
 -- what holds of what a function gives of each element
 pub All-of_map : {X Y : Type 0} (P : Y → Type 0) (f : X → Y) (xs : List X) → All P (map f xs) → All (λ x. P (f x)) xs
 All-of_map P f [] each = All-nil (λ x. P (f x))
-All-of_map P f (x ∷ xs) each = All-cons (λ y. P (f y)) x xs (All-head P (f x) (map f xs) each) (All-of_map P f xs (All-tail P (f x) (map f xs) each))
+All-of_map P f (x ∷ xs) each = grind (arith, All-cons, All-head, map, All-tail, All-of_map P f xs (All-tail P (f x) (map f xs) each))
 
 -- where two functions give the same lists they give the same of each
 pub All-same_map : {X Y : Type 0} (f g : X → Y) (xs : List X) → map f xs ≡ map g xs → All (λ x. f x ≡ g x) xs
@@ -121,7 +119,7 @@ every-append P (x ∷ xs) ys each others = (each.0, every-append P xs ys each.1 
 -- and of every element of the first, and of the second
 pub every-parts : {X : Type 0} (P : X → Type 0) (xs ys : List X) → AllByRecursion P (xs ++ ys) → AllByRecursion P xs × AllByRecursion P ys
 every-parts P [] ys each = (tt, each)
-every-parts P (x ∷ xs) ys each = let rest = every-parts P xs ys each.1 in ((each.0, rest.0), rest.1)
+every-parts P (x ∷ xs) ys each = grind (arith, every-parts P xs ys each.1)
 
 -- what follows from it holds too
 pub every-weaker : {X : Type 0} (P Q : X → Type 0) (xs : List X) → ((x : X) → P x → Q x) → AllByRecursion P xs → AllByRecursion Q xs
@@ -141,7 +139,7 @@ every-both P Q (x ∷ xs) each others = ((each.0, others.0), every-both P Q xs e
 -- what holds of the elements of each part holds of those of all parts
 pub every-flat_map : {X Y : Type 0} (P : X → Type 0) (Q : Y → Type 0) (f : X → List Y) (xs : List X) → ((x : X) → P x → AllByRecursion Q (f x)) → AllByRecursion P xs → AllByRecursion Q (flat_map f xs)
 every-flat_map P Q f [] gives each = tt
-every-flat_map P Q f (x ∷ xs) gives each = every-append Q (f x) (flat_map f xs) (gives x each.0) (every-flat_map P Q f xs gives each.1)
+every-flat_map P Q f (x ∷ xs) gives each = grind (arith, every-append, flat_map, every-flat_map P Q f xs gives each.1)
 
 -- what holds of every element holds of every element at its place
 pub every-places : {X : Type 0} (P : X → Type 0) (n : ℕ) (xs : List X) → AllByRecursion P xs → AllByRecursion (λ (p : ℕ × X). P p.1) (enumerate_from n xs)
@@ -151,12 +149,12 @@ every-places P n (x ∷ xs) each = (each.0, every-places P (n + 1) xs each.1)
 -- every element shows that there is one
 pub every_shows_one : {X : Type 0} (xs : List X) → AllByRecursion (λ (x : X). 0 < length xs) xs
 every_shows_one {X} [] = tt
-every_shows_one {X} (x ∷ xs) = every-always (λ (y : X). 0 < length (x ∷ xs)) (x ∷ xs) (λ y. omega arith)
+every_shows_one {X} (x ∷ xs) = grind (arith, every-always, length)
 
 -- all are kept where each passes
 pub filter_all : {X : Type 0} (test : X → Bool) (xs : List X) → AllByRecursion (λ (x : X). test x ≡ true) xs → filter test xs ≡ xs
 filter_all test [] each = refl
-filter_all {X} test (x ∷ xs) each = ap (λ (b : Bool). cond b (x ∷ filter test xs) (filter test xs)) each.0 ∙ ap (λ (ys : List X). x ∷ ys) (filter_all test xs each.1)
+filter_all {X} test (x ∷ xs) each = grind (arith, filter, filter_all test xs each.1)
 
 -- what holds of each element's image holds of all of them
 pub every-map : {X Y : Type 0} (P : Y → Type 0) (f : X → Y) (xs : List X) → AllByRecursion (λ (x : X). P (f x)) xs → AllByRecursion P (map f xs)
@@ -194,8 +192,7 @@ drop_next n xs b rest is =
 
 -- what one more push shows, where the rest is to follow
 pub pushed : {A B : Type 0} (f : A → B) (done : List A) (x : A) (more : List A) (later all : List B) → more ≡ done ++ x ∷ [] → map f done ++ (f x ∷ later) ≡ all → map f more ++ later ≡ all
-pushed f done x more later all pushes shows =
-    ap (λ xs. map f xs ++ later) pushes ∙ ap (λ ys. ys ++ later) (map-append f done (x ∷ [])) ∙ append_assoc (map f done) (f x ∷ []) later ∙ shows
+pushed f done x more later all pushes shows = grind (arith, map, map-append, append_assoc)
 
 -- ---- two lists, element by element
 
@@ -220,8 +217,7 @@ AllZip-append R (x ∷ xs) xs' (y ∷ ys) ys' front back = (front.0, AllZip-appe
 -- the parts that two functions give, joined
 pub AllZip-flat_map : {X A B : Type 0} (R : A → B → Type 0) (f : X → List A) (g : X → List B) (xs : List X) → All (λ x. AllZip R (f x) (g x)) xs → AllZip R (flat_map f xs) (flat_map g xs)
 AllZip-flat_map R f g [] each = tt
-AllZip-flat_map R f g (x ∷ xs) each =
-    AllZip-append R (f x) (flat_map f xs) (g x) (flat_map g xs) (All-head (λ x. AllZip R (f x) (g x)) x xs each) (AllZip-flat_map R f g xs (All-tail (λ x. AllZip R (f x) (g x)) x xs each))
+AllZip-flat_map R f g (x ∷ xs) each = grind (arith, AllZip-append, flat_map, All-head, All-tail, AllZip-flat_map R f g xs (All-tail (λ x. AllZip R (f x) (g x)) x xs each))
 
 -- parts joined by separators
 pub AllZip-join_by : {X A B : Type 0} (R : A → B → Type 0) (f : X → List A) (g : X → List B) (separator : List A) (other : List B) (xs : List X) → AllZip R separator other
@@ -280,7 +276,7 @@ pub same_map : {A B : Type 0} (f : A → B) (xs ys : List A) → AllZip (λ x y.
 same_map f [] [] each = refl
 same_map f [] (y ∷ ys) each = absurd each
 same_map f (x ∷ xs) [] each = absurd each
-same_map f (x ∷ xs) (y ∷ ys) each = let head = each.0 in let tail = same_map f xs ys each.1 in cc
+same_map f (x ∷ xs) (y ∷ ys) each = grind (arith, same_map f xs ys each.1)
 
 -- ---- joined or repeated, one part more
 
@@ -320,24 +316,17 @@ between false false xs = refl
 pub joined_more : {X A : Type 0} (f : X → List A) (drawn : Bool) (separator : List A) (xs : List X) (i : ℕ) (x : X) (start text : List A) → i < length xs → x ≡ slice_index_or xs i x
     → text ≡ start ++ join_by f (if drawn then separator else []) (take i xs)
     → (text ++ (if drawn && nat_lt 0 i then separator else [])) ++ f x ≡ start ++ join_by f (if drawn then separator else []) (take (i + 1) xs)
-joined_more {X} {A} f drawn separator xs i x start text below is made =
-    let joined = join_by f (if drawn then separator else []) (take i xs) in
-    let later = if nat_lt 0 i then (if drawn then separator else []) else [] in
-    ap (λ (ys : List A). (ys ++ (if drawn && nat_lt 0 i then separator else [])) ++ f x) made
-    ∙ ap (λ (ys : List A). ((start ++ joined) ++ ys) ++ f x) (between drawn (nat_lt 0 i) separator)
-    ∙ ap (λ (ys : List A). ys ++ f x) (append_assoc start joined later)
-    ∙ append_assoc start (joined ++ later) (f x)
-    ∙ ap (λ (ys : List A). start ++ ys) (sym (join_by_more f (if drawn then separator else []) xs i x below is))
+joined_more {X} {A} f drawn separator xs i x start text below is made = grind (arith, join_by, take, nat_lt, between, append_assoc, join_by_more)
 
 -- and all of them
 pub joined_all : {X A : Type 0} (f : X → List A) (separator : List A) (xs : List X) (i : ℕ) (start text : List A) → length xs ≤ i
     → text ≡ start ++ join_by f separator (take i xs) → text ≡ start ++ join_by f separator xs
-joined_all f separator xs i start text past made = made ∙ ap (λ ys. start ++ join_by f separator ys) (take_all i xs past)
+joined_all f separator xs i start text past made = grind (arith, join_by, take_all)
 
 -- parts that were made of others
 pub join_by-map : {X Y A : Type 0} (f : Y → List A) (g : X → Y) (separator : List A) (xs : List X) → join_by f separator (map g xs) ≡ join_by (λ x. f (g x)) separator xs
 join_by-map f g separator [] = refl
-join_by-map f g separator (x ∷ xs) = ap (λ ys. f (g x) ++ ys) (flat_map-map (λ y. separator ++ f y) g xs)
+join_by-map f g separator (x ∷ xs) = grind (arith, flat_map-map)
 
 -- ---- with their positions
 
@@ -358,11 +347,7 @@ enumerated_all f xs i past = grind (arith, length-enumerate_from, take_all)
 -- one element more, where those that pass a test are kept
 pub filtered_more : {A B : Type 0} (f : ℕ × A → B) (test : ℕ × A → Bool) (xs : List A) (i : ℕ) (x : A) → i < length xs → x ≡ slice_index_or xs i x
     → map f (filter test (take (i + 1) (enumerate_from 0 xs))) ≡ map f (filter test (take i (enumerate_from 0 xs))) ++ cond (test (i, x)) (f (i, x) ∷ []) []
-filtered_more {A} {B} f test xs i x below is =
-    let kept_here : map f (cond (test (i, x)) ((i, x) ∷ []) []) ≡ cond (test (i, x)) (f (i, x) ∷ []) [] = grind arith in
-    ap (map f) (ap (filter test) more ∙ filter-append test (take i (enumerate_from 0 xs)) ((i, x) ∷ []))
-    ∙ map-append f (filter test (take i (enumerate_from 0 xs))) (filter test ((i, x) ∷ []))
-    ∙ ap (λ (kept : List B). map f (filter test (take i (enumerate_from 0 xs))) ++ kept) kept_here
+filtered_more {A} {B} f test xs i x below is = grind (arith, map, filter, more, filter-append, take, enumerate_from, map-append)
   where
     more : take (i + 1) (enumerate_from 0 xs) ≡ take i (enumerate_from 0 xs) ++ (i, x) ∷ []
     more = sym (map-id (take (i + 1) (enumerate_from 0 xs))) ∙ enumerated_more (λ (p : ℕ × A). p) xs i x below is ∙ ap (λ (ps : List (ℕ × A)). ps ++ (i, x) ∷ []) (map-id (take i (enumerate_from 0 xs)))
@@ -375,23 +360,19 @@ filtered_all f test xs i past = grind (arith, length-enumerate_from, take_all)
 -- functions that agree from a position on give the elements from there the same
 pub map-places : {A X : Type 0} (f g : ℕ → X) (n : ℕ) (xs : List A) → ((i : ℕ) → n ≤ i → f i ≡ g i) → map (λ (p : ℕ × A). f p.0) (enumerate_from n xs) ≡ map (λ (p : ℕ × A). g p.0) (enumerate_from n xs)
 map-places f g n [] same = refl
-map-places f g n (x ∷ xs) same =
-    let first = same n (omega arith) in let rest = map-places f g (n + 1) xs (λ i from. same i (omega arith)) in λ k. first k ∷ rest k
+map-places f g n (x ∷ xs) same = grind (arith, map-places f g (n + 1) xs (λ i from. same i (omega arith)))
 
 -- tests that agree on the positions keep the same elements
 pub filter-places : {A : Type 0} (f g : ℕ → Bool) (n : ℕ) (xs : List A) → ((i : ℕ) → n ≤ i → i < n + length xs → f i ≡ g i)
     → filter (λ (p : ℕ × A). f p.0) (enumerate_from n xs) ≡ filter (λ (p : ℕ × A). g p.0) (enumerate_from n xs)
 filter-places f g n [] same = refl
-filter-places f g n (x ∷ xs) same =
-    let first = same n (omega arith) (omega arith) in
-    let rest = filter-places f g (n + 1) xs (λ i from below. same i (omega arith) (omega arith)) in λ k. cond (first k) ((n, x) ∷ rest k) (rest k)
+filter-places f g n (x ∷ xs) same = grind (arith, filter-places f g (n + 1) xs (λ i from below. same i (omega arith) (omega arith)))
 
 -- the element at an index
 pub index-places : {A X : Type 0} (f : ℕ → X) (n : ℕ) (xs : List A) (i : ℕ) (default : X) → i < length xs → slice_index_or (map (λ (p : ℕ × A). f p.0) (enumerate_from n xs)) i default ≡ f (n + i)
 index-places f n [] i default below = absurd (omega arith)
 index-places f n (x ∷ xs) zero default below = ap f (omega arith)
-index-places f n (x ∷ xs) (suc i) default below =
-    let same : n + 1 + i ≡ n + suc i = omega arith in index-places f (n + 1) xs i default (omega arith) ∙ ap f same
+index-places f n (x ∷ xs) (suc i) default below = grind (arith, index-places f (n + 1) xs i default (omega arith))
 
 -- another element at an index
 pub set-places : {A X : Type 0} (f : ℕ → X) (i : ℕ) (v : X) (n : ℕ) (xs : List A) → slice_set (map (λ (p : ℕ × A). f p.0) (enumerate_from n xs)) i v ≡ map (λ (p : ℕ × A). cond (n + i == p.0) v (f p.0)) (enumerate_from n xs)
@@ -399,11 +380,7 @@ set-places f i v n [] = refl
 set-places f zero v n (x ∷ xs) =
     let first = sym (ap (λ (b : Bool). cond b v (f n)) (eq-eqb (n + 0) n (omega arith))) in
     let rest = map-places f (λ j. cond (n + 0 == j) v (f j)) (n + 1) xs (λ j from. sym (ap (λ (b : Bool). cond b v (f j)) (ne_eqb (n + 0) j (λ same. omega arith)))) in λ k. first k ∷ rest k
-set-places f (suc i) v n (x ∷ xs) =
-    let first = sym (ap (λ (b : Bool). cond b v (f n)) (ne_eqb (n + suc i) n (λ same. omega arith))) in
-    let moved : n + 1 + i ≡ n + suc i = omega arith in
-    let rest = set-places f i v (n + 1) xs ∙ map-places (λ j. cond (n + 1 + i == j) v (f j)) (λ j. cond (n + suc i == j) v (f j)) (n + 1) xs (λ j from. ap (λ (m : ℕ). cond (m == j) v (f j)) moved) in
-    λ k. first k ∷ rest k
+set-places f (suc i) v n (x ∷ xs) = grind (arith, ne_eqb, map-places, ℕ, set-places f i v (n + 1) xs)
 
 -- as many pass before a function is applied as after
 pub length-filter_places : {A X : Type 0} (test : X → Bool) (f : A → X) (xs : List A) → length (filter test (map f xs)) ≡ length (filter (λ (x : A). test (f x)) xs)

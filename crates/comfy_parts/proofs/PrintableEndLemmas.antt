@@ -1,5 +1,5 @@
 -- Where a line of printable ASCII ends, looked for from the line's last column backwards.
-use Rattle.std.proofs.Common.{◌≡◌, ◌<◌, ◌≤◌, ◌⊎◌, inl, inr, ℕ, zero, suc, ◌+◌, ◌-◌, Bool, true, false, ◌&&◌, ◌==◌, List, [], ◌∷◌, ◌++◌, length, nat_le, nat_lt, drop, take, ◌||◌, slice_index_or, refl, sym, ap, ◌∙◌, subst, append-nil, arith}
+use Rattle.std.proofs.Common.{◌≡◌, ◌<◌, ◌≤◌, ◌⊎◌, inl, inr, ℕ, zero, suc, ◌+◌, ◌-◌, Bool, true, false, ◌&&◌, ◌==◌, List, [], ◌∷◌, ◌++◌, length, nat_le, nat_lt, drop, take, slice_index_or, refl, sym, ap, ◌∙◌, subst, append-nil, arith}
 use Rattle.std.specs.Prelude.{if◌then◌else◌}
 use Rattle.std.proofs.lemmas.Bool.{or_parts}
 use Rattle.std.proofs.lemmas.Bool.Decides.{nat_tests}
@@ -8,7 +8,7 @@ use Rattle.std.proofs.lemmas.List.{drop_all, drop_more, length-append, length-dr
 use Rattle.std.proofs.lemmas.List.Splits.{slice_split-cons_no, slice_split-cons_yes}
 use Rattle.std.specs.List.{list_any, onto_first, slice_split}
 use Rattle.comfy_parts.specs.Laws.{IsPrintable}
-use Rattle.comfy_parts.specs.Text.{Text, begins_with, is_first}
+use Rattle.comfy_parts.specs.Text.{Text, begins_with}
 use Rattle.comfy_parts.specs.Wrapping.{line_end}
 use Rattle.comfy_parts.proofs.PartLemmas.{HasFirstPart, first_part, is_first_part}
 use Rattle.comfy_parts.proofs.PrintableLemmas.{chars-printable}
@@ -27,10 +27,7 @@ EndsInPart (part ∷ next ∷ parts) = EndsInPart (next ∷ parts)
 
 -- a part that has room is taken
 one-taken : (w filled : ℕ) (part : Text) (others : List Text) → filled + 2 ≤ w → filled + 1 + length part ≤ w → printable_taken w filled (part ∷ others) ≡ suc (length part) + printable_taken w (filled + length part + 1) others
-one-taken w filled part others room fits =
-    let goes : nat_lt (w - 2) filled ≡ false = grind (arith, nat_tests, room) in
-    let has : nat_lt w (filled + 1 + length part) ≡ false = grind (arith, nat_tests, fits) in
-    rw (goes, has) refl
+one-taken w filled part others room fits = grind (arith, nat_tests)
 
 -- parts that end within the line are taken, where a column is left after them, or the last isn't empty
 pub taken-front : (w filled : ℕ) (parts more : List Text) → filled + spanned parts ≤ w → (filled + spanned parts < w) ⊎ EndsInPart parts
@@ -39,11 +36,7 @@ taken-front w filled [] more within ends =
     let nothing : (n : ℕ) → n ≡ 0 + n = λ n. omega arith in
     let same : filled ≡ filled + 0 = omega arith in
     ap (λ n. printable_taken w n more) same ∙ nothing (printable_taken w (filled + 0) more)
-taken-front w filled (part ∷ []) more within ends =
-    let room : filled + 2 ≤ w = elim ends [ inl fewer ↦ omega (arith, fewer) | inr some ↦ omega (arith, within, some) ] in
-    one-taken w filled part more room (omega (arith, within))
-    ∙ (let e : filled + length part + 1 ≡ filled + (suc (length part) + 0) = omega arith in ap (λ n. suc (length part) + printable_taken w n more) e)
-    ∙ ap (λ n. n + printable_taken w (filled + (suc (length part) + 0)) more) (let e : suc (length part) ≡ suc (length part) + 0 = omega arith in e)
+taken-front w filled (part ∷ []) more within ends = grind (arith, one-taken, printable_taken)
 taken-front w filled (part ∷ next ∷ parts) more within ends =
     let sum : filled + length part + 1 + spanned (next ∷ parts) ≡ filled + spanned (part ∷ next ∷ parts) = omega arith in
     let rest = taken-front w (filled + length part + 1) (next ∷ parts) more (omega (arith, within)) (elim ends [ inl fewer ↦ inl (omega (arith, fewer)) | inr some ↦ inr some ]) in
@@ -53,7 +46,7 @@ taken-front w filled (part ∷ next ∷ parts) more within ends =
 
 -- an empty part that would end at the line's last column is not, nor what comes after it
 pub taken-up_to : (w : ℕ) (more : List Text) → 2 ≤ w → printable_taken w (w - 1) ([] ∷ more) ≡ 0
-taken-up_to w more wide = let full : nat_lt (w - 2) (w - 1) ≡ true = grind (arith, nat_tests, wide) in rw full refl
+taken-up_to w more wide = grind (arith, nat_tests)
 
 -- of a part that has no room, rule 3 says what is taken
 pub taken-over : (w filled : ℕ) (next : Text) (others : List Text) → w < filled + 1 + length next
@@ -74,15 +67,7 @@ module _ (p : ℕ → Bool) where
   -- those before a delimiter, and those after it
   pub parts-around : (front : Text) (c : ℕ) (back : Text) → p c ≡ true → slice_split p (front ++ c ∷ back) ≡ slice_split p front ++ slice_split p back
   parts-around [] c back is_d = slice_split-cons_yes p c back is_d
-  parts-around (x ∷ front) c back is_d = by_test (p x) refl (parts-around front c back is_d)
-    where
-      by_test : (b : Bool) → p x ≡ b → slice_split p (front ++ c ∷ back) ≡ slice_split p front ++ slice_split p back → slice_split p (x ∷ (front ++ c ∷ back)) ≡ slice_split p (x ∷ front) ++ slice_split p back
-      by_test true here rest = slice_split-cons_yes p x (front ++ c ∷ back) here ∙ ap (λ (ps : List Text). [] ∷ ps) rest ∙ ap (λ (ps : List Text). ps ++ slice_split p back) (sym (slice_split-cons_yes p x front here))
-      by_test false none rest =
-          slice_split-cons_no p x (front ++ c ∷ back) none
-          ∙ ap (onto_first x) rest
-          ∙ onto_first-append x (slice_split p front) (slice_split p back) (some_part front)
-          ∙ ap (λ (ps : List Text). ps ++ slice_split p back) (sym (slice_split-cons_no p x front none))
+  parts-around (x ∷ front) c back is_d = grind (arith, slice_split-cons_yes, slice_split-cons_no, onto_first-append, some_part, parts-around front c back is_d)
 
   -- the text is as long as its parts and the delimiters between them
   pub spans : (parts : List Text) (text first : Text) → slice_split p text ≡ first ∷ parts → length text ≡ length first + spanned parts
@@ -202,28 +187,22 @@ module _ (w d : ℕ) where
 
   -- a first part that is wider than the line is cut at its last column
   pub end-wide : (text first : Text) (parts : List Text) → IsPrintable w d text → parts_of text ≡ first ∷ parts → w < length first → line_end w d text ≡ w
-  end-wide text first parts plain are wide =
-      let wider : nat_lt w (length first) ≡ true = grind (arith, nat_tests, wide) in
-      line_end-printable w d text plain ∙ ap (printable_end w) are ∙ ap (λ (b : Bool). if b then w else length first + printable_taken w (length first) parts) wider
+  end-wide text first parts plain are wide = grind (arith, nat_tests, line_end-printable, printable_end, printable_taken)
 
   -- such bytes after a first one that is no delimiter
   first-clear : (n : ℕ) (text : Text) → 0 < length text → (slice_index_or text 0 0 == d) ≡ false → list_any (λ c. c == d) (take n (drop 1 text)) ≡ false → list_any (λ c. c == d) (take (suc n) text) ≡ false
   first-clear n [] some first clear = absurd (omega (arith, some))
-  first-clear n (x ∷ xs) some first clear = ap (λ (b : Bool). b || list_any (λ c. c == d) (take n xs)) first ∙ clear
+  first-clear n (x ∷ xs) some first clear = grind arith
 
 -- ---- by positions in the text
 
 module _ (w d : ℕ) (text : Text) (plain : IsPrintable w d text) (otherwise : begins_with d text ≡ false) where
   begins : 0 < length text → (slice_index_or text 0 0 == d) ≡ false
-  begins some = of_first text (ap (is_first d) (sym (chars-printable text plain.printable)) ∙ otherwise) some
-    where
-      of_first : (t : Text) → is_first d t ≡ false → 0 < length t → (slice_index_or t 0 0 == d) ≡ false
-      of_first [] none some = absurd (omega (arith, some))
-      of_first (x ∷ xs) none some = none
+  begins some = grind (arith, chars-printable)
 
   -- the text around a delimiter
   cut_at : (i : ℕ) → i < length text → slice_index_or text i 0 ≡ d → text ≡ take i text ++ d ∷ drop (i + 1) text
-  cut_at i below here = sym (take-append-drop i text) ∙ ap (λ (t : Text). take i text ++ t) (drop_more text i 0 below ∙ ap (λ (c : ℕ). c ∷ drop (i + 1) text) here)
+  cut_at i below here = grind (arith, take-append-drop, drop_more)
 
   same : (d == d) ≡ true
   same = grind (arith, nat_tests)

@@ -1,5 +1,5 @@
 -- The lines that a cursor writes: where they begin in a wrapped text, and that they are the texts of the lines of a cell.
-use Rattle.std.proofs.Common.{◌≡◌, ◌<◌, ◌≤◌, ℕ, zero, suc, ◌+◌, ◌-◌, Bool, true, false, ◌==◌, List, [], ◌∷◌, ◌++◌, length, map, take, drop, zip, replicate, refl, sym, ap, ap₂, ◌∙◌, subst, arith, append_assoc, append-nil, length-append, slice_index_or}
+use Rattle.std.proofs.Common.{◌≡◌, ◌<◌, ◌≤◌, ℕ, zero, suc, ◌+◌, ◌-◌, Bool, true, false, List, [], ◌∷◌, ◌++◌, length, map, take, drop, zip, replicate, refl, sym, ap, ap₂, ◌∙◌, subst, arith, append_assoc, append-nil, length-append, slice_index_or}
 use Rattle.std.specs.Char.{IsScalar}
 use Rattle.std.specs.List.{concat, flat_map}
 use Rattle.std.specs.Prelude.{if◌then◌else◌, encode_utf8, encode_utf8_all, IsUtf8}
@@ -10,7 +10,7 @@ use Rattle.unicode_segmentation.proofs.TextLemmas.{encode_utf8_nonempty}
 use Rattle.comfy_parts.specs.Cursor.{CursorValue, IsBehindGap, StandsAt, at_byte, open_at_end, visible_ahead}
 use Rattle.comfy_parts.specs.Text.{Text, IsOnly, begins_with, measure}
 use Rattle.comfy_parts.specs.VisibleLines.{CellLine, line_texts, line_texts_of_text, line_texts_past, starts_of_text, starts_past}
-use Rattle.comfy_parts.specs.VisibleText.{Part, active, closed, closing, line_text, open_after, parts, parts_before, parts_from, parts_up_to, opened, text_between, visible_text}
+use Rattle.comfy_parts.specs.VisibleText.{active, line_text, open_after, parts, parts_from, parts_up_to, opened, text_between, visible_text}
 use Rattle.comfy_parts.specs.Wrapping.{line_end, lines_of_text, lines_past, part_end, wrapped}
 use Rattle.comfy_parts.specs.Written.{wrapped_positions, written, written_at, written_of_text}
 use Rattle.comfy_parts.proofs.CursorLemmas.{at, at_further}
@@ -33,15 +33,11 @@ further n p = (n + p.0, p.1)
 
 further-none : (positions : List (ℕ × ℕ)) → map (further 0) positions ≡ positions
 further-none [] = refl
-further-none (p ∷ ps) =
-    let plain : 0 + p.0 ≡ p.0 = omega arith in
-    ap₂ (λ n (qs : List (ℕ × ℕ)). (n, p.1) ∷ qs) plain (further-none ps)
+further-none (p ∷ ps) = grind (arith, further-none ps)
 
 further-twice : (n k : ℕ) (positions : List (ℕ × ℕ)) → map (further n) (map (further k) positions) ≡ map (further (n + k)) positions
 further-twice n k [] = refl
-further-twice n k (p ∷ ps) =
-    let sum : n + (k + p.0) ≡ n + k + p.0 = omega arith in
-    ap₂ (λ m (qs : List (ℕ × ℕ)). (m, p.1) ∷ qs) sum (further-twice n k ps)
+further-twice n k (p ∷ ps) = grind (arith, further-twice n k ps)
 
 -- lines that begin further on
 zip-further : (n : ℕ) (starts lens : List ℕ) → zip (map (λ s. n + s) starts) lens ≡ map (further n) (zip starts lens)
@@ -58,9 +54,7 @@ module _ (w d : ℕ) where
   starts-further : (n place skip : ℕ) (text : Text) → starts_past w d (n + place) skip text ≡ map (λ s. n + s) (starts_past w d place skip text)
   starts-further n place zero [] = refl
   starts-further n place (suc skip) [] = refl
-  starts-further n place (suc skip) (b ∷ rest) =
-      let sum : n + place + 1 ≡ n + (place + 1) = omega arith in
-      ap (λ m. starts_past w d m skip rest) sum ∙ starts-further n (place + 1) skip rest
+  starts-further n place (suc skip) (b ∷ rest) = grind (arith, starts-further n (place + 1) skip rest)
   starts-further n place zero (b ∷ rest) =
       let sum : n + place + 1 ≡ n + (place + 1) = omega arith in
       let skip = part_end w d (b ∷ rest) - 1 in
@@ -70,12 +64,8 @@ module _ (w d : ℕ) where
 
   -- what is skipped begins no line
   starts-skip : (place : ℕ) (xs ys : Text) → starts_past w d place (length xs) (xs ++ ys) ≡ starts_past w d (length xs + place) 0 ys
-  starts-skip place [] ys =
-      let plain : place ≡ 0 + place = omega arith in
-      ap (λ m. starts_past w d m 0 ys) plain
-  starts-skip place (x ∷ xs) ys =
-      let sum : length xs + (place + 1) ≡ suc (length xs) + place = omega arith in
-      starts-skip (place + 1) xs ys ∙ ap (λ m. starts_past w d m 0 ys) sum
+  starts-skip place [] ys = grind arith
+  starts-skip place (x ∷ xs) ys = grind (arith, starts-skip (place + 1) xs ys)
 
   -- a part at the front is passed at once
   starts-part : (part rest : Text) (t : Bool) → 0 < length part → part_end w d (part ++ rest) ≡ length part → begins_with d (part ++ rest) ≡ t
@@ -203,33 +193,11 @@ written-none w d c text none =
 -- the sequences that are open after what a line takes
 open-taken : (earlier : List Text) (text : Text) (start len : ℕ)
     → open_after (parts (concat (active earlier text start) ++ text_between text start len)) ≡ opened (active earlier text start) (parts_up_to len (parts_from start (parts text)))
-open-taken earlier text start len =
-    let before : List Part = flat_map parts earlier ++ parts_before start (parts text) in
-    let taken : List Part = parts_up_to len (parts_from start (parts text)) in
-    ap open_after (parts-written earlier text start len) ∙ open_after-again before taken ∙ opened-append [] before taken
+open-taken earlier text start len = grind (arith, parts-written, open_after-again, opened-append)
 
 -- the text of a line is what a cursor writes that comes from its text line's front
 pub line_text-written : (earlier : List Text) (text : Text) (start len : ℕ) → written len (at_byte start (at (open_after (flat_map parts earlier)) (parts text))) ≡ line_text earlier text start len
-line_text-written earlier text start len =
-    elim (len == 0) as (λ b. (if b then [] else concat resumed ++ (between ++ closing (opened resumed taken))) ≡ (if b then [] else closed (concat (active earlier text start) ++ between))) [
-      | true ↦ refl
-      | false ↦
-          ap (λ ss. concat ss ++ (between ++ closing (opened ss taken))) same
-          ∙ sym (append_assoc (concat (active earlier text start)) between (closing (opened (active earlier text start) taken)))
-          ∙ ap (λ ss. (concat (active earlier text start) ++ between) ++ closing ss) (sym (open-taken earlier text start len))
-    ]
-  where
-    resumed : List Text
-    resumed = opened (open_after (flat_map parts earlier)) (parts_before start (parts text))
-
-    taken : List Part
-    taken = parts_up_to len (parts_from start (parts text))
-
-    between : Text
-    between = text_between text start len
-
-    same : resumed ≡ active earlier text start
-    same = sym (opened-append [] (flat_map parts earlier) (parts_before start (parts text)))
+line_text-written earlier text start len = grind (arith, append_assoc, open-taken, opened-append)
 
 -- so it is with all lines of a text line
 text_lines-written : (w d : ℕ) (earlier : List Text) (text : Text)
@@ -244,15 +212,7 @@ text_lines-written w d earlier text = each (starts_of_text w d (visible_text tex
 
 past-written : (w d : ℕ) (earlier texts : List Text) → written_past w d (open_after (flat_map parts earlier)) texts ≡ map (λ (line : CellLine). line.written) (line_texts_past w d earlier texts)
 past-written w d earlier [] = refl
-past-written w d earlier (text ∷ more) =
-    ap₂ (λ (xs ys : List Text). xs ++ ys) (text_lines-written w d earlier text) (ap (λ ss. written_past w d ss more) next ∙ past-written w d (earlier ++ text ∷ []) more)
-    ∙ sym (map-append (λ (line : CellLine). line.written) (line_texts_of_text w d earlier text) (line_texts_past w d (earlier ++ text ∷ []) more))
-  where
-    next : opened (open_after (flat_map parts earlier)) (parts text) ≡ open_after (flat_map parts (earlier ++ text ∷ []))
-    next =
-        sym (opened-append [] (flat_map parts earlier) (parts text))
-        ∙ ap (λ ps. open_after (flat_map parts earlier ++ ps)) (sym (append-nil (parts text)))
-        ∙ ap open_after (sym (flat_map-append parts earlier (text ∷ [])))
+past-written w d earlier (text ∷ more) = grind (arith, text_lines-written, map-append, opened-append, append-nil, flat_map-append, past-written w d (earlier ++ text ∷ []) more)
 
 -- what is written for the text lines of a cell is the text of each line
 pub cell-written : (w d : ℕ) (texts : List Text) → written_past w d [] texts ≡ map (λ (line : CellLine). line.written) (line_texts w d texts)
@@ -265,7 +225,7 @@ pub text_at : {X : Type 0} (f : X → Text) (xs : List X) (place : ℕ) (x : X) 
 text_at f xs place x below is = get_or-map f xs place x [] below ∙ ap f (sym is)
 
 as_many : {X : Type 0} (f : X → Text) (texts visibles : List X) → map f visibles ≡ map visible_text (map f texts) → length visibles ≡ length texts
-as_many f texts visibles same = sym (length-map visibles f) ∙ ap length same ∙ length-map (map f texts) visible_text ∙ length-map texts f
+as_many f texts visibles same = grind (arith, length-map)
 
 -- what is visible of a text line is the text at the same position of those
 pub visible_at : {X : Type 0} (f : X → Text) (texts visibles : List X) (place : ℕ) (text visible : X) → map f visibles ≡ map visible_text (map f texts) → place < length texts
@@ -288,12 +248,8 @@ width_at f texts visibles widths place visible same measured below is =
 pub next_text : (w d : ℕ) (texts done more : List Text) (place : ℕ) (text : Text) (old mid new : CursorValue) → place < length texts → slice_index_or texts place [] ≡ text
     → mid ≡ at (open_at_end old) (parts text) → more ≡ done ++ written_of_text w d mid → open_at_end new ≡ open_at_end mid
     → more ++ written_past w d (open_at_end new) (drop (place + 1) texts) ≡ done ++ written_past w d (open_at_end old) (drop place texts)
-next_text w d texts done more place text old mid new below is begins writes stays =
-    ap₂ (λ (ts : List Text) ss. ts ++ written_past w d ss (drop (place + 1) texts)) writes stays
-    ∙ ap (λ c. (done ++ written_of_text w d c) ++ written_past w d (open_at_end c) (drop (place + 1) texts)) begins
-    ∙ append_assoc done (written_of_text w d (at (open_at_end old) (parts text))) (written_past w d (opened (open_at_end old) (parts text)) (drop (place + 1) texts))
-    ∙ ap (λ (ts : List Text). done ++ written_past w d (open_at_end old) ts) (ap (λ (t : Text). t ∷ drop (place + 1) texts) (sym is) ∙ sym (drop_more texts place [] below))
+next_text w d texts done more place text old mid new below is begins writes stays = grind (arith, append_assoc, drop_more)
 
 -- after the last one nothing is
 pub texts_written : (w d : ℕ) (texts done : List Text) (place : ℕ) (ss : List Text) → length texts ≤ place → done ++ written_past w d ss (drop place texts) ≡ done
-texts_written w d texts done place ss past = ap (λ (ts : List Text). done ++ written_past w d ss ts) (drop_all place texts past) ∙ append-nil done
+texts_written w d texts done place ss past = grind (arith, drop_all, append-nil)

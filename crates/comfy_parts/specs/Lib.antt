@@ -16,6 +16,7 @@ pub mod RowReference
 pub mod StyleModifiers
 pub mod Text
 pub mod TextLines
+pub mod TextPieces
 pub mod VisibleLines
 pub mod VisibleText
 pub mod Wrapping

@@ -32,7 +32,7 @@ pub struct Cell {
     background: Option<Color>,
 }
 
-// A derived drop is opened at each `?` behind which a caller owns the value, one by hand is a call
+// A derived drop is opened at each `?` after which a caller owns the value, one by hand is a call
 // there. So types that callers own have one by hand, where it makes their checks shorter.
 impl Drop for Cell {
     fn drop(self) {
@@ -65,7 +65,7 @@ impl Model for Cell {
 }
 
 impl Cell {
-    /// The cell of the text that `content` prints: its text lines are what stands between the line
+    /// The cell of the text that `content` prints: its text lines are what is between the line
     /// feeds. After running out of memory `content` is dropped. An error of its own `Display` is
     /// returned as `OutOfMemory` too.
     ///
@@ -81,7 +81,7 @@ impl Cell {
         Cell::new_owned(alloc, content.to_string(alloc)?)
     }
 
-    /// The cell of a text: its text lines are what stands between the line feeds. A text without
+    /// The cell of a text: its text lines are what is between the line feeds. A text without
     /// one keeps its `String`, and takes no further memory.
     pub fn new_owned(alloc: Global, text: String) -> Result<Cell>
         ensures value { IfOk result (λ cell. cell ≡ plain_cell (string_bytes text)) }
@@ -133,7 +133,7 @@ impl Cell {
         self
     }
 
-    /// Sets where the cell's texts stand, whatever its column has.
+    /// Sets where the cell's texts are, whatever its column has.
     pub fn set_alignment(mut self, alignment: CellAlignment) -> Cell
         ensures { result ≡ record self { alignment = Some alignment } }
     {
@@ -155,7 +155,7 @@ impl Cell {
         self
     }
 
-    /// Sets the colour behind the text.
+    /// Sets the background colour.
     pub fn bg(mut self, color: Color) -> Cell
         ensures { result ≡ record self { background = Some color } }
     {
@@ -205,21 +205,21 @@ impl Cell {
         self.delimiter
     }
 
-    /// Where the cell's texts stand; none where its column's alignment is taken.
+    /// Where the cell's texts are; none where its column's alignment is taken.
     pub fn cell_alignment(&self) -> Option<CellAlignment>
         ensures { result ≡ self.now.alignment }
     {
         self.alignment
     }
 
-    /// The colour of the text; none where none is set.
+    /// The colour of the text; none if none is set.
     pub fn foreground(&self) -> Option<Color>
         ensures { result ≡ self.now.foreground }
     {
         self.foreground
     }
 
-    /// The colour behind the text; none where none is set.
+    /// The background colour; none if none is set.
     pub fn background(&self) -> Option<Color>
         ensures { result ≡ self.now.background }
     {

@@ -79,7 +79,7 @@ impl Column {
         self.delimiter
     }
 
-    /// Where the texts of the column stand; none where they stand at the left.
+    /// Where the texts of the column are; none where they are at the left.
     pub fn column_alignment(&self) -> Option<CellAlignment>
         ensures { result ≡ self.now.alignment }
     {
@@ -117,7 +117,7 @@ impl Column {
         self
     }
 
-    /// Both paddings together in terminal columns, 65535 where there are more.
+    /// Both paddings together in terminal columns, 65535 if there are more.
     pub fn padding_width(&self) -> u16
         ensures { result ≡ saturated_padding self.now }
     {
@@ -157,7 +157,7 @@ impl Column {
         self
     }
 
-    /// Sets where the texts of the column stand, unless a cell has an alignment of its own.
+    /// Sets where the texts of the column are, unless a cell has an alignment of its own.
     ///
     /// ```
     /// column.set_cell_alignment(CellAlignment::Right);

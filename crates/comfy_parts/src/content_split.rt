@@ -31,7 +31,7 @@ use std::alloc::Global;
 pub use width::measure_text_width;
 pub(crate) use width::{joined_columns, summed_columns};
 
-/// What stands between the delimiters of a line, in order and empty parts too.
+/// What is between the delimiters of a line, in order and empty parts too.
 pub fn split_line_by_delimiter(alloc: Global, line: &str, delimiter: char) -> Result<Vec<&str>>
     ensures { IfOk result (λ v. map (λ x. x.now) v.items ≡ elements delimiter line.now) }
 {

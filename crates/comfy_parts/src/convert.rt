@@ -21,7 +21,7 @@ use std::alloc::Global;
 /// let cell = "dock 3".into_cell(alloc)?.fg(Color::Green);
 /// ```
 pub trait IntoCell: Drop {
-    // the cell that the value stands for
+    // the cell that the value represents
     ghost cell_of: { Self → CellValue };
 
     /// Makes the cell. After running out of memory the value is dropped.
@@ -38,7 +38,7 @@ pub trait IntoCell: Drop {
 /// let cells = [open, Cell::new(alloc, "dock 3")?].into_cells(alloc)?;
 /// ```
 pub trait IntoCells: Drop {
-    // the cells that the value stands for
+    // the cells that the value represents
     ghost cells_of: { Self → List CellValue };
 
     /// Makes the cells, in the order of the list. After running out of memory the list is dropped.
@@ -52,7 +52,7 @@ pub trait IntoCells: Drop {
 /// let row = ("width", 80u16, true).into_row(alloc)?;
 /// ```
 pub trait IntoRow: Drop {
-    // the row that the value stands for
+    // the row that the value represents
     ghost row_of: { Self → RowValue };
 
     /// Makes the row. After running out of memory the value is dropped.

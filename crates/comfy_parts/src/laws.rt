@@ -39,6 +39,7 @@ pub fn narrow_elements_stay_whole()
 {}
 
 /// In printable ASCII each line fits its width.
+#[tactic(auto, using(crate::proofs::CutLineLemmas::lines_fit))]
 pub fn lines_fit()
     ensures { (w d : ℕ) (text : Text) (lines : List Text) → IsWrapped w d text lines
         → LinesFit w d text lines }
@@ -52,6 +53,7 @@ pub fn neighbours_fill_a_line()
 
 /// In printable ASCII a text of n characters gives at most 2 q + 1 lines, where q is n / w, rounded
 /// down.
+#[tactic(auto, using(crate::proofs::NeighbourLemmas::lines_are_few))]
 pub fn lines_are_few()
     ensures { (w d : ℕ) (text : Text) (lines : List Text) → IsWrapped w d text lines
         → LinesAreFew w d text lines }
@@ -65,6 +67,7 @@ pub fn cut_lines_are_full()
 
 /// In printable ASCII, where each element fits a line, no division into lines that fit and cut no
 /// element has fewer lines.
+#[tactic(auto, using(crate::proofs::FewestLemmas::lines_are_fewest))]
 pub fn lines_are_fewest()
     ensures { (w d : ℕ) (text : Text) (lines : List Text) → IsWrapped w d text lines
         → LinesAreFewest w d text lines }
@@ -72,6 +75,7 @@ pub fn lines_are_fewest()
 
 /// The head that `split_long_word` returns is the longest front of whole grapheme clusters within
 /// its terminal columns.
+#[tactic(auto, using(crate::proofs::HeadLemmas::head_is_longest))]
 pub fn head_is_longest()
     ensures { (k : ℕ) (text : Text) → HeadIsLongest k text }
 {}
@@ -86,7 +90,7 @@ pub fn spaces_and_borders_add_one_column()
 {}
 
 /// By itself U+17D8 takes three terminal columns, and every other character at most two. So
-/// `characters_fit(text, 2)` asks for no more than that U+17D8 stands nowhere and U+FE01 nowhere
+/// `characters_fit(text, 2)` asks for no more than that U+17D8 is nowhere and U+FE01 nowhere
 /// directly beside U+FE0E or U+FE0F.
 pub fn one_character_takes_three_columns()
     ensures three { OneCharacterTakesThree }
@@ -100,7 +104,7 @@ pub fn presets_have_columns_of_one()
 {}
 
 /// Where each word of a text fits its width, or each character of the word does, each line fits.
-/// U+FE01 stands nowhere directly beside U+FE0E or U+FE0F there, and the delimiter adds one
+/// U+FE01 is nowhere directly beside U+FE0E or U+FE0F there, and the delimiter adds one
 /// terminal column. A head never measures more than its terminal columns.
 pub fn lines_of_every_script_fit()
     ensures lines { (w d : ℕ) (text : Text) → TextLinesFit w d text }

@@ -1,7 +1,7 @@
 //! The parts of a table: styles, cells, rows, columns, and the cutting of texts into lines.
 //!
 //! The functions of `laws`, and `presets_are_as_tabled`, have empty bodies and do nothing when they
-//! run. A clause has to stand on a function to be proved, and a caller's proof gains it by a call:
+//! run. A clause has to be on a function to be proved, and a caller's proof gains it by a call:
 //! theirs are laws that no other call carries.
 #![tactic(auto)]
 
@@ -11,6 +11,7 @@ pub mod content_split;
 pub mod convert;
 pub mod error;
 pub mod laws;
+pub mod pieces;
 pub mod row;
 pub mod style;
 

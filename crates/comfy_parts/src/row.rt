@@ -134,7 +134,7 @@ impl Row {
         self.cells.len()
     }
 
-    /// How many lines of each cell are drawn at the most, at least 1; none where all are drawn.
+    /// How many lines of each cell are drawn at the most, at least 1; none if all are drawn.
     pub fn height_limit(&self) -> Option<usize>
         ensures value { result ≡ self.now.max_height }
         ensures at_least_one { IfSome result (λ lines. 1 ≤ lines) }
@@ -167,9 +167,9 @@ impl Clone for Row {
 fn look_at(cells: &[Cell])
     ensures { All IsCell cells.now }
 {
-    for cell in cells {
+    cells.iter().for_each(|cell| {
         let _ = cell.text_lines();
-    }
+    });
 }
 
 // A reference to a row.

@@ -1,4 +1,4 @@
-//! How a table looks: its frame, and how the contents of its cells stand. Nothing here takes
+//! How a table looks: its frame, and how the contents of its cells are placed. Nothing here takes
 //! memory.
 
 pub mod attribute;

@@ -13,7 +13,7 @@ use comfy_parts::style::presets::by_name;
 const MOST_DIGITS: usize = 5;
 
 /// The settings that the arguments after the program's name ask for, or none where an argument
-/// isn't known. Arguments that are missing stand for no width, `Disabled` and `ASCII_FULL`.
+/// isn't known. Arguments that are missing mean no width, `Disabled` and `ASCII_FULL`.
 pub fn settings_of(args: &[&str]) -> Option<Settings>
     ensures { result ≡ settings_for args.now }
 {

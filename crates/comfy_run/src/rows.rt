@@ -1,4 +1,4 @@
-//! The row of a line: its cells stand between TABs.
+//! The row of a line: its cells are between TABs.
 
 ghost use Rattle.std.specs.Prelude.{◌≡◌, IfOk, false, map, nat_lt, string_bytes, take, if◌then◌else◌};
 ghost use Rattle.std.specs.List.{list_any};
@@ -10,13 +10,13 @@ use comfy_parts::content_split::has_control;
 use comfy_parts::{Cell, Cells, IntoRow, Result, Row};
 use std::alloc::Global;
 
-// What stands for a line feed inside a cell.
+// The byte for a line feed inside a cell.
 const BREAK: char = '\u{b}';
 
 // How many bytes are looked at together.
 const BLOCK: usize = 16;
 
-/// The row of a line, whose cells stand between TABs; U+000B inside a cell is a line break. Its
+/// The row of a line, whose cells are between TABs; U+000B inside a cell is a line break. Its
 /// list has room for `count` cells at first, so that lines with as many cells as the one before
 /// take no more memory than they need.
 pub fn row_of(alloc: Global, line: &str, count: usize) -> Result<Row>
@@ -36,7 +36,7 @@ pub fn row_of(alloc: Global, line: &str, count: usize) -> Result<Row>
     }
 }
 
-// How many bytes stand before the first TAB, and whether there may be breaks among them.
+// How many bytes are before the first TAB, and whether there may be breaks among them.
 fn first_part(bytes: &[u8]) -> (usize, bool)
     ensures part { IsFirstPart bytes.now result.0 }
     ensures breaks { result.1 ≡ false
@@ -61,7 +61,7 @@ fn clear_run(bytes: &[u8]) -> usize
     run
 }
 
-// How many bytes at the front stand in whole blocks without a control character. The bytes of a
+// How many bytes at the front are in whole blocks without a control character. The bytes of a
 // block are looked at without a test between them, which is faster in long texts.
 fn clear_blocks(bytes: &[u8]) -> usize
     ensures { IsClearFront bytes.now result }
@@ -73,7 +73,7 @@ fn clear_blocks(bytes: &[u8]) -> usize
     run
 }
 
-// The cell of what stands between TABs, with its breaks as line feeds where it may have any.
+// The cell of a text between TABs, with its breaks as line feeds if it may have any.
 fn cell_of(alloc: Global, part: &str, has_breaks: bool) -> Result<Cell>
     ensures { IfOk result (λ cell. cell
         ≡ plain_cell (if has_breaks then map break_of part.now else part.now)) }
@@ -86,7 +86,7 @@ fn cell_of(alloc: Global, part: &str, has_breaks: bool) -> Result<Cell>
     Cell::new_owned(alloc, text)
 }
 
-// What stands between TABs, with its breaks as line feeds.
+// A text between TABs, with its breaks as line feeds.
 fn with_line_feeds(alloc: Global, part: &str) -> Result<String>
     ensures { IfOk result (λ text. string_bytes text ≡ map break_of part.now) }
 {

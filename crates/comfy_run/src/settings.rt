@@ -13,7 +13,7 @@ use comfy_parts::style::{ContentArrangement, TableStyle};
 /// ```
 #[derive(Clone, Copy, Debug)]
 pub struct Settings {
-    /// The width of the table in terminal columns; none where none is kept.
+    /// The width of the table in terminal columns; none if none is kept.
     pub width: Option<u16>,
     /// How the widths of the columns are found. The dynamic arrangements keep to the width, and are
     /// as `Disabled` without one.

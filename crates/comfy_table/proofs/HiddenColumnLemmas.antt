@@ -1,13 +1,13 @@
 -- A table has the drawing that it has without its hidden columns.
-use Rattle.std.proofs.Common.{◌≡◌, ℕ, suc, ◌+◌, ◌-◌, Bool, true, false, not, cond, List, [], ◌∷◌, ◌++◌, Option, Some, None, length, map, max, arith, refl, sym, ap, ap₂, ◌∙◌, subst, slice_index, slice_index_or}
-use Rattle.std.specs.List.{enumerate_from, filter, filter_map, cons_option, join_by, range_with_len, slice_get}
-use Rattle.std.specs.Prelude.{MatchOption, flat_map, option_map, option_to_list, unwrap_or, zip}
+use Rattle.std.proofs.Common.{◌≡◌, ℕ, suc, ◌+◌, ◌-◌, Bool, true, false, not, cond, List, [], ◌∷◌, ◌++◌, Option, Some, None, length, map, max, arith, refl, sym, ap, ap₂, ◌∙◌, subst, slice_index}
+use Rattle.std.specs.List.{enumerate_from, filter, filter_map, cons_option, slice_get}
+use Rattle.std.specs.Prelude.{MatchOption, option_map, option_to_list, unwrap_or}
 use Rattle.std.proofs.lemmas.List.{length-map}
 use Rattle.std.proofs.lemmas.Simd.{map-map}
 use Rattle.std.proofs.lemmas.Option.{unwrap_or-slice_get}
 use Rattle.comfy_parts.proofs.CallerLemmas.{join_by-map}
-use Rattle.comfy_parts.specs.CellValue.{CellValue, ColumnInfo, ColumnValue, RowValue, column_padding, info_of, info_width, is_hidden_column}
-use Rattle.comfy_parts.specs.Text.{Text, greatest, measure}
+use Rattle.comfy_parts.specs.CellValue.{CellValue, ColumnInfo, ColumnValue, RowValue, info_of, info_width, is_hidden_column}
+use Rattle.comfy_parts.specs.Text.{Text}
 use Rattle.comfy_parts.specs.declared.style.table_style.ContentLineStyle.{ContentLineStyle}
 use Rattle.comfy_table.proofs.AllWidthsLemmas.{AreFrom, arranged_by_widths, behind_first, first_from, from_start}
 use Rattle.comfy_table.proofs.BoundaryLemmas.{fixed_same, lower_same, upper_same}
@@ -20,12 +20,11 @@ use Rattle.comfy_table.specs.Arrangement.{AreShownWidths, IsArranged, IsDrawingO
 use Rattle.comfy_table.specs.DisabledWidths.{widths_by_content}
 use Rattle.comfy_table.specs.Drawing.{drawing, drawn_header, drawn_row, drawn_rows, infos_of, outer_widths}
 use Rattle.comfy_table.specs.Dynamic.{IsDynamicLayout}
-use Rattle.comfy_table.specs.Frame.{border_count, content_line, optional_frame_line}
+use Rattle.comfy_table.specs.Frame.{border_count}
 use Rattle.comfy_table.specs.HiddenColumns.{HiddenColumnsTellNothing, IsDrawnWithoutHidden, beside_shown, is_shown, shown_row, without_hidden}
-use Rattle.comfy_table.specs.Pieces.{blank_piece, pieces_at, pieces_of_optional, row_height, row_line, shown_infos}
-use Rattle.comfy_table.specs.TableValue.{TableValue, cell_content_width, column_cells, column_content_width, header_and_rows, shown_columns, table_width}
-use Rattle.comfy_table.specs.Widths.{ColumnNeeds, capped_content, disabled_width, fixed_by_constraint, lower_boundary, needs_of, shown_count, shown_needs, upper_boundary}
-use Rattle.comfy_table.specs.Lines.{cell_delimiter, cell_lines}
+use Rattle.comfy_table.specs.Pieces.{pieces_at, row_height, row_line, shown_infos}
+use Rattle.comfy_table.specs.TableValue.{TableValue, column_cells, column_content_width, header_and_rows, shown_columns, table_width}
+use Rattle.comfy_table.specs.Widths.{ColumnNeeds, capped_content, disabled_width, needs_of, shown_count, shown_needs}
 
 -- ---- positions
 
@@ -37,23 +36,17 @@ module _ (column : ColumnValue) (columns : List ColumnValue) where
   -- a first column that is shown stays the first one
   stays_first : is_hidden_column column ≡ false → IsMoved (column ∷ columns) 0 0
   stays_first is X [] = refl
-  stays_first is X (x ∷ xs) =
-      let later : List (ColumnValue × X) = filter (λ (p : ColumnValue × X). is_shown p.0) (zip columns xs) in
-      ap (λ (b : Bool). slice_get (map (λ (p : ColumnValue × X). p.1) (cond (not b) ((column, x) ∷ later) later)) 0) is
+  stays_first is X (x ∷ xs) = grind arith
 
   -- and the columns after it stand one further
   moves_on : (i j : ℕ) → is_hidden_column column ≡ false → IsMoved columns i j → IsMoved (column ∷ columns) (suc i) (suc j)
   moves_on i j is at X [] = refl
-  moves_on i j is at X (x ∷ xs) =
-      let later : List (ColumnValue × X) = filter (λ (p : ColumnValue × X). is_shown p.0) (zip columns xs) in
-      ap (λ (b : Bool). slice_get (map (λ (p : ColumnValue × X). p.1) (cond (not b) ((column, x) ∷ later) later)) (suc j)) is ∙ at X xs
+  moves_on i j is at X (x ∷ xs) = grind arith
 
   -- after a hidden one they don't
   moves_up : (i j : ℕ) → is_hidden_column column ≡ true → IsMoved columns i j → IsMoved (column ∷ columns) (suc i) j
   moves_up i j is at X [] = refl
-  moves_up i j is at X (x ∷ xs) =
-      let later : List (ColumnValue × X) = filter (λ (p : ColumnValue × X). is_shown p.0) (zip columns xs) in
-      ap (λ (b : Bool). slice_get (map (λ (p : ColumnValue × X). p.1) (cond (not b) ((column, x) ∷ later) later)) j) is ∙ at X xs
+  moves_up i j is at X (x ∷ xs) = grind arith
 
 -- so does a number
 index_moved : (columns : List ColumnValue) (i j : ℕ) → IsMoved columns i j → (ws : List ℕ) → slice_index (beside_shown columns ws) j ≡ slice_index ws i
@@ -93,8 +86,7 @@ from_columns {X} f g n m (column ∷ columns) same = by_test (is_hidden_column c
 pub shown_same : {X : Type 0} (table : TableValue) (f g : ℕ × ColumnValue → X)
     → ((i j : ℕ) (column : ColumnValue) → IsMoved table.columns i j → f (i, column) ≡ g (j, column))
     → map f (shown_columns table) ≡ map g (shown_columns (without_hidden table))
-shown_same table f g same = from_columns f g 0 0 table.columns
-    (λ i j column at. let here : 0 + i ≡ i = omega arith in let there : j ≡ 0 + j = omega arith in ap (λ k. f (k, column)) here ∙ same i j column at ∙ ap (λ k. g (k, column)) there)
+shown_same table f g same = grind (arith, from_columns)
 
 -- ---- widths
 
@@ -127,33 +119,8 @@ module _ (table : TableValue) where
       let own : ℕ × ColumnValue → ColumnValue = λ p. p.1 in
       sym (length-map (shown_columns table) own) ∙ ap length (shown_same table own own (λ i j column at. refl)) ∙ length-map (shown_columns (without_hidden table)) own
 
-  -- the needs of a column that has these cells, beside so many shown columns
-  abbrev needs_with : TableValue → ColumnValue → ℕ → List CellValue → ColumnNeeds
-  needs_with t column n cells =
-      let content = greatest (map cell_content_width cells) in
-      record {
-        content = content;
-        padding = column_padding column;
-        fixed = fixed_by_constraint t n content (column_padding column) column.constraint;
-        lower = lower_boundary t n column.constraint;
-        upper = upper_boundary t n column.constraint;
-        longest = λ w. greatest (map measure (flat_map (λ (cell : CellValue). cell_lines w (cell_delimiter t column.delimiter cell) cell) cells));
-      }
-
   needs_same : (i j : ℕ) (column : ColumnValue) → IsMoved table.columns i j → needs_of table (i, column) ≡ needs_of (without_hidden table) (j, column)
-  needs_same i j column at =
-      ap₂ (needs_with table column) count_same (cells_same i j at) ∙ settings (shown_count (without_hidden table)) (column_cells (without_hidden table) j)
-    where
-      settings : (n : ℕ) (cells : List CellValue) → needs_with table column n cells ≡ needs_with (without_hidden table) column n cells
-      settings n cells = λ k.
-          record {
-            content = greatest (map cell_content_width cells);
-            padding = column_padding column;
-            fixed = fixed_same table (without_hidden table) refl refl n (greatest (map cell_content_width cells)) (column_padding column) column.constraint k;
-            lower = lower_same table (without_hidden table) refl refl n column.constraint k;
-            upper = upper_same table (without_hidden table) refl refl n column.constraint k;
-            longest = λ w. greatest (map measure (flat_map (λ (cell : CellValue). cell_lines w (cell_delimiter table column.delimiter cell) cell) cells));
-          }
+  needs_same i j column at = grind (arith, count_same, cells_same, fixed_same, lower_same, upper_same)
 
   -- the width by content, of the needs
   abbrev by_content : ColumnNeeds → ℕ
@@ -176,15 +143,7 @@ module _ (table : TableValue) where
 length-beside : (columns : List ColumnValue) (widths : List ℕ) → length widths ≡ length columns → length (beside_shown columns widths) ≡ length (filter is_shown columns)
 length-beside [] widths long = refl
 length-beside (column ∷ columns) [] long = absurd (omega (arith, long))
-length-beside (column ∷ columns) (w ∷ widths) long = by_test (is_hidden_column column) (length-beside columns widths (omega (arith, long)))
-  where
-    later : List (ColumnValue × ℕ)
-    later = filter (λ (p : ColumnValue × ℕ). is_shown p.0) (zip columns widths)
-
-    by_test : (b : Bool) → length (beside_shown columns widths) ≡ length (filter is_shown columns)
-        → length (map (λ (p : ColumnValue × ℕ). p.1) (cond (not b) ((column, w) ∷ later) later)) ≡ length (cond (not b) (column ∷ filter is_shown columns) (filter is_shown columns))
-    by_test true rest = rest
-    by_test false rest = ap suc rest
+length-beside (column ∷ columns) (w ∷ widths) long = grind (arith, length-beside columns widths (omega (arith, long)))
 
 -- no hidden column is left
 none_hidden : (n : ℕ) (columns : List ColumnValue) → filter (λ (p : ℕ × ColumnValue). is_hidden_column p.1) (enumerate_from n (filter is_shown columns)) ≡ []
@@ -261,40 +220,27 @@ module _ (table : TableValue) (widths : List ℕ) (long : length widths ≡ leng
   whole_same = infos_same (λ p. info_width p.1) (λ p. info_width p.1) (λ i j info at. refl)
 
   pieces_same : (row : RowValue) (i j : ℕ) (info : ColumnInfo) → IsMoved table.columns i j → pieces_at table row (i, info) ≡ pieces_at (without_hidden table) (shown_row table.columns row) (j, info)
-  pieces_same row i j info at = ap (pieces_of_optional table row info) (sym (at CellValue row.cells)) ∙ of_cell (slice_get (beside_shown table.columns row.cells) j)
-    where
-      of_cell : (o : Option CellValue) → pieces_of_optional table row info o ≡ pieces_of_optional (without_hidden table) (shown_row table.columns row) info o
-      of_cell None = refl
-      of_cell (Some cell) = refl
+  pieces_same row i j info at = grind arith
 
   height_same : (row : RowValue) → row_height table infos row ≡ row_height (without_hidden table) others (shown_row table.columns row)
-  height_same row =
-      ap greatest
-      (infos_same (λ p. length (pieces_at table row p)) (λ p. length (pieces_at (without_hidden table) (shown_row table.columns row) p))
-      (λ i j info at. ap length (pieces_same row i j info at)))
+  height_same row = grind (arith, infos_same, pieces_same)
 
   line_same : (row : RowValue) (k : ℕ) → row_line table infos row k ≡ row_line (without_hidden table) others (shown_row table.columns row) k
-  line_same row k =
-      infos_same (λ p. slice_index_or (pieces_at table row p) k (blank_piece p.1)) (λ p. slice_index_or (pieces_at (without_hidden table) (shown_row table.columns row) p) k (blank_piece p.1))
-      (λ i j info at. ap (λ (pieces : List Text). slice_index_or pieces k (blank_piece info)) (pieces_same row i j info at))
+  line_same row k = grind (arith, infos_same, pieces_same)
 
   row_same : (line : ContentLineStyle) (row : RowValue) → drawn_row table infos line row ≡ drawn_row (without_hidden table) others line (shown_row table.columns row)
-  row_same line row = λ k. map (content_line table.style line) (map (λ at. line_same row at k) (range_with_len 0 (height_same row k)))
+  row_same line row = grind (arith, line_same, height_same)
 
   header_same : (header : Option RowValue) → drawn_header table infos header ≡ drawn_header (without_hidden table) others (option_map (shown_row table.columns) header)
   header_same None = refl
-  header_same (Some header) = λ k. row_same table.style.header_lines header k ++ optional_frame_line table.style table.style.header_separator (whole_same k)
+  header_same (Some header) = grind (arith, row_same, whole_same)
 
   rows_same : drawn_rows table infos table.rows ≡ drawn_rows (without_hidden table) others (map (shown_row table.columns) table.rows)
-  rows_same =
-      (λ k. join_by (λ (row : RowValue). row_same table.style.content_lines row k) (optional_frame_line table.style table.style.row_separator (whole_same k)) table.rows)
-      ∙ sym (join_by-map (drawn_row (without_hidden table) others table.style.content_lines) (shown_row table.columns) (optional_frame_line table.style table.style.row_separator (outer_widths others)) table.rows)
+  rows_same = grind (arith, row_same, whole_same, join_by-map)
 
   -- the drawing stays
   drawing_same : drawing table widths ≡ drawing (without_hidden table) (beside_shown table.columns widths)
-  drawing_same = λ k.
-      optional_frame_line table.style table.style.top_border (whole_same k)
-      ++ (header_same table.header k ++ (rows_same k ++ optional_frame_line table.style table.style.bottom_border (whole_same k)))
+  drawing_same = grind (arith, whole_same, header_same, rows_same)
 
 -- ---- both ways
 

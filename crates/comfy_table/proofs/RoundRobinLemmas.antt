@@ -32,8 +32,7 @@ behind_next n place passed i within fewer behind = grind arith
 
 -- all positions are passed where as many were
 all_behind : (n place passed i : ℕ) → place < n → n ≤ passed → i < n → IsBehind n place passed i
-all_behind n place passed i within all below =
-    ⊎_elim (λ earlier. (below, inl (earlier, omega (arith, within, all)))) (λ later. (below, inr (later, omega (arith, later, all)))) (cases_lt i place)
+all_behind n place passed i within all below = grind (arith, cases_lt)
 
 -- the positions since one that is passed are passed
 between_behind : (n place passed from i : ℕ) → place < n → i < n → IsBehind n place passed from ⊎ (place ≡ from) → IsBetween from place i → IsBehind n place passed i
@@ -115,7 +114,7 @@ module _ (rule : Rule) (needs : List ColumnNeeds) (old : Budget) where
   module _ (same_length : length old.widths.items ≡ length needs) (now : Budget) (place passed average : ℕ) (turn : IsTurn now place passed average) where
     -- the columns that are left
     left_is : without_claims turn.order candidates ≡ undecided_among needs now.widths.items
-    left_is = sym (undecided_among-with_claims needs turn.order old.widths.items) ∙ sym (ap (undecided_among needs) turn.taken.widths)
+    left_is = grind (arith, undecided_among-with_claims)
 
     -- they are counted
     length_now : length now.widths.items ≡ length needs

@@ -143,8 +143,7 @@ straight_lines table widths characters apart lines_fit arranged =
 -- what follows from two facts of each cell
 each_cell : (table : TableValue) (widths : List ℕ) (P Q R : RowValue → ColumnInfo → CellValue → Type 0) → ((row : RowValue) (info : ColumnInfo) (cell : CellValue) → P row info cell → Q row info cell → R row info cell)
     → EachCell P table widths → EachCell Q table widths → EachCell R table widths
-each_cell table widths P Q R gives ps qs k default under j other below cell found =
-    gives (slice_index_or (measured_rows table) k default) (slice_index_or (shown_infos (infos_of table widths)) j other).1 cell (ps k default under j other below cell found) (qs k default under j other below cell found)
+each_cell table widths P Q R gives ps qs k default under j other below cell found = grind arith
 
 -- so they are in a straight table
 pub straight : (table : TableValue) (widths : List ℕ) → IsUtf8 table.indicator → EachCell (IsWholeCell table) table widths → IsArranged table widths → IsStraightTable table widths

@@ -19,7 +19,7 @@ use Rattle.csv_tables.specs.declared.selection.Selection.{Selection}
 use Rattle.csv_tables.proofs.CountLemmas.{below_header}
 use Rattle.csv_command.specs.Drawn.{AreEnough, HasLimit, IsNotEnough, RendersBeginning, RendersChosen, RendersCounted, layout_with, most_drawn}
 use Rattle.csv_command.specs.Errors.{of_columns}
-use Rattle.csv_command.specs.Told.{IsToldOfBeginning, IsToldOfInput, drawn_records}
+use Rattle.csv_command.specs.LongRecords.{AreLongRecordsOfBeginning, AreLongRecordsOfInput, drawn_records}
 use Rattle.csv_records.specs.Longer.{longer_records}
 use Rattle.csv_records.specs.declared.longer.LongRecords.{LongRecords}
 use Rattle.csv_command.specs.Run.{IsInputRefusal, IsRefusal}
@@ -167,8 +167,8 @@ module _ (options : Options) where
           is_output = same_output options first found.records alike None output made;
         }
 
-    pub beginning_told : (longer told : Option LongRecords) → longer ≡ longer_records options.input found.is_enough.text first → told ≡ (if options.selection.has_header then longer else None) → IsToldOfBeginning options (whole_lines read) told
-    beginning_told longer told are is =
+    pub beginning_long_records : (longer found_long : Option LongRecords) → longer ≡ longer_records options.input found.is_enough.text first → found_long ≡ (if options.selection.has_header then longer else None) → AreLongRecordsOfBeginning options (whole_lines read) found_long
+    beginning_long_records longer found_long are is =
         let drawn : first ≡ drawn_records options.selection found.records = found.are_first ∙ sym (ap (λ (o : Option ℕ). limited o found.records) enough) in
         record { records = found.records; are_enough = are_enough; is = is ∙ ap (λ (l : Option LongRecords). if options.selection.has_header then l else None) (are ∙ ap (longer_records options.input found.is_enough.text) drawn) }
 
@@ -180,10 +180,10 @@ module _ (options : Options) where
   pub whole_no_memory : (input text : Text) → IsDecodedBy options.input input text → IsInputRefusal options input err.OutOfMemory
   whole_no_memory input text is_text = λ wanted. (subst (λ (encoding : Encoding). IsDecoded encoding options.input.skip input text) wanted is_text.is_decoded).0
 
-  -- what is told of the first records is told of the input
-  pub whole_told : (input text : Text) (first all : List (List Text)) (longer told : Option LongRecords) → first ≡ drawn_records options.selection all → IsDecodedBy options.input input text → AreRecordsIn options.input text all
-      → longer ≡ longer_records options.input text first → told ≡ (if options.selection.has_header then longer else None) → IsToldOfInput options input told
-  whole_told input text first all longer told drawn is_text are_records are is =
+  -- the long ones of the first records are those of the input
+  pub whole_long_records : (input text : Text) (first all : List (List Text)) (longer found_long : Option LongRecords) → first ≡ drawn_records options.selection all → IsDecodedBy options.input input text → AreRecordsIn options.input text all
+      → longer ≡ longer_records options.input text first → found_long ≡ (if options.selection.has_header then longer else None) → AreLongRecordsOfInput options input found_long
+  whole_long_records input text first all longer found_long drawn is_text are_records are is =
       record {
         records = all;
         are_records = record { text = text; is_text = is_text; are_records = are_records };

@@ -3,6 +3,7 @@ pub mod FirstRowLemmas
 pub mod OutputControlLemmas
 pub mod ProgramLemmas
 pub mod RefusalLemmas
+pub mod RuleLemmas
 pub mod RunLemmas
 pub mod StyleLemmas
 pub mod ValueLemmas

@@ -1,5 +1,5 @@
 -- No control character is visible of what is drawn of an input.
-use Rattle.std.proofs.Common.{List, [], ◌∷◌, Some, None}
+use Rattle.std.proofs.Common.{List, [], ◌∷◌, Some}
 use Rattle.std.specs.List.{All}
 use Rattle.std.proofs.lemmas.Str.{NoCharPasses-nil}
 use Rattle.comfy_parts.specs.Text.{Text}

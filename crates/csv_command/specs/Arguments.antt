@@ -257,7 +257,7 @@ pub record AreFoundInVain (arguments : List Text) : Type 0 where
   pub are_found : AreFound arguments found
   pub in_vain : wanted_delimiter found ≡ None
 
--- why nothing is asked for: the arguments aren't taken, or were found in vain, which is told as an
+-- why nothing is asked for: the arguments aren't taken, or were found in vain, which is said as an
 -- invalid value, or there is no memory
 abbrev pub IsRefusedBy : List Text → Error → Type 0
 IsRefusedBy arguments e =

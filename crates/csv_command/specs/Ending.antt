@@ -117,8 +117,8 @@ message_for invocation fault e =
     ++ reason_for invocation.options.input.encoding fault e) ++ codes "\n"
 
 -- how many other records have more fields
-abbrev pub others_told : ℕ → Text
-others_told others =
+abbrev pub others_counted : ℕ → Text
+others_counted others =
     if others == 0 then []
     else if others == 1 then codes " (and 1 more line)"
     else (codes " (and " ++ decimal others) ++ codes " more lines)"
@@ -129,7 +129,7 @@ longer_line file longer =
     ((about true file
     ++ (((codes "line " ++ decimal longer.line) ++ (codes " has " ++ decimal longer.fields))
     ++ (codes " fields, the header has " ++ decimal longer.first_fields)))
-    ++ others_told longer.others)
+    ++ others_counted longer.others)
     ++ codes "\n"
 
 -- what is said before the input is read: that it's waited for, where a terminal is to give it
@@ -214,7 +214,7 @@ IsEndOfDrawing drawing (Some longer) ending =
 -- the end of a drawing, by its result
 abbrev pub IsEndOfOutcome : Outcome → Ending → Type 0
 IsEndOfOutcome drawing ending =
-    MatchResult drawing.result (λ told. IsEndOfDrawing drawing told ending)
+    MatchResult drawing.result (λ longer. IsEndOfDrawing drawing longer ending)
     (λ e. IsEndOfError drawing e ending)
 
 -- no control character but line feeds, and none that turns the direction of text

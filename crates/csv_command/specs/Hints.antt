@@ -1,4 +1,4 @@
--- What a message tells where a word chooses no column that is there.
+-- Hints of messages on words that choose no column.
 -- Source: this library's own.
 use Rattle.std.specs.Prelude.{ℕ, ◌+◌, ◌-◌, ◌==◌, nat_lt, List, [], ◌++◌, Option, codes, decimal, flat_map, length, min, if◌then◌else◌}
 use Rattle.std.specs.List.{position_from, range_with_len}
@@ -11,40 +11,48 @@ use Rattle.csv_tables.specs.Fields.{field_or_blank}
 abbrev pub position_alike : Text → List Text → Option ℕ
 position_alike word names = position_from (is_word word) 0 names
 
--- the name of a column, or its number where it has none
-abbrev pub told_name : List Text → ℕ → Text
-told_name names position =
+-- the name of a column, or its number if it has none
+abbrev pub name_or_number : List Text → ℕ → Text
+name_or_number names position =
     if length (field_or_blank names position) == 0 then decimal (position + 1)
     else field_or_blank names position
 
--- the parts of a list: eight names, and behind them how many more there are
-abbrev pub told : List Text → ℕ → ℕ → Text
-told names count place =
-    if nat_lt place 8 then told_name names place else decimal (count - 8) ++ codes " more"
+-- how many names a message lists at most
+abbrev pub most_listed : ℕ
+most_listed = 8
 
--- what stands before one of so many parts
-abbrev pub told_before : ℕ → ℕ → Text
-told_before parts place =
+-- the parts of a list: that many names, and after them how many more there are
+abbrev pub listed_part : List Text → ℕ → ℕ → Text
+listed_part names count place =
+    if nat_lt place most_listed
+    then name_or_number names place
+    else decimal (count - most_listed) ++ codes " more"
+
+-- the text before one of this many parts
+abbrev pub separator_before : ℕ → ℕ → Text
+separator_before parts place =
     if place == 0 then [] else if nat_lt (place + 1) parts then codes ", " else codes " and "
 
-abbrev pub told_names : List Text → ℕ → Text
-told_names names count =
-    flat_map (λ place. told_before (min count 9) place ++ told names count place)
-    (range_with_len 0 (min count 9))
+abbrev pub listed_names : List Text → ℕ → Text
+listed_names names count =
+    let parts = min count (most_listed + 1) in
+    flat_map (λ place. separator_before parts place ++ listed_part names count place)
+    (range_with_len 0 parts)
 
--- so many columns
+-- this many columns
 abbrev pub column_count : ℕ → Text
 column_count count = if count == 1 then codes "1 column" else decimal count ++ codes " columns"
 
--- what columns there are: their names, or how many where there is no header
+-- the columns that there are: their names, or their number if there is no header
 abbrev pub there_are : List Text → ℕ → Text
 there_are names count =
     (if count == 1 then codes "there is " else codes "there are ")
-    ++ (if length names == 0 then column_count count else told_names names count)
+    ++ (if length names == 0 then column_count count else listed_names names count)
 
--- what helps where a word chooses none of so many columns: a name that is the word in another case
--- of letters, else what columns there are
+-- the hint for a word that chooses no column: a name that is the word in another case of letters,
+-- else the columns that there are
 abbrev pub hint_for : List Text → ℕ → Text → Text
 hint_for names count word =
-    option_map_or (λ position. (codes "did you mean " ++ told_name names position) ++ codes "?")
+    option_map_or
+    (λ position. (codes "did you mean " ++ name_or_number names position) ++ codes "?")
     (position_alike word names) (there_are names count)

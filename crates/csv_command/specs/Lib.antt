@@ -10,4 +10,4 @@ pub mod Refusals
 pub mod Rules
 pub mod Run
 pub mod Styles
-pub mod Told
+pub mod LongRecords

@@ -1,12 +1,15 @@
--- What is said of words that are to be numbers or a delimiter, and are none, and of options that
--- are meant otherwise.
+-- Messages on words in place of a number or a delimiter, and on options that are meant otherwise.
 -- Source: this library's own.
-use Rattle.std.specs.Prelude.{ℕ, ◌-◌, ◌^◌, Bool, false, ◌==◌, ◌||◌, ◌&&◌, nat_le, List, [], ◌∷◌, ◌++◌, Option, Some, None, bytes_eq, codes, decimal, length, option_and_then, unwrap_or, if◌then◌else◌}
+use Rattle.std.specs.Prelude.{ℕ, pos, ◌-◌, ◌^◌, Bool, false, ◌==◌, ◌||◌, ◌&&◌, nat_le, List, [], ◌∷◌, ◌++◌, Option, Some, None, bytes_eq, codes, decimal, find, length, option_and_then, unwrap_or, if◌then◌else◌}
 use Rattle.std.specs.List.{after_first, before_first, list_any}
 use Rattle.std.specs.Option.{option_map_or, option_or}
 use Rattle.std.specs.Str.Parse.{without_leading_plus}
 use Rattle.clap.specs.Lexer.{has_byte, strip_byte}
+use Rattle.clap.specs.Words.{Rule}
+use Rattle.clap.specs.declared.builder.value_parser.ValueParser.{ValueParser}
+use Rattle.clap.specs.declared.builder.value_parser.ValueParser.TheVariants as vp
 use Rattle.comfy_parts.specs.Text.{Text}
+use Rattle.csv_command.specs.Program.{csvtable_rules}
 use Rattle.csv_records.specs.Numerals.{number_for}
 
 -- what is said of a word that is to be a delimiter and is none
@@ -15,14 +18,42 @@ wrong_delimiter word =
     codes "a delimiter is `tab`, `spaces`, `auto` or one ASCII character other than "
     ++ codes "a quote or a line end, not '" ++ word ++ codes "'"
 
--- the greatest number that may stand behind an option
-abbrev pub greatest_behind : Text → Option ℕ
-greatest_behind word =
-    if bytes_eq word (codes "-w") || bytes_eq word (codes "--width") then Some 65535
-    else if (bytes_eq word (codes "-m") || bytes_eq word (codes "--max-height"))
-    || (bytes_eq word (codes "--skip") || bytes_eq word (codes "--limit"))
-    then Some (2 ^ 64 - 1)
-    else None
+-- an option's name is this
+abbrev pub is_long : Text → Option Text → Bool
+is_long word None = false
+is_long word (Some name) = bytes_eq word name
+
+-- an option's letter is this
+abbrev pub is_short : ℕ → Option ℕ → Bool
+is_short b None = false
+is_short b (Some letter) = b == letter
+
+-- a word without its first hyphen is an option's name with another hyphen, or its letter
+abbrev pub is_name_of : Text → Rule → Bool
+is_name_of [] rule = false
+is_name_of (b ∷ more) rule =
+    if b == 0x2D then is_long more rule.long else length more == 0 && is_short b rule.short
+
+-- a word calls an option by its name or its letter
+abbrev pub is_called : Text → Rule → Bool
+is_called [] rule = false
+is_called (b ∷ more) rule = b == 0x2D && is_name_of more rule
+
+-- the greatest number that a value may be
+abbrev pub greatest_read : Option ValueParser → Option ℕ
+greatest_read (Some (vp.Signed least (pos greatest))) = Some greatest
+greatest_read (Some (vp.Unsigned least greatest)) = Some greatest
+greatest_read parser = None
+
+-- the greatest number that the option which a word calls takes, if it is one of some options
+abbrev pub greatest_within : List (Rule × List Text) → Text → Option ℕ
+greatest_within rules word =
+    option_and_then (λ (known : Rule × List Text). greatest_read known.0.parser)
+    (find (λ (known : Rule × List Text). is_called word known.0) rules)
+
+-- the greatest number that an option of the program takes
+unfoldable pub greatest_number : Text → Option ℕ
+greatest_number word = greatest_within csvtable_rules word
 
 -- a word is a number up to this one; a plus may stand before it
 abbrev pub is_number_to : ℕ → Text → Bool
@@ -73,7 +104,7 @@ reason_of option word =
     if length word == 0 || is_number_to greatest word
     then None
     else Some (number_reason option greatest word))
-    (greatest_behind option)
+    (greatest_number option)
     (reason_without_number option word)
 
 -- an option and what stands behind it, where that isn't empty

@@ -1,4 +1,4 @@
-//! The arguments after the program's name, and what they ask for.
+//! The arguments after the program's name, and the options that they give.
 
 ghost use Rattle.std.specs.Prelude.{◌≡◌, ◌≢◌, ◌==◌, IfOk, IfErr, Some, codes, map, option_map, string_bytes};
 ghost use Rattle.std.specs.List.{slice_split};
@@ -26,7 +26,7 @@ const TERMINAL_WIDTH: u16 = 80;
 pub struct Options {
     /// How the input is read.
     pub input: InputOptions,
-    /// Whether an input is read to its end where there is a limit, to tell how many records it has.
+    /// Whether an input is read to its end if there is a limit, to tell how many records it has.
     pub counts_all: bool,
     /// Which records are drawn.
     pub selection: Selection,
@@ -48,12 +48,12 @@ impl Drop for Options {
     }
 }
 
-/// What the arguments ask for.
+/// The options that the arguments give.
 #[derive(Debug)]
 pub struct Invocation {
     /// How the records are drawn.
     pub options: Options,
-    /// The file to read; standard input where there is none.
+    /// The file to read; standard input if there is none.
     pub file: Option<String>,
 }
 
@@ -66,14 +66,14 @@ impl Drop for Invocation {
     }
 }
 
-/// What is known of where the output goes.
+/// Facts on the place where the output goes.
 #[derive(Clone, Copy, Debug)]
 pub struct OutputContext<'a> {
     /// Whether standard output is a terminal.
     pub is_terminal: bool,
-    /// What the environment has as `COLUMNS`, where that is text.
+    /// `COLUMNS` of the environment, if that is text.
     pub columns: Option<&'a str>,
-    /// What it has as `NO_COLOR`, where that is text.
+    /// `NO_COLOR` of the environment, if that is text.
     pub no_color: Option<&'a str>,
 }
 
@@ -193,14 +193,14 @@ fn is_given<'a>(matches: &ArgMatches<'a>, id: &str) -> bool
     matches.get_str(id).is_some_and(|value| value != "false")
 }
 
-// Whether an option is given, and the other one isn't given behind it.
+// Whether an option is given, and the other one isn't given after it.
 fn is_given_last<'a>(matches: &ArgMatches<'a>, id: &str, other: &str) -> bool
     ensures { result ≡ is_given_last (found_of matches.now) id.now other.now }
 {
     is_given(matches, id) && !(is_given(matches, other) && is_behind(matches, id, other))
 }
 
-// Whether the other option was used behind this one: clap has them in the order of their last uses.
+// Whether the other option was used after this one: clap has them in the order of their last uses.
 fn is_behind<'a>(matches: &ArgMatches<'a>, id: &str, other: &str) -> bool
     ensures { result ≡ is_behind id.now other.now (ids_in (found_of matches.now)) }
 {
@@ -225,7 +225,7 @@ fn file_of(alloc: Global, word: Option<&str>) -> Result<Option<String>, AllocErr
     }
 }
 
-// What is to stand between fields.
+// The delimiter between fields.
 fn wanted_delimiter<'a>(matches: &ArgMatches<'a>) -> Option<Delimiter>
     ensures { result ≡ wanted_delimiter (found_of matches.now) }
 {
@@ -252,7 +252,7 @@ fn delimiter_of(word: Option<&str>, file: Option<&str>) -> Option<Delimiter>
     }
 }
 
-// What is taken for a file of this name where no argument says more.
+// What is taken for a file of this name if no argument says more.
 fn delimiter_by(file: Option<&str>) -> Delimiter
     ensures { result ≡ delimiter_by (option_map (λ f. f.now) file.entry) }
 {
@@ -421,7 +421,7 @@ fn terminal_width(columns: Option<&str>) -> u16
     columns.unwrap_or(TERMINAL_WIDTH)
 }
 
-// So many terminal columns, where a width can be so great.
+// This many terminal columns, where a width can be so great.
 fn some_columns(columns: usize) -> Option<u16>
     ensures { result ≡ some_columns columns }
 {
@@ -438,7 +438,7 @@ fn is_bold(word: Option<&str>, context: OutputContext<'_>) -> bool
     }
 }
 
-// Whether the header is in bold where nothing says when.
+// Whether the header is in bold if nothing says when.
 fn is_bold_there(context: OutputContext<'_>) -> bool
     ensures { result ≡ is_bold_there context.entry }
 {

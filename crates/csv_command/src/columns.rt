@@ -11,18 +11,18 @@ use csv_tables::{Columns, name_at};
 use std::alloc::{AllocError, Global};
 
 /// Columns by words. A word is the number of a column that is there, counted from 1, else a name,
-/// else a range around a hyphen. Each end of a range is such a number, else a name; nothing behind
-/// the hyphen stands for the last column. Of several hyphens the first one counts around which both
+/// else a range around a hyphen. Each end of a range is such a number, else a name; nothing after
+/// the hyphen represents the last column. Of several hyphens the first one counts around which both
 /// ends are there, in order.
 #[derive(Debug)]
 pub struct ColumnWords {
-    /// The columns in the order in which they are drawn; an empty list stands for all of them.
+    /// The columns in the order in which they are drawn; an empty list represents all of them.
     pub chosen: Vec<String>,
     /// Columns that aren't drawn.
     pub dropped: Vec<String>,
-    /// Columns that stand at the right.
+    /// Columns that are at the right.
     pub right: Vec<String>,
-    /// Columns that stand at the left; one that is in both lists is refused.
+    /// Columns that are at the left; one that is in both lists is refused.
     pub left: Vec<String>,
 }
 
@@ -37,7 +37,7 @@ impl Drop for ColumnWords {
     }
 }
 
-/// The columns that words choose of so many under these names. `NoColumn` has the first word that
+/// The columns that words choose of this many under these names. `NoColumn` has the first word that
 /// chooses no column that is there, in the list of columns, then in those of the dropped ones, of
 /// the right and of the left. `NoneLeft` comes before those of the right. `TwoSides` has the first
 /// column of the right that is at the left too.
@@ -102,7 +102,7 @@ fn without(alloc: Global, positions: &[usize], dropped: &[usize]) -> Result<Vec<
         .collect(alloc)
 }
 
-// The positions of the chosen columns; all of them where none is chosen.
+// The positions of the chosen columns; all of them if none is chosen.
 fn chosen_columns(
     alloc: Global,
     words: &[String],
@@ -208,7 +208,7 @@ fn range_of(names: &Record<'_>, count: usize, word: &str) -> Option<(usize, usiz
     None
 }
 
-// The columns around a hyphen that stands at a place.
+// The columns around a hyphen that is at a place.
 fn range_at(names: &Record<'_>, count: usize, word: &str, at: usize) -> Option<(usize, usize)>
     requires { at < length word.now }
     ensures value { result ≡ range_at names.now count word.now at }
@@ -226,7 +226,7 @@ fn range_at(names: &Record<'_>, count: usize, word: &str, at: usize) -> Option<(
     }
 }
 
-// The position after the last column of a range, by what stands behind its hyphen.
+// The position after the last column of a range, by the text after its hyphen.
 fn end_of(names: &Record<'_>, count: usize, word: &str) -> Option<usize>
     ensures { result ≡ end_of names.now count word.now }
 {

@@ -47,7 +47,7 @@ impl From<AllocError> for Refusal {
 /// nor `NO_COLOR`.
 ///
 /// No file is opened: an argument for one names the input in messages, and its end may tell what
-/// stands between fields.
+/// is between fields.
 ///
 /// ```
 /// let drawing = render_csv(rt.alloc(), &["csvtable", "-s", "grid"], b"name,days\noats,3\n")?;

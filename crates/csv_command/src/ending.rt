@@ -1,9 +1,9 @@
-//! How the program ends: its status, and what it says. `process` does what stands here.
+//! How the program ends: its status and its message. `process` ends so.
 
 ghost use Rattle.std.specs.Prelude.{◌≡◌, ◌++◌, IfErr, IfOk, OnOk, option_map, string_bytes, true};
 ghost use Rattle.clap.specs.Words.{kind_of};
 ghost use Rattle.csv_command.specs.declared.ending.Message.TheVariants.{OutOfMemory, Text};
-ghost use Rattle.csv_command.specs.Ending.{IsEndOfOutcome, IsEndOfRefusal, IsEndOfUnwritten, IsEndWithoutArguments, IsHarmless, IsSilent, about, columns_reason, decoding_reason, encoding_hint, is_of_input, longer_line, message_for, others_told, reading_reason, reason_for, records_reason, text_of, not_text_reason, waiting_notice};
+ghost use Rattle.csv_command.specs.Ending.{IsEndOfOutcome, IsEndOfRefusal, IsEndOfUnwritten, IsEndWithoutArguments, IsHarmless, IsSilent, about, columns_reason, decoding_reason, encoding_hint, is_of_input, longer_line, message_for, others_counted, reading_reason, reason_for, records_reason, text_of, not_text_reason, waiting_notice};
 
 use crate::arguments::Invocation;
 use crate::error::{ColumnsError, CsvError};
@@ -17,16 +17,16 @@ const FAILED: u8 = 1;
 
 const MISUSED: u8 = 2;
 
-// What opens compressed files.
+// A command that opens compressed files.
 const GZIP: &str = "compressed by gzip; try zcat FILE | csvtable";
 
 const ZIP: &str = "a zip archive; try unzip -p FILE | csvtable, or save a spreadsheet as CSV";
 
-// What makes CSV of JSON.
+// A command that makes CSV of JSON.
 const JSON: &str = "looks like JSON; try jq -r '.[] | [.a, .b] | @csv' FILE | csvtable -n; \
     -e utf-8 reads it anyway";
 
-// Why there is no drawing where memory ran out.
+// Why there is no drawing if memory ran out.
 const OUT_OF_MEMORY: &str = "out of memory";
 
 /// The line where an argument isn't UTF-8.
@@ -37,13 +37,13 @@ pub const ARGUMENT_NOT_UTF8: &str = "csvtable: an argument isn't UTF-8\n";
 pub(crate) struct Ending {
     /// The status.
     pub status: u8,
-    /// Whether what is said goes to standard error.
+    /// Whether the message goes to standard error.
     pub is_message: bool,
-    /// What is said.
+    /// The message.
     pub said: Message,
 }
 
-/// What the program says at its end.
+/// A message of the program at its end.
 #[derive(Drop)]
 pub(crate) enum Message {
     Nothing,
@@ -74,12 +74,12 @@ impl Message {
     }
 }
 
-/// What came of a drawing.
+/// The outcome of a drawing.
 #[derive(Drop)]
 pub(crate) struct Outcome<'a> {
-    /// What arguments asked for.
+    /// The arguments as they were read.
     pub invocation: &'a Invocation,
-    /// Whether it was written, and then what is told of its records.
+    /// Whether it was written, and then which of its records are too long.
     pub result: Result<Option<LongRecords>, CsvError>,
     /// With which error the input couldn't be opened or read.
     pub fault: Option<io::ErrorKind>,
@@ -203,7 +203,7 @@ fn longer_line(
 
 // Appends how many other records have more.
 fn push_others(alloc: Global, text: &mut String, others: usize) -> Result<(), AllocError>
-    ensures { OnOk result (string_bytes text.new ≡ string_bytes text.old ++ others_told others) }
+    ensures { OnOk result (string_bytes text.new ≡ string_bytes text.old ++ others_counted others) }
 {
     if others == 0 {
         return Ok(());
@@ -211,8 +211,8 @@ fn push_others(alloc: Global, text: &mut String, others: usize) -> Result<(), Al
     if others == 1 {
         return text.push_str(" (and 1 more line)");
     }
-    let told = format!(in alloc; " (and {others} more lines)")?;
-    text.push_str(told.as_str())
+    let counted = format!(in alloc; " (and {others} more lines)")?;
+    text.push_str(counted.as_str())
 }
 
 /// The line on an error. The fault is that of the input where it can't be opened or read.
@@ -238,7 +238,7 @@ fn is_of_input(error: &CsvError) -> bool
     !matches!(error, CsvError::Write | CsvError::OutOfMemory)
 }
 
-// What a message begins with.
+// The beginning of a message.
 fn about(alloc: Global, is_of_input: bool, file: &Option<String>) -> Result<String, AllocError>
     ensures { IfOk result (λ text. string_bytes text
         ≡ about is_of_input (option_map string_bytes file.now)) }
@@ -253,7 +253,7 @@ fn about(alloc: Global, is_of_input: bool, file: &Option<String>) -> Result<Stri
     }
 }
 
-/// What is said before the input is read: that it is waited for, where no file is named and
+/// The message before the input is read: that it is waited for, if no file is named and
 /// standard input is a terminal.
 pub(crate) fn waiting_notice(file: &Option<String>, is_terminal: bool) -> &'static str
     ensures { result.now ≡ waiting_notice (option_map string_bytes file.now) is_terminal }
@@ -306,7 +306,7 @@ fn decoding_reason(
     }
 }
 
-// What an input is that is no text in UTF-8, and what helps.
+// The kind of an input that is no text in UTF-8, and a hint.
 fn not_text_reason(alloc: Global, other: NotText) -> Result<String, AllocError>
     ensures { IfOk result (λ text. string_bytes text ≡ not_text_reason other) }
 {
@@ -367,7 +367,7 @@ fn reading_reason(fault: Option<io::ErrorKind>) -> &'static str
     }
 }
 
-// What helps where no encoding was asked for, and the input may be Windows-1252.
+// The hint if no encoding was asked for, and the input may be Windows-1252.
 fn encoding_hint(encoding: Option<Encoding>, may_be_cp1252: bool) -> &'static str
     ensures { result.now ≡ encoding_hint encoding may_be_cp1252 }
 {
@@ -377,8 +377,8 @@ fn encoding_hint(encoding: Option<Encoding>, may_be_cp1252: bool) -> &'static st
     }
 }
 
-/// What clap says, with nothing in it that speaks to the terminal: its text holds arguments as they
-/// were typed.
+/// The message of clap, with nothing in it that speaks to the terminal: its text holds arguments as
+/// they were typed.
 pub(crate) fn text_of_clap(alloc: Global, error: &Error) -> Result<String, AllocError>
     ensures { IfOk result (λ text. IsHarmless (string_bytes text)) }
 {

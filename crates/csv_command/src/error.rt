@@ -14,14 +14,14 @@ use thiserror::Error;
 /// Why columns can't be drawn so.
 #[derive(Debug, Drop, Error)]
 pub enum ColumnsError {
-    /// A list of columns has this word, and chooses no column that is there; and what helps: a
-    /// name that differs from it in the case of ASCII letters alone, else what columns there are.
+    /// A list of columns has this word, which chooses no column that is there; and a hint: a name
+    /// that differs from it in case alone, else the columns that there are.
     #[error("no column '{0}'; {1}")]
     NoColumn(String, String),
     /// No column is chosen that isn't left out, or no record has a field.
     #[error("no column is left")]
     NoneLeft,
-    /// The column of this name, or of this number where there is no header, is to stand at the
+    /// The column of this name, or of this number if there is no header, is to be at the
     /// right and at the left.
     #[error("column '{0}' can't stand at the right and at the left")]
     TwoSides(String),

@@ -1,16 +1,16 @@
-//! What a message tells where a word chooses no column that is there.
+//! Hints of messages on words that choose no column.
 
 ghost use Rattle.std.specs.Prelude.{◌≡◌, ◌<◌, IfOk, string_bytes};
-ghost use Rattle.csv_command.specs.Hints.{column_count, hint_for, position_alike, there_are, told, told_before, told_name, told_names};
+ghost use Rattle.csv_command.specs.Hints.{column_count, hint_for, listed_names, listed_part, name_or_number, position_alike, separator_before, there_are};
 
 use csv_records::Record;
 use std::alloc::{AllocError, Global};
 
-// So many names are told, and how many more there are.
-const MOST_TOLD: usize = 8;
+// How many names a message lists at most, before it says how many more there are.
+const MOST_LISTED: usize = 8;
 
-/// What helps where a word chooses none of so many columns: the first name that differs from it in
-/// the case of ASCII letters alone, else what columns there are.
+/// The hint for a word that chooses no column: the first name that differs from it in the case of
+/// ASCII letters alone, else the columns that there are.
 pub(crate) fn hint_of(
     alloc: Global,
     names: &Record<'_>,
@@ -21,7 +21,7 @@ pub(crate) fn hint_of(
 {
     match position_alike(names, word) {
         Some(position) => {
-            let name = told_name(alloc, names, position)?;
+            let name = name_or_number(alloc, names, position)?;
             format!(in alloc; "did you mean {name}?")
         }
         None => there_are(alloc, names, count),
@@ -37,14 +37,14 @@ fn position_alike(names: &Record<'_>, word: &str) -> Option<usize>
         .position(|name| name.eq_ignore_ascii_case(word))
 }
 
-// What columns there are: their names, or how many where there is no header.
+// The columns that there are: their names, or their number if there is no header.
 fn there_are(alloc: Global, names: &Record<'_>, count: usize) -> Result<String, AllocError>
     ensures { IfOk result (λ text. string_bytes text ≡ there_are names.now count) }
 {
     let columns = if names.len() == 0 {
         column_count(alloc, count)?
     } else {
-        told_names(alloc, names, count)?
+        listed_names(alloc, names, count)?
     };
     if count == 1 {
         format!(in alloc; "there is {columns}")
@@ -64,23 +64,23 @@ fn column_count(alloc: Global, count: usize) -> Result<String, AllocError>
 }
 
 // The names of the first columns, and how many more there are.
-fn told_names(alloc: Global, names: &Record<'_>, count: usize) -> Result<String, AllocError>
-    ensures { IfOk result (λ text. string_bytes text ≡ told_names names.now count) }
+fn listed_names(alloc: Global, names: &Record<'_>, count: usize) -> Result<String, AllocError>
+    ensures { IfOk result (λ text. string_bytes text ≡ listed_names names.now count) }
 {
     let mut text = String::new(alloc);
-    let parts = count.min(MOST_TOLD + 1);
+    let parts = count.min(MOST_LISTED + 1);
     for place in 0..parts {
-        text.push_str(told_before(parts, place))?;
-        let part = told(alloc, names, count, place)?;
+        text.push_str(separator_before(parts, place))?;
+        let part = listed_part(alloc, names, count, place)?;
         text.push_str(part.as_str())?;
     }
     Ok(text)
 }
 
-// What stands before one of so many parts of a list.
-fn told_before(parts: usize, place: usize) -> &'static str
+// The text before a part of a list of this many parts.
+fn separator_before(parts: usize, place: usize) -> &'static str
     requires { place < parts }
-    ensures { result.now ≡ told_before parts place }
+    ensures { result.now ≡ separator_before parts place }
 {
     if place == 0 {
         ""
@@ -92,19 +92,24 @@ fn told_before(parts: usize, place: usize) -> &'static str
 }
 
 // A part of that list.
-fn told(alloc: Global, names: &Record<'_>, count: usize, place: usize) -> Result<String, AllocError>
-    ensures { IfOk result (λ text. string_bytes text ≡ told names.now count place) }
+fn listed_part(
+    alloc: Global,
+    names: &Record<'_>,
+    count: usize,
+    place: usize,
+) -> Result<String, AllocError>
+    ensures { IfOk result (λ text. string_bytes text ≡ listed_part names.now count place) }
 {
-    if place < MOST_TOLD {
-        told_name(alloc, names, place)
+    if place < MOST_LISTED {
+        name_or_number(alloc, names, place)
     } else {
-        format!(in alloc; "{} more", count.saturating_sub(MOST_TOLD))
+        format!(in alloc; "{} more", count.saturating_sub(MOST_LISTED))
     }
 }
 
-// The name of a column, or its number where it has none.
-fn told_name(alloc: Global, names: &Record<'_>, position: usize) -> Result<String, AllocError>
-    ensures { IfOk result (λ text. string_bytes text ≡ told_name names.now position) }
+// The name of a column, or its number if it has none.
+fn name_or_number(alloc: Global, names: &Record<'_>, position: usize) -> Result<String, AllocError>
+    ensures { IfOk result (λ text. string_bytes text ≡ name_or_number names.now position) }
 {
     match names.get(position) {
         Some(name) if !name.is_empty() => String::from_str(alloc, name),

@@ -1,4 +1,4 @@
-//! What `csvtable` is: the arguments behind its name, its run, and what it says at its end.
+//! The program `csvtable`: the arguments after its name, its run, and its message at the end.
 #![tactic(auto)]
 
 mod arguments;

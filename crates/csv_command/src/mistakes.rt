@@ -1,12 +1,12 @@
-//! What is said of words that are to be numbers or a delimiter, and are none, and of options that
-//! are meant otherwise.
+//! Messages on words in place of a number or a delimiter, and on options that are meant otherwise.
 
 ghost use Rattle.std.specs.Prelude.{◌≡◌, IfOk, Some, map, option_map, string_bytes};
-ghost use Rattle.csv_command.specs.Mistakes.{behind_letter, given, greatest_behind, in_one_word, is_number_to, number_reason, reason_of, with_value, wrong_delimiter, wrong_number};
+ghost use Rattle.csv_command.specs.Mistakes.{behind_letter, given, in_one_word, is_number_to, number_reason, reason_of, with_value, wrong_delimiter, wrong_number};
 
+use crate::options::greatest_number;
 use std::alloc::{AllocError, Global};
 
-/// What is said of a word that is to be a delimiter and is none.
+/// The message on a word in place of a delimiter.
 pub(crate) fn reason_of_delimiter(alloc: Global, word: &str) -> Result<String, AllocError>
     ensures { IfOk result (λ reason. string_bytes reason ≡ wrong_delimiter word.now) }
 {
@@ -16,7 +16,7 @@ pub(crate) fn reason_of_delimiter(alloc: Global, word: &str) -> Result<String, A
     )
 }
 
-/// What is said of the first word that is to be a number and is none.
+/// The message on the first word in place of a number.
 pub(crate) fn reason_of_number(
     alloc: Global,
     arguments: &[&str],
@@ -38,7 +38,7 @@ pub(crate) fn reason_of_number(
     Ok(None)
 }
 
-// An option and its value, which stands in the same word or else is the next one, if any.
+// An option and its value, which is in the same word or else is the next one, if any.
 fn given<'a>(option: &'a str, rest: &[&'a str]) -> (&'a str, &'a str)
     ensures { (result.0.now, result.1.now) ≡ given option.now (map (λ w. w.now) rest.now) }
 {
@@ -75,20 +75,20 @@ fn behind_letter(rest: &str) -> Option<(&str, &str)>
     }
 }
 
-// An option and what stands behind it, where that isn't empty.
+// An option and the text after it, if that isn't empty.
 fn with_value<'a>(option: &'a str, value: &'a str) -> Option<(&'a str, &'a str)>
     ensures { option_map (λ it. (it.0.now, it.1.now)) result ≡ with_value option.now value.now }
 {
     (!value.is_empty()).then_some((option, value))
 }
 
-// What is said of an option and a word behind it: where that is to be a number and is none, where
-// it is one behind an option that seems to take one, and of what `csvtable` does otherwise.
+// The message on an option and a word after it: on a word in place of a number, on a number after
+// an option that seems to take one, and on things that `csvtable` does otherwise.
 fn reason_of(alloc: Global, option: &str, word: &str) -> Result<Option<String>, AllocError>
     ensures { IfOk result (λ reason. option_map string_bytes reason
         ≡ reason_of option.now word.now) }
 {
-    match (greatest_behind(option), option) {
+    match (greatest_number(option), option) {
         (Some(greatest), _) if !word.is_empty() && !is_number_to(greatest, word) => {
             Ok(Some(number_reason(alloc, option, greatest, word)?))
         }
@@ -104,22 +104,11 @@ fn reason_of(alloc: Global, option: &str, word: &str) -> Result<Option<String>, 
     }
 }
 
-// What wraps nothing.
+// The message on an option that wraps nothing.
 const NO_WRAP: &str = "-w 0 wraps nothing; -m 1 draws one line for each record";
 
-// What sorts.
+// The message on an option that sorts.
 const SORT: &str = "csvtable doesn't sort; try mlr --csv sort -nr COLUMN FILE | csvtable";
-
-// The greatest number that may stand behind an option.
-fn greatest_behind(option: &str) -> Option<usize>
-    ensures { result ≡ greatest_behind option.now }
-{
-    match option {
-        "-w" | "--width" => Some(65535),
-        "-m" | "--max-height" | "--skip" | "--limit" => Some(usize::MAX),
-        _ => None,
-    }
-}
 
 // Whether a word is a number up to this one.
 fn is_number_to(greatest: usize, word: &str) -> bool

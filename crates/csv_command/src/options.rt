@@ -3,6 +3,7 @@
 ghost use Rattle.std.specs.Prelude.{◌≡◌, IfOk, Some, map};
 ghost use Rattle.clap.specs.Words.{app_of, rule_of};
 ghost use Rattle.clap.specs.declared.builder.value_parser.ValueParser.TheVariants as vp;
+ghost use Rattle.csv_command.specs.Mistakes.{greatest_number, greatest_read, greatest_within, is_called, is_long, is_name_of, is_short};
 ghost use Rattle.csv_command.specs.Program.{IsCsvtable, bare};
 ghost use Rattle.csv_command.specs.Rules.{lettered, rule_for, with_values};
 ghost use Rattle.csv_command.specs.Styles.{style_names};
@@ -186,7 +187,7 @@ fn with_value<'a>(arg: Arg<'a>, kind: Kind, styles: &'a [&'a str]) -> Arg<'a>
     }
 }
 
-// An option whose value is one of these names, which its help text tells in fewer words than clap
+// An option whose value is one of these names, which its help text says in fewer words than clap
 // would.
 fn with_names<'a>(arg: Arg<'a>, names: &'a [&'a str]) -> Arg<'a>
     ensures { bare (rule_of result)
@@ -196,4 +197,75 @@ fn with_names<'a>(arg: Arg<'a>, names: &'a [&'a str]) -> Arg<'a>
         ) }
 {
     arg.value_parser(names).hide_possible_values(true)
+}
+
+/// The greatest number that an option takes, by its name or its letter; none if it takes no number.
+pub(crate) fn greatest_number(word: &str) -> Option<usize>
+    ensures { result ≡ greatest_number word.now }
+{
+    greatest_within(OPTIONS.as_slice(), word)
+}
+
+fn greatest_within(options: &[OptionSpec], word: &str) -> Option<usize>
+    ensures { result ≡ greatest_within (map rule_for options.now) word.now }
+{
+    for option in options {
+        if is_called(option, word) {
+            return greatest_read(option);
+        }
+    }
+    None
+}
+
+// The greatest number that the value of an option may be.
+#[tactic(auto, using(crate::proofs::RuleLemmas::greatest_is))]
+fn greatest_read(option: &OptionSpec) -> Option<usize>
+    ensures { result ≡ greatest_read (rule_for option.now).0.parser }
+{
+    match option.kind {
+        Kind::Width => Some(usize::from(u16::MAX)),
+        Kind::Count => Some(usize::MAX),
+        _ => None,
+    }
+}
+
+// Whether a word calls an option by its name or its letter.
+fn is_called(option: &OptionSpec, word: &str) -> bool
+    ensures { result ≡ is_called word.now (rule_for option.now).0 }
+{
+    match word.as_bytes() {
+        [b'-', rest @ ..] => is_name_of(option, rest),
+        _ => false,
+    }
+}
+
+// Whether a word without its first hyphen is an option's name with another hyphen, or its letter.
+fn is_name_of(option: &OptionSpec, rest: &[u8]) -> bool
+    ensures { result ≡ is_name_of rest.now (rule_for option.now).0 }
+{
+    match rest {
+        [b'-', name @ ..] => is_long(option, name),
+        [byte] => is_short(option, *byte),
+        _ => false,
+    }
+}
+
+#[tactic(auto, using(crate::proofs::RuleLemmas::long_is))]
+fn is_long(option: &OptionSpec, name: &[u8]) -> bool
+    ensures { result ≡ is_long name.now (rule_for option.now).0.long }
+{
+    match option.kind {
+        Kind::File | Kind::Letter => false,
+        _ => name == option.name.as_bytes(),
+    }
+}
+
+#[tactic(auto, using(crate::proofs::RuleLemmas::short_is))]
+fn is_short(option: &OptionSpec, byte: u8) -> bool
+    ensures { result ≡ is_short byte (rule_for option.now).0.short }
+{
+    match option.letter {
+        Some(letter) => u32::from(letter) == u32::from(byte),
+        None => false,
+    }
 }

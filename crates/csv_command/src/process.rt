@@ -1,5 +1,5 @@
-//! What only asks the system: the arguments, the streams, the environment and the file. What is
-//! made of it stands in `ending` and in `parse`.
+//! Calls that only ask the system: the arguments, the streams, the environment and the file. Its
+//! answers are used in `ending` and in `parse`.
 
 use crate::arguments::{Invocation, OutputContext, parse};
 use crate::ending::{
@@ -105,10 +105,14 @@ fn run(rt: &HostRuntime, invocation: &Invocation) -> Ending {
     )
 }
 
-// What came of it, and with which error the input couldn't be opened or read.
-type Drawn = (Result<Option<LongRecords>, CsvError>, Option<io::ErrorKind>);
+// The outcome, and with which error the input couldn't be opened or read.
+type DrawingResult = (Result<Option<LongRecords>, CsvError>, Option<io::ErrorKind>);
 
-fn drawn(rt: &HostRuntime, sink: &mut WriterTo<io::Stdout>, invocation: &Invocation) -> Drawn {
+fn drawn(
+    rt: &HostRuntime,
+    sink: &mut WriterTo<io::Stdout>,
+    invocation: &Invocation,
+) -> DrawingResult {
     let Some(path) = &invocation.file else {
         return drawn_from(rt, rt.stdin(), sink, invocation);
     };
@@ -123,7 +127,7 @@ fn drawn_from<R: Read + Drop>(
     reader: R,
     sink: &mut WriterTo<io::Stdout>,
     invocation: &Invocation,
-) -> Drawn {
+) -> DrawingResult {
     let mut source = FromReader::new(Uninterrupted::new(reader));
     let result = draw(rt.alloc(), &mut source, sink, &invocation.options);
     (result, source.fault())

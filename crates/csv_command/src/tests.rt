@@ -1,4 +1,4 @@
-//! What the program says at its end, where no clause can: that there is memory for it.
+//! What the program says at its end, if no clause can: that there is memory for it.
 
 use crate::arguments::{Invocation, OutputContext, parse};
 use crate::ending::{
@@ -76,7 +76,7 @@ fn a_file_that_can_not_be_read(rt: HostRuntime) {
     }
 }
 
-// Where no file is named, a terminal is waited for.
+// If no file is named, a terminal is waited for.
 #[test]
 fn a_terminal_is_waited_for(rt: HostRuntime) {
     let waiting = "csvtable: reading from the terminal; end with Ctrl-D\n";
@@ -224,17 +224,17 @@ fn a_drawing_that_ends(rt: HostRuntime) {
     assert_unwritten(&rt, &invocation, ErrorKind::BrokenPipe, "");
 }
 
-// What is said where these arguments' drawing was written, and this is told of its records.
+// The message after these arguments' drawing was written, if it has these long records.
 fn assert_drawn<'a>(
     rt: &(impl Abort + Alloc<A = Global>),
     arguments: &'a [&'a str],
-    told: Option<LongRecords>,
+    longer: Option<LongRecords>,
     text: &str,
 ) {
     let invocation = parse_by(rt, arguments);
     let drawing = Outcome {
         invocation: &invocation,
-        result: Ok(told),
+        result: Ok(longer),
         fault: None,
         output_fault: None,
     };
@@ -270,7 +270,7 @@ fn ending_by<'a>(rt: &(impl Abort + Alloc<A = Global>), arguments: &'a [&'a str]
     }
 }
 
-// By clap's layout: what the program does, how it is called, its arguments, and what stands behind
+// By clap's layout: what the program does, how it is called, its arguments, and what is after
 // them.
 #[test]
 fn help_is_an_output(rt: HostRuntime) {
@@ -333,7 +333,7 @@ fn assert_refused<'a>(
 }
 
 // The numbers that an option takes are named, and what to type where another one is meant. A word
-// behind `--` is none of an option's.
+// after `--` is none of an option's.
 #[test]
 fn words_that_are_no_numbers(rt: HostRuntime) {
     let cases = [
@@ -400,7 +400,7 @@ fn words_that_are_no_numbers(rt: HostRuntime) {
     assert_refused(&rt, &arguments, "unexpected argument '-5' found");
 }
 
-// A word that is no delimiter is told.
+// A message names a word that is no delimiter.
 #[test]
 fn words_that_are_no_delimiters(rt: HostRuntime) {
     let cases = [

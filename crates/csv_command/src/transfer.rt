@@ -3,36 +3,37 @@
 ghost use Rattle.std.specs.Prelude.{◌≡◌, ◌≤◌, ◌^◌, ◌⊎◌, OnOk, IfErr, IfNone, IfOk, IfSome, None, Some, false, if◌then◌else◌, option_map, string_bytes, true};
 ghost use Rattle.csv_command.specs.Columns.{IsColumnsRefusal, columns_for};
 ghost use Rattle.csv_command.specs.Drawn.{HasLimit, IsNotEnough, RendersChosen, RendersExtent, RendersInput, most_drawn};
-ghost use Rattle.csv_command.specs.Told.{IsToldOf, IsToldOfInput};
+ghost use Rattle.csv_command.specs.LongRecords.{AreLongRecordsOf, AreLongRecordsOfInput};
 ghost use Rattle.csv_command.specs.Run.{IsAfter, IsInputRefusal, IsRefusal, is_read_fault, is_write_fault};
 ghost use Rattle.devices.specs.Outcome.{Between};
-ghost use Rattle.devices.specs.Run.{IsNoted};
+ghost use Rattle.devices.specs.Run.{AreFindings};
 
 use crate::arguments::Options;
 use crate::columns::columns_of;
 use crate::error::{ColumnsError, CsvError};
+use comfy_parts::pieces::joined;
 use csv_records::{
     FirstRecords, LongRecords, Records, decoded, read_beginning, read_first_records,
 };
 use csv_tables::{Layout, RecordDrawing, Selection, drawn_records};
-use devices::{Render, Rendered, Sink, Source, joined};
+use devices::{Render, Rendered, Sink, Source};
 use std::alloc::Global;
 
 /// Reads the source, and writes the drawing of the table of its records to the sink, each line
-/// followed by a line feed. Where not all records are drawn, a line says how many there are.
+/// followed by a line feed. If not all records are drawn, a line says how many there are.
 ///
-/// The source is read whole. Where there is a limit and records aren't counted, 65536 bytes are
+/// The source is read whole. If there is a limit and records aren't counted, 65536 bytes are
 /// read, then twice as many, and so on, until their whole lines have more records than are drawn,
-/// and show what stands between fields; that line says then that there are more. What stands behind
+/// and show the delimiter; that line says then that there are more. What is after
 /// these lines isn't judged, and however the source parts its bytes, the drawing is the same.
 ///
 /// An input without records has an empty output.
 ///
-/// Returns which of the drawn records have more fields than the header, where some have.
+/// Returns which of the drawn records have more fields than the header, if some have.
 ///
 /// The drawing is written in pieces. Where the input can't be read, is no text, isn't in its
 /// encoding or has a quote that is never closed, or columns can't be chosen so, nothing is written.
-/// Where the output can't be written, a beginning of it was, and where memory runs out, nothing or
+/// Where the output can't be written, a beginning of it was, and if memory runs out, nothing or
 /// a beginning, never all of it.
 ///
 /// ```
@@ -51,13 +52,13 @@ pub fn draw<R: Source, W: Sink>(
     ensures sink { W.has_failed sink.old ≡ false → W.has_failed sink.new ≡ is_write_fault result }
     ensures known { Between R.Source W.Sink (source.old, sink.old) (source.new, sink.new)
         (IsAfter options.now result) }
-    ensures told { Between R.Source W.Sink (source.old, sink.old) (source.new, sink.new)
-        (IsNoted (IsNotEnough options.now) (IsToldOf options.now) result) }
+    ensures long_records { Between R.Source W.Sink (source.old, sink.old) (source.new, sink.new)
+        (AreFindings (IsNotEnough options.now) (AreLongRecordsOf options.now) result) }
 {
     Ok(devices::run(alloc, source, sink, options)?)
 }
 
-// A drawing, and what is told of its records.
+// A drawing, and the records with more fields than the header.
 type Drawing = Rendered<RecordDrawing, Option<LongRecords>>;
 
 impl Render for Options {
@@ -65,13 +66,13 @@ impl Render for Options {
 
     type Output = RecordDrawing;
 
-    type Note = Option<LongRecords>;
+    type Findings = Option<LongRecords>;
 
     ghost is_not_enough = { IsNotEnough };
 
     ghost is_output = { RendersExtent };
 
-    ghost is_note = { IsToldOf };
+    ghost are_findings = { AreLongRecordsOf };
 
     ghost is_refusal = { IsRefusal };
 
@@ -88,15 +89,15 @@ impl Render for Options {
             return Some(Err(CsvError::OutOfMemory));
         };
         let first = found?;
-        let note = told_of(&self.selection, &first);
+        let findings = long_records_of(&self.selection, &first);
         match output_of(alloc, first.records, None, self) {
-            Ok(pieces) => Some(Ok(Rendered { pieces, note })),
+            Ok(pieces) => Some(Ok(Rendered { pieces, findings })),
             Err(error) => Some(Err(CsvError::from(error))),
         }
     }
 }
 
-// How many records of an input are drawn at most, with the header, where there is a limit.
+// How many records of an input are drawn at most, with the header, if there is a limit.
 fn most_drawn(selection: &Selection) -> Option<usize>
     ensures some { IfSome result (λ most.
         option_map (most_drawn selection.now.has_header) selection.now.limit ≡ Some most) }
@@ -111,14 +112,14 @@ fn most_drawn(selection: &Selection) -> Option<usize>
     }
 }
 
-// What is told of the first records: those that have more fields than the header.
-fn told_of(selection: &Selection, first: &FirstRecords) -> Option<LongRecords>
+// Those of the first records that have more fields than the header.
+fn long_records_of(selection: &Selection, first: &FirstRecords) -> Option<LongRecords>
     ensures { result ≡ (if selection.now.has_header then first.now.longer else None) }
 {
     first.longer.filter(|_| selection.has_header)
 }
 
-// The output for these records, of which so many stand below the header, where that is known.
+// The output for these records, of which this many are below the header, where that is known.
 fn output_of(
     alloc: Global,
     records: Records,
@@ -149,12 +150,12 @@ pub fn output_of_input(alloc: Global, input: Vec<u8>, options: &Options) -> Resu
     Ok(joined(alloc, rendered_input(alloc, input, options)?.pieces)?)
 }
 
-// The same, with what is told of its records.
+// The drawing of an input that was read whole, and its long records.
 fn rendered_input(alloc: Global, input: Vec<u8>, options: &Options) -> Result<Drawing, CsvError>
     ensures output { IfOk result (λ rendered.
         RendersInput options.now input.items rendered.pieces) }
-    ensures told { IfOk result (λ rendered.
-        IsToldOfInput options.now input.items rendered.note) }
+    ensures long_records { IfOk result (λ rendered.
+        AreLongRecordsOfInput options.now input.items rendered.findings) }
     ensures refused { IfErr result (λ e. IsInputRefusal options.now input.items e) }
 {
     let text = decoded(alloc, input, &options.input)?;
@@ -163,12 +164,12 @@ fn rendered_input(alloc: Global, input: Vec<u8>, options: &Options) -> Result<Dr
     let first = read_first_records(alloc, text.as_str(), &options.input, most)?;
     // The records have texts of their own.
     drop(text);
-    let note = told_of(&options.selection, &first);
+    let findings = long_records_of(&options.selection, &first);
     if first.count == 0 {
         let pieces = RecordDrawing::nothing();
-        return Ok(Rendered { pieces, note });
+        return Ok(Rendered { pieces, findings });
     }
     let below = first.count - usize::from(options.selection.has_header);
     let pieces = output_of(alloc, first.records, Some(below), options)?;
-    Ok(Rendered { pieces, note })
+    Ok(Rendered { pieces, findings })
 }

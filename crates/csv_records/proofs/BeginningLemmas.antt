@@ -1,16 +1,15 @@
 -- The records of a beginning that is enough are the first records of the whole input.
-use Rattle.std.proofs.Common.{◌≡◌, ◌≢◌, ◌==◌, ◌⊎◌, inl, inr, ◌+◌, ◌&&◌, ◌||◌, not, ℕ, zero, suc, Bool, true, false, List, [], ◌∷◌, ◌++◌, Option, Some, None, drop, codes, eqb-true, fold, map, nat_lt, option_and_then, is_some, option_map, unwrap_or, length, take, refl, sym, ap, ap₂, ◌∙◌, subst, arith, append_assoc}
-use Rattle.std.specs.Char.{encode_utf8, to_ascii_lowercase}
-use Rattle.std.specs.Prelude.{bytes_eq, if◌then◌else◌}
+use Rattle.std.proofs.Common.{◌≡◌, ◌≢◌, ◌==◌, ◌⊎◌, inl, inr, ◌+◌, ◌&&◌, ◌||◌, not, ℕ, zero, suc, Bool, true, false, List, [], ◌∷◌, ◌++◌, Option, Some, None, drop, eqb-true, fold, map, is_some, option_map, unwrap_or, length, take, refl, sym, ap, ap₂, ◌∙◌, subst, arith, append_assoc}
+use Rattle.std.specs.Prelude.{if◌then◌else◌}
 use Rattle.std.proofs.lemmas.Bool.Decides.{nat_tests}
-use Rattle.std.proofs.lemmas.Bool.{and_parts, or_parts}
+use Rattle.std.proofs.lemmas.Bool.{and_parts, or_parts, cases_Bool}
 use Rattle.std.specs.List.{list_all}
 use Rattle.std.specs.Str.{encode_utf8_all}
 use Rattle.std.proofs.lemmas.List.{length-map, map-append}
 use Rattle.std.proofs.lemmas.List.Sums.{fold-append}
-use Rattle.comfy_parts.specs.Text.{Text, greatest}
+use Rattle.comfy_parts.specs.Text.{Text}
 use Rattle.csv.specs.Machine.{Read, ends_at_end, field_after, fields_after, in_field, is_end, next_record, start_record, step}
-use Rattle.csv.specs.Reading.{AreRecords, Reached, is_bom, records_from, records_next, strip_bom}
+use Rattle.csv.specs.Reading.{AreRecords, Reached, is_bom, records_from, strip_bom}
 use Rattle.csv.specs.declared.parser.Action.{Action}
 use Rattle.csv.specs.declared.parser.Action.TheVariants as act
 use Rattle.csv.specs.declared.parser.Config.{Config}
@@ -20,7 +19,7 @@ use Rattle.csv_records.specs.Beginning.{EndsWithLine, FirstRecordsStay}
 use Rattle.csv_records.proofs.LineLemmas.{EndsIn-trans, line-EndsIn}
 use Rattle.csv_records.specs.Delimiter.{agreement, agreement_by, delimited, delimiter_in, only_ascii, found_delimiter, has_first_records, named_delimiter, shows_delimiter, tried_delimiters}
 use Rattle.csv_records.specs.Lines.{EndsIn, below_line, below_lines, end_len, ends_line, first_line, line_len}
-use Rattle.csv_records.specs.Encoding.{IsDecoded, cp1252_character, cp1252_text, encoding_of}
+use Rattle.csv_records.specs.Encoding.{IsDecoded, encoding_of}
 use Rattle.csv_records.specs.Input.{config_for}
 use Rattle.csv_records.specs.Quotes.{state_after}
 use Rattle.csv_records.specs.declared.delimiter.Delimiter.{Delimiter}
@@ -30,6 +29,11 @@ use Rattle.csv_records.proofs.ReadTextLemmas.{no_spaces, plain_quotes, plain_tex
 use Rattle.csv_records.specs.declared.encoding.Encoding.{Encoding}
 use Rattle.csv_records.specs.declared.encoding.Encoding.TheVariants.{Cp1252, Utf16, Utf8}
 use Rattle.csv_records.specs.declared.options.InputOptions.{InputOptions}
+
+-- a value that may be there is, or isn't
+cases_Option : {A : Type 0} (o : Option A) → (o ≡ None) ⊎ ((x : A) × (o ≡ Some x))
+cases_Option None = inl refl
+cases_Option (Some x) = inr (x, refl)
 
 -- ---- one record
 
@@ -45,70 +49,56 @@ module _ (cfg : Config) (rest : Text) where
 
   one_record : (text : Text) (s : State) (fields : List Text) (field : Text) (p : Read) → next_record cfg s fields field text ≡ Some p → Ends s fields field text p
   unfolding next_record
-  one_record [] s fields field p is = by_end (ends_at_end s) refl is
-    where
-      by_end : (b : Bool) → ends_at_end s ≡ b → (if b then Some (fields ++ (field ∷ []), st.StartRecord, []) else None) ≡ Some p → Ends s fields field [] p
-      by_end true ends is = at_end ends (cc is) (cc is)
-      by_end false ends is = absurd (cc is)
-  one_record (c ∷ text) s fields field p is = by_end (one_record text (step cfg s c).0 (fields_after (step cfg s c).1 fields field) (field_after (step cfg s c).1 c field) p) (is_end (step cfg s c).1) refl is
-    where
-      next_ends : Type 0
-      next_ends = Ends (step cfg s c).0 (fields_after (step cfg s c).1 fields field) (field_after (step cfg s c).1 c field) text p
+  one_record [] s fields field p is = grind (arith, cases_Bool)
+  one_record (c ∷ text) s fields field p is =
+      elim (cases_Bool (is_end (step cfg s c).1)) [
+        | inl ends ↦
+            let found = rw ends at is in
+            let own : (fields_after (step cfg s c).1 fields field, (step cfg s c).0, text) ≡ p = cc found in
+            subst (Ends s fields field (c ∷ text)) own (before (rw ends refl) refl)
+        | inr on ↦
+            elim (one_record text (step cfg s c).0 (fields_after (step cfg s c).1 fields field) (field_after (step cfg s c).1 c field) p (rw on at is)) [
+              | at_end unended start gone ↦ at_end unended start gone
+              | before next state ↦ before (rw on next) state
+            ]
+      ]
 
-      on : is_end (step cfg s c).1 ≡ false → next_ends → Ends s fields field (c ∷ text) p
-      on ends (at_end unended start gone) = at_end unended start gone
-      on ends (before next state) = before (rw ends next) state
-
-      by_end : (next_record cfg (step cfg s c).0 (fields_after (step cfg s c).1 fields field) (field_after (step cfg s c).1 c field) text ≡ Some p → next_ends) → (b : Bool) → is_end (step cfg s c).1 ≡ b
-          → (if b then Some (fields_after (step cfg s c).1 fields field, (step cfg s c).0, text) else next_record cfg (step cfg s c).0 (fields_after (step cfg s c).1 fields field) (field_after (step cfg s c).1 c field) text) ≡ Some p
-          → Ends s fields field (c ∷ text) p
-      by_end more true ends is =
-          let own : (fields_after (step cfg s c).1 fields field, (step cfg s c).0, text) ≡ p = cc is in
-          subst (Ends s fields field (c ∷ text)) own (before (rw ends refl) refl)
-      by_end more false ends is = on ends (more is)
+  -- where the text ends between records, no record ends with the text alone
+  between : (s : State) (text : Text) → run cfg s text ≡ st.StartRecord → ends_at_end (run cfg s text) ≡ true → ⊥
+  between s text ends unended = grind arith
 
   -- all records of a text that ends between records, and of one that goes on
   all_records : (s : State) (text : Text) (records all : List (List Text)) → run cfg s text ≡ st.StartRecord → AreRecords cfg s text records → AreRecords cfg s (text ++ rest) all → (more : List (List Text)) × (all ≡ records ++ more)
   unfolding Reached
   all_records s text [] all ends are known = (all, refl)
-  all_records s text (r ∷ records) all ends (s2, ys, (p, is, at, reached), none) known =
-      by_end (λ others end_of more. all_records p.1 p.2 records others end_of (s2, ys, reached, none) more) (one_record text s [] [] p is)
-    where
-      Later : Type 0
-      Later = (others : List (List Text)) → run cfg p.1 p.2 ≡ st.StartRecord → AreRecords cfg p.1 (p.2 ++ rest) others → (more : List (List Text)) × (others ≡ records ++ more)
-
-      by_all : Later → (all : List (List Text)) → next_record cfg s [] [] (text ++ rest) ≡ Some (p.0, p.1, p.2 ++ rest) → run cfg s text ≡ run cfg p.1 p.2 → AreRecords cfg s (text ++ rest) all
-          → (more : List (List Text)) × (all ≡ (r ∷ records) ++ more)
-      by_all later [] next state (end, left, (same, whole), gone) = absurd (let here : next_record cfg s [] [] (text ++ rest) ≡ None = ap₂ (λ (t : State) (x : Text). next_record cfg t [] [] x) same whole ∙ gone in cc (here, next))
-      by_all later (q ∷ all) next state (end, left, (found, is_found, at_found, on), gone) =
-          let same : found ≡ (p.0, p.1, p.2 ++ rest) = cc (is_found, next) in
-          let others = later all (sym state ∙ ends) (subst (λ (f : Read). AreRecords cfg f.1 f.2 all) same (end, left, on, gone)) in
-          (others.0, ap₂ (λ (x : List Text) (xs : List (List Text)). x ∷ xs) (at_found ∙ ap (λ (f : Read). f.0) same ∙ sym at) others.1)
-
-      by_end : Later → Ends s [] [] text p → (more : List (List Text)) × (all ≡ (r ∷ records) ++ more)
-      by_end later (at_end unended start gone) = absurd (let closed : ends_at_end st.StartRecord ≡ true = ap ends_at_end (sym ends) ∙ unended in cc closed)
-      by_end later (before next state) = by_all later all next state known
+  all_records s text (r ∷ records) [] ends (s2, ys, (p, is, at, reached), none) (end, left, (same, whole), gone) =
+      elim (one_record text s [] [] p is) [
+        | at_end unended start gone' ↦ absurd (between s text ends unended)
+        | before next state ↦ absurd (let here : next_record cfg s [] [] (text ++ rest) ≡ None = ap₂ (λ (t : State) (x : Text). next_record cfg t [] [] x) same whole ∙ gone in cc (here, next))
+      ]
+  all_records s text (r ∷ records) (q ∷ all) ends (s2, ys, (p, is, at, reached), none) (end, left, (found, is_found, at_found, on), gone) =
+      elim (one_record text s [] [] p is) [
+        | at_end unended start gone' ↦ absurd (between s text ends unended)
+        | before next state ↦
+            let same : found ≡ (p.0, p.1, p.2 ++ rest) = cc (is_found, next) in
+            let others = all_records p.1 p.2 records all (sym state ∙ ends) (s2, ys, reached, none) (subst (λ (f : Read). AreRecords cfg f.1 f.2 all) same (end, left, on, gone)) in
+            (others.0, ap₂ (λ (x : List Text) (xs : List (List Text)). x ∷ xs) (at_found ∙ ap (λ (f : Read). f.0) same ∙ sym at) others.1)
+      ]
 
   -- the first records of a text that has one more
   same_first : (n : ℕ) (s : State) (text : Text) → length (records_from cfg (suc n) s text) ≡ suc n → records_from cfg n s (text ++ rest) ≡ records_from cfg n s text
   unfolding records_from next_record
   same_first zero s text is = refl
-  same_first (suc n) s text is = by_next (same_first n) (next_record cfg s [] [] text) refl is
-    where
-      by_end : ((t : State) (more : Text) → length (records_from cfg (suc n) t more) ≡ suc n → records_from cfg n t (more ++ rest) ≡ records_from cfg n t more) → (p : Read) → next_record cfg s [] [] text ≡ Some p → length (records_from cfg (suc n) p.1 p.2) ≡ suc n → Ends s [] [] text p
-          → records_next (records_from cfg n) (next_record cfg s [] [] (text ++ rest)) ≡ records_next (records_from cfg n) (next_record cfg s [] [] text)
-      by_end later p found enough (at_end unended start gone) = absurd (let short : length (records_from cfg (suc n) st.StartRecord []) ≡ suc n = rw (start, gone) at enough in omega (arith, short))
-      by_end later p found enough (before next state) = rw (next, found) (ap (λ (rs : List (List Text)). p.0 ∷ rs) (later p.1 p.2 enough))
-
-      by_next : ((t : State) (more : Text) → length (records_from cfg (suc n) t more) ≡ suc n → records_from cfg n t (more ++ rest) ≡ records_from cfg n t more) → (next : Option Read) → next_record cfg s [] [] text ≡ next → length (records_next (records_from cfg (suc n)) (next_record cfg s [] [] text)) ≡ suc (suc n)
-          → records_next (records_from cfg n) (next_record cfg s [] [] (text ++ rest)) ≡ records_next (records_from cfg n) (next_record cfg s [] [] text)
-      by_next later None found enough = absurd (let short : length (nothing) ≡ suc (suc n) = rw found at enough in omega (arith, short))
-        where
-          nothing : List (List Text)
-          nothing = []
-      by_next later (Some p) found enough =
-          let whole : length (p.0 ∷ records_from cfg (suc n) p.1 p.2) ≡ suc (suc n) = rw found at enough in
-          by_end later p found (omega (arith, whole)) (one_record text s [] [] p found)
+  same_first (suc n) s text is =
+      elim (cases_Option (next_record cfg s [] [] text)) [
+        | inl none ↦ let short = rw none at is in absurd (omega (arith, short))
+        | inr it ↦
+            let whole = rw it.1 at is in
+            elim (one_record text s [] [] it.0 it.1) [
+              | at_end unended start gone ↦ let short = rw (start, gone) at whole in absurd (omega (arith, short))
+              | before next state ↦ rw (next, it.1) (ap (λ (rs : List (List Text)). it.0.0 ∷ rs) (same_first n it.0.1 it.0.2 (omega (arith, whole))))
+            ]
+      ]
 
 -- ---- the state at a line feed
 
@@ -127,17 +117,7 @@ module _ (d : ℕ) (other : (0x0A == d) ≡ false) where
   after_feed q st.AfterCr = inl refl
 
   state_at_end : (q : Bool) (text : Text) → EndsWithLine text → run (config_for d q) st.StartRecord text ≢ st.InQuoted → run (config_for d q) st.StartRecord text ≡ st.StartRecord
-  state_at_end q text (front, is) outside = by_state (after_feed q (run (config_for d q) st.StartRecord front))
-    where
-      cfg : Config
-      cfg = config_for d q
-
-      last : run cfg st.StartRecord text ≡ (step cfg (run cfg st.StartRecord front) 0x0A).0
-      last = ap (run cfg st.StartRecord) is ∙ fold-append (λ (state : State) (b : ℕ). (step cfg state b).0) st.StartRecord front (0x0A ∷ [])
-
-      by_state : ((step cfg (run cfg st.StartRecord front) 0x0A).0 ≡ st.StartRecord) ⊎ ((step cfg (run cfg st.StartRecord front) 0x0A).0 ≡ st.InQuoted) → run cfg st.StartRecord text ≡ st.StartRecord
-      by_state (inl start) = last ∙ start
-      by_state (inr quoted) = absurd (outside (last ∙ quoted))
+  state_at_end q text (front, is) outside = grind (arith, after_feed, fold-append)
 
 -- without quotes none is ever entered
 abbrev is_outer : State → Bool
@@ -152,30 +132,16 @@ stays_outer after = is_outer after.0
 
 module _ (d : ℕ) where
   outer_field : (c : ℕ) → stays_outer (in_field (config_for d false) c) ≡ true
-  outer_field c = by_tests (c == d) ((c == 13) || (c == 10)) (c == 13)
-    where
-      by_tests : (x y z : Bool) → stays_outer (if x then (st.StartField, act.EndField) else if y then ((if z then st.AfterCr else st.StartRecord), act.EndRecord) else (st.InField, act.Copy)) ≡ true
-      by_tests true y z = refl
-      by_tests false true true = refl
-      by_tests false true false = refl
-      by_tests false false z = refl
+  outer_field c = grind arith
 
   outer_record : (c : ℕ) → stays_outer (start_record (config_for d false) c) ≡ true
-  outer_record c = by_test ((c == 13) || (c == 10))
-    where
-      by_test : (b : Bool) → stays_outer (if b then (st.StartRecord, act.Skip) else in_field (config_for d false) c) ≡ true
-      by_test true = refl
-      by_test false = outer_field c
+  outer_record c = grind (arith, outer_field)
 
   outer_step : (s : State) (c : ℕ) → is_outer s ≡ true → is_outer (step (config_for d false) s c).0 ≡ true
   outer_step st.StartRecord c is = outer_record c
   outer_step st.StartField c is = outer_field c
   outer_step st.InField c is = outer_field c
-  outer_step st.AfterCr c is = by_test (c == 10)
-    where
-      by_test : (b : Bool) → stays_outer (if b then (st.StartRecord, act.Skip) else start_record (config_for d false) c) ≡ true
-      by_test true = refl
-      by_test false = outer_record c
+  outer_step st.AfterCr c is = grind (arith, outer_record)
   outer_step st.InQuoted c is = absurd (cc is)
   outer_step st.InEscape c is = absurd (cc is)
   outer_step st.AfterQuote c is = absurd (cc is)
@@ -198,10 +164,7 @@ inside_line c text is = (ap (λ (n : ℕ). drop (end_len (drop n (c ∷ text))) 
     place = let one : 1 + line_len text ≡ suc (line_len text) = omega arith in ap (λ (b : Bool). if not b then 1 + line_len text else 0) is ∙ one
 
 at_line_end : (c b : ℕ) (text : Text) → ends_line c ≡ true → (below_line (c ∷ b ∷ text) ≡ drop (if (c == 0x0D) && (b == 0x0A) then 2 else 1) (c ∷ b ∷ text)) × (first_line (c ∷ b ∷ text) ≡ [])
-at_line_end c b text is = (ap (λ (n : ℕ). drop (end_len (drop n (c ∷ b ∷ text))) (drop n (c ∷ b ∷ text))) place ∙ ap (λ (t : Bool). drop (if (c == 0x0D) && (b == 0x0A) then 2 else if t then 1 else 0) (c ∷ b ∷ text)) is, ap (λ (n : ℕ). take n (c ∷ b ∷ text)) place)
-  where
-    place : line_len (c ∷ b ∷ text) ≡ 0
-    place = ap (λ (t : Bool). if not t then 1 + line_len (b ∷ text) else 0) is
+at_line_end c b text is = grind arith
 
 module _ (rest : Text) where
   -- where a text goes on, its first line stays, and what is below it goes on
@@ -231,7 +194,7 @@ module _ (rest : Text) where
       by_test false = (refl, inr (with_byte ends))
 
   line_stays : (front : Text) → LineStays (front ++ 0x0A ∷ [])
-  line_stays [] = record { below = (feed_below rest).0 ∙ ap (λ (t : Text). t ++ rest) (sym (feed_below []).0); first = (feed_below rest).1 ∙ sym (feed_below []).1; ends = inl (feed_below []).0 }
+  line_stays [] = grind (arith, feed_below)
   line_stays (c ∷ front) = by_end (ends_line c) refl (line_stays front)
     where
       later : ends_line c ≡ false → LineStays (front ++ 0x0A ∷ []) → LineStays (c ∷ (front ++ 0x0A ∷ []))
@@ -286,28 +249,14 @@ module _ (rest : Text) where
     ends : EndsWithLine (strip_bom text)
 
   no_mark : (a c : ℕ) → is_bom a 0x0A c ≡ false
-  no_mark a c = by_test (a == 0xEF)
-    where
-      by_test : (x : Bool) → (x && (0x0A == 0xBB) && (c == 0xBF)) ≡ false
-      by_test true = refl
-      by_test false = refl
+  no_mark a c = grind arith
 
   no_mark_before : (a b : ℕ) → is_bom a b 0x0A ≡ false
-  no_mark_before a b = by_tests (a == 0xEF) (b == 0xBB)
-    where
-      by_tests : (x y : Bool) → (x && y && (0x0A == 0xBF)) ≡ false
-      by_tests true true = refl
-      by_tests true false = refl
-      by_tests false y = refl
+  no_mark_before a b = grind arith
 
   mark_stays : (front : Text) → MarkStays (front ++ 0x0A ∷ [])
   unfolding strip_bom
-  mark_stays [] = record { rest_of = alone rest; ends = ([], refl) }
-    where
-      alone : (more : Text) → strip_bom (0x0A ∷ more) ≡ 0x0A ∷ more
-      alone [] = refl
-      alone (b ∷ []) = refl
-      alone (b ∷ c ∷ more) = refl
+  mark_stays [] = grind arith
   mark_stays (a ∷ []) = record { rest_of = alone rest; ends = (a ∷ [], refl) }
     where
       alone : (more : Text) → strip_bom (a ∷ 0x0A ∷ more) ≡ a ∷ 0x0A ∷ more
@@ -433,7 +382,7 @@ same_encoding None (a ∷ b ∷ beginning) behind known ends = refl
 
 encoded_both : (cs ds : List ℕ) → encode_utf8_all (cs ++ ds) ≡ encode_utf8_all cs ++ encode_utf8_all ds
 encoded_both [] ds = refl
-encoded_both (c ∷ cs) ds = ap (λ (t : Text). encode_utf8 c ++ t) (encoded_both cs ds) ∙ sym (append_assoc (encode_utf8 c) (encode_utf8_all cs) (encode_utf8_all ds))
+encoded_both (c ∷ cs) ds = grind (arith, append_assoc, encoded_both cs ds)
 
 -- what is below its lines goes on
 below_stays : (skip : ℕ) (beginning behind : Text) → EndsWithLine (below_lines skip beginning) → below_lines skip (beginning ++ behind) ≡ below_lines skip beginning ++ behind
@@ -449,12 +398,8 @@ below_stays skip beginning behind ends = by_lines (lines_stay behind skip beginn
 
 -- and its text goes on
 text_stays : (e : Encoding) (skip : ℕ) (beginning behind text whole : Text) → e ≢ Utf16 → EndsWithLine (below_lines skip beginning) → IsDecoded e skip beginning text → IsDecoded e skip (beginning ++ behind) whole → (more : Text) × (whole ≡ text ++ more)
-text_stays Utf8 skip beginning behind text whole known ends is also = (behind, also.1 ∙ below_stays skip beginning behind ends ∙ ap (λ (t : Text). t ++ behind) (sym is.1))
-text_stays Cp1252 skip beginning behind text whole known ends is also = (
-  cp1252_text behind,
-  also ∙ ap cp1252_text (below_stays skip beginning behind ends)
-      ∙ ap encode_utf8_all (map-append cp1252_character (below_lines skip beginning) behind) ∙ encoded_both (map cp1252_character (below_lines skip beginning)) (map cp1252_character behind) ∙ ap (λ (t : Text). t ++ cp1252_text behind) (sym is),
-)
+text_stays Utf8 skip beginning behind text whole known ends is also = grind (arith, below_stays)
+text_stays Cp1252 skip beginning behind text whole known ends is also = grind (arith, below_stays, map-append, encoded_both)
 text_stays Utf16 skip beginning behind text whole known ends is also = absurd (known refl)
 
 feed_alone : encode_utf8_all (0x0A ∷ []) ≡ 0x0A ∷ []
@@ -464,8 +409,7 @@ feed_alone = refl
 -- it ends with a line feed
 text_ends : (e : Encoding) (skip : ℕ) (beginning text : Text) → e ≢ Utf16 → EndsWithLine (below_lines skip beginning) → IsDecoded e skip beginning text → EndsWithLine text
 text_ends Utf8 skip beginning text known ends is = subst EndsWithLine (sym is.1) ends
-text_ends Cp1252 skip beginning text known (front, ends) is =
-    (cp1252_text front, is ∙ ap cp1252_text ends ∙ ap encode_utf8_all (map-append cp1252_character front (0x0A ∷ [])) ∙ encoded_both (map cp1252_character front) (0x0A ∷ []) ∙ ap (λ (t : Text). cp1252_text front ++ t) feed_alone)
+text_ends Cp1252 skip beginning text known (front, ends) is = grind (arith, map-append, encoded_both, feed_alone)
 text_ends Utf16 skip beginning text known ends is = absurd (known refl)
 
 -- ---- no delimiter is a line feed
@@ -475,54 +419,24 @@ turned b is = grind (arith, is, nat_tests)
 
 named_other : (word : Text) (b : ℕ) → only_ascii word ≡ Some b → (0x0A == b) ≡ false
 named_other [] b is = absurd (cc is)
-named_other (x ∷ []) b is = by_test (((x == 0x22) || (x == 0x0A)) || (x == 0x0D)) refl is
-  where
-    by_ascii : (x == 0x0A) ≡ false → (t : Bool) → (if t then Some x else None) ≡ Some b → (0x0A == b) ≡ false
-    by_ascii other true is = let same : x ≡ b = cc is in subst (λ (n : ℕ). (0x0A == n) ≡ false) same (turned x other)
-    by_ascii other false is = absurd (cc is)
-
-    by_test : (t : Bool) → (((x == 0x22) || (x == 0x0A)) || (x == 0x0D)) ≡ t → option_and_then (λ (n : ℕ). if nat_lt n 128 then Some n else None) (if t then None else Some x) ≡ Some b → (0x0A == b) ≡ false
-    by_test true none is = absurd (cc is)
-    by_test false none is = by_ascii (or_parts (x == 0x22) (x == 0x0A) (or_parts ((x == 0x22) || (x == 0x0A)) (x == 0x0D) none).0).1 (nat_lt x 128) is
+named_other (x ∷ []) b is = grind (arith, turned, or_parts)
 named_other (x ∷ y ∷ word) b is = absurd (cc is)
 
 line_other : (line : Text) (b : ℕ) → delimiter_in line ≡ Some b → (0x0A == b) ≡ false
-line_other line b is = by_test (bytes_eq (map to_ascii_lowercase (take 4 line)) (codes "sep=")) is
-  where
-    by_test : (t : Bool) → (if t then only_ascii (drop 4 line) else None) ≡ Some b → (0x0A == b) ≡ false
-    by_test true is = named_other (drop 4 line) b is
-    by_test false is = absurd (cc is)
+line_other line b is = grind (arith, named_other)
 
 found_other : (q : Bool) (text : Text) → (0x0A == found_delimiter q text) ≡ false
-found_other q text = by_tests (is_best 0x09) (is_best 0x3B) (is_best 0x2C) (is_best 0x7C)
-  where
-    is_best : ℕ → Bool
-    is_best d = nat_lt 0 (agreement_by q text d) && (agreement_by q text d == greatest (map (agreement_by q text) tried_delimiters))
-
-    by_tests : (w x y z : Bool) → (0x0A == unwrap_or (if w then Some 0x09 else if x then Some 0x3B else if y then Some 0x2C else if z then Some 0x7C else None) 0x2C) ≡ false
-    by_tests true x y z = refl
-    by_tests false true y z = refl
-    by_tests false false true z = refl
-    by_tests false false false true = refl
-    by_tests false false false false = refl
+found_other q text = grind arith
 
 abbrev byte_of : ℕ × Text → ℕ
 byte_of parts = parts.0
 
 -- what is named or found
 chosen_other : (text : Text) (k : ℕ) → (0x0A == k) ≡ false → (0x0A == byte_of (unwrap_or (named_delimiter text) (k, text))) ≡ false
-chosen_other text k other = by_found (delimiter_in (first_line (strip_bom text))) refl
-  where
-    by_found : (o : Option ℕ) → delimiter_in (first_line (strip_bom text)) ≡ o → (0x0A == byte_of (unwrap_or (option_map (λ (b : ℕ). (b, below_line (strip_bom text))) o) (k, text))) ≡ false
-    by_found None is = other
-    by_found (Some b) is = line_other (first_line (strip_bom text)) b is
+chosen_other text k other = grind (arith, line_other)
 
 other_delimiter : (d : Delimiter) (q : Bool) (text : Text) → shows_delimiter d q text ≡ true → (0x0A == (delimited d q text).0) ≡ false
-other_delimiter (Byte b) q text shows = turned b (by_test (b == 0x0A) shows)
-  where
-    by_test : (t : Bool) → not t ≡ true → t ≡ false
-    by_test true is = absurd (cc is)
-    by_test false is = refl
+other_delimiter (Byte b) q text shows = grind (arith, turned)
 other_delimiter NamedOrTab q text shows = chosen_other text 0x09 refl
 other_delimiter Spaces q text shows = absurd (cc shows)
 other_delimiter Auto q text shows = chosen_other text (found_delimiter q text) (found_other q text)

@@ -10,7 +10,7 @@ use Rattle.csv.specs.declared.parser.Action.TheVariants as act
 use Rattle.csv.specs.declared.parser.Config.{Config}
 use Rattle.csv.specs.declared.parser.State.{State}
 use Rattle.csv.specs.declared.parser.State.TheVariants as st
-use Rattle.csv_records.specs.Counting.{count_behind, count_from, state_at, told_of}
+use Rattle.csv_records.specs.Counting.{count_behind, count_from, state_at, after_action}
 use Rattle.csv_records.specs.Counting as own_step
 use Rattle.csv_records.specs.Input.{config_for}
 use Rattle.csv_records.specs.Longer.{skip_record}
@@ -70,7 +70,7 @@ counted cfg s fields field (b ∷ rest) = by_action (step cfg s b).1 (λ fields 
 
     by_action : (a : Action) → ((fields : List Text) (field : Text) → option_map count_of (next_record cfg to fields field rest) ≡ count_from cfg to (length fields + 1) rest)
         → option_map count_of (if is_end a then Some (fields_after a fields field, to, rest) else next_record cfg to (fields_after a fields field) (field_after a b field) rest)
-        ≡ count_behind (λ state count. count_from cfg state count rest) (length fields + 1) rest (told_of a to)
+        ≡ count_behind (λ state count. count_from cfg state count rest) (length fields + 1) rest (after_action a to)
     by_action act.EndRecord more = ap (λ (n : ℕ). Some (n, rest)) (length-append fields (field ∷ []))
     by_action act.EndField more = more (fields ++ (field ∷ [])) [] ∙ ap (λ (n : ℕ). count_from cfg to (n + 1) rest) (length-append fields (field ∷ []))
     by_action act.Skip more = more fields field ∙ ap (λ (n : ℕ). count_from cfg to n rest) (sym (add-zero (length fields + 1)))

@@ -104,18 +104,15 @@ lone u us (inr from) = utf16_chars_lone u us (λ pair. omega (arith, pair.1)) �
 module _ (s t : DecodeUtf16 (List ℕ)) where
   -- the first unit was taken
   taken_first : (m : Ahead (List ℕ) ℕ) (u : ℕ) → peekable_steps Gives (decode_utf16_units s) (Some u) m → units_left s ≡ u ∷ peekable_source m
-  taken_first m u took = taken (peekable_peeked (decode_utf16_units s)) (peekable_source (decode_utf16_units s)) (peekable_source m) u took.1
+  taken_first m u took = grind (arith, taken)
 
   -- and no other one
   taken_alone : (m : Ahead (List ℕ) ℕ) → peekable_peeked m ≡ None → decode_utf16_units t ≡ m → units_left t ≡ peekable_source m
-  taken_alone m none same =
-      ap (λ (a : Ahead (List ℕ) ℕ). units_ahead (peekable_peeked a) (peekable_source a)) same ∙ ap (λ (o : Option (Option ℕ)). units_ahead o (peekable_source m)) none
+  taken_alone m none same = grind arith
 
   -- or the next one was looked at
   taken_and_looked : (m : Ahead (List ℕ) ℕ) → peekable_peeked m ≡ None → PeeksNext Gives m (decode_utf16_units t) → units_left t ≡ peekable_source m
-  taken_and_looked m none (o, gives, peeked) =
-      let given = subst (λ (p : Option (Option ℕ)). GivesAhead p (peekable_source m) o (peekable_source (decode_utf16_units t))) none gives in
-      ap (λ (p : Option (Option ℕ)). units_ahead p (peekable_source (decode_utf16_units t))) peeked ∙ looked_at (peekable_source m) (peekable_source (decode_utf16_units t)) o given
+  taken_and_looked m none (o, gives, peeked) = grind (arith, looked_at)
 
   -- a call gave a character
   character_read : (c : ℕ) → IsScalar c → decode_utf16_steps Gives s (Some (Ok c)) t → utf16_chars (units_left s) ≡ Some c ∷ utf16_chars (units_left t)
@@ -159,7 +156,7 @@ module _ (s t : DecodeUtf16 (List ℕ)) where
 
   -- a call gave nothing
   none_read : decode_utf16_steps Gives s None t → units_left s ≡ []
-  none_read steps = ended (peekable_peeked (decode_utf16_units s)) (peekable_source (decode_utf16_units s)) (peekable_source (decode_utf16_units t)) steps.1
+  none_read steps = grind (arith, ended)
 
 -- ---- the whole input
 

@@ -1,4 +1,4 @@
--- What is told of records that have more fields than the first one.
+-- Records that have more fields than the first one.
 use Rattle.std.proofs.Common.{◌≡◌, ◌≢◌, ◌-◌, ◌∙◌, ℕ, Bool, List, None, Some, ap, length, sym, take}
 use Rattle.std.specs.List.{position}
 use Rattle.std.specs.Option.{option_map}
@@ -10,7 +10,7 @@ use Rattle.csv_records.specs.Longer.{skip_records, is_longer, line_of_record, lo
 use Rattle.csv_records.specs.Reading.{parted}
 use Rattle.csv_records.specs.declared.delimiter.Delimiter.TheVariants.{Spaces}
 use Rattle.csv_records.specs.declared.options.InputOptions.{InputOptions}
-use Rattle.csv_records.proofs.ReadTextLemmas.{plain_parted, plain_quotes, plain_told}
+use Rattle.csv_records.proofs.ReadTextLemmas.{plain_parted, plain_quotes, plain_longer}
 
 module _ (options : InputOptions) (text : Text) (other : options.delimiter ≢ Spaces) where
   -- the line of a record, by the byte between fields and what holds the records
@@ -29,7 +29,7 @@ module _ (options : InputOptions) (text : Text) (other : options.delimiter ≢ S
 
   module _ (records : List (List Text)) where
     pub none_longer : None ≡ position (is_longer records) records → None ≡ longer_records options text records
-    none_longer is = ap (option_map (longer_at (line_of_record options text) records)) is ∙ sym (plain_told options.delimiter (longer_by (line_of_record options text) records) other)
+    none_longer is = ap (option_map (longer_at (line_of_record options text) records)) is ∙ sym (plain_longer options.delimiter (longer_by (line_of_record options text) records) other)
 
     pub some_longer : (at : ℕ) → Some at ≡ position (is_longer records) records → Some (longer_at (line_of_record options text) records at) ≡ longer_records options text records
-    some_longer at is = ap (option_map (longer_at (line_of_record options text) records)) is ∙ sym (plain_told options.delimiter (longer_by (line_of_record options text) records) other)
+    some_longer at is = ap (option_map (longer_at (line_of_record options text) records)) is ∙ sym (plain_longer options.delimiter (longer_by (line_of_record options text) records) other)

@@ -27,11 +27,11 @@ plain_parted options text other =
     ap (λ (q : Bool). delimited d q (read_text d text)) (plain_quotes d options.has_quotes other)
     ∙ ap (λ (t : Text). delimited d options.has_quotes t) (plain_text d text other)
 
-pub plain_told : {T : Type 0} (d : Delimiter) (told : Option T) → d ≢ Spaces → unless_spaces d told ≡ told
-plain_told (Byte b) told other = refl
-plain_told Auto told other = refl
-plain_told NamedOrTab told other = refl
-plain_told Spaces told other = absurd (other refl)
+pub plain_longer : {T : Type 0} (d : Delimiter) (longer : Option T) → d ≢ Spaces → unless_spaces d longer ≡ longer
+plain_longer (Byte b) longer other = refl
+plain_longer Auto longer other = refl
+plain_longer NamedOrTab longer other = refl
+plain_longer Spaces longer other = absurd (other refl)
 
 -- no beginning of a text with spaces between its fields is enough
 pub no_spaces : (d : Delimiter) (q : Bool) (text : Text) → shows_delimiter d q text ≡ true → d ≢ Spaces

@@ -83,7 +83,7 @@ module _ (delimiter : ℕ) (has_quotes : Bool) (c : ℕ) (ascii : delimiter < 12
   same : (n : ℕ) → n < 128 → (c == n) ≡ true → c < 128
   same n below is = omega (arith, eqb-true c n is, below)
 
-  -- a quote, where quotes are told from characters
+  -- a quote, if quotes mark fields
   quote : (b : Bool) → (b && (c == 34)) ≡ true → c < 128
   quote b is = same 34 (omega arith) (and_parts b (c == 34) is).1
 

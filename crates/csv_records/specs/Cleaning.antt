@@ -27,7 +27,11 @@ is_replaced c = is_control c || turns_direction c
 abbrev pub shown : ℕ → ℕ
 shown c = if is_replaced c then 0xFFFD else c
 
--- the spaces from a column to the next multiple of four
+-- how many terminal columns there are between two tab stops
+abbrev pub tab_width : ℕ
+tab_width = 4
+
+-- the spaces from a column after a tab stop to the next one
 abbrev pub blanks_at : ℕ → Text
 blanks_at column =
     if column == 0
@@ -38,9 +42,9 @@ blanks_at column =
     then codes "  "
     else codes " "
 
--- the spaces from the end of a text that begins at a multiple of four
+-- the spaces from the end of a text that begins at a tab stop
 abbrev pub blanks_after : Text → Text
-blanks_after seen = blanks_at (measure seen % 4)
+blanks_after seen = blanks_at (measure seen % tab_width)
 
 -- what was written of a field: the text, what is visible of its last line since the last multiple
 -- of four that a TAB went to, and whether a carriage return came last

@@ -20,18 +20,18 @@ state_at own.InQuoted = st.InQuoted
 state_at own.AfterQuote = st.AfterQuote
 
 -- a state after an action that ends no record, and whether it ends a field
-abbrev pub told_of : Action → ReaderState → Option (ReaderState × Bool)
-told_of act.EndRecord state = None
-told_of act.EndField state = Some (state, true)
-told_of act.Skip state = Some (state, false)
-told_of act.Copy state = Some (state, false)
+abbrev pub after_action : Action → ReaderState → Option (ReaderState × Bool)
+after_action act.EndRecord state = None
+after_action act.EndField state = Some (state, true)
+after_action act.Skip state = Some (state, false)
+after_action act.Copy state = Some (state, false)
 
-abbrev pub told : ReaderState × Action → Option (ReaderState × Bool)
-told next = told_of next.1 next.0
+abbrev pub after_step : ReaderState × Action → Option (ReaderState × Bool)
+after_step next = after_action next.1 next.0
 
 -- the same behind a byte
 abbrev pub step : Config → ReaderState → ℕ → Option (ReaderState × Bool)
-step config state b = told (csv.step config state b)
+step config state b = after_step (csv.step config state b)
 
 -- what is counted behind a byte: the record ends, or it goes on
 abbrev pub count_behind : (ReaderState → ℕ → Option (ℕ × Text)) → ℕ → Text

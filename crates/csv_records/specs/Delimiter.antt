@@ -1,6 +1,6 @@
 -- What stands between the fields of a text, and where its records begin.
 -- Source: this library's own; a line `sep=X` is Excel's.
-use Rattle.std.specs.Prelude.{ℕ, ◌<◌, ◌==◌, ◌&&◌, ◌||◌, nat_lt, not, Bool, true, false, List, [], ◌∷◌, Option, Some, None, bytes_eq, codes, drop, is_some, length, map, option_and_then, option_map, take, unwrap_or, if◌then◌else◌}
+use Rattle.std.specs.Prelude.{ℕ, ◌+◌, ◌<◌, ◌==◌, ◌&&◌, ◌||◌, nat_lt, not, Bool, true, false, List, [], ◌∷◌, Option, Some, None, bytes_eq, codes, drop, is_some, length, map, option_and_then, option_map, take, unwrap_or, if◌then◌else◌}
 use Rattle.std.specs.Char.{to_ascii_lowercase}
 use Rattle.std.specs.List.{count_by, filter, find, list_all}
 use Rattle.comfy_parts.specs.Text.{Text, greatest}
@@ -23,11 +23,15 @@ only_byte (b ∷ c ∷ rest) = None
 abbrev pub only_ascii : Text → Option ℕ
 only_ascii word = option_and_then (λ b. if nat_lt b 128 then Some b else None) (only_byte word)
 
--- the delimiter that a line `sep=X` names, in letters of either case
+-- the word before a delimiter that a line names, in letters of either case
+abbrev pub naming_word : Text
+naming_word = codes "sep="
+
+-- the delimiter that a line names
 abbrev pub delimiter_in : Text → Option ℕ
 delimiter_in line =
-    if bytes_eq (map to_ascii_lowercase (take 4 line)) (codes "sep=")
-    then only_ascii (drop 4 line)
+    if bytes_eq (map to_ascii_lowercase (take (length naming_word) line)) naming_word
+    then only_ascii (drop (length naming_word) line)
     else None
 
 -- the delimiter that a first line names, behind a byte-order mark too, and what follows that line
@@ -48,9 +52,14 @@ abbrev pub agreement : List ℕ → ℕ
 agreement counts =
     greatest (map (λ n. count_by (λ m. m == n) counts) (filter (λ n. nat_lt 1 n) counts))
 
--- how many of the first ten records of a text agree so, by a delimiter
+-- how many records are looked at
+abbrev pub first_looked_at : ℕ
+first_looked_at = 10
+
+-- how many of the first records of a text agree so, by a delimiter
 abbrev pub agreement_by : Bool → Text → ℕ → ℕ
-agreement_by has_quotes text delimiter = agreement (field_counts has_quotes text delimiter 10)
+agreement_by has_quotes text delimiter =
+    agreement (field_counts has_quotes text delimiter first_looked_at)
 
 -- TAB, `;`, `,` and `|`, in the order in which they are tried
 abbrev pub tried_delimiters : List ℕ
@@ -66,11 +75,12 @@ best_delimiter agree delimiters =
 abbrev pub found_delimiter : Bool → Text → ℕ
 found_delimiter has_quotes text = best_delimiter (agreement_by has_quotes text) tried_delimiters
 
--- a delimiter gives a text more records than the ten that are looked at, so that these are whole,
+-- a delimiter gives a text more records than those that are looked at, so that these are whole,
 -- however the text goes on
 abbrev pub has_first_records : Bool → Text → ℕ → Bool
 has_first_records has_quotes text delimiter =
-    length (field_counts has_quotes text delimiter 11) == 11
+    let wanted = first_looked_at + 1 in
+    length (field_counts has_quotes text delimiter wanted) == wanted
 
 -- ---- the delimiter of a text
 

@@ -55,8 +55,8 @@ abbrev pub order_of : Text → ByteOrder
 order_of input = unwrap_or (marked_order input) LittleEndian
 
 -- what follows the mark
-abbrev pub without_mark : Text → Text
-without_mark input = if is_some (marked_order input) then drop 2 input else input
+abbrev pub without_utf16_mark : Text → Text
+without_utf16_mark input = if is_some (marked_order input) then drop 2 input else input
 
 abbrev pub unit : ByteOrder → ℕ → ℕ → ℕ
 unit LittleEndian a b = from_le_bytes w16 (a ∷ b ∷ [])
@@ -80,7 +80,7 @@ characters_in order skip bytes =
 
 -- those of an input in UTF-16
 abbrev pub utf16_characters : ℕ → Text → List (Option ℕ)
-utf16_characters skip input = characters_in (order_of input) skip (without_mark input)
+utf16_characters skip input = characters_in (order_of input) skip (without_utf16_mark input)
 
 module _ (read : List (Option ℕ)) where
   -- all that was read are characters, of this text

@@ -50,7 +50,7 @@ field_count records at = length (unwrap_or (slice_get records at) [])
 abbrev pub is_longer : List (List Text) → List Text → Bool
 is_longer records fields = nat_lt (field_count records 0) (length fields)
 
--- what is told of those: the line and the fields of the first of them, and how many others there
+-- those records: the line and the fields of the first of them, and how many others there
 -- are
 abbrev pub longer_at : (ℕ → ℕ) → List (List Text) → ℕ → LongRecords
 longer_at line_of records at =
@@ -65,11 +65,11 @@ abbrev pub longer_by : (ℕ → ℕ) → List (List Text) → Option LongRecords
 longer_by line_of records =
     option_map (longer_at line_of records) (position (is_longer records) records)
 
--- what is told of records of a text; where spaces stand between fields, none has more: the last
--- column takes all that is left of a line
+-- those of a text; none has more fields if spaces part them, since the last column then takes all
+-- that is left of a line
 abbrev pub unless_spaces : {T : Type 0} → Delimiter → Option T → Option T
-unless_spaces Spaces told = None
-unless_spaces _ told = told
+unless_spaces Spaces longer = None
+unless_spaces _ longer = longer
 
 abbrev pub longer_records : InputOptions → Text → List (List Text) → Option LongRecords
 longer_records options text records =

@@ -20,7 +20,7 @@ const LINE_FEED: u8 = b'\n';
 
 /// The first `most` records of an input of which these bytes were read, and how many these have,
 /// where their whole lines are enough: their text ends with a line feed and outside quotes, it has
-/// more records, and it shows what stands between fields. None where more has to be read, be it
+/// more records, and it shows its delimiter. None where more has to be read, be it
 /// since no text ends there. An input in UTF-16 is read whole, and so is one that doesn't have more
 /// line feeds.
 pub fn read_beginning(
@@ -57,7 +57,7 @@ pub fn read_beginning(
     Ok(Some(first))
 }
 
-// The text of these bytes, where they have one.
+// The text of these bytes, if they have one.
 fn found_text(
     alloc: Global,
     bytes: &[u8],
@@ -77,7 +77,7 @@ fn found_text(
     }
 }
 
-// The first records of a text, where it has records.
+// The first records of a text, if it has records.
 fn found_records(
     alloc: Global,
     text: &str,
@@ -109,7 +109,7 @@ fn ends_with_line(bytes: &[u8]) -> bool
     }
 }
 
-// What was read up to behind the last line feed.
+// The bytes that were read, up to their last line feed.
 fn whole_lines(read: &[u8]) -> &[u8]
     ensures { result.now ≡ whole_lines read.now }
 {

@@ -1,4 +1,4 @@
-//! Lines whose fields stand below the names of a first line, as `docker ps` and `kubectl get` write
+//! Lines whose fields are below the names of a first line, as `docker ps` and `kubectl get` write
 //! them.
 
 ghost use Rattle.std.specs.Prelude.{◌≡◌, ◌++◌, IfOk, OnOk, chars, map, option_map, string_bytes};
@@ -26,7 +26,7 @@ pub(crate) fn name_starts(alloc: Global, lines: &[&str]) -> Result<Option<Vec<us
     }
 }
 
-// The places at which names of a line begin behind three spaces or more.
+// The places at which names of a line begin after three spaces or more.
 fn starts_of(alloc: Global, line: &str) -> Result<Vec<usize>, AllocError>
     ensures { IfOk result (λ starts. starts.items ≡ starts_of (chars line.now)) }
 {

@@ -1,5 +1,5 @@
 //! Texts without control characters, and without those that turn the direction of text, so that
-//! each character stands where it is counted.
+//! each character is where it is counted.
 
 ghost use Rattle.std.specs.Prelude.{◌≡◌, ◌∷◌, [], IfNone, IfOk, IfSome, OnOk, chars, if◌then◌else◌, not, string_bytes};
 ghost use Rattle.std.specs.Iterator.{YieldsFirstBy, item_count};
@@ -15,11 +15,11 @@ use comfy_parts::content_split::{is_printable, measure_text_width, sequence_len}
 use std::alloc::{AllocError, Global};
 use std::marker::Model;
 
-// How many terminal columns stand between two stops.
-const STOP: usize = 4;
+// How many terminal columns there are between two tab stops.
+const TAB_WIDTH: usize = 4;
 
 /// A field as it is drawn. A TAB becomes spaces up to the next multiple of four terminal columns,
-/// by what is visible of its line since the last TAB. A line feed, a carriage return, or both in
+/// by the visible part of its line since the last TAB. A line feed, a carriage return, or both in
 /// this order reversed, are one line feed. Every other control character, and each that turns the
 /// direction of text, becomes U+FFFD. SGR sequences stay where they are kept.
 pub fn cleaned(alloc: Global, field: &str, keeps_sequences: bool) -> Result<String, AllocError>
@@ -80,7 +80,7 @@ fn is_replaced(c: char) -> bool
     c.is_control() || turns_direction(c)
 }
 
-// Whether a character turns the direction of what follows it.
+// Whether a character turns the direction of the text after it.
 fn turns_direction(c: char) -> bool
     ensures { result ≡ turns_direction c }
 {
@@ -125,7 +125,7 @@ impl<'a> Iterator for Pieces<'a> {
     }
 }
 
-// The piece at a text's front, and what is after it.
+// The piece at a text's front, and the rest after it.
 fn first_piece(text: &str, keeps_sequences: bool) -> Option<(Piece<'_>, &str)>
     ensures some { IfSome result (λ halves. pieces keeps_sequences (chars text.now)
         ≡ part_of halves.0 ∷ pieces keeps_sequences (chars halves.1.now)) }
@@ -140,7 +140,7 @@ fn first_piece(text: &str, keeps_sequences: bool) -> Option<(Piece<'_>, &str)>
     Some((Piece::Character(c), rest))
 }
 
-// The bytes of the sequence at a text's front where sequences are kept, 0 where there is none.
+// The bytes of the sequence at a text's front where sequences are kept, 0 if there is none.
 fn kept_len(text: &str, keeps_sequences: bool) -> usize
     ensures value { result ≡ (if keeps_sequences then sequence_len text.now else 0) }
     ensures boundary { IsCharBoundary text.now result }
@@ -156,7 +156,7 @@ fn kept_len(text: &str, keeps_sequences: bool) -> usize
 #[derive(Drop)]
 struct Cleaner {
     text: String,
-    // what is visible of its last line since the last stop
+    // the visible part of its last line since the last stop
     seen: String,
     // whether the last character was a carriage return
     after_return: bool,
@@ -227,7 +227,7 @@ impl Cleaner {
 fn blanks_after(seen: &str) -> &'static str
     ensures { result.now ≡ blanks_after seen.now }
 {
-    match measure_text_width(seen) % STOP {
+    match measure_text_width(seen) % TAB_WIDTH {
         0 => "    ",
         1 => "   ",
         2 => "  ",

@@ -4,11 +4,11 @@ ghost use Rattle.std.specs.Prelude.{◌≡◌, IfOk, option_map, true};
 ghost use Rattle.csv.specs.Machine.{ends_with, in_field, start_field};
 ghost use Rattle.csv.specs.declared.parser.State.TheVariants as st;
 ghost use Rattle.csv.specs.declared.parser.Terminator.TheVariants as term;
-ghost use Rattle.csv_records.specs.Counting.{count_from, state_at, step, told};
+ghost use Rattle.csv_records.specs.Counting.{count_from, state_at, step, after_step};
 ghost use Rattle.csv_records.specs.Delimiter.{field_counts};
 ghost use Rattle.csv_records.specs.Input.{config_for};
 
-use crate::text::without_mark;
+use crate::text::without_utf8_mark;
 use std::alloc::{AllocError, Global};
 
 // The states of csv's reader that are met here.
@@ -21,7 +21,7 @@ enum State {
     AfterQuote,
 }
 
-/// How many fields the first records have, at most so many records.
+/// How many fields the first records have, at most this many records.
 ///
 /// It counts as csv's reader does, which would fill tables first: for a few records these take
 /// more time than all the rest.
@@ -36,7 +36,7 @@ pub(crate) fn field_counts(
         ≡ field_counts has_quotes text.now delimiter most) }
 {
     let mut counts = Vec::with_capacity(alloc, most)?;
-    let mut rest = without_mark(text).as_bytes();
+    let mut rest = without_utf8_mark(text).as_bytes();
     for _ in 0..most {
         let Some((count, behind)) = first_count(rest, delimiter, has_quotes) else {
             break;
@@ -47,7 +47,7 @@ pub(crate) fn field_counts(
     Ok(counts)
 }
 
-/// How many fields the first record of these bytes has, and what follows it.
+/// How many fields the first record of these bytes has, and the rest after it.
 pub(crate) fn first_count(bytes: &[u8], delimiter: u8, has_quotes: bool) -> Option<(usize, &[u8])>
     ensures { option_map (λ found. (found.0, found.1.now)) result
         ≡ count_from (config_for delimiter has_quotes) st.StartRecord 1 bytes.now }
@@ -69,7 +69,7 @@ pub(crate) fn first_count(bytes: &[u8], delimiter: u8, has_quotes: bool) -> Opti
     }
 }
 
-// The state behind a byte, and whether it ends a field; none where it ends a record.
+// The state after a byte, and whether it ends a field; none where it ends a record.
 fn step(state: State, byte: u8, delimiter: u8, has_quotes: bool) -> Option<(State, bool)>
     ensures { option_map (λ next. (state_at next.0, next.1)) result
         ≡ step (config_for delimiter has_quotes) (state_at state) byte }
@@ -104,7 +104,7 @@ fn step(state: State, byte: u8, delimiter: u8, has_quotes: bool) -> Option<(Stat
 // The same where a field begins.
 fn start_field(byte: u8, delimiter: u8, has_quotes: bool) -> Option<(State, bool)>
     ensures { option_map (λ next. (state_at next.0, next.1)) result
-        ≡ told (start_field (config_for delimiter has_quotes) byte) }
+        ≡ after_step (start_field (config_for delimiter has_quotes) byte) }
 {
     if has_quotes && byte == b'"' {
         Some((State::InQuoted, false))
@@ -116,7 +116,7 @@ fn start_field(byte: u8, delimiter: u8, has_quotes: bool) -> Option<(State, bool
 // And in a field, where a quote is like another byte.
 fn in_field(byte: u8, delimiter: u8) -> Option<(State, bool)>
     ensures { option_map (λ next. (state_at next.0, next.1)) result
-        ≡ told (in_field (config_for delimiter true) byte) }
+        ≡ after_step (in_field (config_for delimiter true) byte) }
 {
     if byte == delimiter {
         Some((State::StartField, true))

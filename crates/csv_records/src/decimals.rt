@@ -1,4 +1,4 @@
-//! The decimal mark of a column of numbers, so that fractions stand below each other.
+//! The decimal mark of a column of numbers, so that fractions are below each other.
 
 ghost use Rattle.std.specs.Prelude.{◌≡◌, ◌<◌, ◌==◌, ◌&&◌, ◌||◌, ◌∷◌, ◌++◌, ℕ, Bool, List, [], chars, false, max, not, true};
 ghost use Rattle.std.specs.Char.{is_ascii_digit};
@@ -17,7 +17,7 @@ pub enum DecimalMark {
     Comma,
 }
 
-/// The decimal mark of a column, and what its longest fraction takes.
+/// The decimal mark of a column, and the room of its longest fraction.
 #[derive(Clone, Copy, Debug, PartialEq, Eq)]
 pub struct Points {
     /// The mark.
@@ -37,7 +37,7 @@ pub struct MarkUse {
     pub longest: usize,
 }
 
-/// What the fields of a column say of its decimal mark.
+/// The signs of a decimal mark in the fields of a column.
 #[derive(Clone, Copy, Debug)]
 pub struct ColumnMarks {
     /// Whether all are neutral, or numbers that end with a digit and have no exponent.
@@ -61,7 +61,7 @@ impl DecimalMark {
 }
 
 impl Points {
-    /// How many spaces stand behind a field of the column, so that its mark stands below those of
+    /// How many spaces are after a field of the column, so that its mark is below those of
     /// the others.
     pub fn spaces_behind(self, field: &str) -> usize
         ensures { result ≡ spaces_behind self field.now }
@@ -88,7 +88,7 @@ impl MarkUse {
         }
     }
 
-    // Adds what the digits of one field more say. Those without the mark say nothing of it.
+    // Adds the digits of one field more. Those without the mark are no sign of it.
     fn add(&mut self, field: &str, fraction: Fraction, mark: DecimalMark)
         ensures { fraction ≡ fraction_of (halves (byte_of mark) (digits_in field.now))
             → self.new ≡ use_with mark self.old (digits_in field.now) }
@@ -109,7 +109,7 @@ impl MarkUse {
 }
 
 impl ColumnMarks {
-    /// What no field says.
+    /// The signs in no field.
     pub fn new() -> ColumnMarks
         ensures { result ≡ marks_of [] }
     {
@@ -120,7 +120,7 @@ impl ColumnMarks {
         }
     }
 
-    /// Adds what one field more says, by what it says as a number.
+    /// Adds one field more, by its reading as a number.
     pub fn add(&mut self, field: &str, number: FieldNumber)
         ensures { number ≡ number_of field.now → (fields : List (List ℕ))
             → self.old ≡ marks_of fields → self.new ≡ marks_of (fields ++ field.now ∷ []) }

@@ -1,4 +1,4 @@
-//! What stands between the fields of a text.
+//! The delimiter between the fields of a text.
 
 ghost use Rattle.std.specs.Prelude.{◌≡◌, ◌==◌, IfOk, option_map};
 ghost use Rattle.std.specs.List.{count_by, list_all};
@@ -7,28 +7,29 @@ ghost use Rattle.csv_records.specs.Lines.{EndsIn};
 
 use crate::counting::field_counts;
 use crate::lines::split_line;
-use crate::text::without_mark;
+use crate::text::without_utf8_mark;
 use std::alloc::{AllocError, Global};
 
-/// What stands between the fields of a record.
+/// The delimiter between the fields of a record.
 #[derive(Clone, Copy, Debug)]
 pub enum Delimiter {
     /// This byte.
     Byte(u8),
-    /// What a first line `sep=X` names, else what most of the first records agree on, else a comma.
+    /// The one that a first line `sep=X` names, else one that most of the first records agree on,
+    /// else a comma.
     Auto,
-    /// What a first line `sep=X` names, else TAB.
+    /// The one that a first line `sep=X` names, else TAB.
     NamedOrTab,
-    /// Runs of spaces and TABs, as in what `df -h` and `ps aux` write. White space at the ends of a
+    /// Runs of spaces and TABs, as `df -h` and `ps aux` write. White space at the ends of a
     /// line doesn't count, the last column takes all that is left of it, and quotes are characters
     /// like others.
     Spaces,
 }
 
-/// The byte between the fields of a text, and the text of its records: all of it, or what follows a
-/// first line `sep=X`.
+/// The byte between the fields of a text, and the text of its records: all of it, or the rest after
+/// a first line `sep=X`.
 ///
-/// Such a line is looked for unless a byte is asked for, also behind a byte-order mark. X is one
+/// Such a line is looked for unless a byte is asked for, also after a byte-order mark. X is one
 /// ASCII character that is no quote. The letters may be capitals.
 ///
 /// `Auto` takes that of TAB, `;`, `,` and `|` by which the most of the first ten records have one
@@ -60,7 +61,7 @@ pub(crate) fn delimited<'a>(
     }
 }
 
-/// Whether a text whose lines are whole shows what stands between fields, however it goes on: a
+/// Whether a text whose lines are whole shows its delimiter, however it goes on: a
 /// byte is asked for, which is no line feed, or its first line names one, or each that is tried
 /// gives it more records than are looked at. Where spaces part fields, a text is read whole.
 pub(crate) fn shows_delimiter(
@@ -81,27 +82,30 @@ pub(crate) fn shows_delimiter(
     }
 }
 
-// The delimiter that a first line names, and what follows that line.
+// The delimiter that a first line names, and the rest after that line.
 fn named_delimiter(text: &str) -> Option<(u8, &str)>
     ensures { option_map (λ parts. (parts.0, parts.1.now)) result ≡ named_delimiter text.now }
 {
-    let (line, below) = split_line(without_mark(text));
+    let (line, below) = split_line(without_utf8_mark(text));
     Some((delimiter_in(line.as_bytes())?, below))
 }
+
+// The word before a delimiter that a line names, in letters of either case.
+const NAMING_WORD: &[u8] = b"sep=";
 
 // The delimiter that a line names.
 fn delimiter_in(line: &[u8]) -> Option<u8>
     ensures { result ≡ delimiter_in line.now }
 {
-    let (word, name) = line.split_at_checked(4)?;
-    if word.eq_ignore_ascii_case(b"sep=") {
+    let (word, name) = line.split_at_checked(NAMING_WORD.len())?;
+    if word.eq_ignore_ascii_case(NAMING_WORD) {
         only_ascii(name)
     } else {
         None
     }
 }
 
-// The ASCII character that is all of a word, where it may stand between fields.
+// The ASCII character that is all of a word, where it may be between fields.
 pub fn only_ascii(word: &[u8]) -> Option<u8>
     ensures { result ≡ only_ascii word.now }
 {
@@ -118,7 +122,7 @@ const TRIED: [u8; 4] = [b'\t', b';', b',', b'|'];
 // How many records are looked at.
 const FIRST_RECORDS: usize = 10;
 
-// The first of them by which the most records agree, a comma where none do.
+// The first of them by which the most records agree, a comma if none do.
 fn found_delimiter(alloc: Global, text: &str, has_quotes: bool) -> Result<u8, AllocError>
     ensures { IfOk result (λ delimiter. delimiter ≡ found_delimiter has_quotes text.now) }
 {

@@ -4,7 +4,7 @@ ghost use Rattle.std.specs.Prelude.{◌≡◌, ◌-◌, ◌≤◌, ◌==◌, ◌
 ghost use Rattle.std.specs.Iterator.{YieldsFirst, item_count};
 ghost use Rattle.std.specs.String.{string_vec};
 ghost use Rattle.csv_records.specs.Lines.{below_line, below_lines, end_len};
-ghost use Rattle.csv_records.specs.Encoding.{AreCharactersOf, IsRefusedIn, IsDecoded, IsUtf16Refusal, cp1252_character, cp1252_text, encoding_of, marked_order, order_of, unit, units, utf16_characters, without_mark};
+ghost use Rattle.csv_records.specs.Encoding.{AreCharactersOf, IsRefusedIn, IsDecoded, IsUtf16Refusal, cp1252_character, cp1252_text, encoding_of, marked_order, order_of, unit, units, utf16_characters, without_utf16_mark};
 ghost use Rattle.csv_records.specs.Input.{IsTextRefusal, line_number};
 ghost use Rattle.csv_records.specs.Reading.{IsDecodedBy, IsWithoutText};
 
@@ -49,7 +49,7 @@ pub fn decoded(alloc: Global, input: Vec<u8>, options: &InputOptions) -> Result<
     text_below(alloc, input, encoding, options.skip)
 }
 
-// The text in an encoding, below so many lines.
+// The text in an encoding, below this many lines.
 fn text_below(
     alloc: Global,
     input: Vec<u8>,
@@ -87,7 +87,7 @@ pub(crate) fn is_marked(input: &[u8]) -> bool
     marked_order(input).is_some()
 }
 
-// The text in UTF-8 below so many lines, which is the input itself where none are left out.
+// The text in UTF-8 below this many lines, which is the input itself if none are left out.
 fn utf8_text(input: Vec<u8>, skip: usize) -> Result<String, DecodeError>
     ensures text { IfOk result (λ text. string_bytes text ≡ below_lines skip input.items) }
     ensures not_copied { IfOk result (λ text. skip ≡ 0 → string_vec text ≡ input) }
@@ -168,9 +168,9 @@ fn order_of(input: &[u8]) -> ByteOrder
     marked_order(input).unwrap_or(ByteOrder::LittleEndian)
 }
 
-// What follows the mark.
-fn without_mark(input: &[u8]) -> &[u8]
-    ensures { result.now ≡ without_mark input.now }
+// The bytes after the mark.
+fn without_utf16_mark(input: &[u8]) -> &[u8]
+    ensures { result.now ≡ without_utf16_mark input.now }
 {
     match input {
         [0xFF, 0xFE, rest @ ..] | [0xFE, 0xFF, rest @ ..] => rest,
@@ -178,14 +178,14 @@ fn without_mark(input: &[u8]) -> &[u8]
     }
 }
 
-// The text in UTF-16 below so many lines.
+// The text in UTF-16 below this many lines.
 fn utf16_text(alloc: Global, input: &[u8], skip: usize) -> Result<String, DecodeError>
     ensures text { IfOk result (λ text.
         AreCharactersOf (utf16_characters skip input.now) (string_bytes text)) }
     ensures refused { IfErr result (λ e.
         IsUtf16Refusal (utf16_characters skip input.now) skip e) }
 {
-    let bytes = without_mark(input);
+    let bytes = without_utf16_mark(input);
     let order = order_of(input);
     let mut text = String::with_capacity(alloc, bytes.len() / 2)?;
     for read in char::decode_utf16(units_below(Units { bytes, order }, skip)) {
@@ -200,7 +200,7 @@ fn utf16_text(alloc: Global, input: &[u8], skip: usize) -> Result<String, Decode
     Ok(text)
 }
 
-// The error where what follows these characters, which stand below so many lines, is none.
+// The error if no character follows these, which are below this many lines.
 fn not_utf16(above: usize, before: &str) -> DecodeError
     ensures { result ≡ DecodeError.NotUtf16 (line_number above before.now) }
 {
@@ -244,7 +244,7 @@ impl<'a> Units<'a> {
         self.bytes.len() < 2
     }
 
-    // What follows the first line and its end.
+    // The rest after the first line and its end.
     fn below_line(self) -> Units<'a>
         ensures { result ≡ below_line self.entry }
     {
@@ -260,7 +260,7 @@ impl<'a> Units<'a> {
         rest
     }
 
-    // What follows the line end of which a carriage return was read.
+    // The rest after the line end of which a carriage return was read.
     fn behind_feed(self) -> Units<'a>
         ensures { result ≡ drop (end_len (0x0D ∷ self.entry) - 1) self.entry }
     {

@@ -24,7 +24,7 @@ pub enum DecodeError {
         /// line feed, form feed and carriage return, and none of the five that it leaves open.
         may_be_cp1252: bool,
     },
-    /// The input isn't UTF-16: in this line stands the first surrogate without a partner, or an odd
+    /// The input isn't UTF-16: in this line is the first surrogate without a partner, or an odd
     /// byte at the end.
     #[error("line {0} isn't UTF-16")]
     NotUtf16(u64),
@@ -40,7 +40,7 @@ pub enum RecordsError {
     /// `DecodeError`.
     #[error("a quote that opens in line {0} is never closed")]
     Unclosed(u64),
-    /// The delimiter isn't ASCII, and stands inside a character of a record.
+    /// The delimiter isn't ASCII, and is inside a character of a record.
     #[error("the delimiter splits a character")]
     SplitCharacter,
     /// There was no memory for the records.

@@ -1,4 +1,4 @@
-//! What a field says as a number, found in one reading.
+//! The reading of a field as a number, in one pass.
 
 ghost use Rattle.std.specs.Prelude.{◌≡◌, ◌<◌, ◌||◌, IfSome, length, true};
 ghost use Rattle.std.specs.Char.{is_ascii_digit};
@@ -12,7 +12,7 @@ use crate::number::{
 };
 use comfy_parts::content_split::are_digits;
 
-/// What a field says as a number.
+/// The reading of a field as a number.
 #[derive(Clone, Copy, Debug)]
 pub struct FieldNumber {
     /// Whether it is one.
@@ -61,8 +61,8 @@ pub fn is_number(field: &str) -> bool
     may_stand_around(front, back) && figure_number(digits, false).is_number
 }
 
-/// What a field says as a number. Most numbers are digits with at most one mark, perhaps after a
-/// sign, and are found by one reading of their bytes.
+/// The reading of a field as a number. Most numbers are digits with at most one mark, perhaps after
+/// a sign, and are found by one reading of their bytes.
 pub fn number_in(field: &str) -> FieldNumber
     ensures { result ≡ number_of field.now }
 {
@@ -79,7 +79,7 @@ pub fn number_in(field: &str) -> FieldNumber
     }
 }
 
-// What follows a sign of ASCII, or all.
+// The rest after a sign of ASCII, or all.
 fn unsigned(bytes: &[u8]) -> &[u8]
     ensures { result.now ≡ unsigned bytes.now }
 {
@@ -102,7 +102,7 @@ fn is_written(byte: u8) -> bool
     is_inner(byte) || matches!(byte, b'-' | b'+')
 }
 
-// What digits with their marks say by themselves.
+// The reading of digits with their marks alone.
 fn figure_number(digits: &str, is_bare: bool) -> FieldNumber
     ensures { result ≡ number_with (is_figure digits.now) is_bare digits.now }
 {
@@ -153,7 +153,7 @@ fn read_fraction(rest: &[u8]) -> Fraction
     }
 }
 
-// What digits say as a number without exponent.
+// The reading of digits as a number without exponent.
 fn decimal_number(is_number: bool, is_bare: bool, point: Fraction, comma: Fraction) -> FieldNumber
     ensures { result ≡ record {
       is_number = is_number;
@@ -172,7 +172,7 @@ fn decimal_number(is_number: bool, is_bare: bool, point: Fraction, comma: Fracti
     }
 }
 
-// What digits with any marks say by themselves.
+// The reading of digits with any marks alone.
 fn marked_number(digits: &str, is_bare: bool) -> FieldNumber
     ensures { result ≡ number_with (is_figure digits.now) is_bare digits.now }
 {

@@ -1,4 +1,4 @@
-//! Fields that lie one behind another in one piece of memory.
+//! Fields that lie one after another in one piece of memory.
 
 ghost use Rattle.std.specs.Prelude.{◌≡◌, ◌<◌, ◌-◌, ◌^◌, ◌++◌, ◌∷◌, [], IfSome, OnErr, OnOk, Some, get_or, length, option_map};
 ghost use Rattle.csv.specs.Records.{field_at, fields_of, partial_of, prev};
@@ -69,7 +69,7 @@ impl Ends {
     }
 }
 
-/// The fields of records, one behind another.
+/// The fields of records, one after another.
 #[derive(Drop)]
 pub(crate) struct Fields {
     bytes: Vec<u8>,

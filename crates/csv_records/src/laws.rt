@@ -1,4 +1,4 @@
-//! What is so of every field and record. The functions do nothing: their clauses are the laws, so
+//! Laws of every field and record. The functions do nothing: their clauses are the laws, so
 //! that a proof of yours can cite them.
 
 ghost use Rattle.std.specs.Prelude.{Bool, List, ℕ};

@@ -3,7 +3,7 @@
 ghost use Rattle.std.specs.Prelude.{◌≡◌};
 ghost use Rattle.csv_records.specs.Lines.{EndsIn, below_line, below_lines, end_len, first_line, line_len};
 
-/// The bytes below the first `count` lines, none where there aren't more. A line ends at a line
+/// The bytes below the first `count` lines, none if there aren't more. A line ends at a line
 /// feed, a carriage return, or a carriage return with a line feed, also between quotes.
 pub(crate) fn below_lines(bytes: &[u8], count: usize) -> &[u8]
     ensures below { result.now ≡ below_lines count bytes.now }
@@ -19,7 +19,7 @@ pub(crate) fn below_lines(bytes: &[u8], count: usize) -> &[u8]
     rest
 }
 
-// What follows the first line and its end.
+// The rest after the first line and its end.
 fn below_line(bytes: &[u8]) -> &[u8]
     ensures { result.now ≡ below_line bytes.now }
 {
@@ -27,7 +27,7 @@ fn below_line(bytes: &[u8]) -> &[u8]
     rest.split_at(end_len(rest)).1
 }
 
-/// The first line without its end, and what follows that end.
+/// The first line without its end, and the rest after that end.
 pub(crate) fn split_line(text: &str) -> (&str, &str)
     ensures line { result.0.now ≡ first_line text.now }
     ensures below { result.1.now ≡ below_line text.now }
@@ -36,7 +36,7 @@ pub(crate) fn split_line(text: &str) -> (&str, &str)
     (line, rest.split_at(end_len(rest.as_bytes())).1)
 }
 
-// How many bytes stand before the first line end.
+// How many bytes are before the first line end.
 fn line_len(bytes: &[u8]) -> usize
     ensures { result ≡ line_len bytes.now }
 {

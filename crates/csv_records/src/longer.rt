@@ -10,7 +10,7 @@ ghost use Rattle.csv_records.specs.declared.delimiter.Delimiter.TheVariants.{Spa
 use crate::counting::first_count;
 use crate::options::InputOptions;
 use crate::records::Rows;
-use crate::text::{line_before, without_mark};
+use crate::text::{line_before, without_utf8_mark};
 
 /// Records that have more fields than the first one.
 #[derive(Clone, Copy, Debug)]
@@ -42,7 +42,7 @@ pub(crate) fn longer_records(
 {
     let first_fields = fields_at(records, 0);
     let before = first_longer(records, first_fields)?;
-    let unmarked = without_mark(rest).as_bytes();
+    let unmarked = without_utf8_mark(rest).as_bytes();
     let from = skip_records(unmarked, before, delimiter, options.has_quotes);
     Some(LongRecords {
         line: line_before(options.skip, text, from.len()),
@@ -62,21 +62,21 @@ fn fields_at(records: &Rows<'_>, position: usize) -> usize
     }
 }
 
-// How many records stand before the first that has more fields than so many.
+// How many records are before the first that has more fields than this many.
 fn first_longer(records: &Rows<'_>, most: usize) -> Option<usize>
     ensures { result ≡ position (λ fields. nat_lt most (length fields)) records.now }
 {
     records.iter().position(|record| record.len() > most)
 }
 
-// How many records have more fields than so many.
+// How many records have more fields than this many.
 fn count_longer(records: &Rows<'_>, most: usize) -> usize
     ensures { result ≡ count_by (λ fields. nat_lt most (length fields)) records.now }
 {
     records.iter().filter(|record| record.len() > most).count()
 }
 
-// These bytes from the record on before which so many stand.
+// These bytes from the record on before which this many are.
 fn skip_records(bytes: &[u8], before: usize, delimiter: u8, has_quotes: bool) -> &[u8]
     ensures { result.now ≡ skip_records (config_for delimiter has_quotes) before bytes.now }
 {
@@ -87,7 +87,7 @@ fn skip_records(bytes: &[u8], before: usize, delimiter: u8, has_quotes: bool) ->
     skip_newlines(rest)
 }
 
-// What follows the first record of these bytes.
+// The rest after the first record of these bytes.
 fn skip_record(bytes: &[u8], delimiter: u8, has_quotes: bool) -> &[u8]
     ensures { result.now ≡ skip_record (config_for delimiter has_quotes) bytes.now }
 {

@@ -10,7 +10,7 @@ use crate::text::line_number;
 use memchr::memchr;
 use thiserror::Error;
 
-/// What an input is that is no CSV in UTF-8, as its bytes show.
+/// Kinds of inputs that are no CSV in UTF-8, as their bytes show.
 #[derive(Clone, Copy, Debug, PartialEq, Eq, Error)]
 pub enum NotText {
     /// A file of gzip: it begins with the bytes 0x1F and 0x8B.
@@ -26,12 +26,12 @@ pub enum NotText {
     /// other.
     #[error("UTF-16 without a mark")]
     Utf16,
-    /// No text: the first NUL byte stands in this line.
+    /// No text: the first NUL byte is in this line.
     #[error("line {0} has a NUL byte")]
     Binary(u64),
 }
 
-/// What an input is seen to be, where no encoding is asked for and no mark says that it is UTF-16.
+/// The kind of an input, if no encoding is asked for and no mark says that it is UTF-16.
 /// JSON and NULs count below the lines that are left out.
 pub(crate) fn not_text_for(encoding: Option<Encoding>, skip: usize, input: &[u8]) -> Option<NotText>
     ensures { result ≡ not_text_for encoding skip input.now }
@@ -43,7 +43,7 @@ pub(crate) fn not_text_for(encoding: Option<Encoding>, skip: usize, input: &[u8]
     }
 }
 
-// What an input is by its first bytes, or by what stands below the lines that are left out.
+// The kind of an input by its first bytes, or by the bytes below the lines that are left out.
 fn not_text_in(skip: usize, input: &[u8]) -> Option<NotText>
     ensures { result ≡ not_text_in skip input.now }
 {
@@ -56,7 +56,7 @@ fn not_text_in(skip: usize, input: &[u8]) -> Option<NotText>
     }
 }
 
-// What bytes below so many lines are.
+// The kind of bytes below this many lines.
 fn not_text_below(above: usize, bytes: &[u8]) -> Option<NotText>
     ensures { result ≡ not_text_below above bytes.now }
 {
@@ -102,7 +102,7 @@ fn is_zip(input: &[u8]) -> bool
     matches!(input, [b'P', b'K', 3, 4, ..])
 }
 
-// What bytes below so many lines are by their NULs.
+// The kind of bytes below this many lines, by their NULs.
 fn not_text_by_nuls(above: usize, bytes: &[u8]) -> Option<NotText>
     ensures { result ≡ not_text_by_nuls above bytes.now }
 {

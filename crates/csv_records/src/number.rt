@@ -76,7 +76,7 @@ fn without_spaces_behind(text: &str) -> &str
     rest
 }
 
-// What stands before the first digit or decimal mark, from there to the last, and behind it.
+// The texts before the first digit or decimal mark, from there to the last, and after it.
 pub(crate) fn parts_of(text: &str) -> (&str, &str, &str)
     ensures front { result.0.now ≡ front_of text.now }
     ensures figure { result.1.now ≡ figure_of text.now }
@@ -87,7 +87,7 @@ pub(crate) fn parts_of(text: &str) -> (&str, &str, &str)
     (front, figure, back)
 }
 
-// Where the first digit or decimal mark stands, or the end.
+// Where the first digit or decimal mark is, or the end.
 fn figure_start(text: &str) -> usize
     ensures value { result ≡ prefix_len is_outer text.now }
     ensures boundary { IsCharBoundary text.now result }
@@ -122,7 +122,7 @@ pub(crate) fn is_inner(byte: u8) -> bool
     byte.is_ascii_digit() || byte == b'.' || byte == b','
 }
 
-// What may stand around a figure, with a sign or without.
+// Whether these may be around a figure, with a sign or without.
 fn is_signed(front: &str, back: &str) -> bool
     ensures { result ≡ is_signed front.now back.now }
 {
@@ -132,7 +132,7 @@ fn is_signed(front: &str, back: &str) -> bool
     }
 }
 
-// What may stand around a figure in parentheses.
+// Whether these may be around a figure in parentheses.
 fn is_enclosed(front: &str, back: &str) -> bool
     ensures { result ≡ is_enclosed front.now back.now }
 {
@@ -153,7 +153,7 @@ fn ends_with_parenthesis(text: &str) -> bool
     matches!(split_last(text), Some((_, ')')))
 }
 
-// A currency before the figure, or a unit behind it, or neither.
+// A currency before the figure, or a unit after it, or neither.
 fn is_amount(front: &str, back: &str) -> bool
     ensures { result ≡ is_amount front.now back.now }
 {
@@ -164,14 +164,14 @@ fn is_amount(front: &str, back: &str) -> bool
     }
 }
 
-// Behind a figure: nothing, or a unit, also behind a blank.
+// After a figure: nothing, or a unit, also after a blank.
 fn is_end(back: &str) -> bool
     ensures { result ≡ is_end back.now }
 {
     back.is_empty() || is_unit(behind_blank(back))
 }
 
-// What a number is counted in.
+// The unit of a number.
 fn is_unit(text: &str) -> bool
     ensures { result ≡ is_unit text.now }
 {
@@ -275,7 +275,7 @@ fn without_last(text: &str) -> &str
     }
 }
 
-// The last character, and what stands before it.
+// The last character, and the rest before it.
 pub(crate) fn split_last(text: &str) -> Option<(&str, char)>
     ensures some { IfSome result (λ parts. text.now ≡ parts.0.now ++ encode_utf8 parts.1) }
     ensures characters { IfSome result (λ parts.
@@ -303,7 +303,7 @@ fn is_blank(c: char) -> bool
     matches!(c, ' ' | '\u{a0}' | '\u{202f}')
 }
 
-// A space that may stand around a field.
+// A space that may be around a field.
 fn is_space(c: char) -> bool
     ensures { result ≡ is_space c }
 {
@@ -342,7 +342,7 @@ pub(crate) fn is_scientific(text: &str, letter: char) -> bool
     }
 }
 
-// Digits behind a sign, or without one.
+// Digits after a sign, or without one.
 fn is_exponent(text: &str) -> bool
     ensures { result ≡ is_exponent text.now }
 {
@@ -359,7 +359,7 @@ pub(crate) fn is_decimal(text: &str) -> bool
         || has_groups(text) && !is_address(text)
 }
 
-// Digits behind a decimal mark, and digits or groups before it. Either may be missing, but not
+// Digits after a decimal mark, and digits or groups before it. Either may be missing, but not
 // both.
 pub(crate) fn is_fraction(text: &str, mark: u8) -> bool
     requires { mark < 128 }
@@ -444,7 +444,7 @@ fn is_grouped(text: &str, mark: char) -> bool
     is_group_len(is_first, count)
 }
 
-// Whether a group may have so many digits.
+// Whether a group may have this many digits.
 fn is_group_len(is_first: bool, count: usize) -> bool
     ensures { result ≡ is_group_len is_first count }
 {

@@ -1,4 +1,4 @@
-//! What a caller may choose about the way an input is read.
+//! Options of a caller for the way in which an input is read.
 
 use crate::delimiter::Delimiter;
 use crate::encoding::Encoding;
@@ -6,13 +6,13 @@ use crate::encoding::Encoding;
 /// How an input is read.
 #[derive(Clone, Copy, Debug)]
 pub struct InputOptions {
-    /// How the input is written as bytes. Where that isn't said, an input that begins with a
+    /// How the input is written as bytes. If that isn't said, an input that begins with a
     /// byte-order mark of UTF-16 is UTF-16, and any other one UTF-8.
     pub encoding: Option<Encoding>,
     /// How many lines at the input's front are left out, in whatever encoding they are. A line ends
     /// at a line feed, a carriage return, or both, also between quotes.
     pub skip: usize,
-    /// What stands between fields.
+    /// The delimiter between fields.
     pub delimiter: Delimiter,
     /// Whether quotes around a field aren't part of it. A quote that opens one and is never closed
     /// is refused then.

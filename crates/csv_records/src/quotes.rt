@@ -7,20 +7,20 @@ ghost use Rattle.csv_records.specs.QuoteWalk.{ClosesAt, StaysQuoted, ends_field,
 ghost use Rattle.csv_records.specs.Quotes.{IsUnclosed, state_after};
 
 use crate::counting::ends_line;
-use crate::text::without_mark;
+use crate::text::without_utf8_mark;
 use memchr::memchr;
 
 const QUOTE: u8 = b'"';
 
 /// The place, in bytes from the text's start, of the quote that opens a field which the text's end
-/// doesn't close. Where there is none, csv's reader doesn't end within quotes. As csv does, it
+/// doesn't close. If there is none, csv's reader doesn't end within quotes. As csv does, it
 /// passes over a byte-order mark.
 pub(crate) fn unclosed_quote(text: &str, delimiter: u8) -> Option<usize>
     ensures some { IfSome result (λ at.
         IsUnclosed delimiter (strip_bom text.now) (drop at text.now)) }
     ensures none { IfNone result (state_after delimiter (strip_bom text.now) ≢ InQuoted) }
 {
-    let unmarked = without_mark(text).as_bytes();
+    let unmarked = without_utf8_mark(text).as_bytes();
     let at = unclosed_in(unmarked, delimiter)?;
     Some(text.len() - unmarked.len() + at)
 }
@@ -47,7 +47,7 @@ fn unclosed_in(bytes: &[u8], delimiter: u8) -> Option<usize>
     None
 }
 
-// Whether a quote at this place, which stands outside quotes, opens a field.
+// Whether a quote at this place, which is outside quotes, opens a field.
 fn is_opening(bytes: &[u8], at: usize, delimiter: u8) -> bool
     requires within { at ≤ length bytes.now }
     ensures { result ≡ is_opening delimiter bytes.now at }
@@ -62,7 +62,7 @@ fn ends_field(byte: u8, delimiter: u8) -> bool
     byte == delimiter || ends_line(byte)
 }
 
-// The place behind the quote that closes those which opened before `from`. Two quotes in a row are
+// The place after the quote that closes those which opened before `from`. Two quotes in a row are
 // one of the field's.
 fn closing_end(bytes: &[u8], from: usize) -> Option<usize>
     requires within { from ≤ length bytes.now }

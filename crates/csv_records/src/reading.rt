@@ -1,4 +1,4 @@
-//! The records of a text, by what is asked for.
+//! The records of a text, by the options of a caller.
 
 ghost use Rattle.std.specs.Prelude.{◌≡◌, ◌<◌, ◌^◌, IfErr, IfOk};
 ghost use Rattle.csv_records.specs.First.{AreFirst};
@@ -32,7 +32,7 @@ pub fn read_records(
     Ok(read_first_records(alloc, text, options, usize::MAX)?.records)
 }
 
-/// The first of these records, at most so many, how many there are, and which of the first ones
+/// The first of these records, at most this many, how many there are, and which of the first ones
 /// have more fields than the very first. All of the text is read.
 pub fn read_first_records(
     alloc: Global,

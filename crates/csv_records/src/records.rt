@@ -26,12 +26,12 @@ use std::str;
 /// // one record, whose field at position 1 is 3
 /// ```
 pub struct Records {
-    // the fields of all records, one behind another, which are texts
+    // the fields of all records, one after another, which are texts
     fields: Fields,
     places: Vec<Place>,
 }
 
-// Where the fields of a record stand among those of all: from the first position up to the second.
+// Where the fields of a record are among those of all: from the first position up to the second.
 #[derive(Clone, Copy)]
 struct Place {
     start: usize,
@@ -61,8 +61,8 @@ impl Model for Records {
 }
 
 impl Records {
-    /// Records of these fields, which stand one behind another: the first so many are those of the
-    /// first record, and so on. There are none where the counts don't add up to the fields.
+    /// Records of these fields, one after another. The first count says how many fields the first
+    /// record has, and so on. There are none if the counts don't add up to the fields.
     ///
     /// ```
     /// let records = Records::from_fields(alloc, &["name", "days", "oats", "3"], &[2, 2])?;
@@ -98,7 +98,7 @@ impl Records {
     }
 }
 
-/// Records that stand one behind another: all of a text, or some. As an iterator it gives each of
+/// Records that are one after another: all of a text, or some. As an iterator it gives each of
 /// them.
 #[derive(Drop)]
 pub struct Rows<'a> {
@@ -134,7 +134,7 @@ impl<'a> Rows<'a> {
         self.places.is_empty()
     }
 
-    /// Does nothing. What it ensures is that fields are whole characters.
+    /// Does nothing. It ensures that fields are whole characters.
     pub fn hold_texts(&self)
         ensures { All AllText self.now }
     {
@@ -151,7 +151,7 @@ impl<'a> Rows<'a> {
         }
     }
 
-    /// The records behind so many.
+    /// The records after this many.
     pub fn rows_behind(&self, count: usize) -> Rows<'a>
         ensures { result ≡ drop count self.now }
     {
@@ -160,7 +160,7 @@ impl<'a> Rows<'a> {
         Rows { fields, places }
     }
 
-    /// The first records, at most so many.
+    /// The first records, at most this many.
     pub fn first_rows(&self, count: usize) -> Rows<'a>
         ensures { result ≡ take count self.now }
     {
@@ -169,7 +169,7 @@ impl<'a> Rows<'a> {
         Rows { fields, places }
     }
 
-    /// The first record, where there is one.
+    /// The first record, if there is one.
     pub fn first(&self) -> Option<Record<'a>>
         ensures { result ≡ slice_get self.now 0 }
     {
@@ -246,7 +246,7 @@ impl<'a> Record<'a> {
         self.place.end - self.place.start
     }
 
-    /// The field at a position, which is counted from 0; none behind the last.
+    /// The field at a position, which is counted from 0; none after the last.
     pub fn get(&self, position: usize) -> Option<&'a str>
         ensures place { IfSome result (λ f. position < 2 ^ 64 - 1) }
         ensures value { option_map (λ s. s.now) result ≡ field_at self.now position }
@@ -278,7 +278,7 @@ impl<'a> Record<'a> {
     }
 }
 
-/// Fields of a record, one behind another. Each is found by where the one before it ends.
+/// Fields of a record, one after another. Each is found by where the one before it ends.
 #[derive(Drop)]
 pub struct RecordFields<'a> {
     fields: &'a Fields,
@@ -324,7 +324,7 @@ impl<'a> Iterator for RecordFields<'a> {
     }
 }
 
-// What reads the records of a text, whose fields stand between delimiters. Records may have
+// A reader of the records of a text, whose fields are between delimiters. Records may have
 // different numbers of fields. A byte-order mark at the beginning is dropped. Without quotes, a
 // quote is a character of its field.
 fn reader_of(alloc: Global, text: &str, delimiter: u8, has_quotes: bool) -> Reader<&[u8]>
@@ -349,7 +349,7 @@ pub struct FirstRecords {
     pub longer: Option<LongRecords>,
 }
 
-/// The first records of a text, at most so many. All of it is read.
+/// The first records of a text, at most this many. All of it is read.
 ///
 /// `SplitCharacter` comes only of a delimiter that isn't ASCII.
 pub(crate) fn first_records_of(
@@ -368,7 +368,7 @@ pub(crate) fn first_records_of(
     let mut fields = Fields::new(alloc);
     let mut places = Vec::new(alloc);
     let mut record = ByteRecord::new(alloc);
-    // No text in memory has so many.
+    // No text in memory has this many.
     for count in 0..usize::MAX {
         let Ok(is_found) = reader.read_byte_record(&mut record) else {
             return Err(RecordsError::OutOfMemory);
@@ -427,7 +427,7 @@ fn push_record(
     Ok(())
 }
 
-// Where records of so many fields each stand among as many as there are in all.
+// Where records of this many fields each are among as many as there are in all.
 fn places_for(
     alloc: Global,
     counts: &[usize],

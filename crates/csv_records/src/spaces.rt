@@ -1,4 +1,4 @@
-//! Texts whose fields stand between spaces, as `df -h` and `ls -l` write them.
+//! Texts whose fields are between spaces, as `df -h` and `ls -l` write them.
 
 ghost use Rattle.std.specs.Prelude.{◌≡◌, ◌++◌, IfOk, OnOk, false, length, map, max, option_map, string_bytes};
 ghost use Rattle.std.specs.List.{list_any, position_or_len, prefix_len};
@@ -9,7 +9,7 @@ use crate::below_names::{columns_text, name_starts};
 use std::alloc::{AllocError, Global};
 
 /// The text with TABs between its fields. A blank line is left out, as is a first one like
-/// `total 92`. If all fields stand below the names of the first line (`name_starts`), they are cut
+/// `total 92`. If all fields are below the names of the first line (`name_starts`), they are cut
 /// there. Otherwise runs of spaces and TABs part them; white space of ASCII at the ends of a line
 /// doesn't count. There are as many columns as the first line has fields, and no more than the
 /// fullest line below it. The last one takes all that is left of a line, with a space for each TAB.
@@ -96,7 +96,7 @@ fn column_gaps(lines: &[&str]) -> usize
     }
 }
 
-// The gap behind the first column's name, where it has none.
+// The gap after the first column's name, if it has none.
 fn name_gap(lines: &[&str]) -> &'static str
     ensures { result.now ≡ name_gap (map (λ line. line.now) lines.now) }
 {
@@ -155,7 +155,7 @@ fn line_gaps(line: &str) -> usize
     gaps_of(trimmed_line(line).as_bytes())
 }
 
-// How many gaps stand in a line.
+// How many gaps are in a line.
 fn gaps_of(line: &[u8]) -> usize
     ensures { result ≡ gaps_from false line.now }
 {
@@ -177,7 +177,7 @@ fn is_gap(byte: u8) -> bool
     byte == b' ' || byte == b'\t'
 }
 
-// Appends a line with TABs for its first gaps, at most so many.
+// Appends a line with TABs for its first gaps, at most this many.
 fn push_tabbed(text: &mut String, line: &str, gaps: usize) -> Result<(), AllocError>
     ensures { OnOk result (string_bytes text.new
         ≡ string_bytes text.old ++ tabbed_line gaps line.now) }
@@ -195,7 +195,7 @@ fn push_tabbed(text: &mut String, line: &str, gaps: usize) -> Result<(), AllocEr
     push_spaced(text, rest)
 }
 
-// The first field of a line, and what stands behind the gap that follows it.
+// The first field of a line, and the rest after the gap that follows it.
 fn split_field(line: &str) -> (&str, &str)
     ensures field { result.0.now ≡ first_field line.now }
     ensures behind { result.1.now ≡ behind_field line.now }
@@ -204,7 +204,7 @@ fn split_field(line: &str) -> (&str, &str)
     (field, rest.split_at(gap_len(rest.as_bytes())).1)
 }
 
-// How many bytes stand before the first gap.
+// How many bytes are before the first gap.
 fn field_len(bytes: &[u8]) -> usize
     ensures { result ≡ position_or_len is_gap bytes.now }
 {
@@ -218,7 +218,7 @@ fn gap_len(bytes: &[u8]) -> usize
     bytes.iter().take_while(|byte| is_gap(**byte)).count()
 }
 
-// Appends what is left of a line, with a space for each TAB.
+// Appends the rest of a line, with a space for each TAB.
 fn push_spaced(text: &mut String, line: &str) -> Result<(), AllocError>
     ensures { OnOk result (string_bytes text.new ≡ string_bytes text.old ++ spaced line.now) }
 {
@@ -232,7 +232,7 @@ fn push_spaced(text: &mut String, line: &str) -> Result<(), AllocError>
     Ok(())
 }
 
-// What stands before the first TAB, and behind it.
+// The texts before the first TAB and after it.
 fn split_tab(line: &str) -> Option<(&str, &str)>
     ensures { option_map (λ parts. (parts.0.now, parts.1.now)) result ≡ halves 0x09 line.now }
 {

@@ -6,8 +6,8 @@ ghost use Rattle.csv_records.specs.Input.{IsTextRefusal, is_like_cp1252, is_open
 
 use crate::error::DecodeError;
 
-/// Bytes below so many lines as a text, which takes no memory. `NotUtf8` has the number of the line
-/// where they stop being one.
+/// Bytes below this many lines as a text, which takes no memory. `NotUtf8` has the number of the
+/// line in which they stop being one.
 pub(crate) fn text_of(bytes: &[u8], above: usize) -> Result<&str, DecodeError>
     ensures same { IfOk result (λ text. text.now ≡ bytes.now) }
     ensures is_text { IfOk result (λ _. IsUtf8 bytes.now) }
@@ -43,22 +43,22 @@ fn is_open_in_cp1252(byte: u8) -> bool
     matches!(byte, 0x81 | 0x8D | 0x8F | 0x90 | 0x9D)
 }
 
-/// The number of the line in which the end of these bytes stands, below so many lines.
+/// The number of the line in which the end of these bytes is, below this many lines.
 pub(crate) fn line_number(above: usize, bytes: &[u8]) -> u64
     ensures { result ≡ line_number above bytes.now }
 {
     (above as u64).saturating_add(line_after(bytes))
 }
 
-/// The number of the line where the last bytes of a text begin, this being how many they are. So
-/// many lines stand above the text.
+/// The number of the line in which the last bytes of a text begin, given how many they are, and how
+/// many lines are above the text.
 pub(crate) fn line_before(above: usize, text: &str, last: usize) -> u64
     ensures { result ≡ line_number above (take (length text.now - last) text.now) }
 {
     line_number(above, &text.as_bytes()[..text.len().saturating_sub(last)])
 }
 
-// The number of the line in which the end of these bytes stands, among them.
+// The number of the line in which the end of these bytes is, among them.
 fn line_after(bytes: &[u8]) -> u64
     ensures { result ≡ line_breaks bytes.now + 1 }
 {
@@ -74,7 +74,7 @@ fn line_after(bytes: &[u8]) -> u64
 }
 
 // The text without a byte-order mark in front.
-pub(crate) fn without_mark(text: &str) -> &str
+pub(crate) fn without_utf8_mark(text: &str) -> &str
     ensures { result.now ≡ strip_bom text.now }
 {
     text.strip_prefix('\u{FEFF}').unwrap_or(text)

@@ -1,6 +1,6 @@
 -- Decimal points below each other: the spaces behind the fields of a column.
 -- Source: this library's own.
-use Rattle.std.specs.Prelude.{Bool, ◌&&◌, List, ◌++◌, Option, Some, None, is_some, length, nat_le, if◌then◌else◌}
+use Rattle.std.specs.Prelude.{ℕ, Bool, ◌&&◌, List, ◌++◌, Option, Some, None, is_some, length, nat_le, if◌then◌else◌}
 use Rattle.std.specs.List.{list_all, list_any}
 use Rattle.comfy_parts.specs.Text.{Text, is_printable_ascii, spaces}
 use Rattle.csv_records.specs.Cleaning.{visible_of}
@@ -11,9 +11,13 @@ use Rattle.csv_tables.specs.declared.options.ColumnPlan.{ColumnPlan}
 
 -- ---- the decimal mark of a column
 
--- at most 25 characters of printable ASCII
+-- how many characters a field has at most whose mark is lined up, or that isn't broken over lines
+abbrev pub longest_kept : ℕ
+longest_kept = 25
+
+-- at most that many characters of printable ASCII
 abbrev pub is_narrow : Text → Bool
-is_narrow field = nat_le (length field) 25 && is_printable_ascii field
+is_narrow field = nat_le (length field) longest_kept && is_printable_ascii field
 
 -- what fields say of their decimal mark, where all are narrow, and numbers or neutral
 abbrev pub narrow_marks : List Text → Option ColumnMarks

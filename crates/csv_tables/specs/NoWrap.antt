@@ -13,6 +13,7 @@ use Rattle.comfy_parts.specs.declared.style.table_style.TableStyle.{TableStyle}
 use Rattle.comfy_table.specs.Frame.{border_count}
 use Rattle.comfy_table.specs.TableValue.{TableValue, column_cells, column_content_width, constrained, max_content_widths, measured_cell}
 use Rattle.csv_records.specs.Number.{is_neutral, is_number}
+use Rattle.csv_tables.specs.Decimals.{longest_kept}
 
 -- ---- which columns
 
@@ -20,10 +21,10 @@ use Rattle.csv_records.specs.Number.{is_neutral, is_number}
 abbrev pub is_of_dates : ℕ → Bool
 is_of_dates c = is_ascii_digit c || list_any (λ mark. mark == c) (codes "-/:.TZ+ ")
 
--- a number, a field that says nothing, or such characters alone; at most 25 characters
+-- a number, a field that says nothing, or such characters alone, if it is short
 abbrev pub is_nowrap : Text → Bool
 is_nowrap field =
-    nat_le (length (chars field)) 25
+    nat_le (length (chars field)) longest_kept
     && (list_all is_of_dates field || (is_number field || is_neutral field))
 
 -- ---- how wide they are
@@ -37,9 +38,17 @@ framed_width style contents =
 abbrev pub word_width : Text → ℕ
 word_width line = greatest (map measure (slice_split (λ b. b == 0x20) line))
 
--- a width of more than eight terminal columns, 20 at most; of others nothing
+-- how many terminal columns of its content a column needs at most, whatever its name
+abbrev pub least_level : ℕ
+least_level = 8
+
+-- how many it needs at most for a word of its name
+abbrev pub longest_word : ℕ
+longest_word = 20
+
+-- a width above the first of them, up to the second one; of others nothing
 abbrev pub clamped_word : ℕ → ℕ
-clamped_word width = if nat_lt 8 width then min 20 width else 0
+clamped_word width = if nat_lt least_level width then min longest_word width else 0
 
 -- so the widest word of a name
 abbrev pub wide_word : TableValue → Option CellValue → ℕ
@@ -51,12 +60,12 @@ wide_word table (Some name) =
 abbrev pub name_in : TableValue → ℕ → Option CellValue
 name_in table i = option_and_then (λ (row : RowValue). slice_get row.cells i) table.header
 
--- how much of its content the column at a position keeps in any case: all where it isn't broken,
--- or has up to eight terminal columns; else as much as a wide word of its name
+-- how much of its content the column at a position keeps in any case: all if it isn't broken or is
+-- narrow; else as much as a wide word of its name
 abbrev pub min_width : List Bool → TableValue → ℕ → ℕ
 min_width nowrap table i =
     let content = column_content_width table i in
-    if unwrap_or (slice_get nowrap i) false || nat_le content 8
+    if unwrap_or (slice_get nowrap i) false || nat_le content least_level
     then content
     else min content (wide_word table (name_in table i))
 
@@ -79,9 +88,9 @@ abbrev pub shared_width : ℕ → List Bool → TableValue → ℕ
 shared_width level nowrap table =
     framed_width table.style (by_columns (width_at_level level nowrap table) table)
 
--- its least width: a column has up to eight terminal columns of its content
+-- its least width
 abbrev pub least_width : List Bool → TableValue → ℕ
-least_width nowrap table = shared_width 8 nowrap table
+least_width nowrap table = shared_width least_level nowrap table
 
 -- the greatest level up to another one that passes a test, 0 where none does
 abbrev pub greatest_level : (ℕ → Bool) → ℕ → ℕ
@@ -136,9 +145,13 @@ with_min_widths (Some width) nowrap table =
 abbrev pub room_for_two : ℕ → TableStyle → ℕ
 room_for_two width style = width - framed_width style (0 ∷ 0 ∷ [])
 
--- what names of a content need: at most four terminal columns, at least one
+-- how many terminal columns the names of expanded records need at most
+abbrev pub needed_names : ℕ
+needed_names = 4
+
+-- what names of a content need, at least one terminal column
 abbrev pub needed_by_names : ℕ → ℕ
-needed_by_names names = max 1 (min names 4)
+needed_by_names names = max 1 (min names needed_names)
 
 -- what they leave of a room
 abbrev pub room_beside : ℕ → ℕ → ℕ

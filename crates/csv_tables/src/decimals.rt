@@ -12,14 +12,14 @@ use csv_records::Points;
 use std::alloc::{AllocError, Global};
 use std::borrow::CowStr;
 
-// How many characters a field has at most in a column whose marks stand below each other.
-const LONGEST: usize = 25;
+/// How many characters a field has at most whose mark is lined up, or that isn't broken over lines.
+pub(crate) const LONGEST_KEPT: usize = 25;
 
-/// Whether a field has at most 25 characters, of printable ASCII.
+/// Whether a field is short, and of printable ASCII.
 pub(crate) fn is_narrow(field: &str) -> bool
     ensures { result ≡ is_narrow field.now }
 {
-    field.len() <= LONGEST && is_printable(field.as_bytes())
+    field.len() <= LONGEST_KEPT && is_printable(field.as_bytes())
 }
 
 /// Whether one of these columns has a decimal mark.

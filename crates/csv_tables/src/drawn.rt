@@ -8,14 +8,14 @@ ghost use Rattle.comfy_table.specs.RowCells.{cell_of};
 ghost use Rattle.csv_tables.specs.Contents.{drawn_next, expanded_from, fields_text, pairs_by, rows_from};
 ghost use Rattle.csv_tables.specs.LazyRows.{AreNamed};
 ghost use Rattle.csv_tables.specs.Pieces.{rest_of};
-ghost use Rattle.devices.specs.Pieces.{text_left};
+ghost use Rattle.comfy_parts.specs.TextPieces.{text_left};
 
 use crate::expanded::push_record_line;
 use crate::lazy_table::LazyTable;
 use crate::rows::RecordRows;
+use comfy_parts::pieces::Pieces;
 use comfy_table::{ArrangedTable, PartEnds, Result, RowCell, RowWriter};
 use csv_records::{Record, Rows};
-use devices::Pieces;
 use std::alloc::{AllocError, Global};
 use std::marker::Model;
 use std::mem;
@@ -36,7 +36,7 @@ pub struct RecordDrawing {
 impl Model for RecordDrawing {
     ghost use Rattle.std.specs.Prelude.{◌≡◌, ◌<◌, ◌≤◌, ◌++◌, [], ℕ, List, IfNone, IfSome, length, string_bytes};
     ghost use Rattle.csv_tables.specs.Pieces.{rest_of};
-    ghost use Rattle.devices.specs.Pieces.{text_left};
+    ghost use Rattle.comfy_parts.specs.TextPieces.{text_left};
 
     ghost Value = { List ℕ };
 

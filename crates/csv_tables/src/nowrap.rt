@@ -6,12 +6,14 @@ ghost use Rattle.csv_records.specs.Number.{is_neutral, is_number};
 ghost use Rattle.comfy_table.specs.RowCells.{cell_of};
 ghost use Rattle.comfy_table.specs.TableValue.{TableValue, constrained, measured_cell};
 ghost use Rattle.csv_tables.specs.Limits.{bounded_width, has_room_in, has_room_within, level_within, limited_by, with_own_limits, with_widths};
-ghost use Rattle.csv_tables.specs.NoWrap.{by_columns, cell_nowrap_width, field_width, reserved_width, clamped_word, is_of_dates, is_nowrap, min_width, with_min_field_width, may_break, name_in, room_beside, room_for_two, shared_content, nowrap_width, wide_word, with_content, with_field_width, word_width};
+ghost use Rattle.csv_tables.specs.Decimals.{longest_kept};
+ghost use Rattle.csv_tables.specs.NoWrap.{least_level, by_columns, cell_nowrap_width, field_width, reserved_width, clamped_word, is_of_dates, is_nowrap, min_width, with_min_field_width, may_break, name_in, room_beside, room_for_two, shared_content, nowrap_width, wide_word, with_content, with_field_width, word_width};
 ghost use Rattle.csv_tables.specs.Cells.{cell_for};
 ghost use Rattle.csv_tables.specs.Contents.{greatest_at, pairs_by};
 ghost use Rattle.csv_tables.specs.Drawn.{nowrap_in};
 ghost use Rattle.csv_tables.specs.Styled.{limits_in};
 
+use crate::decimals::LONGEST_KEPT;
 use crate::lazy_table::LazyTable;
 use crate::limits::{
     ColumnLimits, hold_points, limits_for, limits_in, pad_contents, reached_limits, taken_at,
@@ -24,9 +26,6 @@ use comfy_table::utils::arrangement::helper::count_border_columns;
 use comfy_table::{Cell, Column, ColumnConstraint, Result, RowCell, Table, TextCell, Width};
 use csv_records::{is_neutral, is_number};
 use std::alloc::{AllocError, Global};
-
-// How many characters a field has at most that isn't broken.
-const LONGEST: usize = 25;
 
 // How many terminal columns a column of text needs at most for a word of its name.
 const LONGEST_WORD: u16 = 20;
@@ -221,7 +220,7 @@ fn may_not_break(nowrap: &[bool], at: usize) -> bool
 
 // What the column at a position keeps of its content.
 fn kept_content(table: &Table, is_nowrap: bool, at: usize, content: u16) -> u16
-    ensures { result ≡ (if is_nowrap || nat_le content 8
+    ensures { result ≡ (if is_nowrap || nat_le content least_level
         then content
         else min content (wide_word table.now (name_in table.now at))) }
 {
@@ -488,11 +487,11 @@ fn is_numeric(field: &str) -> bool
     is_number(field) || is_neutral(field)
 }
 
-/// Whether a field has at most 25 characters.
+/// Whether a field has few characters.
 pub(crate) fn is_short(field: &str) -> bool
-    ensures { result ≡ nat_le (length (chars field.now)) 25 }
+    ensures { result ≡ nat_le (length (chars field.now)) longest_kept }
 {
-    field.len() <= LONGEST || field.chars().count() <= LONGEST
+    field.len() <= LONGEST_KEPT || field.chars().count() <= LONGEST_KEPT
 }
 
 fn are_of_dates(bytes: &[u8]) -> bool

@@ -24,9 +24,9 @@ use crate::rows::RecordRows;
 use crate::selected::SelectedRecords;
 use crate::separators::{separate_fields, separate_rows};
 use crate::table::markdown_look;
+use comfy_parts::pieces::joined;
 use comfy_table::{ArrangedTable, PartEnds, Result};
 use csv_records::Records;
-use devices::joined;
 use std::alloc::{AllocError, Global};
 use std::fmt::Write;
 

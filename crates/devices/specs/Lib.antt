@@ -1,7 +1,6 @@
 pub mod Device
 pub mod DeviceLaws
 pub mod Outcome
-pub mod Pieces
 pub mod Run
 pub mod Stream
 pub mod Transfer

@@ -49,9 +49,9 @@ module _ {E : Type 0} (IsNotEnough : Bytes → Type 0)
   abbrev pub IsAfter : {T : Type 0} → Result T (Stop E) → RunFacts → Type 0
   IsAfter result facts = IsByExtent IsNotEnough (IsAfterIn result) facts
 
--- a note is one for the whole input, or for a beginning of it that was enough
-abbrev pub IsNoted : {N E : Type 0} → (Bytes → Type 0) → (Extent → Bytes → N → Type 0)
+-- findings are those about the whole input, or about a beginning of it that was enough
+abbrev pub AreFindings : {N E : Type 0} → (Bytes → Type 0) → (Extent → Bytes → N → Type 0)
     → Result N E → RunFacts → Type 0
-IsNoted IsNotEnough IsNote result facts =
-    IfOk result (λ note.
-    IsByExtent IsNotEnough (λ extent facts. IsNote extent facts.input note) facts)
+AreFindings IsNotEnough AreFindingsOf result facts =
+    IfOk result (λ findings.
+    IsByExtent IsNotEnough (λ extent facts. AreFindingsOf extent facts.input findings) facts)

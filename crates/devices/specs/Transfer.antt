@@ -18,11 +18,11 @@ Moves old new had has =
     (input : Bytes) → old ≡ Some input → (left : Bytes) × (new ≡ Some left)
     × (had ++ input ≡ has ++ left)
 
--- what is still to come of pieces is an output for an input, and the note with them is one too
+-- what is still to come of pieces is an output for an input, and the findings are those about it
 abbrev pub IsRenderedBy : {P N : Type 0} → (P → Bytes) → (Extent → Bytes → Bytes → Type 0)
     → (Extent → Bytes → N → Type 0) → Extent → Bytes → Rendered P N → Type 0
-IsRenderedBy rest IsOutput IsNote extent input rendered =
-    IsOutput extent input (rest rendered.pieces) × IsNote extent input rendered.note
+IsRenderedBy rest IsOutput AreFindingsOf extent input rendered =
+    IsOutput extent input (rest rendered.pieces) × AreFindingsOf extent input rendered.findings
 
 -- an answer is an output for an input, or why there is none
 abbrev pub IsAnswer : {A E : Type 0} → (Extent → Bytes → A → Type 0)

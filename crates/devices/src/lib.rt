@@ -1,10 +1,9 @@
 //! Where bytes come from and where they go to: readers, writers and memory; all of a piece for a
-//! sink, texts in pieces, and a run from a source to a sink; a process's arguments.
+//! sink, and a run from a source to a sink; a process's arguments.
 #![tactic(auto)]
 
 mod device;
 mod memory;
-mod pieces;
 mod process;
 mod stream;
 mod transfer;
@@ -12,7 +11,6 @@ mod uninterrupted;
 
 pub use device::{DeviceFault, Sink, Source};
 pub use memory::{MemorySink, MemorySource};
-pub use pieces::{Pieces, joined};
 pub use process::arguments_of_process;
 pub use stream::{FromReader, ToWriter};
 pub use transfer::{Render, Rendered, Stop, run, write_all};

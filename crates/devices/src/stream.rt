@@ -128,7 +128,7 @@ impl<W: Write> ToWriter<W> {
         self.fault
     }
 
-    // What the writer said of a piece of so many bytes, as the sink keeps and answers it.
+    // What the writer said of a piece of this many bytes, as the sink keeps and answers it.
     fn note_result(&mut self, said: io::Result<usize>, bytes: usize) -> Result<usize, DeviceFault>
         ensures count { IfOk result (λ count. said ≡ Ok count) }
         ensures fault { is_err result ≡ (is_err said || is_end said bytes) }

@@ -2,12 +2,12 @@
 
 ghost use Rattle.std.specs.Prelude.{◌≡◌, ◌<◌, ◌++◌, ◌⊎◌, List, ℕ, [], true, false, Err, Ok, Some, OnOk, OnErr, IfNone, IfOk, IfErr, IfSome, vec_len};
 ghost use Rattle.devices.specs.Outcome.{Between, Extent, IsBeginningOnly};
-ghost use Rattle.devices.specs.Run.{IsAfter, IsNoted, IsRefusalOfSome, IsSomeEnough, is_read_fault, is_write_fault, stop_of};
+ghost use Rattle.devices.specs.Run.{IsAfter, AreFindings, IsRefusalOfSome, IsSomeEnough, is_read_fault, is_write_fault, stop_of};
 ghost use Rattle.devices.specs.Transfer.{IsAnswer, IsAnswered, IsRenderedBy, Moves, is_source_fault};
 ghost use Rattle.devices.specs.declared.transfer.ReadError.TheVariants.{OutOfMemory};
 
 use crate::device::{DeviceFault, Sink, Source};
-use crate::pieces::Pieces;
+use comfy_parts::pieces::Pieces;
 use std::alloc::{AllocError, Global};
 
 // How many bytes are asked for at a time. To clear a larger block takes longer than a small input
@@ -60,23 +60,23 @@ impl<E> From<ReadError> for Stop<E> {
     }
 }
 
-/// An output, and what there is to say of its input.
+/// An output, and the findings about its input.
 #[derive(Drop)]
 pub struct Rendered<P, N> {
-    /// What is written.
+    /// The text that is written.
     pub pieces: P,
-    /// What there is to say.
-    pub note: N,
+    /// The findings.
+    pub findings: N,
 }
 
-/// What makes a drawing, or any other text, of an input.
+/// A maker of a drawing, or of any other text, of an input.
 pub trait Render {
     /// Why an input has no output.
     type Error: Drop;
-    /// What is written.
+    /// The text that is written.
     type Output: Pieces + Drop;
-    /// What there is to say of an input that has one.
-    type Note: Drop;
+    /// The findings about an input that has an output.
+    type Findings: Drop;
 
     // whether a beginning of an input isn't enough for an output, so that more has to be read
     ghost is_not_enough: { Self → List ℕ → Type 0 };
@@ -84,8 +84,8 @@ pub trait Render {
     // which bytes are an output for a whole input, or for a beginning of one that is enough
     ghost is_output: { Self → Extent → List ℕ → List ℕ → Type 0 };
 
-    // whether this is what there is to say of it
-    ghost is_note: { Self → Extent → List ℕ → Self.Note → Type 0 };
+    // whether these are the findings about it
+    ghost are_findings: { Self → Extent → List ℕ → Self.Findings → Type 0 };
 
     // whether this is why such an input has no output
     ghost is_refusal: { Self → Extent → List ℕ → Self.Error → Type 0 };
@@ -95,24 +95,25 @@ pub trait Render {
         &self,
         alloc: Global,
         input: Vec<u8>,
-    ) -> Result<Rendered<Self::Output, Self::Note>, Self::Error>
-        ensures { IsAnswer (IsRenderedBy Self.Output.rest (is_output self.now) (is_note self.now))
+    ) -> Result<Rendered<Self::Output, Self::Findings>, Self::Error>
+        ensures { IsAnswer
+            (IsRenderedBy Self.Output.rest (is_output self.now) (are_findings self.now))
             (is_refusal self.now) Extent.Whole input.items result };
 
-    /// The output for an input of which these bytes were read, behind which more may follow, where
+    /// The output for an input of which these bytes were read, after which more may follow, where
     /// they are enough; none where more have to be read.
     fn render_beginning(
         &self,
         alloc: Global,
         read: &[u8],
-    ) -> Option<Result<Rendered<Self::Output, Self::Note>, Self::Error>>
+    ) -> Option<Result<Rendered<Self::Output, Self::Findings>, Self::Error>>
         ensures some { IfSome result
-            (IsAnswer (IsRenderedBy Self.Output.rest (is_output self.now) (is_note self.now))
+            (IsAnswer (IsRenderedBy Self.Output.rest (is_output self.now) (are_findings self.now))
             (is_refusal self.now) Extent.Beginning read.now) }
         ensures none { IfNone result (is_not_enough self.now read.now) };
 }
 
-// Appends what the source gives, until there are so many bytes, or to its end. Returns whether the
+// Appends the bytes of the source, until there are this many, or to its end. Returns whether the
 // end was read.
 fn read_up_to<R: Source>(source: &mut R, bytes: &mut Vec<u8>, len: usize) -> Result<bool, ReadError>
     requires { vec_len bytes.old < len }
@@ -163,9 +164,9 @@ pub fn write_all<W: Sink>(sink: &mut W, piece: &[u8]) -> Result<(), DeviceFault>
     Ok(())
 }
 
-/// Reads the source, and writes the output for it to the sink. Returns what there is to say of it.
+/// Reads the source, and writes the output for it to the sink. Returns the findings about it.
 ///
-/// It is read whole, or until what was read is enough: this is asked at 65536 bytes, at twice as
+/// It is read whole, or until its beginning is enough: this is asked at 65536 bytes, at twice as
 /// many, and so on, so that it depends on the input alone, however the source parts it. Each piece
 /// of the output is written as it comes.
 ///
@@ -178,7 +179,7 @@ pub fn run<R: Source, W: Sink, D: Render>(
     source: &mut R,
     sink: &mut W,
     drawing: &D,
-) -> Result<D::Note, Stop<D::Error>>
+) -> Result<D::Findings, Stop<D::Error>>
     ensures ended { OnOk result ((R.end_was_read source.new ≡ true)
         ⊎ IsSomeEnough (D.is_output drawing.now)) }
     ensures source { R.has_failed source.new ≡ is_read_fault result }
@@ -188,10 +189,13 @@ pub fn run<R: Source, W: Sink, D: Render>(
     ensures known { Between R.Source W.Sink (source.old, sink.old) (source.new, sink.new)
         (IsAfter (D.is_not_enough drawing.now) (D.is_output drawing.now)
         (D.is_refusal drawing.now) result) }
-    ensures noted { Between R.Source W.Sink (source.old, sink.old) (source.new, sink.new)
-        (IsNoted (D.is_not_enough drawing.now) (D.is_note drawing.now) result) }
+    ensures findings { Between R.Source W.Sink (source.old, sink.old) (source.new, sink.new)
+        (AreFindings (D.is_not_enough drawing.now) (D.are_findings drawing.now) result) }
 {
-    let Rendered { mut pieces, note } = match read_answer(alloc, source, drawing)? {
+    let Rendered {
+        mut pieces,
+        findings,
+    } = match read_answer(alloc, source, drawing)? {
         Ok(rendered) => rendered,
         Err(error) => return Err(Stop::Refused(error)),
     };
@@ -200,7 +204,7 @@ pub fn run<R: Source, W: Sink, D: Render>(
             return Err(Stop::Unfinished);
         };
         let Some(piece) = next else {
-            return Ok(note);
+            return Ok(findings);
         };
         let Ok(()) = write_all(sink, piece.as_bytes()) else {
             return Err(Stop::Write);
@@ -208,16 +212,16 @@ pub fn run<R: Source, W: Sink, D: Render>(
     }
 }
 
-// What comes of all that the source has left, or of a beginning that is enough.
+// The answer to all that the source has left, or of a beginning that is enough.
 fn read_answer<R: Source, D: Render>(
     alloc: Global,
     source: &mut R,
     drawing: &D,
-) -> Result<Result<Rendered<D::Output, D::Note>, D::Error>, ReadError>
+) -> Result<Result<Rendered<D::Output, D::Findings>, D::Error>, ReadError>
     ensures fault { R.has_failed source.new ≡ is_source_fault result }
     ensures answer { IfOk result
         (IsAnswered (D.is_not_enough drawing.now)
-        (IsRenderedBy D.Output.rest (D.is_output drawing.now) (D.is_note drawing.now))
+        (IsRenderedBy D.Output.rest (D.is_output drawing.now) (D.are_findings drawing.now))
         (D.is_refusal drawing.now) (R.remaining source.old) (R.end_was_read source.new)) }
     ensures unread { OnErr result (R.end_was_read source.new ≡ R.end_was_read source.old) }
 {

@@ -20,7 +20,7 @@ use crate::library::{self, CsvAnswer};
 
 /// The drawing of CSV, by the arguments of the program csvtable, as `&["-r", "price", "-w", "60"]`.
 ///
-/// The input is UTF-8, or in another encoding, which csvtable finds or is told by `-e`. An argument that names a file opens none:
+/// The input is UTF-8, or in another encoding, which csvtable finds, or `-e` names. An argument that names a file opens none:
 /// messages have the name. The drawing ends with a line feed, and there is no width but that of `-w`.
 ///
 /// ```

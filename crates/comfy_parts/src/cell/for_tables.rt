@@ -52,7 +52,7 @@ pub fn measured_lines(cell: &Cell, without_sequences: bool) -> (&[String], &[usi
     }
 }
 
-/// Whether ESC stands in the cell's text. Where it doesn't, the cell holds no sequence.
+/// Whether ESC is in the cell's text. If it isn't, the cell holds no sequence.
 pub fn has_escape(cell: &Cell) -> bool
     ensures { result ≡ list_any has_escape cell.now.text_lines }
 {

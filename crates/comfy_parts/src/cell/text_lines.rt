@@ -26,11 +26,11 @@ pub(crate) struct TextLines {
 enum Storage {
     // a single text line without ESC, as most cells have: this takes no memory but its text's
     Plain { text: String, width: usize },
-    // any others, behind a box, so that a cell stays small
+    // any others, in a box, so that a cell stays small
     Boxed(Box<BoxedLines>),
 }
 
-// Text lines, and what is visible of them where ESC stands in one. A table asks for the visible
+// Text lines, and what is visible of them where ESC is in one. A table asks for the visible
 // ones again and again, and each time without memory, so they are kept.
 #[derive(Drop)]
 struct BoxedLines {
@@ -63,7 +63,7 @@ impl Model for TextLines {
 }
 
 impl TextLines {
-    // What stands between the line feeds of a text. A text that is one text line is kept, and not
+    // What is between the line feeds of a text. A text that is one text line is kept, and not
     // copied.
     pub(crate) fn of_text(alloc: Global, text: String) -> Result<TextLines>
         ensures value { IfOk result (λ lines. lines ≡ (plain_cell (string_bytes text)).text_lines) }
@@ -130,7 +130,7 @@ impl TextLines {
         }
     }
 
-    // Whether ESC stands in a text line.
+    // Whether ESC is in a text line.
     pub(crate) fn has_escape(&self) -> bool
         ensures { result ≡ list_any has_escape self.now }
     {
@@ -142,7 +142,7 @@ impl TextLines {
 }
 
 impl Texts {
-    // What stands between the line feeds of a text.
+    // What is between the line feeds of a text.
     fn of_text(alloc: Global, text: String) -> Result<Texts>
         ensures texts { IfOk result
             (λ lines. texts_of lines ≡ slice_split (λ b. b == 0x0A) (string_bytes text)) }
@@ -192,7 +192,7 @@ impl Texts {
         found
     }
 
-    // What is visible of each text line, where ESC stands in one.
+    // What is visible of each text line, where ESC is in one.
     fn visible(&self, alloc: Global) -> Result<Option<Texts>>
         ensures { IfOk result (IsVisible self.now) }
     {

@@ -16,7 +16,7 @@ pub fn is_printable(bytes: &[u8]) -> bool
     }
     let mut highest = 0;
     for byte in bytes {
-        // What stands before the space comes out above all others.
+        // What is before the space comes out above all others.
         highest = byte.wrapping_sub(0x20).max(highest);
     }
     highest <= 0x7e - 0x20

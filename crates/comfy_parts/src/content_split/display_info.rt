@@ -22,7 +22,7 @@ pub struct ColumnDisplayInfo {
     pub delimiter: Option<char>,
     /// The terminal columns that the content has.
     pub content_width: u16,
-    /// Where the texts of the column stand, unless a cell has an alignment of its own; with none at
+    /// Where the texts of the column are, unless a cell has an alignment of its own; with none at
     /// the left.
     pub cell_alignment: Option<CellAlignment>,
     is_hidden: bool,

@@ -87,7 +87,7 @@ fn summed_element(text: &str, delimiter: char) -> Option<(&str, usize)>
     Some((rest, columns))
 }
 
-// Whether nothing stands after an element, or a delimiter.
+// Whether nothing is after an element, or a delimiter.
 fn ends_element(behind: &str, delimiter: char) -> bool
     ensures { result ≡ true → EndsElement delimiter behind.now }
 {
@@ -192,7 +192,7 @@ fn end_within(word: &str, width: usize) -> usize
     }
 }
 
-// What a line takes after its first element, which fills so many terminal columns. The line's
+// What a line takes after its first element, which fills this many terminal columns. The line's
 // columns are counted as those of a delimiter that adds one between any texts.
 fn taken_behind(first: usize, behind: &str, width: usize, delimiter: char) -> Taken
     requires narrow { width ≤ 65535 }
@@ -234,8 +234,8 @@ fn taken_behind(first: usize, behind: &str, width: usize, delimiter: char) -> Ta
     }
 }
 
-// The bytes that a line takes of the next element, which takes so many terminal columns and has no
-// room as a whole, and of the delimiter before it.
+// The bytes that a line takes of the next element, which takes this many terminal columns and has
+// no room as a whole, and of the delimiter before it.
 fn part_of_next(next: &str, columns: usize, filled: usize, width: usize, delimiter: char) -> usize
     requires columns { columns ≡ measure next.now }
     requires narrow { filled ≤ 65535 }

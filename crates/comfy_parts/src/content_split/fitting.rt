@@ -7,8 +7,8 @@ ghost use Rattle.comfy_parts.specs.Columns.{character_fits, characters_fit};
 
 use super::width::char_width;
 
-/// Whether each character of the text, by itself, takes at most so many terminal columns, and
-/// U+FE01 stands nowhere directly beside U+FE0E or U+FE0F. Such a text is sure to fit a column of
+/// Whether each character of the text, by itself, takes at most this many terminal columns, and
+/// U+FE01 is nowhere directly beside U+FE0E or U+FE0F. Such a text is sure to fit a column of
 /// this width, in every script: wrapped at a delimiter that adds one column, none of its lines is
 /// wider. Two columns are enough for every character but U+17D8, which takes three. The second text
 /// here is two ideographs, which one column can't hold.
@@ -23,14 +23,14 @@ pub fn characters_fit(text: &str, width: usize) -> bool
     characters_are_narrow(text, width) && selectors_agree(text)
 }
 
-// Whether each character of the text, by itself, takes at most so many terminal columns.
+// Whether each character of the text, by itself, takes at most this many terminal columns.
 fn characters_are_narrow(text: &str, width: usize) -> bool
     ensures { result ≡ list_all (character_fits width) (chars text.now) }
 {
     text.chars().all(|character| char_width(character) <= width)
 }
 
-// Whether U+FE01 stands nowhere directly beside U+FE0E or U+FE0F.
+// Whether U+FE01 is nowhere directly beside U+FE0E or U+FE0F.
 fn selectors_agree(text: &str) -> bool
     ensures { result ≡ selectors_agree (chars text.now) }
 {

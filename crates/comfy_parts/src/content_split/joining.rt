@@ -1,4 +1,4 @@
-//! Which characters add one terminal column wherever they stand.
+//! Which characters add one terminal column wherever they are.
 
 ghost use Rattle.std.specs.Prelude.{◌≡◌, true, unwrap_or};
 ghost use Rattle.std.specs.List.{list_all};

@@ -15,7 +15,7 @@ use crate::content_split::printable::{printable_line_end, printable_longest_line
 use crate::content_split::width::{measure_text_width, wide_end};
 use std::marker::Model;
 
-// A text of so many bytes for each column of a line may begin with a word that isn't worth
+// A text of this many bytes for each column of a line may begin with a word that isn't worth
 // measuring whole.
 const FAR: usize = 32;
 
@@ -184,7 +184,7 @@ fn split_at_element<'a>(
 
 impl<'a> WrappedLines<'a> {
     /// The next line, and the terminal columns that it takes. Neither printable ASCII is measured
-    /// again nor a line of whole words, if its delimiter adds one column wherever it stands.
+    /// again nor a line of whole words, if its delimiter adds one column wherever it is.
     #[inline(always)]
     pub fn next_measured(&mut self) -> Option<(&'a str, usize)>
         ensures ended { result ≡ None → self.old ≡ [] }

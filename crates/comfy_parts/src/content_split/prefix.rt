@@ -8,7 +8,7 @@ use crate::content_split::bytes::is_printable;
 use unicode_segmentation::UnicodeSegmentation;
 use unicode_width::UnicodeWidthStr;
 
-// How many times longer the next front is. Where none of them shows the end of the head, all
+// How many times longer the next front is. If none of them shows the end of the head, all
 // together have at most a third of the word's bytes.
 const GROWTH: usize = 4;
 
@@ -18,7 +18,7 @@ pub fn split_long_word(allowed_width: usize, word: &str) -> (&str, &str)
     ensures head { result.0.now ≡ head allowed_width word.now }
     ensures rest { result.0.now ++ result.1.now ≡ word.now }
 {
-    // Where a character of printable ASCII stands after another, it begins a cluster of its own. So
+    // Where a character of printable ASCII is after another, it begins a cluster of its own. So
     // the second byte past the head shows that nothing joins the first one.
     let looked_at = allowed_width.saturating_add(2).min(word.len());
     if is_printable(&word.as_bytes()[..looked_at]) {
@@ -64,7 +64,7 @@ fn shown_end(front: &str, columns: usize) -> Option<usize>
         → EndsHead columns (front.now ++ rest) end) }
 {
     let wide = first_wide_cluster(front, columns)?;
-    // The last cluster may go on behind the front. It then measures at most two columns less than
+    // The last cluster may go on after the front. It then measures at most two columns less than
     // its front does.
     let goes_on = wide.len == front.len() - wide.at;
     if goes_on && wide.beyond <= 2 {

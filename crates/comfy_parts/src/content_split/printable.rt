@@ -79,7 +79,7 @@ fn last_column(text: &[u8], width: usize, delimiter: char) -> usize
     width
 }
 
-// The last position up to the width at which a delimiter stands, or the text ends; 0 where there is
+// The last position up to the width at which a delimiter is, or the text ends; 0 if there is
 // none.
 fn last_break(text: &[u8], width: usize, delimiter: char) -> usize
     requires { width ≤ length text.now }
@@ -99,7 +99,7 @@ fn last_break(text: &[u8], width: usize, delimiter: char) -> usize
     at
 }
 
-// Whether more bytes than a line has columns stand before the first delimiter.
+// Whether more bytes than a line has columns are before the first delimiter.
 fn begins_with_long_part(text: &[u8], width: usize, delimiter: char) -> bool
     ensures { (part : Text) (parts : List Text)
         → slice_split (λ c. c == delimiter) text.now ≡ part ∷ parts

@@ -18,7 +18,7 @@ const ESC: u8 = 0x1b;
 // The sequence that closes all others.
 pub(crate) const RESET: &str = "\u{1b}[0m";
 
-/// Whether ESC stands in a text. A text without one has no sequence.
+/// Whether ESC is in a text. A text without one has no sequence.
 pub(crate) fn has_escape(text: &str) -> bool
     ensures { result ≡ has_escape text.now }
 {
@@ -105,7 +105,7 @@ pub(crate) fn split_sequence(text: &str) -> Option<(&str, &str)>
     Some(text.split_at(len))
 }
 
-/// Visible text up to the next ESC, at most so many bytes, and what is after it. The text begins
+/// Visible text up to the next ESC, at most this many bytes, and what is after it. The text begins
 /// with no sequence.
 pub(crate) fn split_visible(text: &str, most: usize) -> (&str, &str)
     requires none { sequence_len text.now ≡ 0 }
@@ -131,7 +131,7 @@ pub(crate) fn split_visible(text: &str, most: usize) -> (&str, &str)
     text.split_at(run)
 }
 
-/// The bytes of the sequence at a text's front, 0 where there is none.
+/// The bytes of the sequence at a text's front, 0 if there is none.
 pub fn sequence_len(text: &str) -> usize
     ensures value { result ≡ sequence_len text.now }
     ensures boundary { IsCharBoundary text.now result }

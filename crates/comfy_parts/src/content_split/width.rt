@@ -57,7 +57,7 @@ pub fn joined_columns(text: &str) -> usize
 }
 
 /// How many bytes of a word's end show that the word is wider than these columns: each end of the
-/// word with at least so many bytes is wider. Where none shows it, more bytes than the word has.
+/// word with at least this many bytes is wider. If none shows it, more bytes than the word has.
 pub fn wide_end(word: &str, columns: usize) -> usize
     ensures { IsWideFrom columns result word.now }
 {
@@ -76,7 +76,7 @@ pub fn wide_end(word: &str, columns: usize) -> usize
 }
 
 // The first of the ends that double by which the word is known to be wide; more bytes than it has
-// where none is.
+// if none is.
 fn first_wide_end(word: &str, columns: usize) -> usize
     ensures { IsWideFrom columns result word.now }
 {
@@ -95,7 +95,7 @@ fn first_wide_end(word: &str, columns: usize) -> usize
     }
 }
 
-// What stands before an end takes at most one of its columns away, so an end that is wider than one
+// What is before an end takes at most one of its columns away, so an end that is wider than one
 // column more shows that the whole is wide.
 fn shows_wide(end: &str, columns: usize) -> bool
     ensures { result ≡ nat_lt (columns + 1) (measure end.now) }

@@ -1,6 +1,6 @@
-//! Where the text of a cell stands.
+//! Where the text of a cell is.
 
-/// Where a line of a cell stands within the width of its column.
+/// Where a line of a cell is within the width of its column.
 ///
 /// ```
 /// let mut table = Table::new(alloc);

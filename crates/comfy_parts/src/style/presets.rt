@@ -65,7 +65,7 @@ const NO_LINE: LineStyle = LineStyle {
     right: None,
 };
 
-// No character is set: nothing stands beside or between the cells.
+// No character is set: nothing is beside or between the cells.
 const NO_CONTENT: ContentLineStyle = ContentLineStyle {
     left: None,
     junction: None,

@@ -21,9 +21,9 @@ pub enum ContentArrangement {
     Disabled,
     /// Where the table's width is known, the table keeps to it, and contents are wrapped. It is
     /// wider where its columns can't be narrow enough: each has one terminal column at least, and
-    /// constraints can ask for more. Where no width is known, this is as `Disabled`.
+    /// constraints can ask for more. If no width is known, this is as `Disabled`.
     Dynamic,
     /// As `Dynamic`, and what is left of the width is spread over the shown columns, also over
-    /// those with a constraint where no others take it.
+    /// those with a constraint if no others take it.
     DynamicFullWidth,
 }

@@ -9,7 +9,7 @@ ghost use Rattle.comfy_parts.specs.StyleModifiers.{with_rounded_corners, with_so
 /// A horizontal line of the frame. With no part set it isn't drawn.
 ///
 /// A fill that isn't set is spaces. A left, right or junction character that isn't set is a space
-/// where another line of the style has one, and takes no room where none has.
+/// where another line of the style has one, and takes no room if none has.
 ///
 /// ```text
 /// ├╌╌╌╌╌╌╌╌┼╌╌╌╌╌╌╌╌┤
@@ -78,7 +78,7 @@ impl LineStyle {
         }
     }
 
-    /// Sets what stands between two columns.
+    /// Sets what is between two columns.
     pub fn junction(self, crossing: char) -> LineStyle
         ensures { result ≡ record self { junction = Some crossing } }
     {
@@ -102,7 +102,7 @@ impl LineStyle {
 /// A line that holds contents.
 ///
 /// A character that isn't set is a space where a horizontal line of the style has one at this
-/// place, and takes no room where none has.
+/// place, and takes no room if none has.
 ///
 /// ```text
 /// │ Hello  ┆ there  │
@@ -156,7 +156,7 @@ impl ContentLineStyle {
         }
     }
 
-    /// Sets what stands between two columns.
+    /// Sets what is between two columns.
     pub fn junction(self, divider: char) -> ContentLineStyle
         ensures { result ≡ record self { junction = Some divider } }
     {
@@ -318,7 +318,7 @@ impl TableStyle {
             || self.bottom_border.right.is_some()
     }
 
-    /// Whether lines stand between the columns: any of the six lines has a junction.
+    /// Whether lines are between the columns: any of the six lines has a junction.
     pub fn draws_vertical_lines(&self) -> bool
         ensures { result ≡ draws_vertical_lines self.now }
     {

@@ -1,4 +1,4 @@
-//! The program: what it does for the arguments after its name, and what it says.
+//! The program: its run for the arguments after its name, and its messages.
 
 ghost use Rattle.std.specs.Prelude.{◌≡◌, None, Some, Result, false, true};
 ghost use Rattle.comfy_run.specs.Arguments.{settings_for};
@@ -27,7 +27,7 @@ const MISUSED: u8 = 2;
 /// The arguments are `[WIDTH|- [disabled|dynamic|full [STYLE]]]`: the table's width, or a hyphen
 /// for none, the arrangement of its columns, and the name of a preset.
 ///
-/// The status is 0 where all was read and written, and no device failed; then `messages` is left as
+/// The status is 0 if all was read and written, and no device failed; then `messages` is left as
 /// it was. It is 1 after an error, and 2 where the arguments ask for nothing that is known; the
 /// source isn't read then. A line written to `messages` says which it was. A fault of `messages`
 /// changes no status.

@@ -1,4 +1,4 @@
-//! The table that a text stands for: its first line is the header, its other lines are rows.
+//! The table that a text represents: its first line is the header, its other lines are rows.
 
 ghost use Rattle.std.specs.Prelude.{◌≡◌, IfOk};
 ghost use Rattle.comfy_run.specs.Input.{input_table};

@@ -48,13 +48,13 @@ impl Render for Settings {
     // A drawing is whole in memory before the first write.
     type Output = Option<String>;
     // There is nothing to say.
-    type Note = ();
+    type Findings = ();
 
     ghost is_not_enough = { λ _ _. ⊤ };
 
     ghost is_output = { IsDrawnIn };
 
-    ghost is_note = { λ _ _ _ _. ⊤ };
+    ghost are_findings = { λ _ _ _ _. ⊤ };
 
     ghost is_refusal = { λ _. IsRefusalIn };
 
@@ -69,7 +69,7 @@ impl Render for Settings {
         let text = render_tsv(alloc, text, *self)?;
         Ok(Rendered {
             pieces: Some(text),
-            note: (),
+            findings: (),
         })
     }
 
@@ -83,8 +83,8 @@ impl Render for Settings {
     }
 }
 
-/// The drawing of the table that a text stands for, each line followed by a line feed: what `run`
-/// writes for this input. The text's first line is the header, the others are rows, and cells stand
+/// The drawing of the table that a text represents, each line followed by a line feed: what `run`
+/// writes for this input. The text's first line is the header, the others are rows, and cells are
 /// between TABs.
 ///
 /// ```

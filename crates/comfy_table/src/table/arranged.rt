@@ -188,9 +188,9 @@ fn rows_from(rows: &[Row], first: usize, count: usize) -> &[Row]
 fn look_at_columns(columns: &[Column])
     ensures { All IsColumn columns.now }
 {
-    for column in columns {
+    columns.iter().for_each(|column| {
         let _ = column.column_delimiter();
-    }
+    });
 }
 
 fn look_at_header(header: &Option<Row>)
@@ -204,7 +204,7 @@ fn look_at_header(header: &Option<Row>)
 fn look_at_rows(rows: &[Row])
     ensures { All IsRow rows.now }
 {
-    for row in rows {
+    rows.iter().for_each(|row| {
         let _ = row.cell_count();
-    }
+    });
 }

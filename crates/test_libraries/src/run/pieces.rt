@@ -1,10 +1,11 @@
 //! Outputs of two pieces: what was written where there is no memory for the second, or no room.
 
 ghost use Rattle.std.specs.Prelude.{◌++◌, ⊤, false};
-ghost use Rattle.devices.specs.Pieces.{text_left};
+ghost use Rattle.comfy_parts.specs.TextPieces.{text_left};
 
 use crate::support::{assert_bytes, sink_of};
-use devices::{MemorySource, Pieces, Render, Rendered, Stop, run};
+use comfy_parts::pieces::Pieces;
+use devices::{MemorySource, Render, Rendered, Stop, run};
 use std::alloc::{AllocError, Global};
 
 // Two texts, the second of which can be refused.
@@ -46,13 +47,13 @@ impl Render for Twofold {
 
     type Output = TwoTexts;
 
-    type Note = ();
+    type Findings = ();
 
     ghost is_not_enough = { λ _ _. ⊤ };
 
     ghost is_output = { λ _ _ _ _. ⊤ };
 
-    ghost is_note = { λ _ _ _ _. ⊤ };
+    ghost are_findings = { λ _ _ _ _. ⊤ };
 
     ghost is_refusal = { λ _ _ _ _. ⊤ };
 
@@ -62,7 +63,7 @@ impl Render for Twofold {
             second: Some(String::from_str(alloc, "second\n")?),
             is_refused: self.is_refused,
         };
-        Ok(Rendered { pieces, note: () })
+        Ok(Rendered { pieces, findings: () })
     }
 
     fn render_beginning(

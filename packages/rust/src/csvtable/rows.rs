@@ -255,7 +255,7 @@ impl Rows {
     pub fn draw(&self) -> Result<String, Error> {
         let settings = self.settings();
         if self.chosen.is_empty() {
-            return Ok(self.told_of_rows(draw_rows(&self.texts, &self.sides, &settings)?));
+            return Ok(self.counted_as_rows(draw_rows(&self.texts, &self.sides, &settings)?));
         }
         let mut texts = Texts::default();
         for row in self.texts.rows() {
@@ -265,15 +265,15 @@ impl Rows {
             texts.counts.push(self.chosen.len());
         }
         let sides: Vec<u8> = self.chosen.iter().map(|position| self.sides[*position]).collect();
-        Ok(self.told_of_rows(draw_rows(&texts, &sides, &settings)?))
+        Ok(self.counted_as_rows(draw_rows(&texts, &sides, &settings)?))
     }
 
     // A drawing whose line on further rows speaks of rows, where the library's speaks of records. No line of a row is taken for it,
     // since a space stands before each text.
-    fn told_of_rows(&self, drawing: String) -> String {
+    fn counted_as_rows(&self, drawing: String) -> String {
         let of = format!("\n{} of {} ", self.settings.limit.unwrap_or(usize::MAX), self.len());
         match drawing.strip_suffix("records\n") {
-            Some(told) if told.ends_with(&of) => format!("{told}rows\n"),
+            Some(front) if front.ends_with(&of) => format!("{front}rows\n"),
             _ => drawing,
         }
     }

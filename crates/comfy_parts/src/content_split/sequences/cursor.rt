@@ -1,5 +1,5 @@
 //! A cursor that passes the text lines of a cell once, and knows the SGR sequences that are open
-//! where it stands.
+//! where it is.
 
 ghost use Rattle.std.specs.Prelude.{◌≡◌, ◌<◌, ◌++◌, [], true, false, map, take, drop, IfOk, IsUtf8, OnOk, string_bytes};
 ghost use Rattle.std.specs.List.{concat};
@@ -13,7 +13,7 @@ use crate::error::Result;
 use std::alloc::Global;
 use std::marker::Model;
 
-/// Where one stands in a text line of a cell, and the sequences that are open there.
+/// Where one is in a text line of a cell, and the sequences that are open there.
 #[derive(Drop)]
 pub(crate) struct Cursor<'a> {
     rest: &'a str,
@@ -74,7 +74,7 @@ impl<'a> Cursor<'a> {
         Ok(())
     }
 
-    /// The text that is written for a line of so many visible bytes, which are passed.
+    /// The text that is written for a line of this many visible bytes, which are passed.
     pub(crate) fn take_line(&mut self, bytes: usize) -> Result<String>
         requires { IsUtf8 (take bytes (visible_ahead self.old)) }
         ensures written { IfOk result
@@ -103,7 +103,7 @@ impl<'a> Cursor<'a> {
         Ok(sequences.concat(*self.sequences.allocator())?)
     }
 
-    // Passes so many visible bytes and the sequences before each of them, and gives the text that
+    // Passes this many visible bytes and the sequences before each of them, and gives the text that
     // it passed.
     fn take_visible(&mut self, bytes: usize) -> Result<&'a str>
         requires { IsUtf8 (take bytes (visible_ahead self.old)) }
@@ -118,8 +118,8 @@ impl<'a> Cursor<'a> {
         Ok(taken)
     }
 
-    // Passes so many visible bytes and the sequences before each of them, or all of a text that has
-    // fewer.
+    // Passes this many visible bytes and the sequences before each of them, or all of a text that
+    // has fewer.
     fn pass_visible(&mut self, bytes: usize) -> Result<()>
         requires { IsUtf8 (take bytes (visible_ahead self.old)) }
         ensures passed { OnOk result (self.new ≡ behind_bytes bytes self.old) }

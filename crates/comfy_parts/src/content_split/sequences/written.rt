@@ -12,7 +12,7 @@ use crate::content_split::sequences::cursor::Cursor;
 use crate::content_split::sequences::{RESET, TextPart, TextParts};
 use crate::error::Result;
 
-/// Appends the texts that are written for the lines of the text line that the cursor stands before.
+/// Appends the texts that are written for the lines of the text line that the cursor is before.
 /// Each resumes the sequences that are open where it begins, and ends with a reset where one is
 /// open then.
 pub(crate) fn push_lines(

@@ -1,7 +1,7 @@
 use Rattle.std.proofs.Common.{ap₂, ◌≡◌, ◌<◌, ◌^◌, ◌-◌, Err, ℕ, length, rules, arith, unwrap_or, string_bytes, ◌∙◌}
 use Rattle.std.specs.Prelude.{if◌then◌else◌}
 use Rattle.csv_records.specs.Reading.{IsDecodedBy}
-use Rattle.csv_command.proofs.FirstRowLemmas.{drawn_alike, first_drawn, whole_output, whole_refused, whole_told}
+use Rattle.csv_command.proofs.FirstRowLemmas.{drawn_alike, first_drawn, whole_output, whole_refused, whole_long_records}
 use Rattle.csv_command.proofs.RunLemmas.{of_no_text}
 use Rattle.csv_command.specs.Errors.{of_columns, of_decoding}
 use Rattle.csv_command.proofs.transfer.rendered_input.Goals as goal
@@ -44,8 +44,8 @@ returns-clause-output c =
       is_output = whole_output options c.in_ok-first.first.records are.all _ c.in_ok-pieces.pieces alike some below c.in_ok-pieces.ensures.output;
     }
 
-pub returns-then-first-eq0-clause-told : goal.returns-then-first-eq0-clause-told
-returns-then-first-eq0-clause-told c =
+pub returns-then-first-eq0-clause-long_records : goal.returns-then-first-eq0-clause-long_records
+returns-then-first-eq0-clause-long_records c =
     let options = c.args.options.now in
     let are = c.in_ok-first.ensures.all in
     let text = string_bytes c.in_ok-text.text in
@@ -53,10 +53,10 @@ returns-then-first-eq0-clause-told c =
     let most : c.unwrap_or-most.result ≡ unwrap_or c.most_drawn.result (2 ^ 64 - 1) = search rules in
     let few : length are.all < 2 ^ 64 = omega (arith, c.in_ok-first.ensures.count, are.count) in
     let drawn = first_drawn options.selection c.in_ok-first.first.records are.all c.most_drawn.result c.most_drawn.ensures.some c.most_drawn.ensures.none (rw most at are.records) few in
-    whole_told options c.args.input.items text c.in_ok-first.first.records are.all _ _ drawn is_text (rw c.as_str.ensures.value at are.are) (rw c.as_str.ensures.value at c.in_ok-first.ensures.longer) c.told_of-note.ensures
+    whole_long_records options c.args.input.items text c.in_ok-first.first.records are.all _ _ drawn is_text (rw c.as_str.ensures.value at are.are) (rw c.as_str.ensures.value at c.in_ok-first.ensures.longer) c.long_records_of-findings.ensures
 
-pub returns-clause-told : goal.returns-clause-told
-returns-clause-told c =
+pub returns-clause-long_records : goal.returns-clause-long_records
+returns-clause-long_records c =
     let options = c.args.options.now in
     let are = c.in_ok-first.ensures.all in
     let text = string_bytes c.in_ok-text.text in
@@ -64,4 +64,4 @@ returns-clause-told c =
     let most : c.unwrap_or-most.result ≡ unwrap_or c.most_drawn.result (2 ^ 64 - 1) = search rules in
     let few : length are.all < 2 ^ 64 = omega (arith, c.in_ok-first.ensures.count, are.count) in
     let drawn = first_drawn options.selection c.in_ok-first.first.records are.all c.most_drawn.result c.most_drawn.ensures.some c.most_drawn.ensures.none (rw most at are.records) few in
-    whole_told options c.args.input.items text c.in_ok-first.first.records are.all _ _ drawn is_text (rw c.as_str.ensures.value at are.are) (rw c.as_str.ensures.value at c.in_ok-first.ensures.longer) c.told_of-note.ensures
+    whole_long_records options c.args.input.items text c.in_ok-first.first.records are.all _ _ drawn is_text (rw c.as_str.ensures.value at are.are) (rw c.as_str.ensures.value at c.in_ok-first.ensures.longer) c.long_records_of-findings.ensures

@@ -17,11 +17,11 @@ returns-in-Err-clause-refused c =
 pub returns-then-bytes-eq1-clause-refused : goal.returns-then-bytes-eq1-clause-refused
 returns-then-bytes-eq1-clause-refused c =
     let steps = rw c.in-None.is at c.next.ensures.steps in
-    let odd = rw c.without_mark-bytes.ensures at c.if-bytes-eq1.true in
+    let odd = rw c.without_utf16_mark-bytes.ensures at c.if-bytes-eq1.true in
     rw (c.not_utf16-then-bytes-eq1.ensures, c.as_str-then-bytes-eq1.ensures.value) (odd_behind _ c.loop-read.read-iterator c.next.new.self _ c.loop-read.invariant c.args.skip steps _ odd)
 
 pub returns-clause-text : goal.returns-clause-text
 returns-clause-text c =
     let steps = rw c.in-None.is at c.next.ensures.steps in
-    let even = rw c.without_mark-bytes.ensures at c.if-bytes-eq1.false in
+    let even = rw c.without_utf16_mark-bytes.ensures at c.if-bytes-eq1.false in
     whole _ c.loop-read.read-iterator c.next.new.self _ c.loop-read.invariant steps _ even

@@ -1,7 +1,7 @@
 use Rattle.std.proofs.Common.{◌≡◌, ◌++◌, [], Err, Some, append-nil, append_assoc, ap, refl, rules, string_bytes, subst, sym, ◌∙◌}
 use Rattle.devices.proofs.RunLemmas.{after_refused, after_unread, part_written}
 use Rattle.devices.specs.Outcome.{IsBeginningOnly}
-use Rattle.devices.specs.Pieces.{IsNextPiece}
+use Rattle.comfy_parts.specs.TextPieces.{IsNextPiece}
 use Rattle.devices.specs.Run.{stop_of}
 use Rattle.devices.specs.Transfer.{IsRenderedBy}
 use Rattle.devices.proofs.transfer.run.Goals as goal
@@ -15,7 +15,7 @@ returns-in_err-rendered-clause-known g c = λ input had known taken read write.
       [],
       nothing,
       rw same
-          (after_unread g.row.D-Note.Denot (D.is_not_enough c.args.drawing.now) (D.is_output c.args.drawing.now) (IsRenderedBy g.D.Output.Pieces.rest (D.is_output c.args.drawing.now) (D.is_note c.args.drawing.now)) (D.is_refusal c.args.drawing.now) e _ (search rules) write refl
+          (after_unread g.row.D-Findings.Denot (D.is_not_enough c.args.drawing.now) (D.is_output c.args.drawing.now) (IsRenderedBy g.D.Output.Pieces.rest (D.is_output c.args.drawing.now) (D.are_findings c.args.drawing.now)) (D.is_refusal c.args.drawing.now) e _ (search rules) write refl
           (λ ended. g.met.R.Source.ended c.args.source.now (search rules) input known)),
     )
 
@@ -24,7 +24,7 @@ returns-in-Err-clause-known g c = λ input had known taken read write.
     let D = g.D.Render in (
       [],
       taken ∙ ap Some (sym (append-nil had)),
-      after_refused g.row.D-Note.Denot (D.is_not_enough c.args.drawing.now) (D.is_output c.args.drawing.now) (IsRenderedBy g.D.Output.Pieces.rest (D.is_output c.args.drawing.now) (D.is_note c.args.drawing.now)) (D.is_refusal c.args.drawing.now) c.in-Err.error _ (rw (← known, ← c.in-Err.is) c.in_ok-rendered.ensures.answer) (record { no_read_failed = c.in_ok-rendered.ensures.fault; no_write_failed = write }) refl,
+      after_refused g.row.D-Findings.Denot (D.is_not_enough c.args.drawing.now) (D.is_output c.args.drawing.now) (IsRenderedBy g.D.Output.Pieces.rest (D.is_output c.args.drawing.now) (D.are_findings c.args.drawing.now)) (D.is_refusal c.args.drawing.now) c.in-Err.error _ (rw (← known, ← c.in-Err.is) c.in_ok-rendered.ensures.answer) (record { no_read_failed = c.in_ok-rendered.ensures.fault; no_write_failed = write }) refl,
     )
 
 pub returns-in_default-write_all-clause-known : goal.returns-in_default-write_all-clause-known
@@ -36,8 +36,8 @@ returns-in_default-write_all-clause-known g c = λ input had known taken read wr
     let beginning : IsBeginningOnly (i.0 ++ part.0) (rest c.in-Ok.rendered.pieces) = part_written i.0 part.0 (string_bytes c.in-Some.piece) _ _ _ i.1 next.0 (subst (IsBeginningOnly part.0) c.as_bytes.ensures.value part.2) in
     (i.0 ++ part.0, part.1 ∙ ap Some (append_assoc had i.0 part.0), search rules)
 
-pub returns-in_default-write_all-clause-noted : goal.returns-in_default-write_all-clause-noted
-returns-in_default-write_all-clause-noted g c = λ input had known taken read write.
+pub returns-in_default-write_all-clause-findings : goal.returns-in_default-write_all-clause-findings
+returns-in_default-write_all-clause-findings g c = λ input had known taken read write.
     let i = c.loop-next.invariant in
     let part = c.in_default-write_all.ensures.beginning (had ++ i.0) (i.2 had taken) in
     (i.0 ++ part.0, part.1 ∙ ap Some (append_assoc had i.0 part.0), tt)

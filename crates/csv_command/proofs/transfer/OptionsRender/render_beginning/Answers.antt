@@ -1,7 +1,7 @@
 use Rattle.std.proofs.Common.{rules, ◌≡◌, ◌<◌, ◌^◌, None, length}
 use Rattle.csv_records.specs.Beginning.{IsFoundInBeginning}
 use Rattle.csv_command.specs.Errors.{of_columns}
-use Rattle.csv_command.proofs.FirstRowLemmas.{beginning_output, beginning_refused, beginning_told, no_memory, none_found, unlimited}
+use Rattle.csv_command.proofs.FirstRowLemmas.{beginning_output, beginning_refused, beginning_long_records, no_memory, none_found, unlimited}
 use Rattle.csv_command.proofs.transfer.OptionsRender.render_beginning.Goals as goal
 
 pub returns-in-Ok-output_of-clause-some : goal.returns-in-Ok-output_of-clause-some
@@ -12,7 +12,7 @@ returns-in-Ok-output_of-clause-some c =
     let found : IsFoundInBeginning options.input most c.args.read.now c.in_ok-first.first = search rules in
     let first = found.are_first in (
       beginning_output options c.args.read.now most records c.if-self.false c.in_ok-most.ensures.some first c.in-Ok-output_of.pieces c.in-Ok-output_of.ensures.output,
-      beginning_told options c.args.read.now most records c.if-self.false c.in_ok-most.ensures.some first c.in_ok-first.first.longer c.told_of-note.result found.longer c.told_of-note.ensures,
+      beginning_long_records options c.args.read.now most records c.if-self.false c.in_ok-most.ensures.some first c.in_ok-first.first.longer c.long_records_of-findings.result found.longer c.long_records_of-findings.ensures,
     )
 
 pub returns-in-Err-clause-some : goal.returns-in-Err-clause-some

@@ -1,4 +1,4 @@
--- What is told of an input that was drawn: which records have more fields than the header.
+-- The records of an input that have more fields than the header.
 -- Source: this library's own.
 use Rattle.std.specs.Prelude.{◌≡◌, List, Option, None, if◌then◌else◌, option_map}
 use Rattle.comfy_parts.specs.Text.{Text}
@@ -17,27 +17,28 @@ abbrev pub drawn_records : Selection → List (List Text) → List (List Text)
 drawn_records selection records =
     limited (option_map (most_drawn selection.has_header) selection.limit) records
 
--- what is told of the records of a text
-abbrev pub told_for : Options → Text → List (List Text) → Option LongRecords
-told_for options text records =
+-- those of a text, if its first record is a header
+abbrev pub long_records_for : Options → Text → List (List Text) → Option LongRecords
+long_records_for options text records =
     if options.selection.has_header
     then longer_records options.input text (drawn_records options.selection records)
     else None
 
--- what is told of an input that was read whole
-pub record IsToldOfInput (options : Options) (input : Text)
-    (told : Option LongRecords) : Type 0 where
+-- those of an input that was read whole
+pub record AreLongRecordsOfInput (options : Options) (input : Text)
+    (longer : Option LongRecords) : Type 0 where
   pub records : List (List Text)
   pub are_records : AreRecordsFor options.input input records
-  pub is : told ≡ told_for options are_records.text records
+  pub is : longer ≡ long_records_for options are_records.text records
 
--- of a beginning which is enough
-pub record IsToldOfBeginning (options : Options) (beginning : Text)
-    (told : Option LongRecords) : Type 0 where
+-- those of a beginning which is enough
+pub record AreLongRecordsOfBeginning (options : Options) (beginning : Text)
+    (longer : Option LongRecords) : Type 0 where
   pub records : List (List Text)
   pub are_enough : AreEnough options beginning records
-  pub is : told ≡ told_for options are_enough.are.text records
+  pub is : longer ≡ long_records_for options are_enough.are.text records
 
-abbrev pub IsToldOf : Options → Extent → Text → Option LongRecords → Type 0
-IsToldOf options Whole input told = IsToldOfInput options input told
-IsToldOf options Beginning read told = IsToldOfBeginning options (whole_lines read) told
+abbrev pub AreLongRecordsOf : Options → Extent → Text → Option LongRecords → Type 0
+AreLongRecordsOf options Whole input longer = AreLongRecordsOfInput options input longer
+AreLongRecordsOf options Beginning read longer =
+    AreLongRecordsOfBeginning options (whole_lines read) longer

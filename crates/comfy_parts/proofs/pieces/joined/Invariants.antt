@@ -1,5 +1,5 @@
 use Rattle.std.proofs.Common.{◌≡◌, ◌++◌, length, string_bytes}
-use Rattle.devices.proofs.pieces.joined.Given as goal
+use Rattle.comfy_parts.proofs.pieces.joined.Given as goal
 
 abbrev pub invariant-loop-text : goal.invariant-loop-text
 invariant-loop-text g l = string_bytes l.text ++ g.P.Pieces.rest l.pieces ≡ g.P.Pieces.rest l.fn.pieces

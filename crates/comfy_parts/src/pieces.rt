@@ -1,7 +1,7 @@
 //! Texts that come in pieces, so that they needn't be whole in memory.
 
 ghost use Rattle.std.specs.Prelude.{◌≡◌, ◌<◌, [], List, ℕ, Bool, true, false, IfOk, OnErr, length, string_bytes};
-ghost use Rattle.devices.specs.Pieces.{IsNextPiece, text_left};
+ghost use Rattle.comfy_parts.specs.TextPieces.{IsNextPiece, text_left};
 
 use std::alloc::{AllocError, Global};
 
@@ -22,7 +22,7 @@ pub trait Pieces {
         ensures after { OnErr result (rest self.new ≡ []) };
 }
 
-// A text that is whole in memory: one piece, and none where it is empty.
+// A text that is whole in memory: one piece, and none if it is empty.
 impl Pieces for Option<String> {
     ghost rest = { text_left };
 

@@ -1,15 +1,15 @@
 -- Texts that come in pieces.
 -- Source: this library's own.
 use Rattle.std.specs.Prelude.{◌≡◌, ◌<◌, [], ◌++◌, Option, Some, None, String, length, string_bytes}
-use Rattle.devices.specs.Device.{Bytes}
+use Rattle.comfy_parts.specs.Text.{Text}
 
--- a call gives a piece that isn't empty, and leaves what is behind it; none where nothing is left
-abbrev pub IsNextPiece : {A : Type 0} → Bytes → Bytes → Option (String A) → Type 0
+-- a call gives a piece that isn't empty, and leaves what follows it; none if nothing is left
+abbrev pub IsNextPiece : {A : Type 0} → Text → Text → Option (String A) → Type 0
 IsNextPiece old new None = old ≡ []
 IsNextPiece old new (Some piece) =
     (old ≡ string_bytes piece ++ new) × (0 < length (string_bytes piece))
 
 -- of a text that is one piece, what is still to come
-abbrev pub text_left : {A : Type 0} → Option (String A) → Bytes
+abbrev pub text_left : {A : Type 0} → Option (String A) → Text
 text_left None = []
 text_left (Some text) = string_bytes text

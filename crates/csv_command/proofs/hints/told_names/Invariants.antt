@@ -1,7 +1,0 @@
-use Rattle.std.proofs.Common.{◌≡◌, ◌++◌, flat_map, string_bytes}
-use Rattle.std.specs.List.{range_with_len}
-use Rattle.csv_command.specs.Hints.{told, told_before}
-use Rattle.csv_command.proofs.hints.told_names.Given as goal
-
-abbrev pub invariant-loop-place : goal.invariant-loop-place
-invariant-loop-place l = string_bytes l.text ≡ flat_map (λ place. told_before l.parts place ++ told l.names l.count place) (range_with_len 0 l.place)
