@@ -76,6 +76,7 @@ impl<'a> RowWriter<'a> {
 
     /// Appends the lines of a row of these cells, as `push_rows` does of one row. At most `limit`
     /// lines are drawn of it; 0 counts as 1. After `OutOfMemory` the text is as it was.
+    #[inline(always)]
     pub fn push_cells(
         &mut self,
         text: &mut String,

@@ -116,6 +116,7 @@ impl<'a> Writer<'a> {
 
     /// Appends the lines of a row of these cells, which has at most `limit` lines, and those around
     /// it, to an output. After `OutOfMemory` the output begins with what it was.
+    #[inline(always)]
     pub fn draw_cells<'r, O: Output>(
         &mut self,
         cells: &'r [RowCell<'r>],
@@ -146,6 +147,7 @@ impl<'a> Writer<'a> {
     }
 
     // The lines of a row, below the top border and the header, or below another row.
+    #[inline(always)]
     fn write_row_below<'r, O: Output>(
         &mut self,
         row: RowSource<'r>,
