@@ -6,7 +6,7 @@ ghost use Rattle.comfy_c.specs.CellCalls.{cells_by, cells_with, counts_of, lengt
 ghost use Rattle.comfy_c.specs.Numbers.{cell_with, height_of, row_with};
 ghost use Rattle.comfy_c.specs.Texts.{AddUp, IsTextsRefusal};
 
-use crate::cells_numbers::{ColorNumbers, alignment_of, attributes_of, char_of, color_of};
+use crate::cells_numbers::{LookNumbers, alignment_of, attributes_of, char_of, color_of};
 use crate::refusal::DrawRefusal;
 use crate::rows_settings::limit_of;
 use crate::texts::texts_of;
@@ -21,13 +21,7 @@ pub struct CellNumbers {
     pub length: usize,
     /// The character at which its text may break; 0 for none.
     pub delimiter: u32,
-    /// The alignment of its text: 1 for left, 2 for right, 3 for centred. Any other number sets
-    /// none.
-    pub alignment: u32,
-    /// A bit for each attribute, in the order of `Attribute`, that of the first one worth 1.
-    pub attributes: u32,
-    pub foreground: ColorNumbers,
-    pub background: ColorNumbers,
+    pub look: LookNumbers,
 }
 
 /// A row.
@@ -140,17 +134,18 @@ fn cell_of(alloc: Global, numbers: &CellNumbers, text: &str) -> Result<Cell, Tab
     if let Some(delimiter) = char_of(numbers.delimiter) {
         cell = cell.set_delimiter(delimiter);
     }
-    if let Some(alignment) = alignment_of(numbers.alignment) {
+    let look = &numbers.look;
+    if let Some(alignment) = alignment_of(look.alignment) {
         cell = cell.set_alignment(alignment);
     }
-    if let Some(color) = color_of(numbers.foreground) {
+    if let Some(color) = color_of(look.foreground) {
         cell = cell.fg(color);
     }
-    if let Some(color) = color_of(numbers.background) {
+    if let Some(color) = color_of(look.background) {
         cell = cell.bg(color);
     }
-    if numbers.attributes != 0 {
-        cell = cell.add_attributes(attributes_of(alloc, numbers.attributes)?)?;
+    if look.attributes != 0 {
+        cell = cell.add_attributes(attributes_of(alloc, look.attributes)?)?;
     }
     Ok(cell)
 }

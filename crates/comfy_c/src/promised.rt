@@ -8,6 +8,7 @@ use crate::cells_columns::ColumnNumbers;
 use crate::cells_draw::comfy_cells_draw;
 use crate::cells_rows::{CellNumbers, RowNumbers};
 use crate::cells_settings::CellsSettings;
+use crate::rows_columns::RowsColumn;
 use crate::rows_draw::comfy_rows_draw;
 use crate::rows_settings::RowsSettings;
 use promises::laws::drawings_keep_the_promises;
@@ -69,7 +70,7 @@ pub fn drawn_rows(
     texts: &[u8],
     lengths: &[usize],
     counts: &[usize],
-    columns: &[u8],
+    columns: &[RowsColumn],
     settings: &RowsSettings,
     output: &mut [u8],
     needed: &mut usize,

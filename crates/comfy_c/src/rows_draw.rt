@@ -7,18 +7,17 @@ ghost use Rattle.comfy_c.specs.Texts.{IsTextsRefusal, rows_of};
 
 use crate::buffer::hand_over;
 use crate::refusal::DrawRefusal;
-use crate::rows_columns::{are_bytes, columns_of};
+use crate::rows_columns::{RowsColumn, columns_of, settings_for};
 use crate::rows_settings::RowsSettings;
 use crate::texts::records_of;
-use csv_tables::{Layout, output_of_records};
+use csv_tables::{Layout, output_of_styled_records};
 use std::alloc::Global;
 
 /// Draws the table of rows into the caller's buffer, as `csvtable` draws records of these texts.
 ///
 /// `texts` has the texts of all cells in their order, without anything between them. `lengths` has
 /// the length of each in bytes, and `counts` the number of cells of each row. The first row may be
-/// the header. `columns` has a byte for each column, or for the first ones: 0 aligns numbers right
-/// and texts left, 1 aligns all left, 2 aligns all right, and 3 leaves the column out.
+/// the header. `columns` has an item for each column, or for the first ones.
 ///
 /// | Returned | Meaning | `needed` |
 /// |---|---|---|
@@ -29,9 +28,10 @@ use std::alloc::Global;
 /// | 4 | settings or columns ask for nothing that can be drawn | unchanged |
 /// | 5 | lengths or counts don't add up | unchanged |
 ///
-/// Settings and the bytes of columns are looked at first: 4 is returned if one has no meaning. Then
-/// lengths and counts are looked at, and after them the texts. Last, 4 is returned if a byte other
-/// than 0 is for a column that no row has, or if no column is left.
+/// Settings and columns are looked at first: 4 is returned if a number has no meaning, or if a table
+/// for Markdown or expanded rows are asked for and a column has settings beside a side at the left
+/// or right. Then lengths and counts are looked at, and after them the texts. Last, 4 is returned
+/// if a column that no row has is asked for, or if no column is left.
 ///
 /// With 1 to 5 the buffer is unchanged. With 0 it is unchanged after the drawing.
 #[unsafe(no_mangle)]
@@ -40,7 +40,7 @@ pub extern "C" fn comfy_rows_draw(
     texts: &[u8],
     lengths: &[usize],
     counts: &[usize],
-    columns: &[u8],
+    columns: &[RowsColumn],
     settings: &RowsSettings,
     output: &mut [u8],
     needed: &mut usize,
@@ -73,7 +73,7 @@ fn rows_drawing(
     texts: &[u8],
     lengths: &[usize],
     counts: &[usize],
-    columns: &[u8],
+    columns: &[RowsColumn],
     settings: &RowsSettings,
 ) -> Result<String, DrawRefusal>
     ensures drawn { IfOk result (λ drawing.
@@ -85,10 +85,11 @@ fn rows_drawing(
     let Some(look) = settings.look() else {
         return Err(DrawRefusal::Settings);
     };
-    if !are_bytes(columns) {
+    if !settings.can_have(columns) {
         return Err(DrawRefusal::Settings);
     }
     let records = records_of(alloc, texts, lengths, counts)?;
+    let own = settings_for(alloc, columns)?;
     let selection = settings.selection();
     let Some(columns) = columns_of(alloc, columns, selection, &records.rows())? else {
         return Err(DrawRefusal::Settings);
@@ -98,5 +99,5 @@ fn rows_drawing(
         columns,
         look,
     };
-    Ok(output_of_records(alloc, records, &layout)?)
+    Ok(output_of_styled_records(alloc, records, &layout, own.as_slice())?)
 }

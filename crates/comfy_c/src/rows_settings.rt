@@ -2,9 +2,10 @@
 
 ghost use Rattle.std.specs.Prelude.{◌≡◌, slice_get};
 ghost use Rattle.comfy_c.specs.Calls.{limit_of};
-ghost use Rattle.comfy_c.specs.RowCalls.{expansions, look_for, selection_for, separators};
+ghost use Rattle.comfy_c.specs.RowCalls.{are_known, expansions, is_table_of_rows, look_for, selection_for, separators};
 
 use crate::frame::{FrameNumbers, style_for};
+use crate::rows_columns::{RowsColumn, are_unset, have_sides};
 use csv_tables::{Expansion, Look, RowSeparators, Selection};
 
 /// How a table of rows is drawn. A flag is set if it isn't 0.
@@ -54,6 +55,21 @@ impl RowsSettings {
             limit: limit_of(self.limit),
             is_numbered: self.is_numbered != 0,
         }
+    }
+
+    /// Whether each column has a side that has a meaning, and settings beside a side at the left or
+    /// right only in a table of rows.
+    pub(crate) fn can_have(&self, columns: &[RowsColumn]) -> bool
+        ensures { result ≡ are_known self.now columns.now }
+    {
+        have_sides(columns) && (are_unset(columns) || self.is_table_of_rows())
+    }
+
+    // Whether rows are drawn as one table that isn't for Markdown, whatever the width.
+    fn is_table_of_rows(&self) -> bool
+        ensures { result ≡ is_table_of_rows self.now }
+    {
+        self.expansion == 0 && self.is_markdown == 0
     }
 
     /// The look of the table; none if a number has no meaning.

@@ -92,11 +92,19 @@ static struct call made_csv(struct bytes input, struct bytes arguments, size_t r
 struct rows {
     struct bytes texts;
     size_t lengths[8], length_count, counts[4], count_count;
-    struct bytes columns;
+    struct comfy_rows_column columns[3];
+    size_t column_count;
 };
 
+
 /* A header and a row: name and days, oats and 3. */
-static const struct rows ROWS = {{"namedaysoats3", 13}, {4, 4, 4, 1}, 4, {2, 2}, 2, {"", 0}};
+static const struct rows ROWS = {{"namedaysoats3", 13}, {4, 4, 4, 1}, 4, {2, 2}, 2, {COMFY_PLAIN_COLUMN}, 0};
+
+/* Gives rows columns that have these sides, and nothing else of their own. */
+static void set_sides(struct rows *rows, struct bytes sides) {
+    rows->column_count = sides.length;
+    for (size_t i = 0; i < sides.length; i++) rows->columns[i] = (struct comfy_rows_column){1, 1, (uint8_t)sides.at[i], 0, 0};
+}
 
 static struct comfy_rows_settings plain_settings(void) {
     return (struct comfy_rows_settings){.max_height = COMFY_NO_LIMIT, .limit = COMFY_NO_LIMIT, .width = COMFY_NO_WIDTH, .has_header = 1};
@@ -104,11 +112,12 @@ static struct comfy_rows_settings plain_settings(void) {
 
 static struct call made_rows(const struct rows *rows, struct comfy_rows_settings settings, size_t room) {
     struct call call = with_room(room);
-    uint8_t *texts = copied(rows->texts), *columns = copied(rows->columns);
+    uint8_t *texts = copied(rows->texts);
+    void *columns = copied((struct bytes){(const char *)rows->columns, rows->column_count * sizeof *rows->columns});
     size_t *lengths = (size_t *)copied((struct bytes){(const char *)rows->lengths, rows->length_count * sizeof(size_t)});
     size_t *counts = (size_t *)copied((struct bytes){(const char *)rows->counts, rows->count_count * sizeof(size_t)});
     call.status = comfy_rows_draw(texts, rows->texts.length, lengths, rows->length_count, counts, rows->count_count, columns,
-                                  rows->columns.length, &settings, call.output, room, &call.needed);
+                                  rows->column_count, &settings, call.output, room, &call.needed);
     free(texts);
     free(columns);
     free(lengths);
@@ -224,7 +233,7 @@ static void expect_rows(const char *what, const struct rows *rows, struct comfy_
     free(less.output);
     uint32_t result = KEPT;
     char *drawing = comfy_rows_text((const uint8_t *)rows->texts.at, rows->texts.length, rows->lengths, rows->length_count, rows->counts,
-                                    rows->count_count, (const uint8_t *)rows->columns.at, rows->columns.length, &settings, &result);
+                                    rows->count_count, rows->columns, rows->column_count, &settings, &result);
     expect(what, drawing && result == COMFY_DRAWN && strlen(drawing) == text.length && !memcmp(drawing, text.at, text.length));
     free(drawing);
 }
@@ -239,11 +248,15 @@ static void expect_rows_are_drawn(void) {
     struct comfy_rows_settings settings = plain_settings();
     struct rows rows = ROWS;
     expect_rows("rows are drawn", &rows, settings, TEXT(CSV_DRAWING));
-    rows.columns = TEXT("\1\1");
+    set_sides(&rows, TEXT("\1\1"));
     expect_rows("columns stand at the left", &rows, settings, TEXT(DRAWING));
-    rows.columns = TEXT("\0\3");
+    set_sides(&rows, TEXT("\0\3"));
     expect_rows("a column is left out", &rows, settings, TEXT(WITHOUT_DAYS));
-    rows = (struct rows){{"a\nbc", 4}, {3, 0, 1}, 3, {1, 0, 2}, 3, {"\2", 1}};
+    set_sides(&rows, TEXT("\0\4"));
+    rows.columns[0] = (struct comfy_rows_column){0, 2, COMFY_COLUMN_LEFT, 3, 3};
+    expect_rows("columns have settings", &rows, settings,
+                TEXT("+-----+------+\n|nam  | days |\n|e    |      |\n+============+\n|oat  |   3  |\n|s    |      |\n+-----+------+\n"));
+    rows = (struct rows){{"a\nbc", 4}, {3, 0, 1}, 3, {1, 0, 2}, 3, {{1, 1, COMFY_COLUMN_RIGHT, 0, 0}}, 1};
     settings.has_header = 0;
     settings.style = COMFY_ROUNDED;
     settings.row_lines = COMFY_LINES_NOWHERE;
@@ -274,7 +287,7 @@ static void expect_rows_are_refused(void) {
     struct rows rows = ROWS;
     rows.texts = TEXT("name\xff\xff\xff\xffoats3");
     expect_rows_refused("0xFF is no UTF-8 in rows", &rows, plain, COMFY_INPUT_REFUSED);
-    rows = (struct rows){{"\xc3\xa9", 2}, {1, 1}, 2, {2}, 1, {"", 0}};
+    rows = (struct rows){{"\xc3\xa9", 2}, {1, 1}, 2, {2}, 1, {COMFY_PLAIN_COLUMN}, 0};
     expect_rows_refused("half a character isn't either", &rows, plain, COMFY_INPUT_REFUSED);
     rows = ROWS;
     rows.texts.length--;
@@ -287,19 +300,26 @@ static void expect_rows_are_refused(void) {
     expect_rows_refused("a count is the greatest number", &rows, plain, COMFY_LENGTHS_REFUSED);
     rows.counts[1] = 1;
     expect_rows_refused("a cell is in no row", &rows, plain, COMFY_LENGTHS_REFUSED);
-    rows = (struct rows){{"\xff" "a", 2}, {1, 5}, 2, {2}, 1, {"", 0}};
+    rows = (struct rows){{"\xff" "a", 2}, {1, 5}, 2, {2}, 1, {COMFY_PLAIN_COLUMN}, 0};
     expect_rows_refused("lengths are looked at before texts", &rows, plain, COMFY_LENGTHS_REFUSED);
-    rows = (struct rows){{"\xff" "a", 2}, {1, 1}, 2, {3}, 1, {"", 0}};
+    rows = (struct rows){{"\xff" "a", 2}, {1, 1}, 2, {3}, 1, {COMFY_PLAIN_COLUMN}, 0};
     expect_rows_refused("counts are looked at before texts", &rows, plain, COMFY_LENGTHS_REFUSED);
-    rows.columns = TEXT("\4");
-    expect_rows_refused("a column's byte is looked at first", &rows, plain, COMFY_SETTINGS_REFUSED);
+    set_sides(&rows, TEXT("\5"));
+    expect_rows_refused("a column's side is looked at first", &rows, plain, COMFY_SETTINGS_REFUSED);
     rows = ROWS;
-    rows.columns = TEXT("\4");
-    expect_rows_refused("there is no column's byte 4", &rows, plain, COMFY_SETTINGS_REFUSED);
-    rows.columns = TEXT("\0\0\1");
-    expect_rows_refused("a byte is for a column that isn't there", &rows, plain, COMFY_SETTINGS_REFUSED);
-    rows.columns = TEXT("\3\3");
+    set_sides(&rows, TEXT("\5"));
+    expect_rows_refused("there is no column's side 5", &rows, plain, COMFY_SETTINGS_REFUSED);
+    set_sides(&rows, TEXT("\0\0\1"));
+    expect_rows_refused("a side is for a column that isn't there", &rows, plain, COMFY_SETTINGS_REFUSED);
+    set_sides(&rows, TEXT("\3\3"));
     expect_rows_refused("no column is left", &rows, plain, COMFY_SETTINGS_REFUSED);
+    set_sides(&rows, TEXT("\4"));
+    settings.is_markdown = 1;
+    expect_rows_refused("Markdown has no column in the middle", &rows, settings, COMFY_SETTINGS_REFUSED);
+    settings = plain;
+    settings.expansion = COMFY_EXPANDED_AUTO;
+    expect_rows_refused("rows that may be expanded have none either", &rows, settings, COMFY_SETTINGS_REFUSED);
+    settings = plain;
     rows = ROWS;
     settings.style = COMFY_ROUNDED + 1;
     expect_rows_refused("there is no such style", &rows, settings, COMFY_SETTINGS_REFUSED);
