@@ -8,7 +8,8 @@
  *  - The lines that comfy_cells_draw writes keep all that is promised of a table's lines: docs/PROVED.md of the sources. With
  *    COMFY_FORM_TRIMMED this is so of the lines before the white space at their ends is left out: then they aren't equally wide.
  *  - The table that comfy_rows_draw writes keeps all that is promised of rows there: no text is lost, edges are straight, and a
- *    width holds, with the conditions that it names.
+ *    width holds, with the conditions that it names. This is proved without looks and heights, and for columns with nothing but
+ *    COMFY_COLUMN_LEFT, COMFY_COLUMN_RIGHT and COMFY_COLUMN_HIDDEN.
  *  - A call returns, and reads and writes only memory of its own, and that which its arguments give it.
  *
  * Not proved, but tested:
@@ -219,8 +220,7 @@ enum { COMFY_COLUMN_BY_CONTENTS, COMFY_COLUMN_LEFT, COMFY_COLUMN_RIGHT, COMFY_CO
  * A column of rows. Widths are in terminal columns, without paddings; 0 sets none. Texts that are wider than the greatest width
  * are wrapped, but it is never less than the least width.
  *
- * COMFY_PLAIN_COLUMN has nothing of its own. Columns of a table for Markdown, and of rows that are or may be expanded, are as it
- * is but for COMFY_COLUMN_LEFT, COMFY_COLUMN_RIGHT and COMFY_COLUMN_HIDDEN.
+ * COMFY_PLAIN_COLUMN has nothing of its own.
  */
 struct comfy_rows_column {
     uint16_t left_padding;  /* how many terminal columns stay free at the left of texts */
@@ -257,16 +257,25 @@ struct comfy_rows_settings {
  * counts the number of cells of each row; rows may have different numbers. columns has a struct for each column, or for the first
  * ones; the others are as COMFY_PLAIN_COLUMN.
  *
+ * looks has the look of each text, or nothing. A text's alignment is in place of that of its column, and its attributes come after
+ * bold of a bold header. heights has the most lines of each row, or nothing. It is in place of max_height, unless it is 0 or
+ * COMFY_NO_LIMIT. The header has no limit.
+ *
+ * A table for Markdown, and rows that are or may be expanded, have no looks, no heights, and nothing of columns but
+ * COMFY_COLUMN_LEFT, COMFY_COLUMN_RIGHT and COMFY_COLUMN_HIDDEN.
+ *
  * These are looked at in this order, so the first that holds is returned:
  *
- *   COMFY_SETTINGS_REFUSED  a setting or a column's side is none of those above, or a column has settings that a table for
- *                           Markdown or rows that are or may be expanded don't have
- *   COMFY_LENGTHS_REFUSED   the lengths aren't those of the texts, or the counts not those of the lengths
- *   COMFY_INPUT_REFUSED     lengths and counts add up, but a text isn't UTF-8
+ *   COMFY_SETTINGS_REFUSED  a setting or a column's side is none of those above, or there are looks, heights or columns that such
+ *                           a table or such rows don't have
+ *   COMFY_LENGTHS_REFUSED   the lengths aren't those of the texts, or the counts not those of the lengths; or there are looks, but
+ *                           not one for each text, or heights, but not one for each row
+ *   COMFY_INPUT_REFUSED     these add up, but a text isn't UTF-8
  *   COMFY_SETTINGS_REFUSED  a column that isn't there isn't as COMFY_PLAIN_COLUMN, or no column is left
  */
 uint32_t comfy_rows_draw(const uint8_t *texts, size_t texts_length, const size_t *lengths, size_t lengths_length,
-                         const size_t *counts, size_t counts_length, const struct comfy_rows_column *columns,
+                         const size_t *counts, size_t counts_length, const struct comfy_look *looks, size_t looks_length,
+                         const size_t *heights, size_t heights_length, const struct comfy_rows_column *columns,
                          size_t columns_length, const struct comfy_rows_settings *settings, uint8_t *output,
                          size_t output_length, size_t *needed);
 
@@ -380,15 +389,17 @@ uint32_t comfy_csv_draw(const uint8_t *input, size_t input_length, const uint8_t
  * behind it. *result is what the function returned. The pointer is null where there is no memory or nothing was written.
  */
 static inline char *comfy_rows_text(const uint8_t *texts, size_t texts_length, const size_t *lengths, size_t lengths_length,
-                                    const size_t *counts, size_t counts_length, const struct comfy_rows_column *columns,
-                                    size_t columns_length, const struct comfy_rows_settings *settings, uint32_t *result) {
+                                    const size_t *counts, size_t counts_length, const struct comfy_look *looks,
+                                    size_t looks_length, const size_t *heights, size_t heights_length,
+                                    const struct comfy_rows_column *columns, size_t columns_length,
+                                    const struct comfy_rows_settings *settings, uint32_t *result) {
     size_t room = 4096 + 4 * texts_length + 8 * lengths_length, needed = 0;
     for (;;) {
         char *output = (char *)malloc(room + 1);
         *result = COMFY_OUT_OF_MEMORY;
         if (!output) return NULL;
-        *result = comfy_rows_draw(texts, texts_length, lengths, lengths_length, counts, counts_length, columns, columns_length,
-                                  settings, (uint8_t *)output, room, &needed);
+        *result = comfy_rows_draw(texts, texts_length, lengths, lengths_length, counts, counts_length, looks, looks_length, heights,
+                                  heights_length, columns, columns_length, settings, (uint8_t *)output, room, &needed);
         if (*result == COMFY_DRAWN) {
             output[needed] = 0;
             return output;

@@ -16,14 +16,11 @@ use Rattle.csv_tables.specs.declared.options.Layout.{Layout}
 use Rattle.csv_tables.specs.declared.options.Look.{Look}
 use Rattle.promises.specs.Shown.{ShowsColumns}
 use Rattle.comfy_c.specs.Frames.{own_number, own_style}
-use Rattle.comfy_c.specs.RowCalls.{are_unset, layout_for}
+use Rattle.comfy_c.specs.RowCalls.{has_sides_alone, layout_for}
 use Rattle.comfy_c.specs.Texts.{rows_of}
+use Rattle.comfy_c.specs.declared.cells_numbers.LookNumbers.{LookNumbers}
 use Rattle.comfy_c.specs.declared.rows_columns.RowsColumn.{RowsColumn}
 use Rattle.comfy_c.specs.declared.rows_settings.RowsSettings.{RowsSettings}
-
--- no column has a setting beside a side at the left or right
-abbrev pub HaveNoSettings : List RowsColumn → Type 0
-HaveNoSettings columns = are_unset columns ≡ true
 
 -- a table isn't for Markdown, and no sequences of texts are kept
 pub record IsPlainLook (look : Look) : Type 0 where
@@ -89,7 +86,7 @@ ShowAllTexts layout rows bytes =
     IsPlainLook layout.look → layout.look.max_height ≡ None
     → ShowsAllFields (IsCountOf layout rows) layout rows bytes
 
--- what is promised of lines that are drawn of rows, of which no column, row or text has settings
+-- what is promised of lines that are drawn of rows with nothing set but sides at the left and right
 pub record KeepRowPromises (settings : RowsSettings) (layout : Layout) (rows : List (List Text))
     (bytes : Text) : Type 0 where
   pub all : HasHarmlessFrame settings → ShowAllTexts layout rows bytes
@@ -99,11 +96,13 @@ pub record KeepRowPromises (settings : RowsSettings) (layout : Layout) (rows : L
   pub width : HasHarmlessFrame settings → HasOneColumnFrame settings
       → KeepToWidth layout rows bytes
 
--- bytes are UTF-8, of lines of the table of rows that settings and columns ask for
-pub record ShowRows (texts : Text) (lengths counts : List ℕ) (columns : List RowsColumn)
-    (settings : RowsSettings) (bytes : Text) : Type 0 where
+-- bytes are UTF-8, of lines of the table of rows that settings, looks, heights and columns ask for
+pub record ShowRows (texts : Text) (lengths counts : List ℕ) (looks : List LookNumbers)
+    (heights : List ℕ) (columns : List RowsColumn) (settings : RowsSettings)
+    (bytes : Text) : Type 0 where
   pub are_text : IsUtf8 bytes
   pub layout : Layout
-  pub is_layout : layout_for settings columns (rows_of texts lengths counts) ≡ Some layout
-  pub keep : HaveNoSettings columns
+  pub is_layout :
+      layout_for settings looks heights columns (rows_of texts lengths counts) ≡ Some layout
+  pub keep : has_sides_alone looks heights columns ≡ true
       → KeepRowPromises settings layout (rows_of texts lengths counts) bytes

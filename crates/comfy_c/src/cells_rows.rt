@@ -6,8 +6,9 @@ ghost use Rattle.comfy_c.specs.CellCalls.{cells_by, cells_with, counts_of, lengt
 ghost use Rattle.comfy_c.specs.Numbers.{cell_with, height_of, row_with};
 ghost use Rattle.comfy_c.specs.Texts.{AddUp, IsTextsRefusal};
 
-use crate::cells_numbers::{LookNumbers, alignment_of, attributes_of, char_of, color_of};
+use crate::cells_numbers::{LookNumbers, char_of};
 use crate::refusal::DrawRefusal;
+use crate::rows_looks::look_settings;
 use crate::rows_settings::limit_of;
 use crate::texts::texts_of;
 use comfy_parts::{Cell, Cells, IntoRow, Row, TableError};
@@ -107,8 +108,8 @@ fn row_of(
     Ok(made)
 }
 
-// The most lines of a row; none for 0 and for the greatest number.
-fn height_of(number: usize) -> Option<usize>
+/// The most lines of a row; none for 0 and for the greatest number.
+pub(crate) fn height_of(number: usize) -> Option<usize>
     ensures { result ≡ height_of number }
 {
     if number == 0 { None } else { limit_of(number) }
@@ -134,18 +135,5 @@ fn cell_of(alloc: Global, numbers: &CellNumbers, text: &str) -> Result<Cell, Tab
     if let Some(delimiter) = char_of(numbers.delimiter) {
         cell = cell.set_delimiter(delimiter);
     }
-    let look = &numbers.look;
-    if let Some(alignment) = alignment_of(look.alignment) {
-        cell = cell.set_alignment(alignment);
-    }
-    if let Some(color) = color_of(look.foreground) {
-        cell = cell.fg(color);
-    }
-    if let Some(color) = color_of(look.background) {
-        cell = cell.bg(color);
-    }
-    if look.attributes != 0 {
-        cell = cell.add_attributes(attributes_of(alloc, look.attributes)?)?;
-    }
-    Ok(cell)
+    look_settings(alloc, &numbers.look)?.dressed(cell)
 }

@@ -15,6 +15,7 @@ pub mod promised;
 mod refusal;
 mod rows_columns;
 mod rows_draw;
+mod rows_looks;
 mod rows_settings;
 mod texts;
 

@@ -1,7 +1,7 @@
 //! The columns of a table of rows, as numbers.
 
-ghost use Rattle.std.specs.Prelude.{◌≡◌, ◌==◌, IfOk};
-ghost use Rattle.comfy_c.specs.RowCalls.{are_there, are_unset, column_settings, columns_by, columns_for, have_sides, is_unset, positions_where, settings_for, side_at, width_unless_zero};
+ghost use Rattle.std.specs.Prelude.{◌≡◌, ◌==◌, IfOk, map};
+ghost use Rattle.comfy_c.specs.RowColumns.{are_there, are_unset, column_settings, columns_by, columns_for, have_sides, is_unset, positions_where, settings_for, side_at, width_unless_zero};
 
 use csv_records::Rows;
 use csv_tables::{ColumnSettings, Columns, Selection};
@@ -70,6 +70,15 @@ pub(crate) fn settings_for(
     if are_unset(columns) {
         return Ok(Vec::new(alloc));
     }
+    each_settings(alloc, columns)
+}
+
+fn each_settings(
+    alloc: Global,
+    columns: &[RowsColumn],
+) -> Result<Vec<ColumnSettings>, AllocError>
+    ensures { IfOk result (λ settings. settings.items ≡ map column_settings columns.now) }
+{
     columns.iter().map(column_settings).collect(alloc)
 }
 

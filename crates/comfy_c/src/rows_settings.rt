@@ -2,8 +2,9 @@
 
 ghost use Rattle.std.specs.Prelude.{◌≡◌, slice_get};
 ghost use Rattle.comfy_c.specs.Calls.{limit_of};
-ghost use Rattle.comfy_c.specs.RowCalls.{are_known, expansions, is_table_of_rows, look_for, selection_for, separators};
+ghost use Rattle.comfy_c.specs.RowCalls.{can_have, expansions, has_sides_alone, is_table_of_rows, look_for, selection_for, separators};
 
+use crate::cells_numbers::LookNumbers;
 use crate::frame::{FrameNumbers, style_for};
 use crate::rows_columns::{RowsColumn, are_unset, have_sides};
 use csv_tables::{Expansion, Look, RowSeparators, Selection};
@@ -57,12 +58,18 @@ impl RowsSettings {
         }
     }
 
-    /// Whether each column has a side that has a meaning, and settings beside a side at the left or
-    /// right only in a table of rows.
-    pub(crate) fn can_have(&self, columns: &[RowsColumn]) -> bool
-        ensures { result ≡ are_known self.now columns.now }
+    /// Whether each column has a side that has a meaning, and more than sides at the left and right
+    /// is set only for a table of rows.
+    pub(crate) fn can_have(
+        &self,
+        looks: &[LookNumbers],
+        heights: &[usize],
+        columns: &[RowsColumn],
+    ) -> bool
+        ensures { result ≡ can_have self.now looks.now heights.now columns.now }
     {
-        have_sides(columns) && (are_unset(columns) || self.is_table_of_rows())
+        have_sides(columns)
+            && (has_sides_alone(looks, heights, columns) || self.is_table_of_rows())
     }
 
     // Whether rows are drawn as one table that isn't for Markdown, whatever the width.
@@ -89,6 +96,13 @@ impl RowsSettings {
             is_markdown: self.is_markdown != 0,
         })
     }
+}
+
+// Whether nothing is set but sides of columns at the left and right.
+fn has_sides_alone(looks: &[LookNumbers], heights: &[usize], columns: &[RowsColumn]) -> bool
+    ensures { result ≡ has_sides_alone looks.now heights.now columns.now }
+{
+    looks.is_empty() && heights.is_empty() && are_unset(columns)
 }
 
 fn separators_at(number: u32) -> Option<RowSeparators>

@@ -32,7 +32,7 @@ struct caller {
     uint64_t seed;
     long calls, wrong;
     long results[3][6];
-    struct region input, lengths, arguments, columns, output;
+    struct region input, lengths, arguments, columns, looks, heights, output;
 };
 
 static uint64_t next(struct caller *caller) {
@@ -203,6 +203,24 @@ static struct comfy_rows_column *put_rows_columns(struct caller *caller, size_t 
     return columns;
 }
 
+/* None, or as many as there are of something else; now and then one fewer. */
+static size_t any_count(struct caller *caller, size_t count) {
+    if (below(caller, 2)) return 0;
+    return count && below(caller, 16) == 0 ? count - 1 : count;
+}
+
+static struct comfy_look *put_looks(struct caller *caller, size_t count) {
+    struct comfy_look *looks = (struct comfy_look *)(void *)caller->looks.end - count;
+    for (size_t i = 0; i < count; i++) looks[i] = any_look(caller);
+    return looks;
+}
+
+static size_t *put_heights(struct caller *caller, size_t count) {
+    size_t *heights = (size_t *)(void *)caller->heights.end - count;
+    for (size_t i = 0; i < count; i++) heights[i] = below(caller, 8) ? below(caller, 4) : (size_t)next(caller);
+    return heights;
+}
+
 static uint32_t call_rows(struct caller *caller, size_t length, size_t room, size_t *needed) {
     struct comfy_rows_settings settings = {
         .max_height = below(caller, 4) ? COMFY_NO_LIMIT : below(caller, 4), .limit = below(caller, 4) ? COMFY_NO_LIMIT : below(caller, 4),
@@ -212,10 +230,10 @@ static uint32_t call_rows(struct caller *caller, size_t length, size_t room, siz
         .has_sequences = any_number(caller, 2), .is_markdown = below(caller, 8) == 0, .frame = any_frame(caller)};
     size_t texts = put_parts(caller, caller->lengths, length, 12);
     size_t rows = put_parts(caller, caller->arguments, texts, 5);
-    size_t columns = below(caller, 4);
+    size_t columns = below(caller, 4), looks = any_count(caller, texts), heights = any_count(caller, rows);
     return comfy_rows_draw(caller->input.end - length, length, (size_t *)(void *)caller->lengths.end - texts, texts,
-                           (size_t *)(void *)caller->arguments.end - rows, rows, put_rows_columns(caller, columns), columns, &settings,
-                           caller->output.end - room, room, needed);
+                           (size_t *)(void *)caller->arguments.end - rows, rows, put_looks(caller, looks), looks, put_heights(caller, heights),
+                           heights, put_rows_columns(caller, columns), columns, &settings, caller->output.end - room, room, needed);
 }
 
 /* Cells of the lengths that stand at the end of some pages, in their place. */
@@ -277,7 +295,7 @@ static void *call_often(void *it) {
 }
 
 static struct caller new_caller(uint64_t seed, long calls) {
-    return (struct caller){seed, calls, 0, {{0}, {0}, {0}}, new_region(), new_region(), new_region(), new_region(), new_region()};
+    return (struct caller){seed, calls, 0, {{0}, {0}, {0}}, new_region(), new_region(), new_region(), new_region(), new_region(), new_region(), new_region()};
 }
 
 /* Whether each result came that comes without a refused request for memory. CSV has no lengths. */

@@ -82,15 +82,17 @@ static uint32_t rows_are_drawn(size_t *needed) {
     static const struct comfy_rows_column columns[] = {{1, 1, COMFY_COLUMN_RIGHT, 0, 0}, {1, 1, COMFY_COLUMN_LEFT, 0, 0}, {1, 1, COMFY_COLUMN_HIDDEN, 0, 0}};
     static const size_t lengths[] = {4, 4, 17, 1, 0}, counts[] = {2, 3};
     const struct comfy_rows_settings settings = {.max_height = 3, .limit = COMFY_NO_LIMIT, .width = 12, .has_header = 1};
-    return comfy_rows_draw(texts, sizeof texts - 1, lengths, 5, counts, 2, columns, 3, &settings, output, sizeof output, needed);
+    return comfy_rows_draw(texts, sizeof texts - 1, lengths, 5, counts, 2, NULL, 0, NULL, 0, columns, 3, &settings, output, sizeof output, needed);
 }
 
 static uint32_t rows_with_settings_are_drawn(size_t *needed) {
     static const uint8_t texts[] = "namedaysoats and \xe9\x9b\xa8 more3.5";
     static const struct comfy_rows_column columns[] = {{0, 1, COMFY_COLUMN_BY_CONTENTS, 3, 7}, {2, 0, COMFY_COLUMN_CENTER, 0, 0}};
-    static const size_t lengths[] = {4, 4, 17, 3}, counts[] = {2, 2};
+    static const size_t lengths[] = {4, 4, 17, 3}, counts[] = {2, 2}, heights[] = {0, 1};
+    static const struct comfy_look looks[] = {{.attributes = COMFY_ATTRIBUTE_BOLD}, {0}, {.foreground = {COMFY_COLOR_NUMBERED, COMFY_RED, 0, 0, 0}},
+        {.alignment = COMFY_ALIGNED_LEFT, .attributes = COMFY_ATTRIBUTE_DIM | COMFY_ATTRIBUTE_ITALIC}};
     const struct comfy_rows_settings settings = {.max_height = COMFY_NO_LIMIT, .limit = COMFY_NO_LIMIT, .width = 30, .has_header = 1, .aligns_decimals = 1};
-    return comfy_rows_draw(texts, sizeof texts - 1, lengths, 4, counts, 2, columns, 2, &settings, output, sizeof output, needed);
+    return comfy_rows_draw(texts, sizeof texts - 1, lengths, 4, counts, 2, looks, 4, heights, 2, columns, 2, &settings, output, sizeof output, needed);
 }
 
 static uint32_t column_is_refused(size_t *needed) {

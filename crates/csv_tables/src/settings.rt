@@ -95,7 +95,7 @@ impl CellSettings {
     }
 
     /// A cell with these settings.
-    pub(crate) fn dressed(&self, cell: Cell) -> Result<Cell>
+    pub fn dressed(&self, cell: Cell) -> Result<Cell>
         ensures { IfOk result (λ made. made ≡ dressed (Some self.now) cell) }
     {
         let aligned = aligned(cell, self.alignment);
