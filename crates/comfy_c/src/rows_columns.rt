@@ -73,10 +73,7 @@ pub(crate) fn settings_for(
     each_settings(alloc, columns)
 }
 
-fn each_settings(
-    alloc: Global,
-    columns: &[RowsColumn],
-) -> Result<Vec<ColumnSettings>, AllocError>
+fn each_settings(alloc: Global, columns: &[RowsColumn]) -> Result<Vec<ColumnSettings>, AllocError>
     ensures { IfOk result (λ settings. settings.items ≡ map column_settings columns.now) }
 {
     columns.iter().map(column_settings).collect(alloc)
@@ -135,11 +132,7 @@ fn are_there(columns: &[RowsColumn], count: usize) -> bool
 }
 
 // The columns of so many, with their sides.
-fn columns_by(
-    alloc: Global,
-    columns: &[RowsColumn],
-    count: usize,
-) -> Result<Columns, AllocError>
+fn columns_by(alloc: Global, columns: &[RowsColumn], count: usize) -> Result<Columns, AllocError>
     ensures { IfOk result (λ made. made ≡ columns_by columns.now count) }
 {
     let drawn = drawn_by(alloc, columns, count)?;
@@ -149,11 +142,7 @@ fn columns_by(
 }
 
 // The columns of so many that aren't hidden.
-fn drawn_by(
-    alloc: Global,
-    columns: &[RowsColumn],
-    count: usize,
-) -> Result<Vec<usize>, AllocError>
+fn drawn_by(alloc: Global, columns: &[RowsColumn], count: usize) -> Result<Vec<usize>, AllocError>
     ensures { IfOk result (λ drawn. drawn.items ≡ (columns_by columns.now count).drawn) }
 {
     (0..count)

@@ -68,8 +68,7 @@ impl RowsSettings {
     ) -> bool
         ensures { result ≡ can_have self.now looks.now heights.now columns.now }
     {
-        have_sides(columns)
-            && (has_sides_alone(looks, heights, columns) || self.is_table_of_rows())
+        have_sides(columns) && (has_sides_alone(looks, heights, columns) || self.is_table_of_rows())
     }
 
     // Whether rows are drawn as one table that isn't for Markdown, whatever the width.
