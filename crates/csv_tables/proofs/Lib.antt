@@ -5,6 +5,7 @@ pub mod ColumnLemmas
 mod ContentLemmas
 pub mod CountLemmas
 pub mod DecimalLawLemmas
+mod DressedLemmas
 mod ExpandedLemmas
 pub mod FieldControlLemmas
 pub mod FieldLemmas

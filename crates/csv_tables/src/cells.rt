@@ -20,7 +20,7 @@ use crate::columns::name_or_number;
 use crate::decimals::{spaces_after, with_spaces};
 use crate::markdown::{escaped, may_be_escaped};
 use crate::options::{ColumnPlan, Look};
-use crate::settings::CellSettings;
+use crate::settings::{CellSettings, settings_of};
 use comfy_parts::for_tables::printable_cell;
 use comfy_parts::style::{Attribute, CellAlignment};
 use comfy_parts::{Cell, Cells, IntoRow, Result, Row};
@@ -331,7 +331,7 @@ fn add_names(
 {
     for column in columns {
         let name = names.get(column.position).unwrap_or("");
-        let own = settings.get(column.position);
+        let own = settings_of(settings, column.position);
         add_name(alloc, row, name, column.alignment, own, look)?;
     }
     Ok(())

@@ -16,7 +16,9 @@ ghost use Rattle.csv_tables.specs.LazyRows.{IsFlat};
 use crate::cells::{field_cell, number_cell, push_field};
 use crate::options::{ColumnPlan, Look};
 use crate::selected::SelectedRecords;
-use crate::settings::{CellSettings, RowSettings, Settings, cell_settings, limit_by};
+use crate::settings::{
+    CellSettings, RowSettings, Settings, cell_settings, limit_by, settings_of,
+};
 use crate::table::empty_table;
 use comfy_parts::content_split::ColumnDisplayInfo;
 use comfy_table::{PartEnds, Result, RowCell, RowWriter, Table};
@@ -203,7 +205,8 @@ impl RecordRows {
         position: usize,
     ) -> Result<RowCell<'r>>
         requires columns { columns.now ≡ columns_within fields.now self.now.selected.columns }
-        requires within { position < length (made_by self.now at fields.now).cells }
+        requires within { position
+            < length columns.now + (if self.now.selected.is_numbered then 1 else 0) }
         ensures { IfOk result (λ cell. slice_get (made_by self.now at fields.now).cells position
             ≡ Some (cell_of cell)) }
     {
@@ -221,7 +224,7 @@ impl RecordRows {
     // The cell of the field of a column, in a row whose cells have these settings.
     #[inline(always)]
     fn field_cell<'r>(
-        &'r self,
+        &self,
         fields: &Record<'r>,
         column: &ColumnPlan,
         settings: &[CellSettings],
@@ -230,7 +233,7 @@ impl RecordRows {
             self.now.is_aligned settings.now fields.now column.now) }
     {
         let field = fields.get(column.position).unwrap_or("");
-        let own = settings.get(column.position);
+        let own = settings_of(settings, column.position);
         field_cell(self.alloc(), field, column, own, self.is_aligned, &self.look)
     }
 
@@ -283,7 +286,7 @@ impl RecordRows {
         let alloc = self.alloc();
         for column in columns {
             let field = fields.get(column.position).unwrap_or("");
-            let own = settings.get(column.position);
+            let own = settings_of(settings, column.position);
             push_field(cells, alloc, field, column, own, self.is_aligned, &self.look)?;
         }
         Ok(())

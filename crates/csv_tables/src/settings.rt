@@ -1,6 +1,6 @@
 //! The settings that columns, rows and cells of a table of rows may have.
 
-ghost use Rattle.std.specs.Prelude.{◌≡◌, [], IfOk, None, Some, option_map, true};
+ghost use Rattle.std.specs.Prelude.{◌≡◌, [], IfOk, None, Some, option_map, slice_get, true};
 ghost use Rattle.std.specs.Option.{option_or};
 ghost use Rattle.csv_tables.specs.Limits.{unset};
 ghost use Rattle.csv_tables.specs.Settings.{cell_settings, dressed, limit_by, no_settings};
@@ -232,8 +232,9 @@ impl Settings {
 }
 
 /// The settings of the cells of a row, which are none if the row has no settings.
+#[inline(always)]
 pub(crate) fn cell_settings(row: Option<&RowSettings>) -> &[CellSettings]
-    ensures { result.now ≡ cell_settings (option_map (λ row. row.now) row) }
+    ensures { result.now ≡ cell_settings (option_map (λ row. row.now) row.entry) }
 {
     match row {
         Some(row) => row.of_cells(),
@@ -241,9 +242,18 @@ pub(crate) fn cell_settings(row: Option<&RowSettings>) -> &[CellSettings]
     }
 }
 
+/// The settings of the cell of the field at a position, if it has some.
+#[inline(always)]
+pub(crate) fn settings_of(settings: &[CellSettings], position: usize) -> Option<&CellSettings>
+    ensures { option_map (λ own. own.now) result ≡ slice_get settings.now position }
+{
+    settings.get(position)
+}
+
 /// How many lines a row has at most, by its settings if they say so, else by the look.
+#[inline(always)]
 pub(crate) fn limit_by(row: Option<&RowSettings>, look: &Look) -> Option<usize>
-    ensures { result ≡ limit_by (option_map (λ row. row.now) row) look.now }
+    ensures { result ≡ limit_by (option_map (λ row. row.now) row.entry) look.now }
 {
     match row {
         Some(row) => row.limit(look.max_height),
