@@ -78,7 +78,7 @@ narrow : (width limit : ℕ) → HasOneColumnFrame (settings width limit)
 narrow width limit own = absurd (no_own width limit own)
 
 abbrev Drawn : ℕ → ℕ → Text → Type 0
-Drawn width limit bytes = ShowRows (codes "ab") (1 ∷ 1 ∷ []) (1 ∷ 1 ∷ []) [] (settings width limit) bytes
+Drawn width limit bytes = ShowRows (codes "ab") (1 ∷ 1 ∷ []) (1 ∷ 1 ∷ []) [] [] [] (settings width limit) bytes
 
 abbrev the_layout : ℕ → ℕ → Layout
 the_layout width limit =
@@ -106,7 +106,7 @@ all = 2 ^ 64 - 1
 abbrev no_width : ℕ
 no_width = 65536
 
-is_asked : (width limit : ℕ) → layout_for (settings width limit) [] the_rows ≡ Some (the_layout width limit) → (bytes : Text) (is : Drawn width limit bytes) → is.layout ≡ the_layout width limit
+is_asked : (width limit : ℕ) → layout_for (settings width limit) [] [] [] the_rows ≡ Some (the_layout width limit) → (bytes : Text) (is : Drawn width limit bytes) → is.layout ≡ the_layout width limit
 is_asked width limit asked bytes is = same_Some _ _ (sym is.is_layout ∙ asked)
 
 are_narrow : All (All (HasCharactersWithin 1)) the_rows

@@ -1,5 +1,5 @@
 -- What is drawn of rows is straight, and keeps to a width.
-use Rattle.std.proofs.Common.{◌⊎◌, ◌≡◌, ◌≤◌, ◌<◌, ◌==◌, ◌&&◌, ◌||◌, ℕ, zero, suc, Bool, true, false, not, List, [], ◌∷◌, Option, Some, None, inl, inr, length, map, option_map, unwrap_or, refl, sym, ap, ◌∙◌, subst, arith, drop, eqb-true, take, slice_get}
+use Rattle.std.proofs.Common.{◌⊎◌, ◌≡◌, ◌≤◌, ◌<◌, ◌==◌, ◌&&◌, ◌||◌, ℕ, zero, suc, Bool, true, false, not, List, [], ◌∷◌, ◌++◌, Option, Some, None, inl, inr, length, map, option_map, unwrap_or, refl, sym, ap, ◌∙◌, subst, arith, drop, eqb-true, take, slice_get}
 use Rattle.std.specs.List.{All, list_all, list_any, range_with_len}
 use Rattle.std.specs.Prelude.{if◌then◌else◌}
 use Rattle.std.specs.Str.{IsUtf8}
@@ -32,8 +32,9 @@ use Rattle.csv_tables.specs.Columns.{ColumnsValue, count_of}
 use Rattle.csv_tables.specs.Controls.{IsHarmlessStyle}
 use Rattle.csv_tables.specs.Drawn.{RendersAnyRecords, RendersRecords, column_count, count_below, drawn_rows, names_or_none}
 use Rattle.csv_tables.specs.Laws.{CharactersFitEachWidth}
+use Rattle.csv_tables.specs.Settings.{RowSettingsValue, SettingsValue, no_settings}
 use Rattle.csv_tables.specs.Styled.{RendersAnyStyledRecords}
-use Rattle.csv_tables.specs.declared.options.ColumnSettings.{ColumnSettings}
+use Rattle.csv_tables.specs.declared.settings.ColumnSettings.{ColumnSettings}
 use Rattle.csv_tables.specs.declared.options.Expansion.{Expansion}
 use Rattle.csv_tables.specs.declared.options.Layout.{Layout}
 use Rattle.csv_tables.specs.declared.options.Look.{Look}
@@ -42,9 +43,13 @@ use Rattle.csv_tables.specs.declared.selection.Selection.{Selection}
 use Rattle.promises.specs.Shown.{ShowsColumns}
 use Rattle.promises.specs.Tables.{HasCharactersWithin}
 use Rattle.comfy_c.specs.Frames.{own_number, own_style, style_at, style_for}
-use Rattle.comfy_c.specs.PromisedRows.{AreStraightLines, EachRowsLine, FitTheWidth, HasHarmlessFrame, HasOneColumnFrame, HaveNoSettings, HaveRoom, IsCountOf, IsPlainLook, KeepRowPromises, KeepToWidth, ShowAllTexts, ShowRows}
-use Rattle.comfy_c.specs.RowCalls.{IsRowsDrawing, are_known, are_there, can_be_drawn, column_settings, columns_by, columns_for, count_in_all, expansions, layout_by, layout_for, look_by, look_for, selection_for, separators, settings_for, side_at}
+use Rattle.comfy_c.specs.PromisedRows.{AreStraightLines, EachRowsLine, FitTheWidth, HasHarmlessFrame, HasOneColumnFrame, HaveRoom, IsCountOf, IsPlainLook, KeepRowPromises, KeepToWidth, ShowAllTexts, ShowRows}
+use Rattle.comfy_c.specs.Calls.{is_set}
+use Rattle.comfy_c.specs.Looks.{rows_by, table_settings, unset_row}
+use Rattle.comfy_c.specs.RowCalls.{IsRowsDrawing, can_have, expansions, has_sides_alone, layout_by, layout_for, look_by, look_for, selection_for, separators}
+use Rattle.comfy_c.specs.RowColumns.{are_there, are_unset, can_be_drawn, column_settings, columns_by, columns_for, count_in_all, side_at}
 use Rattle.comfy_c.specs.Texts.{rows_of}
+use Rattle.comfy_c.specs.declared.cells_numbers.LookNumbers.{LookNumbers}
 use Rattle.comfy_c.specs.declared.rows_columns.RowsColumn.{RowsColumn}
 use Rattle.comfy_c.specs.declared.rows_settings.RowsSettings.{RowsSettings}
 
@@ -96,8 +101,8 @@ record IsAsked (settings : RowsSettings) (asked : List RowsColumn) (rows : List 
   pub look : look_for settings ≡ Some layout.look
   pub columns : columns_for layout.selection asked rows ≡ Some layout.columns
 
-is_asked : (settings : RowsSettings) (asked : List RowsColumn) (rows : List (List Text)) (layout : Layout) → layout_for settings asked rows ≡ Some layout → IsAsked settings asked rows layout
-is_asked settings asked rows layout is = by_test (are_known settings asked) is
+is_asked : (settings : RowsSettings) (looks : List LookNumbers) (heights : List ℕ) (asked : List RowsColumn) (rows : List (List Text)) (layout : Layout) → layout_for settings looks heights asked rows ≡ Some layout → IsAsked settings asked rows layout
+is_asked settings looks heights asked rows layout is = by_test (can_have settings looks heights asked) is
   where
     selection : Selection
     selection = selection_for settings
@@ -222,16 +227,15 @@ module _ (settings : RowsSettings) (asked : List RowsColumn) (layout : Layout) (
       subst (EachRowsLine P layout []) (sym empty)
       (nothing_drawn P layout (IsCountOf layout []) no_count)
 
-  rows_keep : (rows : List (List Text)) → layout_for settings asked rows ≡ Some layout → All AllText rows → RendersAnyRecords layout rows output → KeepRowPromises settings layout rows output
-  rows_keep [] is texts made =
+  rows_keep : (rows : List (List Text)) → IsAsked settings asked rows layout → All AllText rows → RendersAnyRecords layout rows output → KeepRowPromises settings layout rows output
+  rows_keep [] own texts made =
       record {
         all = λ harmless look uncut. subst (ShowsAllFields (IsCountOf layout []) layout []) (sym made) (none_of_all (IsCountOf layout []) no_count layout);
         harmless = λ harmless. subst (IsHarmlessFor layout.look) (sym made) (nothing_is_harmless layout.look);
         straight = λ harmless narrow look room. (0, none (ShowsColumns 0) made);
         width = λ harmless narrow w wide look within. none _ made;
       }
-  rows_keep (row ∷ rows) is texts made =
-      let own = is_asked settings asked (row ∷ rows) layout is in
+  rows_keep (row ∷ rows) own texts made =
       let some = not_empty (length rows) in
       record {
         all = some_shown (row ∷ rows) own texts some made;
@@ -240,19 +244,26 @@ module _ (settings : RowsSettings) (asked : List RowsColumn) (layout : Layout) (
         width = some_kept (row ∷ rows) own texts some made;
       }
 
--- columns that have no settings
-none_for : (columns : List RowsColumn) → HaveNoSettings columns → settings_for columns ≡ []
-none_for columns unset = ap (λ (b : Bool). if b then [] else map column_settings columns) unset
+-- nothing but sides of columns is set
+none_set : (has_header : Bool) (counts : List ℕ) (looks : List LookNumbers) (heights : List ℕ) (columns : List RowsColumn) → has_sides_alone looks heights columns ≡ true → table_settings has_header counts looks heights columns ≡ no_settings
+none_set has_header counts looks heights columns alone =
+    let both = and_parts (length looks == 0) ((length heights == 0) && are_unset columns) alone in
+    let rest = and_parts (length heights == 0) (are_unset columns) both.1 in
+    let empty : ((length looks == 0) && (length heights == 0)) ≡ true = ap₂ (λ (a b : Bool). a && b) both.0 rest.0 in
+    ap₂ (λ (own : List ColumnSettings) (rows : List RowSettingsValue). record { columns = own; rows = rows })
+    (ap (λ (b : Bool). if b then [] else map column_settings columns) rest.1)
+    (ap (λ (b : Bool). if b then [] else (if has_header then [] else unset_row ∷ []) ++ rows_by (cut_by counts looks) heights) empty)
 
 -- so a drawing of rows shows them
-pub shows_rows : (texts : Text) (lengths counts : List ℕ) (columns : List RowsColumn) (settings : RowsSettings) (bytes : Text) → IsRowsDrawing texts lengths counts columns settings bytes → ShowRows texts lengths counts columns settings bytes
-shows_rows texts lengths counts columns settings bytes is =
+pub shows_rows : (texts : Text) (lengths counts : List ℕ) (looks : List LookNumbers) (heights : List ℕ) (columns : List RowsColumn) (settings : RowsSettings) (bytes : Text)
+    → IsRowsDrawing texts lengths counts looks heights columns settings bytes → ShowRows texts lengths counts looks heights columns settings bytes
+shows_rows texts lengths counts looks heights columns settings bytes is =
     let rows : List (List Text) = rows_of texts lengths counts in
     record {
       are_text = is.is_text;
       layout = is.layout;
       is_layout = is.is_layout;
-      keep = λ unset.
-          rows_keep settings columns is.layout bytes rows is.is_layout (rows_are_text counts (cut_by lengths texts) is.are_texts)
-          (without_settings_any is.layout rows bytes (subst (λ (own : List ColumnSettings). RendersAnyStyledRecords own is.layout rows bytes) (none_for columns unset) is.is_output));
+      keep = λ alone.
+          rows_keep settings columns is.layout bytes rows (is_asked settings looks heights columns rows is.layout is.is_layout) (rows_are_text counts (cut_by lengths texts) is.are_texts)
+          (without_settings_any is.layout rows bytes (subst (λ (own : SettingsValue). RendersAnyStyledRecords own is.layout rows bytes) (none_set (is_set settings.has_header) counts looks heights columns alone) is.is_output));
     }

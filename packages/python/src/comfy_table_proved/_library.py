@@ -147,10 +147,10 @@ def draw_rows(
     numbers = [array.array("Q", it) for it in (map(len, texts), map(len, rows), heights)]
     lengths, counts, limits = (it.buffer_info() for it in numbers)
     # A struct for each look would take most of the time.
-    looks_bytes = b"".join(map(_bytes_of, looks))
-    given = (_Column * len(columns))(*columns)
-    arguments = [joined, len(joined), *lengths, *counts, looks_bytes, len(looks), *limits, given, len(columns), ctypes.byref(settings)]
-    status, text = _written(_ROWS_DRAW, len(joined) + 8 * len(texts), *arguments)
+    joined_looks = b"".join(map(_bytes_of, looks))
+    column_numbers = (_Column * len(columns))(*columns)
+    arguments = [joined, len(joined), *lengths, *counts, joined_looks, len(looks), *limits, column_numbers, len(columns)]
+    status, text = _written(_ROWS_DRAW, len(joined) + 8 * len(texts), *arguments, ctypes.byref(settings))
     if status:
         raise ValueError(f"comfy_rows_draw returned {status}")
     return text

@@ -4,7 +4,7 @@ from __future__ import annotations
 
 import functools
 import re
-from typing import Optional
+from typing import Any, Optional
 
 from ._library import Look
 
@@ -49,6 +49,11 @@ class Cell:
 
     def __repr__(self) -> str:
         return f"Cell({self.value!r}, {self.colors!r}, {self.align!r})"
+
+
+def value_of(value: Any) -> Any:
+    """A value, that of a cell where it is one."""
+    return value.value if isinstance(value, Cell) else value
 
 
 def look_of(value: object, has_styles: bool) -> Look:

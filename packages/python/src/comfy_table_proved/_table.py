@@ -9,7 +9,7 @@ from typing import Any, Iterable, NoReturn, Optional, Sequence, TypeVar, Union
 
 from ._columns import Columns, Layout, Padding, Widths, is_whole
 from ._library import NO_LIMIT, NO_WIDTH, OWN_STYLE, Look, RowsSettings, draw_rows
-from ._paints import PLAIN, Cell, look_of
+from ._paints import PLAIN, Cell, look_of, value_of
 from ._rows import Headers, ShowIndex, Values, kept, values_of
 from ._styles import EVERYWHERE, NOWHERE, Frame, Style, frame_of
 from ._texts import Colors, Texts, Writer
@@ -227,13 +227,15 @@ def _drawing(table: Table, has_styles: bool = True) -> str:
         return ""
     frame = frame_of(table.style, table.tablefmt)
     _refuse_settings(table, values, frame)
+    looks = _looks_of(values, has_styles)
+    if looks:
+        values = _without_cells(values)
     writer = Writer(table.floatfmt, table.intfmt, table.missingval, table.colors)
     # An empty row has one empty cell, so that there is a column.
     names = [] if values.header is None else writer.header_of(values.header) or [""]
     layout = Layout(names, max(len(names), max(map(len, values.rows), default=0), 1))
     header = [] if values.header is None else [names]
     records = header + [writer.texts_of(position, row, names) or [""] for position, row in enumerate(values.rows)]
-    looks = _looks_of(values, has_styles)
     sides = layout.sides(table.left, table.right, table.center, table.colalign)
     columns = layout.numbers(sides, table.padding, (table.colwidths, table.mincolwidths, table.maxcolwidths))
     if table.columns is not None or table.hidden is not None:
@@ -273,6 +275,12 @@ def _looks_of(values: Values, has_styles: bool) -> list[list[Look]]:
     if not any(isinstance(value, Cell) for row in rows for value in row):
         return []
     return [[look_of(value, has_styles) for value in row or [None]] for row in rows]
+
+
+def _without_cells(values: Values) -> Values:
+    """The values, with that of a cell in its place."""
+    header = None if values.header is None else [value_of(value) for value in values.header]
+    return Values(header, [[value_of(value) for value in row] for row in values.rows])
 
 
 def _chosen(items: list[_Item], positions: Iterable[int], otherwise: _Item) -> list[_Item]:

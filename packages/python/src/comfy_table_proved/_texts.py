@@ -4,7 +4,7 @@ from __future__ import annotations
 
 from typing import Any, Callable, Iterable, Optional, Sequence, Union
 
-from ._paints import Cell, sequence_of
+from ._paints import sequence_of
 
 Column = Union[str, int]
 Colors = Callable[[int, Column, Any], Optional[str]]
@@ -21,17 +21,15 @@ class Writer:
         self._floatfmt, self._intfmt, self._missingval, self._colors = floatfmt, intfmt, missingval, colors
 
     def header_of(self, header: list[Any]) -> list[str]:
-        values = [_value_of(name) for name in header]
-        return [self._plain("" if value is None else str(value)) for value in values]
+        return [self._plain("" if name is None else str(name)) for name in header]
 
     def texts_of(self, position: int, row: list[Any], names: list[str]) -> list[str]:
         """The texts of the row at a position, below these names, with sequences of their colours."""
-        values = [_value_of(value) for value in row]
-        texts = [self._text_of(at, value) for at, value in enumerate(values)]
+        texts = [self._text_of(at, value) for at, value in enumerate(row)]
         if self._colors is None:
             return texts
         columns: Iterable[Column] = [names[at] if at < len(names) else at for at in range(len(row))]
-        words = [self._colors(position, column, value) for column, value in zip(columns, values)]
+        words = [self._colors(position, column, value) for column, value in zip(columns, row)]
         return [_painted(text, it) for text, it in zip(texts, words)]
 
     def _text_of(self, at: int, value: Any) -> str:
@@ -52,10 +50,6 @@ class Writer:
 def _painted(text: str, words: str | None) -> str:
     """A text between the sequences of such words."""
     return f"{sequence_of(words)}{text}{_ESCAPE}[0m" if words else text
-
-
-def _value_of(value: Any) -> Any:
-    return value.value if isinstance(value, Cell) else value
 
 
 def _at(setting: Texts, at: int) -> str | None:
