@@ -246,7 +246,7 @@ struct comfy_rows_settings {
     uint32_t is_numbered;     /* a flag: a first column has the numbers of the rows */
     uint32_t aligns_decimals; /* a flag: decimal points of a column of numbers stand below each other */
     uint32_t has_sequences;   /* a flag: SGR sequences in texts stay, and count no columns */
-    uint32_t is_markdown;     /* a flag: the table is one for Markdown, whatever else is set */
+    uint32_t is_markdown;     /* a flag: the table is one for Markdown, whatever else is set here */
     struct comfy_frame frame; /* the lines of COMFY_OWN_STYLE, which no other style reads */
 };
 

@@ -40,7 +40,7 @@ pub struct RowsSettings {
     pub aligns_decimals: u32,
     /// A flag: SGR sequences in texts stay, and count no columns.
     pub has_sequences: u32,
-    /// A flag: the table is one for Markdown, whatever else is set.
+    /// A flag: the table is one for Markdown, whatever else is set here.
     pub is_markdown: u32,
     /// The lines of a style of the caller's own, which no other style reads.
     pub frame: FrameNumbers,
