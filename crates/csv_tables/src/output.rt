@@ -134,11 +134,7 @@ fn arranged_contents(contents: LazyTable) -> Result<ArrangedTable<LazyTable>>
 }
 
 // What is drawn of records: a table of rows, or of expanded records.
-fn drawn_contents(
-    selected: SelectedRecords,
-    look: &Look,
-    settings: Settings,
-) -> Result<LazyTable>
+fn drawn_contents(selected: SelectedRecords, look: &Look, settings: Settings) -> Result<LazyTable>
     ensures { IfOk result (λ contents.
         AreDrawnContents settings look.now selected contents) }
 {

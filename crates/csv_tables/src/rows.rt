@@ -16,9 +16,7 @@ ghost use Rattle.csv_tables.specs.LazyRows.{IsFlat};
 use crate::cells::{field_cell, number_cell, push_field};
 use crate::options::{ColumnPlan, Look};
 use crate::selected::SelectedRecords;
-use crate::settings::{
-    CellSettings, RowSettings, Settings, cell_settings, limit_by, settings_of,
-};
+use crate::settings::{CellSettings, RowSettings, Settings, cell_settings, limit_by, settings_of};
 use crate::table::empty_table;
 use comfy_parts::content_split::ColumnDisplayInfo;
 use comfy_table::{PartEnds, Result, RowCell, RowWriter, Table};
@@ -234,7 +232,14 @@ impl RecordRows {
     {
         let field = fields.get(column.position).unwrap_or("");
         let own = settings_of(settings, column.position);
-        field_cell(self.alloc(), field, column, own, self.is_aligned, &self.look)
+        field_cell(
+            self.alloc(),
+            field,
+            column,
+            own,
+            self.is_aligned,
+            &self.look,
+        )
     }
 
     // The settings of the row of the record at a place.
@@ -287,7 +292,15 @@ impl RecordRows {
         for column in columns {
             let field = fields.get(column.position).unwrap_or("");
             let own = settings_of(settings, column.position);
-            push_field(cells, alloc, field, column, own, self.is_aligned, &self.look)?;
+            push_field(
+                cells,
+                alloc,
+                field,
+                column,
+                own,
+                self.is_aligned,
+                &self.look,
+            )?;
         }
         Ok(())
     }
