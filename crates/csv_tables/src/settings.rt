@@ -94,7 +94,7 @@ impl CellSettings {
         self.foreground.is_none() && self.background.is_none() && self.attributes.is_empty()
     }
 
-    /// A cell with these settings.
+    /// A cell with these settings. Its own attributes come first.
     pub fn dressed(&self, cell: Cell) -> Result<Cell>
         ensures { IfOk result (λ made. made ≡ dressed (Some self.now) cell) }
     {
