@@ -8,7 +8,8 @@
  *  - The lines that comfy_cells_draw writes keep all that is promised of a table's lines: docs/PROVED.md of the sources. With
  *    COMFY_FORM_TRIMMED this is so of the lines before the white space at their ends is left out: then they aren't equally wide.
  *  - The table that comfy_rows_draw writes keeps all that is promised of rows there: no text is lost, edges are straight, and a
- *    width holds, with the conditions that it names.
+ *    width holds, with the conditions that it names. This is proved without looks and heights, and for columns with nothing but
+ *    COMFY_COLUMN_LEFT, COMFY_COLUMN_RIGHT and COMFY_COLUMN_HIDDEN.
  *  - A call returns, and reads and writes only memory of its own, and that which its arguments give it.
  *
  * Not proved, but tested:
@@ -124,61 +125,9 @@ struct comfy_frame {
 /* Stands for no width, as every width above 65535 does. */
 #define COMFY_NO_WIDTH UINT32_MAX
 
-/* ---- rows of texts */
+/* ---- how texts look */
 
-/* Stands for no limit. */
-#define COMFY_NO_LIMIT SIZE_MAX
-
-/* Where the style's lines between rows are drawn: everywhere, where a row has more than one line, or nowhere. */
-enum { COMFY_LINES_EVERYWHERE, COMFY_LINES_WHERE_NEEDED, COMFY_LINES_NOWHERE };
-
-/* When a row is drawn as a table of its own, of names and texts: never, where a width has no room for all columns, or always. */
-enum { COMFY_EXPANDED_NEVER, COMFY_EXPANDED_AUTO, COMFY_EXPANDED_ALWAYS };
-
-/* A column's byte: numbers stand at the right and other texts at the left, all at the left, all at the right, or it isn't drawn. */
-enum { COMFY_COLUMN_BY_CONTENTS, COMFY_COLUMN_LEFT, COMFY_COLUMN_RIGHT, COMFY_COLUMN_HIDDEN };
-
-/* How rows are drawn. A flag is set where it isn't 0. */
-struct comfy_rows_settings {
-    size_t max_height;        /* how many lines a row below the header has at most, or COMFY_NO_LIMIT */
-    size_t limit;             /* how many rows are drawn, or COMFY_NO_LIMIT; where there are more, a line below says so */
-    uint32_t style;           /* a preset, COMFY_ROUNDED or COMFY_OWN_STYLE */
-    uint32_t width;           /* in terminal columns, or COMFY_NO_WIDTH */
-    uint32_t fills_width;     /* a flag: the width is filled */
-    uint32_t row_lines;       /* COMFY_LINES_.. */
-    uint32_t expansion;       /* COMFY_EXPANDED_.. */
-    uint32_t has_header;      /* a flag: the first row is the header */
-    uint32_t has_bold_header; /* a flag: it is written in bold */
-    uint32_t is_numbered;     /* a flag: a first column has the numbers of the rows */
-    uint32_t aligns_decimals; /* a flag: decimal points of a column of numbers stand below each other */
-    uint32_t has_sequences;   /* a flag: SGR sequences in texts stay, and count no columns */
-    uint32_t is_markdown;     /* a flag: the table is one for Markdown, whatever else is set */
-    struct comfy_frame frame; /* the lines of COMFY_OWN_STYLE, which no other style reads */
-};
-
-/*
- * Draws the table of rows into the caller's buffer, as csvtable draws records of these texts into a pipe, all of them counted.
- *
- * texts has the texts of all cells in their order, without anything between them. lengths has the length of each in bytes, and
- * counts the number of cells of each row; rows may have different numbers. columns has a byte for each column, or for the first
- * ones.
- *
- * These are looked at in this order, so the first that holds is returned:
- *
- *   COMFY_SETTINGS_REFUSED  a setting or a column's byte is none of those above
- *   COMFY_LENGTHS_REFUSED   the lengths aren't those of the texts, or the counts not those of the lengths
- *   COMFY_INPUT_REFUSED     lengths and counts add up, but a text isn't UTF-8
- *   COMFY_SETTINGS_REFUSED  a byte other than COMFY_COLUMN_BY_CONTENTS is for a column that isn't there, or no column is left
- */
-uint32_t comfy_rows_draw(const uint8_t *texts, size_t texts_length, const size_t *lengths, size_t lengths_length,
-                         const size_t *counts, size_t counts_length, const uint8_t *columns, size_t columns_length,
-                         const struct comfy_rows_settings *settings, uint8_t *output, size_t output_length, size_t *needed);
-
-/* ---- cells with settings of their own */
-
-/* In the structs of this part 0 stands for nothing that is set, but as a width and as a padding. */
-
-/* Where texts stand; any other number stands for the first. */
+/* The alignment of a text; any other number stands for the first. */
 enum { COMFY_ALIGNED_BY_COLUMN, COMFY_ALIGNED_LEFT, COMFY_ALIGNED_RIGHT, COMFY_ALIGNED_CENTER };
 
 /* What a colour is: none, the terminal's own, one of 256, or one by its parts. Any other number stands for none. */
@@ -244,13 +193,100 @@ enum {
     COMFY_ATTRIBUTE_NOT_OVERLINED = 1 << 27
 };
 
-struct comfy_cell {
-    size_t length;       /* the bytes of its text, in which line feeds stand between lines */
-    uint32_t delimiter;  /* the character at which its lines may break, in place of the column's */
+/* How a text looks. 0 stands for nothing that is set. */
+struct comfy_look {
     uint32_t alignment;  /* COMFY_ALIGNED_.. */
     uint32_t attributes; /* COMFY_ATTRIBUTE_.., joined by | */
     struct comfy_color foreground;
     struct comfy_color background;
+};
+
+/* ---- rows of texts */
+
+/* Stands for no limit. */
+#define COMFY_NO_LIMIT SIZE_MAX
+
+/* Where the style's lines between rows are drawn: everywhere, where a row has more than one line, or nowhere. */
+enum { COMFY_LINES_EVERYWHERE, COMFY_LINES_WHERE_NEEDED, COMFY_LINES_NOWHERE };
+
+/* When a row is drawn as a table of its own, of names and texts: never, where a width has no room for all columns, or always. */
+enum { COMFY_EXPANDED_NEVER, COMFY_EXPANDED_AUTO, COMFY_EXPANDED_ALWAYS };
+
+/* A column's side: numbers at the right and other texts at the left, all at the left, all at the right, not drawn, or all in the
+ * middle. */
+enum { COMFY_COLUMN_BY_CONTENTS, COMFY_COLUMN_LEFT, COMFY_COLUMN_RIGHT, COMFY_COLUMN_HIDDEN, COMFY_COLUMN_CENTER };
+
+/*
+ * A column of rows. Widths are in terminal columns, without paddings; 0 sets none. Texts that are wider than the greatest width
+ * are wrapped, but it is never less than the least width.
+ *
+ * COMFY_PLAIN_COLUMN has nothing of its own.
+ */
+struct comfy_rows_column {
+    uint16_t left_padding;  /* how many terminal columns stay free at the left of texts */
+    uint16_t right_padding; /* how many at the right */
+    uint32_t side;          /* COMFY_COLUMN_.. */
+    uint16_t least;         /* the least width of texts */
+    uint16_t greatest;      /* the greatest width of texts */
+};
+
+#define COMFY_PLAIN_COLUMN {1, 1, COMFY_COLUMN_BY_CONTENTS, 0, 0}
+
+/* How rows are drawn. A flag is set where it isn't 0. */
+struct comfy_rows_settings {
+    size_t max_height;        /* how many lines a row below the header has at most, or COMFY_NO_LIMIT */
+    size_t limit;             /* how many rows are drawn, or COMFY_NO_LIMIT; where there are more, a line below says so */
+    uint32_t style;           /* a preset, COMFY_ROUNDED or COMFY_OWN_STYLE */
+    uint32_t width;           /* in terminal columns, or COMFY_NO_WIDTH */
+    uint32_t fills_width;     /* a flag: the width is filled */
+    uint32_t row_lines;       /* COMFY_LINES_.. */
+    uint32_t expansion;       /* COMFY_EXPANDED_.. */
+    uint32_t has_header;      /* a flag: the first row is the header */
+    uint32_t has_bold_header; /* a flag: it is written in bold */
+    uint32_t is_numbered;     /* a flag: a first column has the numbers of the rows */
+    uint32_t aligns_decimals; /* a flag: decimal points of a column of numbers stand below each other */
+    uint32_t has_sequences;   /* a flag: SGR sequences in texts stay, and count no columns */
+    uint32_t is_markdown;     /* a flag: the table is one for Markdown, whatever else is set here */
+    struct comfy_frame frame; /* the lines of COMFY_OWN_STYLE, which no other style reads */
+};
+
+/*
+ * Draws the table of rows into the caller's buffer, as csvtable draws records of these texts into a pipe, all of them counted.
+ *
+ * texts has the texts of all cells in their order, without anything between them. lengths has the length of each in bytes, and
+ * counts the number of cells of each row; rows may have different numbers. columns has a struct for each column, or for the first
+ * ones; the others are as COMFY_PLAIN_COLUMN.
+ *
+ * looks has the look of each text, or nothing. A text's alignment is in place of that of its column, and its attributes come after
+ * bold of a bold header. heights has the most lines of each row, or nothing. It is in place of max_height, unless it is 0 or
+ * COMFY_NO_LIMIT. The header has no limit.
+ *
+ * A table for Markdown, and rows that are or may be expanded, have no looks, no heights, and nothing of columns but
+ * COMFY_COLUMN_LEFT, COMFY_COLUMN_RIGHT and COMFY_COLUMN_HIDDEN.
+ *
+ * These are looked at in this order, so the first that holds is returned:
+ *
+ *   COMFY_SETTINGS_REFUSED  a setting or a column's side is none of those above, or there are looks, heights or columns that such
+ *                           a table or such rows don't have
+ *   COMFY_LENGTHS_REFUSED   the lengths aren't those of the texts, or the counts not those of the lengths; or there are looks, but
+ *                           not one for each text, or heights, but not one for each row
+ *   COMFY_INPUT_REFUSED     these add up, but a text isn't UTF-8
+ *   COMFY_SETTINGS_REFUSED  a column that isn't there isn't as COMFY_PLAIN_COLUMN, or no column is left
+ */
+uint32_t comfy_rows_draw(const uint8_t *texts, size_t texts_length, const size_t *lengths, size_t lengths_length,
+                         const size_t *counts, size_t counts_length, const struct comfy_look *looks, size_t looks_length,
+                         const size_t *heights, size_t heights_length, const struct comfy_rows_column *columns,
+                         size_t columns_length, const struct comfy_rows_settings *settings, uint8_t *output,
+                         size_t output_length, size_t *needed);
+
+/* ---- cells with settings of their own */
+
+/* In the structs of this part 0 stands for nothing that is set, but as a width and as a padding. */
+
+struct comfy_cell {
+    size_t length;       /* the bytes of its text, in which line feeds stand between lines */
+    uint32_t delimiter;  /* the character at which its lines may break, in place of the column's */
+    struct comfy_look look;
 };
 
 struct comfy_row {
@@ -353,15 +389,17 @@ uint32_t comfy_csv_draw(const uint8_t *input, size_t input_length, const uint8_t
  * behind it. *result is what the function returned. The pointer is null where there is no memory or nothing was written.
  */
 static inline char *comfy_rows_text(const uint8_t *texts, size_t texts_length, const size_t *lengths, size_t lengths_length,
-                                    const size_t *counts, size_t counts_length, const uint8_t *columns, size_t columns_length,
+                                    const size_t *counts, size_t counts_length, const struct comfy_look *looks,
+                                    size_t looks_length, const size_t *heights, size_t heights_length,
+                                    const struct comfy_rows_column *columns, size_t columns_length,
                                     const struct comfy_rows_settings *settings, uint32_t *result) {
     size_t room = 4096 + 4 * texts_length + 8 * lengths_length, needed = 0;
     for (;;) {
         char *output = (char *)malloc(room + 1);
         *result = COMFY_OUT_OF_MEMORY;
         if (!output) return NULL;
-        *result = comfy_rows_draw(texts, texts_length, lengths, lengths_length, counts, counts_length, columns, columns_length,
-                                  settings, (uint8_t *)output, room, &needed);
+        *result = comfy_rows_draw(texts, texts_length, lengths, lengths_length, counts, counts_length, looks, looks_length, heights,
+                                  heights_length, columns, columns_length, settings, (uint8_t *)output, room, &needed);
         if (*result == COMFY_DRAWN) {
             output[needed] = 0;
             return output;

@@ -78,7 +78,7 @@ narrow : (width limit : ℕ) → HasOneColumnFrame (settings width limit)
 narrow width limit own = absurd (no_own width limit own)
 
 abbrev Drawn : ℕ → ℕ → Text → Type 0
-Drawn width limit bytes = ShowRows (codes "ab") (1 ∷ 1 ∷ []) (1 ∷ 1 ∷ []) [] (settings width limit) bytes
+Drawn width limit bytes = ShowRows (codes "ab") (1 ∷ 1 ∷ []) (1 ∷ 1 ∷ []) [] [] [] (settings width limit) bytes
 
 abbrev the_layout : ℕ → ℕ → Layout
 the_layout width limit =
@@ -106,7 +106,7 @@ all = 2 ^ 64 - 1
 abbrev no_width : ℕ
 no_width = 65536
 
-is_asked : (width limit : ℕ) → layout_for (settings width limit) [] the_rows ≡ Some (the_layout width limit) → (bytes : Text) (is : Drawn width limit bytes) → is.layout ≡ the_layout width limit
+is_asked : (width limit : ℕ) → layout_for (settings width limit) [] [] [] the_rows ≡ Some (the_layout width limit) → (bytes : Text) (is : Drawn width limit bytes) → is.layout ≡ the_layout width limit
 is_asked width limit asked bytes is = same_Some _ _ (sym is.is_layout ∙ asked)
 
 are_narrow : All (All (HasCharactersWithin 1)) the_rows
@@ -158,7 +158,7 @@ no_text is = let wrong : false ≡ true = is_utf8-from_IsUtf8 (0xFF ∷ []) is.a
 -- a control character
 bell : ¬ (Drawn no_width all (0x07 ∷ []))
 bell is =
-    let own = is.harmless (harmless no_width all) in
+    let own = (is.keep refl).harmless (harmless no_width all) in
     let none : NoCharPasses is_harmful (0x07 ∷ []) = subst (NoCharPasses is_harmful) (shows_itself own.shows refl) own.harmless in
     let isnt : is_harmful 0x07 ≡ false = NoCharPasses-byte is_harmful (0x07 ∷ []) 0 none (omega arith) (omega arith) in
     cc isnt
@@ -174,7 +174,7 @@ three_columns = refl
 -- a line that is a terminal column short
 uneven : ¬ (Drawn no_width all (codes " a\n b \n"))
 uneven is =
-    let kept = subst (λ (layout : Layout). AreStraightLines layout the_rows (codes " a\n b \n")) (is_asked no_width all refl (codes " a\n b \n") is) (is.straight (harmless no_width all) (narrow no_width all)) (record { unmarked = refl; unkept = refl }) (inl (inl (inl are_narrow))) in
+    let kept = subst (λ (layout : Layout). AreStraightLines layout the_rows (codes " a\n b \n")) (is_asked no_width all refl (codes " a\n b \n") is) ((is.keep refl).straight (harmless no_width all) (narrow no_width all)) (record { unmarked = refl; unkept = refl }) (inl (inl (inl are_narrow))) in
     let own = drawn_lines (ShowsColumns kept.0) no_width (codes " a\n b \n") kept.1 in
     let each : All (ShowsColumns kept.0) (codes " a" ∷ codes " b " ∷ []) = subst (All (ShowsColumns kept.0)) (two_lines (codes " a") (codes " b ") own.lines (found (codes " a\n b \n") own.lines own.are)) own.each in
     let first = shown_columns kept.0 (codes " a") refl (All-head (ShowsColumns kept.0) (codes " a") (codes " b " ∷ []) each) in
@@ -189,7 +189,7 @@ ten = refl
 too_wide : ¬ (Drawn 8 all (codes "0123456789\n"))
 too_wide is =
     let P = KeepsTo 8 (frame_room (framed_columns_in (the_layout 8 all) the_rows)) false in
-    let kept : EachRowsLine P (the_layout 8 all) the_rows (codes "0123456789\n") = subst (λ (layout : Layout). KeepToWidth layout the_rows (codes "0123456789\n")) (is_asked 8 all refl (codes "0123456789\n") is) (is.width (harmless 8 all) (narrow 8 all)) 8 refl (record { unmarked = refl; unkept = refl }) (inl are_narrow) in
+    let kept : EachRowsLine P (the_layout 8 all) the_rows (codes "0123456789\n") = subst (λ (layout : Layout). KeepToWidth layout the_rows (codes "0123456789\n")) (is_asked 8 all refl (codes "0123456789\n") is) ((is.keep refl).width (harmless 8 all) (narrow 8 all)) 8 refl (record { unmarked = refl; unkept = refl }) (inl are_narrow) in
     let own = drawn_lines P 8 (codes "0123456789\n") kept in
     let line = All-head P (codes "0123456789") [] (subst (All P) (one_line (codes "0123456789") own.lines (found (codes "0123456789\n") own.lines own.are)) own.each) in
     let wide = shown_columns line.columns (codes "0123456789") refl line.shows in
@@ -199,7 +199,7 @@ too_wide is =
 three_rows : ¬ (Drawn no_width 1 (codes " a \n1 of 3 records\n"))
 unfolding digits
 three_rows is =
-    let kept = subst (λ (layout : Layout). AreStraightLines layout the_rows (codes " a \n1 of 3 records\n")) (is_asked no_width 1 refl (codes " a \n1 of 3 records\n") is) (is.straight (harmless no_width 1) (narrow no_width 1)) (record { unmarked = refl; unkept = refl }) (inl (inl (inl are_narrow))) in
+    let kept = subst (λ (layout : Layout). AreStraightLines layout the_rows (codes " a \n1 of 3 records\n")) (is_asked no_width 1 refl (codes " a \n1 of 3 records\n") is) ((is.keep refl).straight (harmless no_width 1) (narrow no_width 1)) (record { unmarked = refl; unkept = refl }) (inl (inl (inl are_narrow))) in
     let noted = kept.1 in
     let made : codes " a \n1 of 3 records\n" ≡ noted.drawn ++ note_for false (Some 1) (Some 2) = noted.joined ∙ ap (λ (count : Option ℕ). noted.drawn ++ note_for false (Some 1) count) noted.is_count in
     let letter : ◌≡◌ {A = ℕ} 0x33 0x32 = ap (λ (t : Text). slice_index_or t 9 0) (ap reverse made ∙ reverse-append noted.drawn (note_for false (Some 1) (Some 2))) in

@@ -1,5 +1,5 @@
 -- What is drawn of rows is straight, and keeps to a width.
-use Rattle.std.proofs.Common.{◌⊎◌, ◌≡◌, ◌≤◌, ◌<◌, ◌==◌, ◌&&◌, ◌||◌, ℕ, zero, suc, Bool, true, false, not, List, [], ◌∷◌, Option, Some, None, inl, inr, length, option_map, unwrap_or, refl, sym, ap, ◌∙◌, subst, arith, drop, eqb-true, take, slice_get}
+use Rattle.std.proofs.Common.{◌⊎◌, ◌≡◌, ◌≤◌, ◌<◌, ◌==◌, ◌&&◌, ◌||◌, ℕ, zero, suc, Bool, true, false, not, List, [], ◌∷◌, ◌++◌, Option, Some, None, inl, inr, length, map, option_map, unwrap_or, refl, sym, ap, ◌∙◌, subst, arith, drop, eqb-true, take, slice_get}
 use Rattle.std.specs.List.{All, list_all, list_any, range_with_len}
 use Rattle.std.specs.Prelude.{if◌then◌else◌}
 use Rattle.std.specs.Str.{IsUtf8}
@@ -27,10 +27,14 @@ use Rattle.csv_promises.specs.Straight.{EachField}
 use Rattle.csv_records.specs.Cleaning.{is_replaced}
 use Rattle.csv_records.specs.CutLists.{cut_by}
 use Rattle.csv_tables.proofs.OutputControlLemmas.{unbroken_without}
+use Rattle.csv_tables.proofs.StyledLemmas.{without_settings_any}
 use Rattle.csv_tables.specs.Columns.{ColumnsValue, count_of}
 use Rattle.csv_tables.specs.Controls.{IsHarmlessStyle}
 use Rattle.csv_tables.specs.Drawn.{RendersAnyRecords, RendersRecords, column_count, count_below, drawn_rows, names_or_none}
 use Rattle.csv_tables.specs.Laws.{CharactersFitEachWidth}
+use Rattle.csv_tables.specs.Settings.{RowSettingsValue, SettingsValue, no_settings}
+use Rattle.csv_tables.specs.Styled.{RendersAnyStyledRecords}
+use Rattle.csv_tables.specs.declared.settings.ColumnSettings.{ColumnSettings}
 use Rattle.csv_tables.specs.declared.options.Expansion.{Expansion}
 use Rattle.csv_tables.specs.declared.options.Layout.{Layout}
 use Rattle.csv_tables.specs.declared.options.Look.{Look}
@@ -39,9 +43,14 @@ use Rattle.csv_tables.specs.declared.selection.Selection.{Selection}
 use Rattle.promises.specs.Shown.{ShowsColumns}
 use Rattle.promises.specs.Tables.{HasCharactersWithin}
 use Rattle.comfy_c.specs.Frames.{own_number, own_style, style_at, style_for}
-use Rattle.comfy_c.specs.PromisedRows.{AreStraightLines, EachRowsLine, FitTheWidth, HasHarmlessFrame, HasOneColumnFrame, HaveRoom, IsCountOf, IsPlainLook, KeepToWidth, ShowAllTexts, ShowRows}
-use Rattle.comfy_c.specs.RowCalls.{IsRowsDrawing, are_bytes, are_there, byte_at, can_be_drawn, columns_by, columns_for, count_in_all, expansions, layout_by, layout_for, look_by, look_for, selection_for, separators}
+use Rattle.comfy_c.specs.PromisedRows.{AreStraightLines, EachRowsLine, FitTheWidth, HasHarmlessFrame, HasOneColumnFrame, HaveRoom, IsCountOf, IsPlainLook, KeepRowPromises, KeepToWidth, ShowAllTexts, ShowRows}
+use Rattle.comfy_c.specs.Calls.{is_set}
+use Rattle.comfy_c.specs.Looks.{rows_by, table_settings, unset_row}
+use Rattle.comfy_c.specs.RowCalls.{IsRowsDrawing, can_have, expansions, has_sides_alone, layout_by, layout_for, look_by, look_for, selection_for, separators}
+use Rattle.comfy_c.specs.RowColumns.{are_there, are_unset, can_be_drawn, column_settings, columns_by, columns_for, count_in_all, side_at}
 use Rattle.comfy_c.specs.Texts.{rows_of}
+use Rattle.comfy_c.specs.declared.cells_numbers.LookNumbers.{LookNumbers}
+use Rattle.comfy_c.specs.declared.rows_columns.RowsColumn.{RowsColumn}
 use Rattle.comfy_c.specs.declared.rows_settings.RowsSettings.{RowsSettings}
 
 -- ---- styles
@@ -87,43 +96,43 @@ look_style settings (Some style) (Some lines) None look is = absurd (cc is)
 look_style settings (Some style) None expansion look is = absurd (cc is)
 look_style settings None lines expansion look is = absurd (cc is)
 
--- what a layout has of settings and bytes
-record IsAsked (settings : RowsSettings) (bytes : List ℕ) (rows : List (List Text)) (layout : Layout) : Type 0 where
+-- what a layout has of settings and columns
+record IsAsked (settings : RowsSettings) (asked : List RowsColumn) (rows : List (List Text)) (layout : Layout) : Type 0 where
   pub look : look_for settings ≡ Some layout.look
-  pub columns : columns_for layout.selection bytes rows ≡ Some layout.columns
+  pub columns : columns_for layout.selection asked rows ≡ Some layout.columns
 
-asked : (settings : RowsSettings) (bytes : List ℕ) (rows : List (List Text)) (layout : Layout) → layout_for settings bytes rows ≡ Some layout → IsAsked settings bytes rows layout
-asked settings bytes rows layout is = by_bytes (are_bytes bytes) is
+is_asked : (settings : RowsSettings) (looks : List LookNumbers) (heights : List ℕ) (asked : List RowsColumn) (rows : List (List Text)) (layout : Layout) → layout_for settings looks heights asked rows ≡ Some layout → IsAsked settings asked rows layout
+is_asked settings looks heights asked rows layout is = by_test (can_have settings looks heights asked) is
   where
     selection : Selection
     selection = selection_for settings
 
-    by_parts : (look : Option Look) (columns : Option ColumnsValue) → look_for settings ≡ look → columns_for selection bytes rows ≡ columns → layout_by selection look columns ≡ Some layout → IsAsked settings bytes rows layout
+    by_parts : (look : Option Look) (columns : Option ColumnsValue) → look_for settings ≡ look → columns_for selection asked rows ≡ columns → layout_by selection look columns ≡ Some layout → IsAsked settings asked rows layout
     by_parts (Some look) (Some columns) look_is columns_is found =
         let same = same_Some _ layout found in
-        subst (IsAsked settings bytes rows) same (record { look = look_is; columns = columns_is })
+        subst (IsAsked settings asked rows) same (record { look = look_is; columns = columns_is })
     by_parts (Some look) None look_is columns_is found = absurd (cc found)
     by_parts None columns look_is columns_is found = absurd (cc found)
 
-    by_bytes : (b : Bool) → (if b then layout_by selection (look_for settings) (columns_for selection bytes rows) else None) ≡ Some layout → IsAsked settings bytes rows layout
-    by_bytes true found = by_parts (look_for settings) (columns_for selection bytes rows) refl refl found
-    by_bytes false found = absurd (cc found)
+    by_test : (b : Bool) → (if b then layout_by selection (look_for settings) (columns_for selection asked rows) else None) ≡ Some layout → IsAsked settings asked rows layout
+    by_test true found = by_parts (look_for settings) (columns_for selection asked rows) refl refl found
+    by_test false found = absurd (cc found)
 
 -- ---- columns
 
-module _ (selection : Selection) (bytes : List ℕ) (rows : List (List Text)) (columns : ColumnsValue) (is : columns_for selection bytes rows ≡ Some columns) where
-  found : (can_be_drawn selection bytes rows ≡ true) × (columns_by bytes (column_count selection rows) ≡ columns)
-  found = by_test (can_be_drawn selection bytes rows) refl is
+module _ (selection : Selection) (asked : List RowsColumn) (rows : List (List Text)) (columns : ColumnsValue) (is : columns_for selection asked rows ≡ Some columns) where
+  found : (can_be_drawn selection asked rows ≡ true) × (columns_by asked (column_count selection rows) ≡ columns)
+  found = by_test (can_be_drawn selection asked rows) refl is
     where
-      by_test : (b : Bool) → can_be_drawn selection bytes rows ≡ b → (if b then Some (columns_by bytes (column_count selection rows)) else None) ≡ Some columns → (can_be_drawn selection bytes rows ≡ true) × (columns_by bytes (column_count selection rows) ≡ columns)
+      by_test : (b : Bool) → can_be_drawn selection asked rows ≡ b → (if b then Some (columns_by asked (column_count selection rows)) else None) ≡ Some columns → (can_be_drawn selection asked rows ≡ true) × (columns_by asked (column_count selection rows) ≡ columns)
       by_test true test own = (test, same_Some _ columns own)
       by_test false test own = absurd (cc own)
 
   -- if there are rows, a column is left
   some_left : (length rows == 0) ≡ false → 1 ≤ length columns.drawn
   some_left some =
-      let test = ap (λ (b : Bool). b || (are_there bytes (count_in_all selection rows) && not (length (columns_by bytes (column_count selection rows)).drawn == 0))) (sym some) ∙ found.0 in
-      let left = not-true _ (and_parts (are_there bytes (count_in_all selection rows)) (not (length (columns_by bytes (column_count selection rows)).drawn == 0)) test).1 in
+      let test = ap (λ (b : Bool). b || (are_there asked (count_in_all selection rows) && not (length (columns_by asked (column_count selection rows)).drawn == 0))) (sym some) ∙ found.0 in
+      let left = not-true _ (and_parts (are_there asked (count_in_all selection rows)) (not (length (columns_by asked (column_count selection rows)).drawn == 0)) test).1 in
       let own = ap (λ (c : ColumnsValue). length c.drawn) found.1 in
       grind (arith, left, own)
 
@@ -134,7 +143,7 @@ module _ (selection : Selection) (bytes : List ℕ) (rows : List (List Text)) (c
   are_below unnamed =
       subst (λ (names : List Text). All (λ (k : ℕ). k < count_of names (drawn_rows selection rows)) columns.drawn) unnamed
       (subst (λ (c : ColumnsValue). All (λ (k : ℕ). k < column_count selection rows) c.drawn) found.1
-      (All-filter (λ (position : ℕ). not (byte_at bytes position == 3)) (λ (k : ℕ). k < column_count selection rows) (range_with_len 0 (column_count selection rows)) in_range))
+      (All-filter (λ (position : ℕ). not (side_at asked position == 3)) (λ (k : ℕ). k < column_count selection rows) (range_with_len 0 (column_count selection rows)) in_range))
 
 -- ---- texts
 
@@ -153,9 +162,9 @@ rows_are_text (n ∷ counts) fields all =
 not_empty : (n : ℕ) → (suc n == 0) ≡ false
 not_empty n = grind arith
 
-module _ (settings : RowsSettings) (bytes : List ℕ) (layout : Layout) (output : Text) where
+module _ (settings : RowsSettings) (asked : List RowsColumn) (layout : Layout) (output : Text) where
   -- what is drawn of some rows
-  module _ (rows : List (List Text)) (own : IsAsked settings bytes rows layout) (texts : All AllText rows) (some : (length rows == 0) ≡ false) (made : RendersRecords (Some (count_below layout.selection rows)) layout rows output) where
+  module _ (rows : List (List Text)) (own : IsAsked settings asked rows layout) (texts : All AllText rows) (some : (length rows == 0) ≡ false) (made : RendersRecords (Some (count_below layout.selection rows)) layout rows output) where
     abbrev known : Option ℕ
     known = Some (count_below layout.selection rows)
 
@@ -183,7 +192,7 @@ module _ (settings : RowsSettings) (bytes : List ℕ) (layout : Layout) (output 
     some_shown harmless is uncut =
         all_shown layout
         (record { unkept = is.unkept; table = is.unmarked; uncut = uncut; style = unbroken_without layout.look.style (clear harmless) })
-        known rows texts output made (some_left layout.selection bytes rows layout.columns own.columns some) (are_below layout.selection bytes rows layout.columns own.columns) MayCount refl
+        known rows texts output made (some_left layout.selection asked rows layout.columns own.columns some) (are_below layout.selection asked rows layout.columns own.columns) MayCount refl
 
     some_harmless : HasHarmlessFrame settings → IsHarmlessFor layout.look output
     some_harmless harmless = harmless_output known layout rows output (clear harmless) texts made
@@ -202,7 +211,7 @@ module _ (settings : RowsSettings) (bytes : List ℕ) (layout : Layout) (output 
 
     some_kept : HasHarmlessFrame settings → HasOneColumnFrame settings → KeepToWidth layout rows output
     some_kept harmless narrow w wide is room =
-        keep w known layout rows output wide (plain harmless narrow is) (fits room) (some_left layout.selection bytes rows layout.columns own.columns some) (are_below layout.selection bytes rows layout.columns own.columns) MayCount rows refl refl
+        keep w known layout rows output wide (plain harmless narrow is) (fits room) (some_left layout.selection asked rows layout.columns own.columns some) (are_below layout.selection asked rows layout.columns own.columns) MayCount rows refl refl
       where
         fits : FitTheWidth layout rows → EachField (HasCharactersWithin 1) rows ⊎ CharactersFitEachWidth known layout rows
         fits (inl each) = inl each
@@ -218,34 +227,43 @@ module _ (settings : RowsSettings) (bytes : List ℕ) (layout : Layout) (output 
       subst (EachRowsLine P layout []) (sym empty)
       (nothing_drawn P layout (IsCountOf layout []) no_count)
 
-  rows_keep : (rows : List (List Text)) → layout_for settings bytes rows ≡ Some layout → All AllText rows → RendersAnyRecords layout rows output
-      → (HasHarmlessFrame settings → ShowAllTexts layout rows output) × (HasHarmlessFrame settings → IsHarmlessFor layout.look output)
-      × (HasHarmlessFrame settings → HasOneColumnFrame settings → AreStraightLines layout rows output) × (HasHarmlessFrame settings → HasOneColumnFrame settings → KeepToWidth layout rows output)
-  rows_keep [] is texts made = (
-    λ harmless look uncut. subst (ShowsAllFields (IsCountOf layout []) layout []) (sym made) (none_of_all (IsCountOf layout []) no_count layout),
-    λ harmless. subst (IsHarmlessFor layout.look) (sym made) (nothing_is_harmless layout.look),
-    λ harmless narrow look room. (0, none (ShowsColumns 0) made),
-    λ harmless narrow w wide look within. none _ made,
-  )
-  rows_keep (row ∷ rows) is texts made =
-      let own = asked settings bytes (row ∷ rows) layout is in
-      let some = not_empty (length rows) in (
-        some_shown (row ∷ rows) own texts some made,
-        some_harmless (row ∷ rows) own texts some made,
-        some_straight (row ∷ rows) own texts some made,
-        some_kept (row ∷ rows) own texts some made,
-      )
+  rows_keep : (rows : List (List Text)) → IsAsked settings asked rows layout → All AllText rows → RendersAnyRecords layout rows output → KeepRowPromises settings layout rows output
+  rows_keep [] own texts made =
+      record {
+        all = λ harmless look uncut. subst (ShowsAllFields (IsCountOf layout []) layout []) (sym made) (none_of_all (IsCountOf layout []) no_count layout);
+        harmless = λ harmless. subst (IsHarmlessFor layout.look) (sym made) (nothing_is_harmless layout.look);
+        straight = λ harmless narrow look room. (0, none (ShowsColumns 0) made);
+        width = λ harmless narrow w wide look within. none _ made;
+      }
+  rows_keep (row ∷ rows) own texts made =
+      let some = not_empty (length rows) in
+      record {
+        all = some_shown (row ∷ rows) own texts some made;
+        harmless = some_harmless (row ∷ rows) own texts some made;
+        straight = some_straight (row ∷ rows) own texts some made;
+        width = some_kept (row ∷ rows) own texts some made;
+      }
+
+-- nothing but sides of columns is set
+none_set : (has_header : Bool) (counts : List ℕ) (looks : List LookNumbers) (heights : List ℕ) (columns : List RowsColumn) → has_sides_alone looks heights columns ≡ true → table_settings has_header counts looks heights columns ≡ no_settings
+none_set has_header counts looks heights columns alone =
+    let both = and_parts (length looks == 0) ((length heights == 0) && are_unset columns) alone in
+    let rest = and_parts (length heights == 0) (are_unset columns) both.1 in
+    let empty : ((length looks == 0) && (length heights == 0)) ≡ true = ap₂ (λ (a b : Bool). a && b) both.0 rest.0 in
+    ap₂ (λ (own : List ColumnSettings) (rows : List RowSettingsValue). record { columns = own; rows = rows })
+    (ap (λ (b : Bool). if b then [] else map column_settings columns) rest.1)
+    (ap (λ (b : Bool). if b then [] else (if has_header then [] else unset_row ∷ []) ++ rows_by (cut_by counts looks) heights) empty)
 
 -- so a drawing of rows shows them
-pub shows_rows : (texts : Text) (lengths counts columns : List ℕ) (settings : RowsSettings) (bytes : Text) → IsRowsDrawing texts lengths counts columns settings bytes → ShowRows texts lengths counts columns settings bytes
-shows_rows texts lengths counts columns settings bytes is =
-    let kept = rows_keep settings columns is.layout bytes (rows_of texts lengths counts) is.is_layout (rows_are_text counts (cut_by lengths texts) is.are_texts) is.is_output in
+pub shows_rows : (texts : Text) (lengths counts : List ℕ) (looks : List LookNumbers) (heights : List ℕ) (columns : List RowsColumn) (settings : RowsSettings) (bytes : Text)
+    → IsRowsDrawing texts lengths counts looks heights columns settings bytes → ShowRows texts lengths counts looks heights columns settings bytes
+shows_rows texts lengths counts looks heights columns settings bytes is =
+    let rows : List (List Text) = rows_of texts lengths counts in
     record {
       are_text = is.is_text;
       layout = is.layout;
       is_layout = is.is_layout;
-      all = kept.0;
-      harmless = kept.1;
-      straight = kept.2;
-      width = kept.3;
+      keep = λ alone.
+          rows_keep settings columns is.layout bytes rows (is_asked settings looks heights columns rows is.layout is.is_layout) (rows_are_text counts (cut_by lengths texts) is.are_texts)
+          (without_settings_any is.layout rows bytes (subst (λ (own : SettingsValue). RendersAnyStyledRecords own is.layout rows bytes) (none_set (is_set settings.has_header) counts looks heights columns alone) is.is_output));
     }

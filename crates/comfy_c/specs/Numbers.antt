@@ -70,10 +70,10 @@ abbrev pub cell_with : CellNumbers → Text → CellValue
 cell_with numbers text =
     record (plain_cell text) {
       delimiter = char_of numbers.delimiter;
-      alignment = alignment_of numbers.alignment;
-      foreground = color_of numbers.foreground;
-      background = color_of numbers.background;
-      attributes = attributes_by all_attributes numbers.attributes;
+      alignment = alignment_of numbers.look.alignment;
+      foreground = color_of numbers.look.foreground;
+      background = color_of numbers.look.background;
+      attributes = attributes_by all_attributes numbers.look.attributes;
     }
 
 -- a row's greatest height, where it isn't 0 nor the greatest number of 64 bits

@@ -1,6 +1,6 @@
 -- What a caller in C is promised of a table of rows.
 -- Source: this library's own.
-use Rattle.std.specs.Prelude.{◌≡◌, ◌⊎◌, ℕ, false, List, Option, Some, None, IsUtf8}
+use Rattle.std.specs.Prelude.{◌≡◌, ◌⊎◌, ℕ, false, true, List, Option, Some, None, IsUtf8}
 use Rattle.comfy_parts.specs.Columns.{IsOneColumnStyle}
 use Rattle.comfy_parts.specs.Text.{Text}
 use Rattle.csv_promises.specs.Counted.{EachLineFor}
@@ -16,8 +16,10 @@ use Rattle.csv_tables.specs.declared.options.Layout.{Layout}
 use Rattle.csv_tables.specs.declared.options.Look.{Look}
 use Rattle.promises.specs.Shown.{ShowsColumns}
 use Rattle.comfy_c.specs.Frames.{own_number, own_style}
-use Rattle.comfy_c.specs.RowCalls.{layout_for}
+use Rattle.comfy_c.specs.RowCalls.{has_sides_alone, layout_for}
 use Rattle.comfy_c.specs.Texts.{rows_of}
+use Rattle.comfy_c.specs.declared.cells_numbers.LookNumbers.{LookNumbers}
+use Rattle.comfy_c.specs.declared.rows_columns.RowsColumn.{RowsColumn}
 use Rattle.comfy_c.specs.declared.rows_settings.RowsSettings.{RowsSettings}
 
 -- a table isn't for Markdown, and no sequences of texts are kept
@@ -84,15 +86,23 @@ ShowAllTexts layout rows bytes =
     IsPlainLook layout.look → layout.look.max_height ≡ None
     → ShowsAllFields (IsCountOf layout rows) layout rows bytes
 
--- bytes are UTF-8, of lines of the table of rows that settings and bytes of columns ask for
-pub record ShowRows (texts : Text) (lengths counts columns : List ℕ) (settings : RowsSettings)
+-- what is promised of lines that are drawn of rows with nothing set but sides at the left and right
+pub record KeepRowPromises (settings : RowsSettings) (layout : Layout) (rows : List (List Text))
+    (bytes : Text) : Type 0 where
+  pub all : HasHarmlessFrame settings → ShowAllTexts layout rows bytes
+  pub harmless : HasHarmlessFrame settings → IsHarmlessFor layout.look bytes
+  pub straight : HasHarmlessFrame settings → HasOneColumnFrame settings
+      → AreStraightLines layout rows bytes
+  pub width : HasHarmlessFrame settings → HasOneColumnFrame settings
+      → KeepToWidth layout rows bytes
+
+-- bytes are UTF-8, of lines of the table of rows that settings, looks, heights and columns ask for
+pub record ShowRows (texts : Text) (lengths counts : List ℕ) (looks : List LookNumbers)
+    (heights : List ℕ) (columns : List RowsColumn) (settings : RowsSettings)
     (bytes : Text) : Type 0 where
   pub are_text : IsUtf8 bytes
   pub layout : Layout
-  pub is_layout : layout_for settings columns (rows_of texts lengths counts) ≡ Some layout
-  pub all : HasHarmlessFrame settings → ShowAllTexts layout (rows_of texts lengths counts) bytes
-  pub harmless : HasHarmlessFrame settings → IsHarmlessFor layout.look bytes
-  pub straight : HasHarmlessFrame settings → HasOneColumnFrame settings
-      → AreStraightLines layout (rows_of texts lengths counts) bytes
-  pub width : HasHarmlessFrame settings → HasOneColumnFrame settings
-      → KeepToWidth layout (rows_of texts lengths counts) bytes
+  pub is_layout :
+      layout_for settings looks heights columns (rows_of texts lengths counts) ≡ Some layout
+  pub keep : has_sides_alone looks heights columns ≡ true
+      → KeepRowPromises settings layout (rows_of texts lengths counts) bytes

@@ -20,6 +20,18 @@ pub struct ColorNumbers {
     pub blue: u8,
 }
 
+/// How a text looks.
+#[derive(Clone, Copy, Debug)]
+#[repr(C)]
+pub struct LookNumbers {
+    /// The alignment: 1 for left, 2 for right, 3 for centred. Any other number sets none.
+    pub alignment: u32,
+    /// A bit for each attribute, in the order of `Attribute`, that of the first one worth 1.
+    pub attributes: u32,
+    pub foreground: ColorNumbers,
+    pub background: ColorNumbers,
+}
+
 // Stands for U+0000, since 0 stands for no character: the number behind the last character's.
 const NUL: u32 = 0x11_0000;
 

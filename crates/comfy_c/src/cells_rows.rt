@@ -6,8 +6,9 @@ ghost use Rattle.comfy_c.specs.CellCalls.{cells_by, cells_with, counts_of, lengt
 ghost use Rattle.comfy_c.specs.Numbers.{cell_with, height_of, row_with};
 ghost use Rattle.comfy_c.specs.Texts.{AddUp, IsTextsRefusal};
 
-use crate::cells_numbers::{ColorNumbers, alignment_of, attributes_of, char_of, color_of};
+use crate::cells_numbers::{LookNumbers, char_of};
 use crate::refusal::DrawRefusal;
+use crate::rows_looks::look_settings;
 use crate::rows_settings::limit_of;
 use crate::texts::texts_of;
 use comfy_parts::{Cell, Cells, IntoRow, Row, TableError};
@@ -21,13 +22,7 @@ pub struct CellNumbers {
     pub length: usize,
     /// The character at which its text may break; 0 for none.
     pub delimiter: u32,
-    /// The alignment of its text: 1 for left, 2 for right, 3 for centred. Any other number sets
-    /// none.
-    pub alignment: u32,
-    /// A bit for each attribute, in the order of `Attribute`, that of the first one worth 1.
-    pub attributes: u32,
-    pub foreground: ColorNumbers,
-    pub background: ColorNumbers,
+    pub look: LookNumbers,
 }
 
 /// A row.
@@ -113,8 +108,8 @@ fn row_of(
     Ok(made)
 }
 
-// The most lines of a row; none for 0 and for the greatest number.
-fn height_of(number: usize) -> Option<usize>
+/// The most lines of a row; none for 0 and for the greatest number.
+pub(crate) fn height_of(number: usize) -> Option<usize>
     ensures { result ≡ height_of number }
 {
     if number == 0 { None } else { limit_of(number) }
@@ -140,17 +135,5 @@ fn cell_of(alloc: Global, numbers: &CellNumbers, text: &str) -> Result<Cell, Tab
     if let Some(delimiter) = char_of(numbers.delimiter) {
         cell = cell.set_delimiter(delimiter);
     }
-    if let Some(alignment) = alignment_of(numbers.alignment) {
-        cell = cell.set_alignment(alignment);
-    }
-    if let Some(color) = color_of(numbers.foreground) {
-        cell = cell.fg(color);
-    }
-    if let Some(color) = color_of(numbers.background) {
-        cell = cell.bg(color);
-    }
-    if numbers.attributes != 0 {
-        cell = cell.add_attributes(attributes_of(alloc, numbers.attributes)?)?;
-    }
-    Ok(cell)
+    look_settings(alloc, &numbers.look)?.dressed(cell)
 }

@@ -15,16 +15,18 @@ pub mod promised;
 mod refusal;
 mod rows_columns;
 mod rows_draw;
+mod rows_looks;
 mod rows_settings;
 mod texts;
 
 pub use cells_columns::{ColumnNumbers, WidthNumbers};
 pub use cells_draw::comfy_cells_draw;
-pub use cells_numbers::ColorNumbers;
+pub use cells_numbers::{ColorNumbers, LookNumbers};
 pub use cells_rows::{CellNumbers, RowNumbers};
 pub use cells_settings::CellsSettings;
 pub use csv_draw::comfy_csv_draw;
 pub use frame::{ContentLineNumbers, FrameNumbers, LineNumbers};
+pub use rows_columns::RowsColumn;
 pub use rows_draw::comfy_rows_draw;
 pub use rows_settings::RowsSettings;
 

@@ -6,8 +6,10 @@ ghost use Rattle.comfy_c.specs.PromisedRows.{ShowRows};
 
 use crate::cells_columns::ColumnNumbers;
 use crate::cells_draw::comfy_cells_draw;
+use crate::cells_numbers::LookNumbers;
 use crate::cells_rows::{CellNumbers, RowNumbers};
 use crate::cells_settings::CellsSettings;
+use crate::rows_columns::RowsColumn;
 use crate::rows_draw::comfy_rows_draw;
 use crate::rows_settings::RowsSettings;
 use promises::laws::drawings_keep_the_promises;
@@ -69,16 +71,18 @@ pub fn drawn_rows(
     texts: &[u8],
     lengths: &[usize],
     counts: &[usize],
-    columns: &[u8],
+    looks: &[LookNumbers],
+    heights: &[usize],
+    columns: &[RowsColumn],
     settings: &RowsSettings,
     output: &mut [u8],
     needed: &mut usize,
 ) -> u32
     ensures { result ≡ 0
-        → ShowRows texts.now lengths.now counts.now columns.now settings.now
+        → ShowRows texts.now lengths.now counts.now looks.now heights.now columns.now settings.now
         (take needed.new output.new) }
 {
     comfy_rows_draw(
-        alloc, texts, lengths, counts, columns, settings, output, needed,
+        alloc, texts, lengths, counts, looks, heights, columns, settings, output, needed,
     )
 }

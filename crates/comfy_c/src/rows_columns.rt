@@ -1,41 +1,113 @@
-//! The columns of a table of rows, by a byte for each.
+//! The columns of a table of rows, as numbers.
 
-ghost use Rattle.std.specs.Prelude.{◌≡◌, ◌==◌, IfOk};
-ghost use Rattle.comfy_c.specs.RowCalls.{are_bytes, are_there, byte_at, columns_by, columns_for, positions_where};
+ghost use Rattle.std.specs.Prelude.{◌≡◌, ◌==◌, IfOk, map};
+ghost use Rattle.comfy_c.specs.RowColumns.{are_there, are_unset, column_settings, columns_by, columns_for, have_sides, is_unset, positions_where, settings_for, side_at, width_unless_zero};
 
 use csv_records::Rows;
-use csv_tables::{Columns, Selection};
+use csv_tables::{ColumnSettings, Columns, Selection};
 use std::alloc::{AllocError, Global};
 
-// What a column's byte says.
+// What a column's side says.
 
-const BY_CONTENTS: u8 = 0;
+const BY_CONTENTS: u32 = 0;
 
-const AT_LEFT: u8 = 1;
+const AT_LEFT: u32 = 1;
 
-const AT_RIGHT: u8 = 2;
+const AT_RIGHT: u32 = 2;
 
-const HIDDEN: u8 = 3;
+const HIDDEN: u32 = 3;
 
-/// Whether each byte stands for something.
-pub(crate) fn are_bytes(bytes: &[u8]) -> bool
-    ensures { result ≡ are_bytes bytes.now }
-{
-    bytes.iter().all(|byte| *byte <= HIDDEN)
+const IN_THE_MIDDLE: u32 = 4;
+
+/// A column of a table of rows. Widths are in terminal columns.
+#[derive(Clone, Copy, Debug)]
+#[repr(C)]
+pub struct RowsColumn {
+    /// The terminal columns left free at the left of texts.
+    pub left_padding: u16,
+    /// Those at the right.
+    pub right_padding: u16,
+    /// The alignment: 0 for numbers at the right and other texts at the left, 1 for all at the
+    /// left, 2 for all at the right, and 4 for all in the middle. 3 leaves the column out.
+    pub side: u32,
+    /// The least width of its texts; 0 sets none.
+    pub least: u16,
+    /// The greatest width of its texts; 0 sets none.
+    pub greatest: u16,
 }
 
-/// The columns of these rows that bytes stand for; none where a byte asks for a column that isn't
-/// there, or where no column is left.
+/// Whether each side has a meaning.
+pub(crate) fn have_sides(columns: &[RowsColumn]) -> bool
+    ensures { result ≡ have_sides columns.now }
+{
+    columns.iter().all(|column| column.side <= IN_THE_MIDDLE)
+}
+
+/// Whether no column has a setting beside a side at the left or right.
+pub(crate) fn are_unset(columns: &[RowsColumn]) -> bool
+    ensures { result ≡ are_unset columns.now }
+{
+    columns.iter().all(is_unset)
+}
+
+fn is_unset(column: &RowsColumn) -> bool
+    ensures { result ≡ is_unset column.now }
+{
+    column.left_padding == 1
+        && column.right_padding == 1
+        && column.least == 0
+        && column.greatest == 0
+        && column.side != IN_THE_MIDDLE
+}
+
+/// The settings of columns; none if no column has one beside a side at the left or right.
+pub(crate) fn settings_for(
+    alloc: Global,
+    columns: &[RowsColumn],
+) -> Result<Vec<ColumnSettings>, AllocError>
+    ensures { IfOk result (λ settings. settings.items ≡ settings_for columns.now) }
+{
+    if are_unset(columns) {
+        return Ok(Vec::new(alloc));
+    }
+    each_settings(alloc, columns)
+}
+
+fn each_settings(alloc: Global, columns: &[RowsColumn]) -> Result<Vec<ColumnSettings>, AllocError>
+    ensures { IfOk result (λ settings. settings.items ≡ map column_settings columns.now) }
+{
+    columns.iter().map(column_settings).collect(alloc)
+}
+
+fn column_settings(column: &RowsColumn) -> ColumnSettings
+    ensures { result ≡ column_settings column.now }
+{
+    ColumnSettings {
+        padding: (column.left_padding, column.right_padding),
+        least: width_unless_zero(column.least),
+        greatest: width_unless_zero(column.greatest),
+        is_centered: column.side == IN_THE_MIDDLE,
+    }
+}
+
+fn width_unless_zero(width: u16) -> Option<u16>
+    ensures { result ≡ width_unless_zero width }
+{
+    (width != 0).then_some(width)
+}
+
+/// The columns of these rows that are asked for; none if a column that isn't there has settings,
+/// or if no column is left.
 pub(crate) fn columns_of(
     alloc: Global,
-    bytes: &[u8],
+    asked: &[RowsColumn],
     selection: Selection,
     rows: &Rows<'_>,
 ) -> Result<Option<Columns>, AllocError>
-    ensures { IfOk result (λ columns. columns ≡ columns_for selection bytes.now rows.now) }
+    ensures { IfOk result (λ columns. columns ≡ columns_for selection asked.now rows.now) }
 {
     let count = selection.column_count(rows);
-    let columns = columns_by(alloc, bytes, count)?;
+    let columns = columns_by(alloc, asked, count)?;
     if rows.is_empty() {
         return Ok(Some(columns));
     }
@@ -43,56 +115,62 @@ pub(crate) fn columns_of(
         limit: None,
         ..selection
     };
-    if !are_there(bytes, all.column_count(rows)) || columns.is_empty() {
+    if !are_there(asked, all.column_count(rows)) || columns.is_empty() {
         return Ok(None);
     }
     Ok(Some(columns))
 }
 
-// Whether no byte asks for a column beyond so many.
-fn are_there(bytes: &[u8], count: usize) -> bool
-    ensures { result ≡ are_there bytes.now count }
+// Whether no column beyond so many has settings.
+fn are_there(columns: &[RowsColumn], count: usize) -> bool
+    ensures { result ≡ are_there columns.now count }
 {
-    bytes.iter().skip(count).all(|byte| *byte == BY_CONTENTS)
+    columns
+        .iter()
+        .skip(count)
+        .all(|column| column.side == BY_CONTENTS && is_unset(column))
 }
 
-// The columns of so many that bytes stand for.
-fn columns_by(alloc: Global, bytes: &[u8], count: usize) -> Result<Columns, AllocError>
-    ensures { IfOk result (λ columns. columns ≡ columns_by bytes.now count) }
+// The columns of so many, with their sides.
+fn columns_by(alloc: Global, columns: &[RowsColumn], count: usize) -> Result<Columns, AllocError>
+    ensures { IfOk result (λ made. made ≡ columns_by columns.now count) }
 {
-    let drawn = drawn_by(alloc, bytes, count)?;
-    let right = columns_with(alloc, bytes, count, AT_RIGHT)?;
-    let left = columns_with(alloc, bytes, count, AT_LEFT)?;
+    let drawn = drawn_by(alloc, columns, count)?;
+    let right = columns_with(alloc, columns, count, AT_RIGHT)?;
+    let left = columns_with(alloc, columns, count, AT_LEFT)?;
     Ok(Columns::new(drawn, right, left))
 }
 
 // The columns of so many that aren't hidden.
-fn drawn_by(alloc: Global, bytes: &[u8], count: usize) -> Result<Vec<usize>, AllocError>
-    ensures { IfOk result (λ drawn. drawn.items ≡ (columns_by bytes.now count).drawn) }
+fn drawn_by(alloc: Global, columns: &[RowsColumn], count: usize) -> Result<Vec<usize>, AllocError>
+    ensures { IfOk result (λ drawn. drawn.items ≡ (columns_by columns.now count).drawn) }
 {
     (0..count)
-        .filter(|position| byte_at(bytes, *position) != HIDDEN)
+        .filter(|position| side_at(columns, *position) != HIDDEN)
         .collect(alloc)
 }
 
-// The columns of so many that have this byte.
+// The columns of so many that have this side.
 fn columns_with(
     alloc: Global,
-    bytes: &[u8],
+    columns: &[RowsColumn],
     count: usize,
-    byte: u8,
+    side: u32,
 ) -> Result<Vec<usize>, AllocError>
-    ensures { IfOk result (λ columns. columns.items
-        ≡ positions_where (λ own. own == byte) bytes.now count) }
+    ensures { IfOk result (λ found. found.items
+        ≡ positions_where (λ own. own == side) columns.now count) }
 {
     (0..count)
-        .filter(|position| byte_at(bytes, *position) == byte)
+        .filter(|position| side_at(columns, *position) == side)
         .collect(alloc)
 }
 
-// The byte of a column; that of contents past the end.
-fn byte_at(bytes: &[u8], position: usize) -> u8
-    ensures { result ≡ byte_at bytes.now position }
+// The side of a column; that of contents past the last one.
+fn side_at(columns: &[RowsColumn], position: usize) -> u32
+    ensures { result ≡ side_at columns.now position }
 {
-    bytes.get(position).copied().unwrap_or(BY_CONTENTS)
+    match columns.get(position) {
+        Some(column) => column.side,
+        None => BY_CONTENTS,
+    }
 }

@@ -1,37 +1,41 @@
 //! Tables of rows, as values.
 
 ghost use Rattle.std.specs.Prelude.{◌≡◌, ◌≢◌, ◌≤◌, ◌<◌, IfErr, IfOk, List, ℕ, drop, length, string_bytes, take};
-ghost use Rattle.comfy_c.specs.declared.refusal.DrawRefusal.TheVariants.{Lengths, NotUtf8};
-ghost use Rattle.comfy_c.specs.RowCalls.{IsRowsDrawing, IsRowsRefusal, IsSettingRefused};
-ghost use Rattle.comfy_c.specs.Texts.{IsTextsRefusal, rows_of};
+ghost use Rattle.comfy_c.specs.RowCalls.{AllAddUp, HasNoText, IsRowsDrawing, IsRowsRefusal, IsSettingRefused};
+ghost use Rattle.comfy_c.specs.Texts.{rows_of};
 
 use crate::buffer::hand_over;
+use crate::cells_numbers::LookNumbers;
 use crate::refusal::DrawRefusal;
-use crate::rows_columns::{are_bytes, columns_of};
+use crate::rows_columns::{RowsColumn, columns_of};
+use crate::rows_looks::{are_each, table_settings};
 use crate::rows_settings::RowsSettings;
 use crate::texts::records_of;
-use csv_tables::{Layout, output_of_records};
+use csv_tables::{Layout, output_of_styled_records};
 use std::alloc::Global;
 
 /// Draws the table of rows into the caller's buffer, as `csvtable` draws records of these texts.
 ///
 /// `texts` has the texts of all cells in their order, without anything between them. `lengths` has
 /// the length of each in bytes, and `counts` the number of cells of each row. The first row may be
-/// the header. `columns` has a byte for each column, or for the first ones: 0 aligns numbers right
-/// and texts left, 1 aligns all left, 2 aligns all right, and 3 leaves the column out.
+/// the header. `looks` has an item for each text, and `heights` the greatest height of each row
+/// below the header, in which 0 and the greatest number set none; both may be empty. `columns` has
+/// an item for each column, or for the first ones.
 ///
 /// | Returned | Meaning | `needed` |
 /// |---|---|---|
 /// | 0 | the drawing is at the front of the buffer | its length in bytes |
 /// | 1 | the buffer is too small | the length of the drawing in bytes |
-/// | 2 | lengths and counts add up, but a text isn't UTF-8 | unchanged |
+/// | 2 | lengths, counts, looks and heights add up, but a text isn't UTF-8 | unchanged |
 /// | 3 | memory ran out | unchanged |
 /// | 4 | settings or columns ask for nothing that can be drawn | unchanged |
-/// | 5 | lengths or counts don't add up | unchanged |
+/// | 5 | lengths, counts, looks or heights don't add up | unchanged |
 ///
-/// Settings and the bytes of columns are looked at first: 4 is returned if one has no meaning. Then
-/// lengths and counts are looked at, and after them the texts. Last, 4 is returned if a byte other
-/// than 0 is for a column that no row has, or if no column is left.
+/// Settings and columns are looked at first: 4 is returned if a number has no meaning. It is also
+/// returned if a table for Markdown is asked for, or if rows are or may be expanded, and there are
+/// looks, heights or columns with more than a side at the left or right. Then lengths, counts,
+/// looks and heights are looked at, and after them the texts. Last, 4 is returned if a column that
+/// no row has is asked for, or if no column is left.
 ///
 /// With 1 to 5 the buffer is unchanged. With 0 it is unchanged after the drawing.
 #[unsafe(no_mangle)]
@@ -40,30 +44,36 @@ pub extern "C" fn comfy_rows_draw(
     texts: &[u8],
     lengths: &[usize],
     counts: &[usize],
-    columns: &[u8],
+    looks: &[LookNumbers],
+    heights: &[usize],
+    columns: &[RowsColumn],
     settings: &RowsSettings,
     output: &mut [u8],
     needed: &mut usize,
 ) -> u32
     ensures drawn { result ≡ 0
         → (needed.new ≤ length output.old)
-        × IsRowsDrawing texts.now lengths.now counts.now columns.now settings.now
-        (take needed.new output.new) }
+        × IsRowsDrawing texts.now lengths.now counts.now looks.now heights.now columns.now
+        settings.now (take needed.new output.new) }
     ensures room_too_small { result ≡ 1
         → (length output.old < needed.new) × (drawing : List ℕ) × (needed.new ≡ length drawing)
-        × IsRowsDrawing texts.now lengths.now counts.now columns.now settings.now drawing }
+        × IsRowsDrawing texts.now lengths.now counts.now looks.now heights.now columns.now
+        settings.now drawing }
     ensures input_refused { result ≡ 2
-        → IsTextsRefusal texts.now lengths.now counts.now NotUtf8 }
+        → HasNoText texts.now lengths.now counts.now looks.now heights.now }
     ensures settings_refused { result ≡ 4
-        → IsSettingRefused (rows_of texts.now lengths.now counts.now) columns.now settings.now }
+        → IsSettingRefused (rows_of texts.now lengths.now counts.now) looks.now heights.now
+        columns.now settings.now }
     ensures lengths_refused { result ≡ 5
-        → IsTextsRefusal texts.now lengths.now counts.now Lengths }
+        → ¬ (AllAddUp texts.now lengths.now counts.now looks.now heights.now) }
     ensures no_other { result ≤ 5 }
     ensures rest { drop needed.new output.new ≡ drop needed.new output.old }
     ensures untouched { result ≢ 0 → output.new ≡ output.old }
     ensures needed_kept { result ≢ 0 → result ≢ 1 → needed.new ≡ needed.old }
 {
-    let made = rows_drawing(alloc, texts, lengths, counts, columns, settings);
+    let made = rows_drawing(
+        alloc, texts, lengths, counts, looks, heights, columns, settings,
+    );
     hand_over(made, output, needed)
 }
 
@@ -73,23 +83,31 @@ fn rows_drawing(
     texts: &[u8],
     lengths: &[usize],
     counts: &[usize],
-    columns: &[u8],
+    looks: &[LookNumbers],
+    heights: &[usize],
+    columns: &[RowsColumn],
     settings: &RowsSettings,
 ) -> Result<String, DrawRefusal>
     ensures drawn { IfOk result (λ drawing.
-        IsRowsDrawing texts.now lengths.now counts.now columns.now settings.now
-        (string_bytes drawing)) }
+        IsRowsDrawing texts.now lengths.now counts.now looks.now heights.now columns.now
+        settings.now (string_bytes drawing)) }
     ensures refused { IfErr result (λ refusal.
-        IsRowsRefusal texts.now lengths.now counts.now columns.now settings.now refusal) }
+        IsRowsRefusal texts.now lengths.now counts.now looks.now heights.now columns.now
+        settings.now refusal) }
 {
     let Some(look) = settings.look() else {
         return Err(DrawRefusal::Settings);
     };
-    if !are_bytes(columns) {
+    if !settings.can_have(looks, heights, columns) {
         return Err(DrawRefusal::Settings);
+    }
+    if !are_each(looks, lengths, heights, counts) {
+        return Err(DrawRefusal::Lengths);
     }
     let records = records_of(alloc, texts, lengths, counts)?;
     let selection = settings.selection();
+    let has_header = selection.has_header;
+    let own = table_settings(alloc, has_header, counts, looks, heights, columns)?;
     let Some(columns) = columns_of(alloc, columns, selection, &records.rows())? else {
         return Err(DrawRefusal::Settings);
     };
@@ -98,5 +116,5 @@ fn rows_drawing(
         columns,
         look,
     };
-    Ok(output_of_records(alloc, records, &layout)?)
+    Ok(output_of_styled_records(alloc, records, &layout, own)?)
 }

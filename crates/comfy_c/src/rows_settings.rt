@@ -2,9 +2,11 @@
 
 ghost use Rattle.std.specs.Prelude.{◌≡◌, slice_get};
 ghost use Rattle.comfy_c.specs.Calls.{limit_of};
-ghost use Rattle.comfy_c.specs.RowCalls.{expansions, look_for, selection_for, separators};
+ghost use Rattle.comfy_c.specs.RowCalls.{can_have, expansions, has_sides_alone, is_table_of_rows, look_for, selection_for, separators};
 
+use crate::cells_numbers::LookNumbers;
 use crate::frame::{FrameNumbers, style_for};
+use crate::rows_columns::{RowsColumn, are_unset, have_sides};
 use csv_tables::{Expansion, Look, RowSeparators, Selection};
 
 /// How a table of rows is drawn. A flag is set if it isn't 0.
@@ -38,7 +40,7 @@ pub struct RowsSettings {
     pub aligns_decimals: u32,
     /// A flag: SGR sequences in texts stay, and count no columns.
     pub has_sequences: u32,
-    /// A flag: the table is one for Markdown, whatever else is set.
+    /// A flag: the table is one for Markdown, whatever else is set here.
     pub is_markdown: u32,
     /// The lines of a style of the caller's own, which no other style reads.
     pub frame: FrameNumbers,
@@ -54,6 +56,26 @@ impl RowsSettings {
             limit: limit_of(self.limit),
             is_numbered: self.is_numbered != 0,
         }
+    }
+
+    /// Whether each column has a side that has a meaning, and more than sides at the left and right
+    /// is set only for a table of rows.
+    pub(crate) fn can_have(
+        &self,
+        looks: &[LookNumbers],
+        heights: &[usize],
+        columns: &[RowsColumn],
+    ) -> bool
+        ensures { result ≡ can_have self.now looks.now heights.now columns.now }
+    {
+        have_sides(columns) && (has_sides_alone(looks, heights, columns) || self.is_table_of_rows())
+    }
+
+    // Whether rows are drawn as one table that isn't for Markdown, whatever the width.
+    fn is_table_of_rows(&self) -> bool
+        ensures { result ≡ is_table_of_rows self.now }
+    {
+        self.expansion == 0 && self.is_markdown == 0
     }
 
     /// The look of the table; none if a number has no meaning.
@@ -73,6 +95,13 @@ impl RowsSettings {
             is_markdown: self.is_markdown != 0,
         })
     }
+}
+
+// Whether nothing is set but sides of columns at the left and right.
+fn has_sides_alone(looks: &[LookNumbers], heights: &[usize], columns: &[RowsColumn]) -> bool
+    ensures { result ≡ has_sides_alone looks.now heights.now columns.now }
+{
+    looks.is_empty() && heights.is_empty() && are_unset(columns)
 }
 
 fn separators_at(number: u32) -> Option<RowSeparators>

@@ -92,11 +92,21 @@ static struct call made_csv(struct bytes input, struct bytes arguments, size_t r
 struct rows {
     struct bytes texts;
     size_t lengths[8], length_count, counts[4], count_count;
-    struct bytes columns;
+    struct comfy_rows_column columns[3];
+    size_t column_count;
+    struct comfy_look looks[5];
+    size_t look_count, heights[3], height_count;
 };
 
+
 /* A header and a row: name and days, oats and 3. */
-static const struct rows ROWS = {{"namedaysoats3", 13}, {4, 4, 4, 1}, 4, {2, 2}, 2, {"", 0}};
+static const struct rows ROWS = {{"namedaysoats3", 13}, {4, 4, 4, 1}, 4, {2, 2}, 2, {COMFY_PLAIN_COLUMN}, 0, {{0}}, 0, {0}, 0};
+
+/* Gives rows columns that have these sides, and nothing else of their own. */
+static void set_sides(struct rows *rows, struct bytes sides) {
+    rows->column_count = sides.length;
+    for (size_t i = 0; i < sides.length; i++) rows->columns[i] = (struct comfy_rows_column){1, 1, (uint8_t)sides.at[i], 0, 0};
+}
 
 static struct comfy_rows_settings plain_settings(void) {
     return (struct comfy_rows_settings){.max_height = COMFY_NO_LIMIT, .limit = COMFY_NO_LIMIT, .width = COMFY_NO_WIDTH, .has_header = 1};
@@ -104,11 +114,17 @@ static struct comfy_rows_settings plain_settings(void) {
 
 static struct call made_rows(const struct rows *rows, struct comfy_rows_settings settings, size_t room) {
     struct call call = with_room(room);
-    uint8_t *texts = copied(rows->texts), *columns = copied(rows->columns);
+    uint8_t *texts = copied(rows->texts);
+    void *columns = copied((struct bytes){(const char *)rows->columns, rows->column_count * sizeof *rows->columns});
     size_t *lengths = (size_t *)copied((struct bytes){(const char *)rows->lengths, rows->length_count * sizeof(size_t)});
     size_t *counts = (size_t *)copied((struct bytes){(const char *)rows->counts, rows->count_count * sizeof(size_t)});
-    call.status = comfy_rows_draw(texts, rows->texts.length, lengths, rows->length_count, counts, rows->count_count, columns,
-                                  rows->columns.length, &settings, call.output, room, &call.needed);
+    void *looks = copied((struct bytes){(const char *)rows->looks, rows->look_count * sizeof *rows->looks});
+    size_t *heights = (size_t *)copied((struct bytes){(const char *)rows->heights, rows->height_count * sizeof(size_t)});
+    call.status = comfy_rows_draw(texts, rows->texts.length, lengths, rows->length_count, counts, rows->count_count, looks,
+                                  rows->look_count, heights, rows->height_count, columns, rows->column_count, &settings, call.output,
+                                  room, &call.needed);
+    free(looks);
+    free(heights);
     free(texts);
     free(columns);
     free(lengths);
@@ -224,7 +240,8 @@ static void expect_rows(const char *what, const struct rows *rows, struct comfy_
     free(less.output);
     uint32_t result = KEPT;
     char *drawing = comfy_rows_text((const uint8_t *)rows->texts.at, rows->texts.length, rows->lengths, rows->length_count, rows->counts,
-                                    rows->count_count, (const uint8_t *)rows->columns.at, rows->columns.length, &settings, &result);
+                                    rows->count_count, rows->looks, rows->look_count, rows->heights, rows->height_count, rows->columns,
+                                    rows->column_count, &settings, &result);
     expect(what, drawing && result == COMFY_DRAWN && strlen(drawing) == text.length && !memcmp(drawing, text.at, text.length));
     free(drawing);
 }
@@ -239,11 +256,15 @@ static void expect_rows_are_drawn(void) {
     struct comfy_rows_settings settings = plain_settings();
     struct rows rows = ROWS;
     expect_rows("rows are drawn", &rows, settings, TEXT(CSV_DRAWING));
-    rows.columns = TEXT("\1\1");
+    set_sides(&rows, TEXT("\1\1"));
     expect_rows("columns stand at the left", &rows, settings, TEXT(DRAWING));
-    rows.columns = TEXT("\0\3");
+    set_sides(&rows, TEXT("\0\3"));
     expect_rows("a column is left out", &rows, settings, TEXT(WITHOUT_DAYS));
-    rows = (struct rows){{"a\nbc", 4}, {3, 0, 1}, 3, {1, 0, 2}, 3, {"\2", 1}};
+    set_sides(&rows, TEXT("\0\4"));
+    rows.columns[0] = (struct comfy_rows_column){0, 2, COMFY_COLUMN_LEFT, 3, 3};
+    expect_rows("columns have settings", &rows, settings,
+                TEXT("+-----+------+\n|nam  | days |\n|e    |      |\n+============+\n|oat  |   3  |\n|s    |      |\n+-----+------+\n"));
+    rows = (struct rows){{"a\nbc", 4}, {3, 0, 1}, 3, {1, 0, 2}, 3, {{1, 1, COMFY_COLUMN_RIGHT, 0, 0}}, 1, {{0}}, 0, {0}, 0};
     settings.has_header = 0;
     settings.style = COMFY_ROUNDED;
     settings.row_lines = COMFY_LINES_NOWHERE;
@@ -269,12 +290,46 @@ static void expect_rows_are_drawn(void) {
     expect_rows("rows are limited", &rows, settings, TEXT("+------+------+\n| name | days |\n+=============+\n+------+------+\n0 of 1 records\n"));
 }
 
+static void expect_rows_have_looks_and_heights(void) {
+    struct comfy_rows_settings settings = plain_settings();
+    struct rows rows = {{"namedaysoats\nrye3", 17}, {4, 4, 8, 1}, 4, {2, 2}, 2, {COMFY_PLAIN_COLUMN}, 0, {{0}}, 4, {0}, 0};
+    rows.looks[0].attributes = COMFY_ATTRIBUTE_BOLD;
+    rows.looks[2].foreground = (struct comfy_color){COMFY_COLOR_NUMBERED, COMFY_RED, 0, 0, 0};
+    rows.looks[3] = (struct comfy_look){COMFY_ALIGNED_CENTER, 0, {0}, {COMFY_COLOR_BY_PARTS, 0, 1, 2, 3}};
+    expect_rows("texts have looks", &rows, settings,
+                TEXT("+------+------+\n|\x1b[1m name \x1b[0m| days |\n+=============+\n"
+                     "|\x1b[38;5;9m oats \x1b[39m|\x1b[48;2;1;2;3m   3  \x1b[49m|\n"
+                     "|\x1b[38;5;9m rye  \x1b[39m|      |\n+------+------+\n"));
+    rows.look_count = 3;
+    expect_rows_refused("a look is missing", &rows, settings, COMFY_LENGTHS_REFUSED);
+    rows.look_count = 5;
+    expect_rows_refused("there is a look too many", &rows, settings, COMFY_LENGTHS_REFUSED);
+    rows.look_count = 0;
+    rows.height_count = 2;
+    rows.heights[1] = 1;
+    expect_rows("a row has a height", &rows, settings,
+                TEXT("+------+------+\n| name | days |\n+=============+\n| oat\xe2\x80\xa6 |    3 |\n+------+------+\n"));
+    rows.height_count = 3;
+    expect_rows_refused("there is a height too many", &rows, settings, COMFY_LENGTHS_REFUSED);
+    rows.height_count = 1;
+    expect_rows_refused("a height is missing", &rows, settings, COMFY_LENGTHS_REFUSED);
+    rows.height_count = 2;
+    settings.is_markdown = 1;
+    expect_rows_refused("Markdown has no heights", &rows, settings, COMFY_SETTINGS_REFUSED);
+    rows.height_count = 0;
+    rows.look_count = 4;
+    expect_rows_refused("Markdown has no looks", &rows, settings, COMFY_SETTINGS_REFUSED);
+    settings.is_markdown = 0;
+    settings.expansion = COMFY_EXPANDED_ALWAYS;
+    expect_rows_refused("expanded rows have no looks", &rows, settings, COMFY_SETTINGS_REFUSED);
+}
+
 static void expect_rows_are_refused(void) {
     struct comfy_rows_settings plain = plain_settings(), settings = plain;
     struct rows rows = ROWS;
     rows.texts = TEXT("name\xff\xff\xff\xffoats3");
     expect_rows_refused("0xFF is no UTF-8 in rows", &rows, plain, COMFY_INPUT_REFUSED);
-    rows = (struct rows){{"\xc3\xa9", 2}, {1, 1}, 2, {2}, 1, {"", 0}};
+    rows = (struct rows){{"\xc3\xa9", 2}, {1, 1}, 2, {2}, 1, {COMFY_PLAIN_COLUMN}, 0, {{0}}, 0, {0}, 0};
     expect_rows_refused("half a character isn't either", &rows, plain, COMFY_INPUT_REFUSED);
     rows = ROWS;
     rows.texts.length--;
@@ -287,19 +342,26 @@ static void expect_rows_are_refused(void) {
     expect_rows_refused("a count is the greatest number", &rows, plain, COMFY_LENGTHS_REFUSED);
     rows.counts[1] = 1;
     expect_rows_refused("a cell is in no row", &rows, plain, COMFY_LENGTHS_REFUSED);
-    rows = (struct rows){{"\xff" "a", 2}, {1, 5}, 2, {2}, 1, {"", 0}};
+    rows = (struct rows){{"\xff" "a", 2}, {1, 5}, 2, {2}, 1, {COMFY_PLAIN_COLUMN}, 0, {{0}}, 0, {0}, 0};
     expect_rows_refused("lengths are looked at before texts", &rows, plain, COMFY_LENGTHS_REFUSED);
-    rows = (struct rows){{"\xff" "a", 2}, {1, 1}, 2, {3}, 1, {"", 0}};
+    rows = (struct rows){{"\xff" "a", 2}, {1, 1}, 2, {3}, 1, {COMFY_PLAIN_COLUMN}, 0, {{0}}, 0, {0}, 0};
     expect_rows_refused("counts are looked at before texts", &rows, plain, COMFY_LENGTHS_REFUSED);
-    rows.columns = TEXT("\4");
-    expect_rows_refused("a column's byte is looked at first", &rows, plain, COMFY_SETTINGS_REFUSED);
+    set_sides(&rows, TEXT("\5"));
+    expect_rows_refused("a column's side is looked at first", &rows, plain, COMFY_SETTINGS_REFUSED);
     rows = ROWS;
-    rows.columns = TEXT("\4");
-    expect_rows_refused("there is no column's byte 4", &rows, plain, COMFY_SETTINGS_REFUSED);
-    rows.columns = TEXT("\0\0\1");
-    expect_rows_refused("a byte is for a column that isn't there", &rows, plain, COMFY_SETTINGS_REFUSED);
-    rows.columns = TEXT("\3\3");
+    set_sides(&rows, TEXT("\5"));
+    expect_rows_refused("there is no column's side 5", &rows, plain, COMFY_SETTINGS_REFUSED);
+    set_sides(&rows, TEXT("\0\0\1"));
+    expect_rows_refused("a side is for a column that isn't there", &rows, plain, COMFY_SETTINGS_REFUSED);
+    set_sides(&rows, TEXT("\3\3"));
     expect_rows_refused("no column is left", &rows, plain, COMFY_SETTINGS_REFUSED);
+    set_sides(&rows, TEXT("\4"));
+    settings.is_markdown = 1;
+    expect_rows_refused("Markdown has no column in the middle", &rows, settings, COMFY_SETTINGS_REFUSED);
+    settings = plain;
+    settings.expansion = COMFY_EXPANDED_AUTO;
+    expect_rows_refused("rows that may be expanded have none either", &rows, settings, COMFY_SETTINGS_REFUSED);
+    settings = plain;
     rows = ROWS;
     settings.style = COMFY_ROUNDED + 1;
     expect_rows_refused("there is no such style", &rows, settings, COMFY_SETTINGS_REFUSED);
@@ -318,7 +380,7 @@ static void expect_null_is_read_nowhere(void) {
     expect("no csv has an empty drawing", status == COMFY_DRAWN && needed == 0);
     needed = KEPT;
     struct comfy_rows_settings settings = plain_settings();
-    status = comfy_rows_draw(NULL, 0, NULL, 0, NULL, 0, NULL, 0, &settings, NULL, 0, &needed);
+    status = comfy_rows_draw(NULL, 0, NULL, 0, NULL, 0, NULL, 0, NULL, 0, NULL, 0, &settings, NULL, 0, &needed);
     expect("no rows have an empty drawing", status == COMFY_DRAWN && needed == 0);
 }
 
@@ -351,6 +413,7 @@ int main(void) {
     expect_refusals_are_said();
     expect_rows_are_drawn();
     expect_rows_are_refused();
+    expect_rows_have_looks_and_heights();
     expect_null_is_read_nowhere();
     expect_csv_fills(mixed);
     expect_csv_fills(TEXT("\n"));

@@ -194,9 +194,9 @@ static void expect_unknown_numbers_are_none(void) {
     const struct comfy_color none = {COMFY_COLOR_BY_PARTS + 1, 1, 2, 3, 4};
     for (size_t i = 0; i < table.cell_count; i++) {
         table.cells[i].delimiter = 0xD800;
-        table.cells[i].alignment = COMFY_ALIGNED_CENTER + 1;
-        table.cells[i].attributes = 0xF0000000;
-        table.cells[i].foreground = table.cells[i].background = none;
+        table.cells[i].look.alignment = COMFY_ALIGNED_CENTER + 1;
+        table.cells[i].look.attributes = 0xF0000000;
+        table.cells[i].look.foreground = table.cells[i].look.background = none;
     }
     for (size_t i = 0; i < table.column_count; i++) {
         table.columns[i].delimiter = 0xDFFF;
@@ -213,10 +213,10 @@ static void expect_unknown_numbers_are_none(void) {
 
 static void expect_settings_are_kept(void) {
     struct table table = plain();
-    table.cells[1].alignment = COMFY_ALIGNED_CENTER;
-    table.cells[2].foreground = (struct comfy_color){COMFY_COLOR_NUMBERED, COMFY_RED, 0, 0, 0};
-    table.cells[2].attributes = COMFY_ATTRIBUTE_BOLD | COMFY_ATTRIBUTE_OVERLINED;
-    table.cells[3].background = (struct comfy_color){COMFY_COLOR_BY_PARTS, 0, 1, 2, 3};
+    table.cells[1].look.alignment = COMFY_ALIGNED_CENTER;
+    table.cells[2].look.foreground = (struct comfy_color){COMFY_COLOR_NUMBERED, COMFY_RED, 0, 0, 0};
+    table.cells[2].look.attributes = COMFY_ATTRIBUTE_BOLD | COMFY_ATTRIBUTE_OVERLINED;
+    table.cells[3].look.background = (struct comfy_color){COMFY_COLOR_BY_PARTS, 0, 1, 2, 3};
     table.columns[1].alignment = COMFY_ALIGNED_RIGHT;
     table.columns[1].constraint = COMFY_CONSTRAINT_LOWER_BOUNDARY;
     table.columns[1].width.value = 9;

@@ -32,7 +32,7 @@ struct caller {
     uint64_t seed;
     long calls, wrong;
     long results[3][6];
-    struct region input, lengths, arguments, columns, output;
+    struct region input, lengths, arguments, columns, looks, heights, output;
 };
 
 static uint64_t next(struct caller *caller) {
@@ -176,6 +176,10 @@ static struct comfy_color any_color(struct caller *caller) {
     return (struct comfy_color){(uint8_t)any_of(caller, 4), (uint8_t)bits, (uint8_t)(bits >> 8), (uint8_t)(bits >> 16), (uint8_t)(bits >> 24)};
 }
 
+static struct comfy_look any_look(struct caller *caller) {
+    return (struct comfy_look){any_of(caller, 4), below(caller, 2) ? 0 : (uint32_t)(next(caller) & next(caller)), any_color(caller), any_color(caller)};
+}
+
 static struct comfy_line any_line(struct caller *caller) {
     return (struct comfy_line){any_character(caller), any_character(caller), any_character(caller), any_character(caller)};
 }
@@ -188,6 +192,35 @@ static struct comfy_frame any_frame(struct caller *caller) {
     return (struct comfy_frame){any_line(caller), any_content_line(caller), any_line(caller), any_content_line(caller), any_line(caller), any_line(caller)};
 }
 
+/* Columns of rows at the end of some pages, often with a side alone. */
+static struct comfy_rows_column *put_rows_columns(struct caller *caller, size_t count) {
+    struct comfy_rows_column *columns = (struct comfy_rows_column *)(void *)caller->columns.end - count;
+    int are_plain = below(caller, 2) == 0;
+    for (size_t i = 0; i < count; i++)
+        columns[i] = are_plain ? (struct comfy_rows_column){1, 1, any_of(caller, 4), 0, 0}
+                               : (struct comfy_rows_column){any_padding(caller), any_padding(caller), any_of(caller, 5),
+                                     (uint16_t)any_number(caller, 20), (uint16_t)any_number(caller, 20)};
+    return columns;
+}
+
+/* None, or as many as there are of something else; now and then one fewer. */
+static size_t any_count(struct caller *caller, size_t count) {
+    if (below(caller, 2)) return 0;
+    return count && below(caller, 16) == 0 ? count - 1 : count;
+}
+
+static struct comfy_look *put_looks(struct caller *caller, size_t count) {
+    struct comfy_look *looks = (struct comfy_look *)(void *)caller->looks.end - count;
+    for (size_t i = 0; i < count; i++) looks[i] = any_look(caller);
+    return looks;
+}
+
+static size_t *put_heights(struct caller *caller, size_t count) {
+    size_t *heights = (size_t *)(void *)caller->heights.end - count;
+    for (size_t i = 0; i < count; i++) heights[i] = below(caller, 8) ? below(caller, 4) : (size_t)next(caller);
+    return heights;
+}
+
 static uint32_t call_rows(struct caller *caller, size_t length, size_t room, size_t *needed) {
     struct comfy_rows_settings settings = {
         .max_height = below(caller, 4) ? COMFY_NO_LIMIT : below(caller, 4), .limit = below(caller, 4) ? COMFY_NO_LIMIT : below(caller, 4),
@@ -197,11 +230,10 @@ static uint32_t call_rows(struct caller *caller, size_t length, size_t room, siz
         .has_sequences = any_number(caller, 2), .is_markdown = below(caller, 8) == 0, .frame = any_frame(caller)};
     size_t texts = put_parts(caller, caller->lengths, length, 12);
     size_t rows = put_parts(caller, caller->arguments, texts, 5);
-    uint8_t columns[4];
-    size_t count = below(caller, 4);
-    for (size_t i = 0; i < count; i++) columns[i] = (uint8_t)(below(caller, 32) ? below(caller, 4) : next(caller));
+    size_t columns = below(caller, 4), looks = any_count(caller, texts), heights = any_count(caller, rows);
     return comfy_rows_draw(caller->input.end - length, length, (size_t *)(void *)caller->lengths.end - texts, texts,
-                           (size_t *)(void *)caller->arguments.end - rows, rows, columns, count, &settings, caller->output.end - room, room, needed);
+                           (size_t *)(void *)caller->arguments.end - rows, rows, put_looks(caller, looks), looks, put_heights(caller, heights),
+                           heights, put_rows_columns(caller, columns), columns, &settings, caller->output.end - room, room, needed);
 }
 
 /* Cells of the lengths that stand at the end of some pages, in their place. */
@@ -210,8 +242,7 @@ static struct comfy_cell *put_cells(struct caller *caller, size_t count) {
     memcpy(lengths, caller->lengths.end - count * sizeof(size_t), count * sizeof(size_t));
     struct comfy_cell *cells = (struct comfy_cell *)(void *)caller->lengths.end - count;
     for (size_t i = 0; i < count; i++)
-        cells[i] = (struct comfy_cell){lengths[i], any_character(caller), any_of(caller, 4), below(caller, 2) ? 0 : (uint32_t)(next(caller) & next(caller)),
-            any_color(caller), any_color(caller)};
+        cells[i] = (struct comfy_cell){lengths[i], any_character(caller), any_look(caller)};
     return cells;
 }
 
@@ -264,7 +295,7 @@ static void *call_often(void *it) {
 }
 
 static struct caller new_caller(uint64_t seed, long calls) {
-    return (struct caller){seed, calls, 0, {{0}, {0}, {0}}, new_region(), new_region(), new_region(), new_region(), new_region()};
+    return (struct caller){seed, calls, 0, {{0}, {0}, {0}}, new_region(), new_region(), new_region(), new_region(), new_region(), new_region(), new_region()};
 }
 
 /* Whether each result came that comes without a refused request for memory. CSV has no lengths. */

@@ -41,8 +41,8 @@ static uint8_t output[8192], written[8192];
 
 static uint32_t cells_are_drawn(size_t *needed) {
     static const uint8_t texts[] = "namedaysoats and \xe9\x9b\xa8 more3";
-    static const struct comfy_cell cells[] = {{.length = 4, .attributes = COMFY_ATTRIBUTE_BOLD}, {.length = 4}, {.length = 17, .delimiter = 'd'},
-        {.length = 1, .foreground = {COMFY_COLOR_NUMBERED, COMFY_RED, 0, 0, 0}}};
+    static const struct comfy_cell cells[] = {{.length = 4, .look.attributes = COMFY_ATTRIBUTE_BOLD}, {.length = 4}, {.length = 17, .delimiter = 'd'},
+        {.length = 1, .look.foreground = {COMFY_COLOR_NUMBERED, COMFY_RED, 0, 0, 0}}};
     static const struct comfy_row rows[] = {{2, 0}, {2, 2}};
     static const struct comfy_column columns[] = {{1, 1, 0, 0, COMFY_CONSTRAINT_UPPER_BOUNDARY, {0, 8}, {0, 0}}, {.left_padding = 1}};
     const struct comfy_cells_settings settings = {.arrangement = COMFY_DYNAMIC, .width = 20, .has_header = 1, .enforce_styling = 1, .custom_styling = 1};
@@ -78,10 +78,21 @@ static uint32_t markdown_is_drawn(size_t *needed) {
 }
 
 static uint32_t rows_are_drawn(size_t *needed) {
-    static const uint8_t texts[] = "namedaysoats and \xe9\x9b\xa8 more3", columns[] = {COMFY_COLUMN_RIGHT, COMFY_COLUMN_LEFT, COMFY_COLUMN_HIDDEN};
+    static const uint8_t texts[] = "namedaysoats and \xe9\x9b\xa8 more3";
+    static const struct comfy_rows_column columns[] = {{1, 1, COMFY_COLUMN_RIGHT, 0, 0}, {1, 1, COMFY_COLUMN_LEFT, 0, 0}, {1, 1, COMFY_COLUMN_HIDDEN, 0, 0}};
     static const size_t lengths[] = {4, 4, 17, 1, 0}, counts[] = {2, 3};
     const struct comfy_rows_settings settings = {.max_height = 3, .limit = COMFY_NO_LIMIT, .width = 12, .has_header = 1};
-    return comfy_rows_draw(texts, sizeof texts - 1, lengths, 5, counts, 2, columns, 3, &settings, output, sizeof output, needed);
+    return comfy_rows_draw(texts, sizeof texts - 1, lengths, 5, counts, 2, NULL, 0, NULL, 0, columns, 3, &settings, output, sizeof output, needed);
+}
+
+static uint32_t rows_with_settings_are_drawn(size_t *needed) {
+    static const uint8_t texts[] = "namedaysoats and \xe9\x9b\xa8 more3.5";
+    static const struct comfy_rows_column columns[] = {{0, 1, COMFY_COLUMN_BY_CONTENTS, 3, 7}, {2, 0, COMFY_COLUMN_CENTER, 0, 0}};
+    static const size_t lengths[] = {4, 4, 17, 3}, counts[] = {2, 2}, heights[] = {0, 1};
+    static const struct comfy_look looks[] = {{.attributes = COMFY_ATTRIBUTE_BOLD}, {0}, {.foreground = {COMFY_COLOR_NUMBERED, COMFY_RED, 0, 0, 0}},
+        {.alignment = COMFY_ALIGNED_LEFT, .attributes = COMFY_ATTRIBUTE_DIM | COMFY_ATTRIBUTE_ITALIC}};
+    const struct comfy_rows_settings settings = {.max_height = COMFY_NO_LIMIT, .limit = COMFY_NO_LIMIT, .width = 30, .has_header = 1, .aligns_decimals = 1};
+    return comfy_rows_draw(texts, sizeof texts - 1, lengths, 4, counts, 2, looks, 4, heights, 2, columns, 2, &settings, output, sizeof output, needed);
 }
 
 static uint32_t column_is_refused(size_t *needed) {
@@ -132,6 +143,7 @@ int main(void) {
     wrong += wrong_in("expanded records", records_are_drawn, COMFY_DRAWN);
     wrong += wrong_in("markdown", markdown_is_drawn, COMFY_DRAWN);
     wrong += wrong_in("rows", rows_are_drawn, COMFY_DRAWN);
+    wrong += wrong_in("rows with settings", rows_with_settings_are_drawn, COMFY_DRAWN);
     wrong += wrong_in("a column that isn't there", column_is_refused, COMFY_INPUT_REFUSED);
     wrong += wrong_in("an unknown argument", word_is_refused, COMFY_SETTINGS_REFUSED);
     return wrong ? 1 : 0;

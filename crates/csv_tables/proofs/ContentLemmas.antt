@@ -1,5 +1,5 @@
 -- Tables whose rows stand elsewhere.
-use Rattle.std.proofs.Common.{◌≡◌, ◌≤◌, ℕ, zero, suc, ◌+◌, ◌-◌, Bool, true, false, List, [], ◌∷◌, ◌++◌, Option, Some, None, flat_map, length, map, max, arith, append-nil, append_assoc, refl, ap, ap₂, sym, subst, ◌∙◌, ⊎_elim}
+use Rattle.std.proofs.Common.{◌≡◌, ◌≤◌, ℕ, zero, suc, ◌+◌, ◌-◌, Bool, true, false, List, [], ◌∷◌, ◌++◌, Option, Some, None, drop, flat_map, length, map, max, arith, append-nil, append_assoc, refl, ap, ap₂, sym, subst, ◌∙◌, ⊎_elim}
 use Rattle.std.proofs.lemmas.Bool.{cases_lt}
 use Rattle.std.proofs.lemmas.List.{get_or_past, length-append, length-map}
 use Rattle.std.proofs.lemmas.List.FromFn.{get_or-map-range_with_len, length-map-range_with_len, length-range_with_len}
@@ -13,9 +13,11 @@ use Rattle.comfy_table.specs.Lines.{longest_line}
 use Rattle.comfy_table.specs.LongestLine.{cell_longest_line}
 use Rattle.comfy_table.specs.TableValue.{TableValue, cell_content_width, cells_at, cells_with_header, column_content_width, max_content_widths, with_other_rows, with_row, with_rows}
 use Rattle.csv_tables.specs.Cells.{counted_from, header_for, row_for}
-use Rattle.csv_tables.specs.Contents.{greatest_at, headed_by, made_by, measured_at, most_cells, pairs_by, rows_from, table_by}
+use Rattle.csv_tables.proofs.DressedLemmas.{columns_dressed, grown_dressed, header_dressed, no_rows_dressed, rows_dressed}
+use Rattle.csv_tables.specs.Contents.{dressed_by, greatest_at, headed_by, made_by, measured_at, most_cells, pairs_by, rows_from, table_by}
 use Rattle.csv_tables.specs.Drawn.{SelectedValue, empty_table, headed_table, pairs_in, pairs_table, rows_of, rows_table}
 use Rattle.csv_tables.specs.NoWrap.{cell_nowrap_width, field_width}
+use Rattle.csv_tables.specs.Styled.{dressed_rows, dressed_table}
 use Rattle.csv_tables.specs.declared.options.Look.{Look}
 use Rattle.csv_tables.specs.declared.rows.RecordRows.{RecordRows}
 
@@ -82,9 +84,9 @@ pairs_rows rows expanded at [] = refl
 pairs_rows rows expanded at (fields ∷ left) =
     ap₂ (λ (b : Bool) (rest : List RowValue). (if b then pairs_by rows fields else made_by rows at fields ∷ []) ++ rest) expanded (pairs_rows rows expanded (at + 1) left)
 
--- those of others
-pub single_rows : (rows : RecordRows) → rows.is_expanded ≡ false → (at : ℕ) (left : List (List Text))
-    → rows_from rows at left ≡ map (row_for rows.look rows.is_aligned rows.selected.is_numbered rows.selected.columns) (counted_from (at + 1) left)
+-- those of others, with their settings
+single_rows : (rows : RecordRows) → rows.is_expanded ≡ false → (at : ℕ) (left : List (List Text))
+    → rows_from rows at left ≡ map (λ (row : ℕ × List Text). dressed_by rows.selected (slice_get rows.settings.rows row.0) (row_for rows.look rows.is_aligned rows.selected.is_numbered rows.selected.columns row)) (counted_from (at + 1) left)
 single_rows rows single at [] = refl
 single_rows rows single at (fields ∷ left) =
     ap₂ (λ (b : Bool) (rest : List RowValue). (if b then pairs_by rows fields else made_by rows at fields ∷ []) ++ rest) single (single_rows rows single (at + 1) left)
@@ -96,9 +98,12 @@ headed-rows look content (Some names) = refl
 pub no_rows : (rows : RecordRows) → (headed_by rows).rows ≡ []
 no_rows rows = by_kind rows.is_expanded
   where
-    by_kind : (b : Bool) → (if b then empty_table rows.look else headed_table rows.look rows.selected.is_numbered rows.selected.columns rows.selected.names).rows ≡ []
+    headed : TableValue
+    headed = headed_table rows.look rows.selected.is_numbered rows.selected.columns rows.selected.names
+
+    by_kind : (b : Bool) → (if b then empty_table rows.look else dressed_table rows.selected rows.settings.rows headed).rows ≡ []
     by_kind true = refl
-    by_kind false = headed-rows rows.look rows.selected rows.selected.names
+    by_kind false = no_rows_dressed rows.selected rows.settings.rows headed (headed-rows rows.look rows.selected rows.selected.names)
 
 -- the table of records
 pub pairs-header : (look : Look) (content : SelectedValue) → (pairs_table look content).header ≡ None
@@ -107,11 +112,22 @@ pairs-header look content = ap (λ (t : TableValue). t.header) (with_rows-grown 
 pub table_is : (rows : RecordRows) → with_columns (rows_from rows 0 rows.selected.rows) (headed_by rows) ≡ table_by rows
 table_is rows = by_kind rows.is_expanded refl
   where
+    plain : TableValue
+    plain = headed_table rows.look rows.selected.is_numbered rows.selected.columns rows.selected.names
+
+    made : List RowValue
+    made = rows_of rows.look rows.is_aligned rows.selected
+
     headed : Bool → TableValue
-    headed b = if b then empty_table rows.look else headed_table rows.look rows.selected.is_numbered rows.selected.columns rows.selected.names
+    headed b = if b then empty_table rows.look else dressed_table rows.selected rows.settings.rows plain
 
     table : Bool → TableValue
-    table b = if b then pairs_table rows.look rows.selected else rows_table rows.look rows.is_aligned rows.selected
+    table b = if b then pairs_table rows.look rows.selected else dressed_table rows.selected rows.settings.rows (rows_table rows.look rows.is_aligned rows.selected)
+
+    listed : rows.is_expanded ≡ false → rows_from rows 0 rows.selected.rows ≡ dressed_rows rows.selected (drop 1 rows.settings.rows) made
+    listed is =
+        single_rows rows is 0 rows.selected.rows
+        ∙ rows_dressed rows.selected rows.settings.rows (row_for rows.look rows.is_aligned rows.selected.is_numbered rows.selected.columns) 1 rows.selected.rows
 
     by_kind : (b : Bool) → rows.is_expanded ≡ b → with_columns (rows_from rows 0 rows.selected.rows) (headed rows.is_expanded) ≡ table rows.is_expanded
     by_kind true is =
@@ -119,8 +135,9 @@ table_is rows = by_kind rows.is_expanded refl
         ∙ whole (flat_map (pairs_by rows) rows.selected.rows) (empty_table rows.look) refl
         ∙ ap table (sym is)
     by_kind false is =
-        ap₂ (λ (all : List RowValue) (b : Bool). with_columns all (headed b)) (single_rows rows is 0 rows.selected.rows) is
-        ∙ whole (rows_of rows.look rows.is_aligned rows.selected) (headed_table rows.look rows.selected.is_numbered rows.selected.columns rows.selected.names) (headed-rows rows.look rows.selected rows.selected.names)
+        ap₂ (λ (all : List RowValue) (b : Bool). with_columns all (headed b)) (listed is) is
+        ∙ grown_dressed rows.selected rows.settings.rows made plain
+        ∙ ap (dressed_table rows.selected rows.settings.rows) (whole made plain (headed-rows rows.look rows.selected rows.selected.names))
         ∙ ap table (sym is)
 
 -- ---- what cells give
@@ -217,21 +234,33 @@ all_widths t none within i =
 pub header_widths : (rows : RecordRows) (t : TableValue) → t ≡ headed_by rows → (i : ℕ) → slice_index_or (max_content_widths t) i 0 ≡ column_content_width t i
 header_widths rows t is i = subst (λ (own : TableValue). slice_index_or (max_content_widths own) i 0 ≡ column_content_width own i) (sym is) (by_kind rows.is_expanded)
   where
-    headed : Option (List Text) → TableValue
-    headed names = headed_table rows.look rows.selected.is_numbered rows.selected.columns names
+    plain : Option (List Text) → TableValue
+    plain names = headed_table rows.look rows.selected.is_numbered rows.selected.columns names
 
-    within : (names : Option (List Text)) (row : RowValue) → (headed names).header ≡ Some row → length row.cells ≤ length (headed names).columns
-    within None row is = absurd (cc is)
-    within (Some names) row is =
+    headed : Option (List Text) → TableValue
+    headed names = dressed_table rows.selected rows.settings.rows (plain names)
+
+    as_many : (names : Option (List Text)) (row : RowValue) → (plain names).header ≡ Some row → length row.cells ≤ length (plain names).columns
+    as_many None row is = absurd (cc is)
+    as_many (Some names) row is =
         let cells = length (header_for rows.look rows.selected.is_numbered rows.selected.columns names).cells in
         let same : header_for rows.look rows.selected.is_numbered rows.selected.columns names ≡ row = cc is in
-        let long : length (headed (Some names)).columns ≡ cells = length-map (range_with_len 0 (cells - 0)) new_column ∙ length-range_with_len 0 (cells - 0) ∙ omega arith in
+        let long : length (plain (Some names)).columns ≡ cells = length-map (range_with_len 0 (cells - 0)) new_column ∙ length-range_with_len 0 (cells - 0) ∙ omega arith in
         let own = ap (λ (r : RowValue). length r.cells) same in
         omega (arith, long, own)
 
+    within : (names : Option (List Text)) (row : RowValue) → (headed names).header ≡ Some row → length row.cells ≤ length (headed names).columns
+    within names row is =
+        let own = header_dressed rows.selected rows.settings.rows (plain names) row is in
+        let low = as_many names own.0 own.1 in
+        let many = ap (λ (cs : List ColumnValue). length cs) (columns_dressed rows.selected rows.settings.rows (plain names)) in
+        omega (arith, low, many, own.2)
+
     by_kind : (b : Bool) → slice_index_or (max_content_widths (if b then empty_table rows.look else headed rows.selected.names)) i 0 ≡ column_content_width (if b then empty_table rows.look else headed rows.selected.names) i
     by_kind true = all_widths (empty_table rows.look) refl (λ row is. absurd (cc is)) i
-    by_kind false = all_widths (headed rows.selected.names) (headed-rows rows.look rows.selected rows.selected.names) (within rows.selected.names) i
+    by_kind false =
+        all_widths (headed rows.selected.names) (no_rows_dressed rows.selected rows.settings.rows (plain rows.selected.names) (headed-rows rows.look rows.selected rows.selected.names))
+        (within rows.selected.names) i
 
 -- widths that are those of each position are those of the columns
 pub widths_are : (t : TableValue) (widths : List ℕ) → length widths ≡ length t.columns → ((i : ℕ) → slice_index_or widths i 0 ≡ column_content_width t i) → widths ≡ max_content_widths t

@@ -5,6 +5,7 @@ pub mod ColumnLemmas
 mod ContentLemmas
 pub mod CountLemmas
 pub mod DecimalLawLemmas
+mod DressedLemmas
 mod ExpandedLemmas
 pub mod FieldControlLemmas
 pub mod FieldLemmas
@@ -34,7 +35,7 @@ pub mod SeparatorLemmas
 mod ShownLemmas
 pub mod SpacedLemmas
 pub mod StraightLemmas
-mod StyledLemmas
+pub mod StyledLemmas
 pub mod SummaryLemmas
 pub mod TextLineLemmas
 pub mod TextTableLemmas

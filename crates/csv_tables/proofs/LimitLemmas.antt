@@ -1,12 +1,12 @@
 -- Columns with limits: their paddings, and what they take of a width.
-use Rattle.std.proofs.Common.{◌≡◌, ◌<◌, ◌≤◌, ◌+◌, ◌&&◌, ℕ, zero, suc, Bool, true, false, List, [], ◌∷◌, Some, arith, get_or, nat_le, length, map, set, take, refl, ap, ap₂, ◌∙◌}
+use Rattle.std.proofs.Common.{◌≡◌, ◌<◌, ◌≤◌, ◌+◌, ◌&&◌, ℕ, zero, suc, Bool, true, false, ◌==◌, List, [], ◌∷◌, Some, None, arith, get_or, nat_le, length, map, set, take, refl, ap, ap₂, ◌∙◌}
 use Rattle.std.specs.List.{All, list_all, range_with_len, sum}
 use Rattle.std.specs.Prelude.{sum_by, if◌then◌else◌}
 use Rattle.std.proofs.lemmas.List.FromFn.{length-map-range_with_len}
 use Rattle.std.proofs.lemmas.List.Sums.{sum_by-cons}
 use Rattle.comfy_parts.specs.CellValue.{ColumnValue}
 use Rattle.comfy_table.specs.Frame.{border_count}
-use Rattle.comfy_table.specs.TableValue.{TableValue}
+use Rattle.comfy_table.specs.TableValue.{TableValue, max_content_widths}
 use Rattle.csv_tables.proofs.NoWrapLemmas.{given_is_shared, kept-test, kept_within}
 use Rattle.csv_tables.specs.Limits.{bounded_width, has_room_within, level_within, limits_at, padded, padded_at, taken, with_limits, with_own_limits, with_widths}
 use Rattle.csv_tables.specs.NoWrap.{by_columns, least_width, reserved_width, width_at_level}
@@ -108,3 +108,10 @@ pub given_within_room : (level : ℕ) (nowrap : List Bool) (table : TableValue) 
 given_within_room level nowrap table fits =
     let framed : least_width nowrap table ≡ border_count table.style (length (by_columns (width_at_level 8 nowrap table) table)) + sum_by (λ content. 2 + content) (by_columns (width_at_level 8 nowrap table) table) = refl in
     kept_within (reserved_width level nowrap table) (width_at_level 8 nowrap table) (λ i. let less = given_is_shared level 8 nowrap table i in omega (arith, less)) 0 (length table.columns) (omega (arith, fits, framed))
+
+-- ---- constraints
+
+-- columns that have limits get their contents within them, if no width is kept
+pub limited-contents : (limits : List ColumnLimits) (nowrap : List Bool) (table : TableValue) → (length limits == 0) ≡ false → with_limits limits (max_content_widths table) table ≡ with_widths limits None nowrap table
+limited-contents [] nowrap table some = absurd (cc some)
+limited-contents (own ∷ limits) nowrap table some = refl

@@ -22,7 +22,7 @@ use Rattle.csv_tables.specs.Drawn.{drawn_fields, record_line, record_text, some_
 use Rattle.csv_tables.specs.Fields.{field_or_blank}
 use Rattle.csv_tables.specs.Styled.{RendersStyled}
 use Rattle.csv_tables.specs.declared.options.ColumnPlan.{ColumnPlan}
-use Rattle.csv_tables.specs.declared.options.ColumnSettings.{ColumnSettings}
+use Rattle.csv_tables.specs.Settings.{SettingsValue}
 use Rattle.csv_tables.specs.declared.options.Look.{Look}
 use Rattle.csv_tables.specs.declared.rows.RecordRows.{RecordRows}
 
@@ -102,7 +102,7 @@ text_is contents arranged same own = by_kind contents.rows.is_expanded refl
         ∙ ap (λ (t : TableValue). terminated_text_of (drawing_of_infos t arranged.infos)) (sym (all_rows_are_the_table whole count (omega arith)))
 
 -- it is the text of a table
-pub renders : (settings : List ColumnSettings) (look : Look) (contents : LazyTableValue) (infos : List ColumnInfo) → AreDrawnContents settings look contents.rows.selected contents → IsArrangedTable contents.table (record { table = contents.table; infos = infos })
+pub renders : (settings : SettingsValue) (look : Look) (contents : LazyTableValue) (infos : List ColumnInfo) → AreDrawnContents settings look contents.rows.selected contents → IsArrangedTable contents.table (record { table = contents.table; infos = infos })
     → contents.table.rows ≡ rows_from contents.rows 0 contents.rows.selected.rows → RendersStyled settings look contents.rows.selected (drawn_next contents.rows contents.table infos 0 true true contents.rows.selected.rows)
 renders settings look contents infos made arranged own =
     record {

@@ -9,13 +9,14 @@ use Rattle.csv_tables.proofs.CountLemmas.{below_header}
 use Rattle.csv_tables.proofs.SpacedLemmas.{same_table}
 use Rattle.comfy_parts.specs.declared.style.cell.CellAlignment.TheVariants.{Center}
 use Rattle.csv_tables.specs.Decimals.{has_points}
-use Rattle.csv_tables.specs.Drawn.{RendersAnyRecords, RendersContent, RendersRecords, RendersTable, SelectedValue, count_below, nowrap_in, rows_table}
+use Rattle.csv_tables.specs.Drawn.{RendersAnyRecords, RendersContent, RendersRecords, RendersTable, SelectedValue, count_below, nowrap_in}
 use Rattle.csv_tables.specs.Leasts.{least_position, least_positions}
 use Rattle.csv_tables.specs.Limits.{has_room_in, has_room_within, hold_points, holds_points, is_within, limits_at, limits_of, no_limits, reached_limits, settings_at, with_paddings}
-use Rattle.csv_tables.specs.Styled.{RendersAnyStyledRecords, RendersStyledContent, RendersStyledRecords, RendersStyledTable, centered, column_limits, has_room_by, limits_in}
+use Rattle.csv_tables.specs.Styled.{RendersAnyStyledRecords, RendersStyledContent, RendersStyledRecords, RendersStyledTable, centered, column_limits, dressed_table, has_room_by, limits_in, styled_rows}
+use Rattle.csv_tables.specs.Settings.{SettingsValue, no_settings}
 use Rattle.csv_tables.specs.declared.limits.ColumnLimits.{ColumnLimits}
 use Rattle.csv_tables.specs.declared.options.ColumnPlan.{ColumnPlan}
-use Rattle.csv_tables.specs.declared.options.ColumnSettings.{ColumnSettings}
+use Rattle.csv_tables.specs.declared.settings.ColumnSettings.{ColumnSettings}
 use Rattle.csv_tables.specs.declared.options.Layout.{Layout}
 use Rattle.csv_tables.specs.declared.options.Look.{Look}
 
@@ -62,40 +63,40 @@ none_wrapped limits table none =
     (λ i. ap (λ (b : Bool). not b || is_within (limits_at limits i).greatest (column_content_width table i)) (at_unpointed limits i none)) (range_with_len 0 (length limits))
 
 -- and there is as much room for a table that is to have them lined up
-pub room_without_points : (settings : List ColumnSettings) (look : Look) (content : SelectedValue) → has_points content.columns ≡ false → has_room_by (limits_in settings content) look content true ≡ has_room_by (limits_in settings content) look content false
+pub room_without_points : (settings : SettingsValue) (look : Look) (content : SelectedValue) → has_points content.columns ≡ false → has_room_by settings look content true ≡ has_room_by settings look content false
 room_without_points settings look content none =
-    let limits = limits_in settings content in
-    let table : TableValue = rows_table look false content in
+    let limits = limits_in settings.columns content in
+    let table : TableValue = styled_rows settings look content false in
     let padded : TableValue = with_paddings limits table in
     let room : Bool = has_room_within (reached_limits padded limits) look.width (nowrap_in content) padded in
-    let held : hold_points limits padded ≡ true = none_wrapped limits padded (in_unpointed settings content none) in
-    ap (λ (t : TableValue). has_room_in limits look.width true (nowrap_in content) t) (same_table look content none)
+    let held : hold_points limits padded ≡ true = none_wrapped limits padded (in_unpointed settings.columns content none) in
+    ap (λ (t : TableValue). has_room_in limits look.width true (nowrap_in content) (dressed_table content settings.rows t)) (same_table look content none)
     ∙ ap (λ (b : Bool). (b || false) && room) held ∙ sym (ap (λ (b : Bool). (b || true) && room) held)
 
 -- ---- without settings
 
-without_table : (is_expanded : Bool) (look : Look) (content : SelectedValue) (text : Text) → RendersStyledTable [] is_expanded look content text → RendersTable is_expanded look content text
+without_table : (is_expanded : Bool) (look : Look) (content : SelectedValue) (text : Text) → RendersStyledTable no_settings is_expanded look content text → RendersTable is_expanded look content text
 without_table true look content text is = record { has_separators = is.has_separators; separators = is.separators; arranged = is.arranged; is_arranged = is.is_arranged; is = is.is }
 without_table false look content text is = record { has_separators = is.has_separators; separators = is.separators; arranged = is.arranged; is_arranged = is.is_arranged; is = is.is }
 
-without_content : (is_markdown : Bool) (look : Look) (content : SelectedValue) (text : Text) → RendersStyledContent [] is_markdown look content text → RendersContent is_markdown look content text
+without_content : (is_markdown : Bool) (look : Look) (content : SelectedValue) (text : Text) → RendersStyledContent no_settings is_markdown look content text → RendersContent is_markdown look content text
 without_content true look content text is = is
 without_content false look content text is = record { is_expanded = is.is_expanded; expansion = is.expansion; drawn = without_table is.is_expanded look content text is.drawn }
 
 -- an output is what it is without them
-pub without_settings : (counted : Option ℕ) (layout : Layout) (records : List (List Text)) (output : Text) → RendersStyledRecords [] counted layout records output → RendersRecords counted layout records output
+pub without_settings : (counted : Option ℕ) (layout : Layout) (records : List (List Text)) (output : Text) → RendersStyledRecords no_settings counted layout records output → RendersRecords counted layout records output
 without_settings counted layout records output is =
     record { content = is.content; is_content = is.is_content; text = is.text; is_text = without_content layout.look.is_markdown layout.look is.content is.text is.is_text; joined = is.joined }
 
 -- so is one for records that are all there are
-pub without_settings_any : (layout : Layout) (records : List (List Text)) (output : Text) → RendersAnyStyledRecords [] layout records output → RendersAnyRecords layout records output
+pub without_settings_any : (layout : Layout) (records : List (List Text)) (output : Text) → RendersAnyStyledRecords no_settings layout records output → RendersAnyRecords layout records output
 without_settings_any layout [] output is = is
 without_settings_any layout (r ∷ rest) output is = without_settings (Some (count_below layout.selection (r ∷ rest))) layout (r ∷ rest) output is
 
 -- ---- records that are counted
 
 -- the output for some records, where all are counted
-pub any_styled_output : (settings : List ColumnSettings) (layout : Layout) (records : List (List Text)) (count : ℕ) (output : Text) → (length records ≡ 0 → ⊥) → count ≡ length records - (if layout.selection.has_header then 1 else 0)
+pub any_styled_output : (settings : SettingsValue) (layout : Layout) (records : List (List Text)) (count : ℕ) (output : Text) → (length records ≡ 0 → ⊥) → count ≡ length records - (if layout.selection.has_header then 1 else 0)
     → RendersStyledRecords settings (Some count) layout records output → RendersAnyStyledRecords settings layout records output
 any_styled_output settings layout [] count output some counted made = absurd (some refl)
 any_styled_output settings layout (r ∷ rest) count output some counted made =

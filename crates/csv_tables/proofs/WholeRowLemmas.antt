@@ -4,7 +4,7 @@ use Rattle.std.proofs.lemmas.Bool.{and_parts}
 use Rattle.std.proofs.lemmas.List.Elements.{All-append, All-cons, All-head, All-map, All-nil, All-tail, All-weaker}
 use Rattle.std.proofs.lemmas.List.Folds.{list_any-append}
 use Rattle.std.proofs.lemmas.Str.{IsUtf8-append, IsUtf8-nil}
-use Rattle.std.specs.List.{All, list_any}
+use Rattle.std.specs.List.{All, list_any, slice_get}
 use Rattle.std.specs.Prelude.{option_map, unwrap_or, if◌then◌else◌}
 use Rattle.std.specs.Str.{IsUtf8, all_scalars}
 use lib.Utf8.{encode, scalar, scalars}
@@ -16,17 +16,20 @@ use Rattle.comfy_parts.proofs.PrintableLineLemmas.{some_parts}
 use Rattle.comfy_parts.specs.CellValue.{HasTextLines, IsCell, IsRow}
 use Rattle.comfy_parts.specs.Text.{Text}
 use Rattle.comfy_parts.specs.declared.style.cell.CellAlignment.{CellAlignment}
+use Rattle.comfy_parts.specs.declared.style.cell.CellAlignment.TheVariants.{Right}
 use Rattle.csv.specs.Records.{AllText}
 use Rattle.csv_records.proofs.ControlLemmas.{cleaned_whole}
 use Rattle.csv_records.specs.Cleaning.{cleaned}
-use Rattle.csv_tables.proofs.BuiltLemmas.{each_field, each_name, fields_each, number_each}
+use Rattle.csv_tables.proofs.BuiltLemmas.{each_field, each_name, number_each}
+use Rattle.csv_tables.proofs.DressedLemmas.{cells_made, dressed-keeps, height_made}
 use Rattle.csv_tables.proofs.FieldLemmas.{IsShortPrintable}
 use Rattle.csv_tables.proofs.FittingLemmas.{text_drawn}
 use Rattle.csv_tables.proofs.FieldControlLemmas.{text_fields}
 use Rattle.csv_tables.proofs.TextLineLemmas.{lines-front, lines_of, text_lines}
-use Rattle.csv_tables.specs.Cells.{Shown, cell_for, columns_within, field_text, is_blank, marked, pair_for, shown_fields, shown_number, text_in, with_weight}
+use Rattle.csv_tables.specs.Cells.{cell_for, columns_within, field_text, is_blank, marked, number_of, pair_for, shown_cells, shown_number, text_in, with_weight}
 use Rattle.csv_tables.specs.Columns.{name_at}
-use Rattle.csv_tables.specs.Contents.{made_by, pairs_by, rows_at, rows_from, shown_by}
+use Rattle.csv_tables.specs.Contents.{field_cell, field_cells, made_by, pairs_by, rows_at, rows_from, settings_by}
+use Rattle.csv_tables.specs.Settings.{CellSettingsValue, cell_settings, limit_by}
 use Rattle.csv_tables.specs.Fields.{field_or_blank}
 use Rattle.csv_tables.specs.declared.options.ColumnPlan.{ColumnPlan}
 use Rattle.csv_tables.specs.declared.options.Look.{Look}
@@ -126,22 +129,22 @@ module _ (rows : RecordRows) where
   row_whole : (at : ℕ) (fields : List Text) → All IsUtf8 fields → IsRow (made_by rows at fields)
   row_whole at fields utf8 =
       record {
-        cells = All-map IsCell (λ (s : Shown). cell_for rows.look s.alignment s.text) (shown_by rows at fields) (All-weaker (λ (s : Shown). IsUtf8 s.text) (λ (s : Shown). IsCell (cell_for rows.look s.alignment s.text)) (λ s. cell_whole rows.look false s.alignment s.text) (shown_by rows at fields) (shown rows.selected.is_numbered));
-        some_height = high rows.look rows.look.max_height;
+        cells = subst (All IsCell) (sym (cells_made rows at fields)) (All-append IsCell (shown_cells rows.look false (shown_number (number_of rows.selected.is_numbered (at + 1)))) _ (number rows.selected.is_numbered) of_fields);
+        some_height = subst (λ (limit : Option ℕ). IfSome limit (λ h. 1 ≤ h)) (sym (height_made rows at fields)) (high rows.look (limit_by (settings_by rows at) rows.look));
       }
     where
-      drawn : List ColumnPlan
-      drawn = columns_within fields rows.selected.columns
+      settings : List CellSettingsValue
+      settings = cell_settings (settings_by rows at)
 
-      each : All (λ (column : ColumnPlan). IsUtf8 (text_in rows.look rows.is_aligned column fields)) drawn
-      each = All-every (λ (column : ColumnPlan). IsUtf8 (text_in rows.look rows.is_aligned column fields)) drawn (λ column. text_drawn rows.look rows.is_aligned column fields utf8)
+      of_fields : All IsCell (field_cells rows.look false rows.is_aligned settings (columns_within fields rows.selected.columns) fields)
+      of_fields =
+          All-map IsCell (field_cell rows.look false rows.is_aligned settings fields) (columns_within fields rows.selected.columns)
+          (All-every (λ (column : ColumnPlan). IsCell (field_cell rows.look false rows.is_aligned settings fields column)) (columns_within fields rows.selected.columns)
+          (λ column. dressed-keeps (slice_get settings column.position) _ (cell_whole rows.look false column.alignment (text_in rows.look rows.is_aligned column fields) (text_drawn rows.look rows.is_aligned column fields utf8))))
 
-      of_fields : All (λ (s : Shown). IsUtf8 s.text) (shown_fields rows.look rows.is_aligned drawn fields)
-      of_fields = fields_each IsUtf8 IsUtf8-nil short_whole rows.look rows.is_aligned drawn fields each
-
-      shown : (b : Bool) → All (λ (s : Shown). IsUtf8 s.text) (shown_number (if b then Some (decimal (at + 1)) else None) ++ shown_fields rows.look rows.is_aligned drawn fields)
-      shown true = All-cons (λ (s : Shown). IsUtf8 s.text) _ (shown_fields rows.look rows.is_aligned drawn fields) (number_each IsUtf8 IsUtf8-nil short_whole (at + 1)) of_fields
-      shown false = of_fields
+      number : (b : Bool) → All IsCell (shown_cells rows.look false (shown_number (if b then Some (decimal (at + 1)) else None)))
+      number true = All-cons IsCell _ [] (cell_whole rows.look false (Some Right) (decimal (at + 1)) (number_each IsUtf8 IsUtf8-nil short_whole (at + 1))) (All-nil IsCell)
+      number false = All-nil IsCell
 
   pair_whole : (name field : Text) → IsUtf8 name → IsUtf8 field → IsRow (pair_for rows.look name field)
   pair_whole name field whole utf8 =

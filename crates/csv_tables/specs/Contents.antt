@@ -1,32 +1,54 @@
 -- Private: rows of records before they are made.
 -- Source: this library's own.
-use Rattle.std.specs.Prelude.{ℕ, ◌+◌, ◌≡◌, ◌⊎◌, Bool, true, false, List, [], ◌∷◌, ◌++◌, Option, Some, None, chars, length, map, unwrap_or, if◌then◌else◌}
+use Rattle.std.specs.Prelude.{ℕ, ◌+◌, ◌≡◌, ◌⊎◌, Bool, true, false, List, [], ◌∷◌, ◌++◌, Option, Some, None, chars, length, map, slice_get, unwrap_or, if◌then◌else◌}
 use Rattle.std.specs.List.{list_any}
 use Rattle.comfy_parts.specs.CellValue.{CellValue, ColumnInfo, RowValue}
 use Rattle.comfy_parts.specs.Text.{Text, greatest, spaces}
 use Rattle.comfy_table.specs.Drawing.{part_of_drawing, terminated_text_of}
 use Rattle.comfy_table.specs.TableValue.{TableValue, cells_at, measured_cell}
-use Rattle.csv_tables.specs.Cells.{Shown, columns_within, is_blank, row_for, shown_in}
+use Rattle.csv_tables.specs.Cells.{cell_for, is_blank, row_for, text_in, with_weight}
 use Rattle.csv_tables.specs.LazyTableValue.{LazyTableValue}
 use Rattle.csv_tables.specs.Drawn.{SelectedValue, empty_table, headed_table, pairs_of, pairs_table, record_line, rows_table, separators_in}
 use Rattle.csv_tables.specs.Markdown.{may_be_escaped}
 use Rattle.csv_tables.specs.Separators.{AreRowsSeparated}
-use Rattle.csv_tables.specs.Styled.{is_expanded_by, styled_table}
-use Rattle.csv_tables.specs.declared.options.ColumnSettings.{ColumnSettings}
+use Rattle.csv_tables.specs.Settings.{CellSettingsValue, RowSettingsValue, SettingsValue, dressed}
+use Rattle.csv_tables.specs.Styled.{dressed_row, dressed_table, is_expanded_by, styled_table}
+use Rattle.csv_tables.specs.declared.options.ColumnPlan.{ColumnPlan}
 use Rattle.csv_tables.specs.declared.options.Look.{Look}
 use Rattle.csv_tables.specs.declared.rows.RecordRows.{RecordRows}
 
--- what the row of the record at a place shows
-abbrev pub shown_by : RecordRows → ℕ → List Text → List Shown
-shown_by rows at fields =
-    shown_in rows.look rows.is_aligned rows.selected.is_numbered
-    (columns_within fields rows.selected.columns) (at + 1, fields)
+-- the cell of the field of a column, with its settings
+abbrev pub field_cell : Look → Bool → Bool → List CellSettingsValue → List Text → ColumnPlan
+    → CellValue
+field_cell look is_bold is_aligned settings fields column =
+    dressed (slice_get settings column.position)
+    (with_weight is_bold (cell_for look column.alignment (text_in look is_aligned column fields)))
+
+-- those of some columns
+abbrev pub field_cells : Look → Bool → Bool → List CellSettingsValue → List ColumnPlan
+    → List Text → List CellValue
+field_cells look is_bold is_aligned settings columns fields =
+    map (field_cell look is_bold is_aligned settings fields) columns
+
+-- the settings of the row of the record at a place
+abbrev pub settings_by : RecordRows → ℕ → Option RowSettingsValue
+settings_by rows at = slice_get rows.settings.rows (at + 1)
+
+-- its row, before it has settings
+abbrev pub plain_by : RecordRows → ℕ → List Text → RowValue
+plain_by rows at fields =
+    row_for rows.look rows.is_aligned rows.selected.is_numbered rows.selected.columns
+    (at + 1, fields)
+
+-- a row with settings, if it has some
+abbrev pub dressed_by : SelectedValue → Option RowSettingsValue → RowValue → RowValue
+dressed_by content None row = row
+dressed_by content (Some own) row = dressed_row content own row
 
 -- its row
 abbrev pub made_by : RecordRows → ℕ → List Text → RowValue
 made_by rows at fields =
-    row_for rows.look rows.is_aligned rows.selected.is_numbered rows.selected.columns
-    (at + 1, fields)
+    dressed_by rows.selected (settings_by rows at) (plain_by rows at fields)
 
 -- the fields of a record, each with the name of its column
 abbrev pub pairs_by : RecordRows → List Text → List RowValue
@@ -48,15 +70,17 @@ abbrev pub headed_by : RecordRows → TableValue
 headed_by rows =
     if rows.is_expanded
     then empty_table rows.look
-    else headed_table rows.look rows.selected.is_numbered rows.selected.columns
-    rows.selected.names
+    else dressed_table rows.selected rows.settings.rows
+    (headed_table rows.look rows.selected.is_numbered rows.selected.columns
+    rows.selected.names)
 
 -- their table
 abbrev pub table_by : RecordRows → TableValue
 table_by rows =
     if rows.is_expanded
     then pairs_table rows.look rows.selected
-    else rows_table rows.look rows.is_aligned rows.selected
+    else dressed_table rows.selected rows.settings.rows
+    (rows_table rows.look rows.is_aligned rows.selected)
 
 -- what a cell gives as it is measured, 0 where there is none
 abbrev pub measured_at : TableValue → (CellValue → ℕ) → Option CellValue → ℕ
@@ -126,7 +150,7 @@ pub record AreDrawnAs (is_expanded : Bool) (look : Look) (content : SelectedValu
       AreRowsSeparated (separators_in is_expanded look.separators) table contents.table
 
 -- whether expanded or not as it is wanted
-pub record AreDrawnContents (settings : List ColumnSettings) (look : Look)
+pub record AreDrawnContents (settings : SettingsValue) (look : Look)
     (content : SelectedValue) (contents : LazyTableValue) : Type 0 where
   pub is_expanded : Bool
   pub expansion : is_expanded ≡ is_expanded_by settings look content

@@ -16,6 +16,7 @@ pub mod MarkdownLines
 pub mod Pieces
 pub mod References
 pub mod Separators
+pub mod Settings
 pub mod Styled
 pub mod Summaries
 pub mod NoWrap

@@ -12,7 +12,7 @@ use Rattle.comfy_table.specs.Lines.{longest_line_at}
 use Rattle.comfy_table.specs.TableValue.{TableValue, column_content_width, constrained, max_content_widths}
 use Rattle.csv_tables.specs.NoWrap.{by_columns, greatest_level, has_room, lower_bound, reserved_width, shared_width, width_at_level, with_min_widths}
 use Rattle.csv_tables.specs.declared.limits.ColumnLimits.{ColumnLimits}
-use Rattle.csv_tables.specs.declared.options.ColumnSettings.{ColumnSettings}
+use Rattle.csv_tables.specs.declared.settings.ColumnSettings.{ColumnSettings}
 
 -- a column that has nothing of its own
 abbrev pub unset : ColumnSettings

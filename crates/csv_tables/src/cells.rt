@@ -3,21 +3,24 @@
 ghost use Rattle.std.specs.Prelude.{◌≡◌, ◌++◌, ◌∷◌, [], IfOk, IfSome, None, OnOk, Some, chars, decimal, false, if◌then◌else◌, map, option_map, string_bytes};
 ghost use Rattle.std.specs.Cow.{cow_str_bytes};
 ghost use Rattle.std.specs.List.{list_any};
-ghost use Rattle.comfy_parts.specs.CellValue.{plain_cell, with_cell};
+ghost use Rattle.comfy_parts.specs.CellValue.{plain_cell, plain_row, with_cell};
 ghost use Rattle.comfy_parts.specs.Text.{spaces};
 ghost use Rattle.comfy_parts.specs.declared.style.cell.CellAlignment.TheVariants.{Right};
 ghost use Rattle.comfy_table.specs.RowCells.{cell_of};
 ghost use Rattle.comfy_table.specs.TextStyles.{styled_by, text_cell};
 ghost use Rattle.csv_records.specs.Cleaning.{is_replaced};
-ghost use Rattle.csv_tables.specs.Cells.{cell_for, field_text, header_for, is_blank, number_name, shown_cells, shown_fields, shown_number, with_weight};
+ghost use Rattle.csv_tables.specs.Cells.{cell_for, field_text, header_for, is_blank, number_name, with_weight};
 ghost use Rattle.csv_tables.specs.Columns.{name_or_number};
-ghost use Rattle.csv_tables.specs.Contents.{IsKept};
+ghost use Rattle.csv_tables.specs.Contents.{IsKept, field_cells};
 ghost use Rattle.csv_tables.specs.Decimals.{spaced};
+ghost use Rattle.csv_tables.specs.Settings.{dressed, dressed_cells};
+ghost use Rattle.csv_tables.specs.Styled.{placed};
 
 use crate::columns::name_or_number;
 use crate::decimals::{spaces_after, with_spaces};
 use crate::markdown::{escaped, may_be_escaped};
 use crate::options::{ColumnPlan, Look};
+use crate::settings::{CellSettings, settings_of};
 use comfy_parts::for_tables::printable_cell;
 use comfy_parts::style::{Attribute, CellAlignment};
 use comfy_parts::{Cell, Cells, IntoRow, Result, Row};
@@ -52,40 +55,89 @@ pub(crate) fn row_cell<'r>(
     boxed_cell(alloc, text, after, alignment, is_bold, look)
 }
 
-/// The cell of a field in its column, whose decimal mark is lined up if `is_aligned`.
+/// The cell of a field in its column, whose decimal mark is lined up if `is_aligned`, with its
+/// settings.
 #[inline(always)]
 pub(crate) fn field_cell<'r>(
     alloc: Global,
     field: &'r str,
     column: &ColumnPlan,
+    own: Option<&CellSettings>,
     is_aligned: bool,
     look: &Look,
 ) -> Result<RowCell<'r>>
-    ensures { IfOk result (λ cell. cell_of cell ≡ cell_for look.now column.now.alignment
+    ensures { IfOk result (λ cell. cell_of cell ≡ dressed (option_map (λ own. own.now) own.entry)
+        (cell_for look.now column.now.alignment
         (spaced look.now.has_sequences (if is_aligned then column.now.points else None)
-        field.now)) }
+        field.now))) }
 {
     let after = spaces_of(alloc, field, column, is_aligned, look)?;
-    row_cell(alloc, field, after, column.alignment, false, look)
+    match own {
+        None => row_cell(alloc, field, after, column.alignment, false, look),
+        Some(own) => dressed_cell(alloc, field, after, column.alignment, own, look),
+    }
 }
 
-/// Appends the cell of a field in its column, whose decimal mark is lined up if `is_aligned`.
+/// Appends the cell of a field in its column, as `field_cell` returns it.
 #[inline(always)]
 pub(crate) fn push_field<'r>(
     cells: &mut Vec<RowCell<'r>>,
     alloc: Global,
     field: &'r str,
     column: &ColumnPlan,
+    own: Option<&CellSettings>,
     is_aligned: bool,
     look: &Look,
 ) -> Result<()>
     ensures { OnOk result (map cell_of cells.new.items ≡ map cell_of cells.old.items
-        ++ cell_for look.now column.now.alignment
+        ++ dressed (option_map (λ own. own.now) own.entry) (cell_for look.now column.now.alignment
         (spaced look.now.has_sequences (if is_aligned then column.now.points else None)
-        field.now) ∷ []) }
+        field.now)) ∷ []) }
 {
     let after = spaces_of(alloc, field, column, is_aligned, look)?;
-    push_text(cells, alloc, field, after, column.alignment, false, look)
+    match own {
+        None => push_text(cells, alloc, field, after, column.alignment, false, look),
+        Some(own) => push_dressed(cells, alloc, field, after, column.alignment, own, look),
+    }
+}
+
+// Appends the cell of a text with spaces after it, and with settings.
+#[inline(never)]
+fn push_dressed<'r>(
+    cells: &mut Vec<RowCell<'r>>,
+    alloc: Global,
+    text: &'r str,
+    after: usize,
+    alignment: Option<CellAlignment>,
+    own: &CellSettings,
+    look: &Look,
+) -> Result<()>
+    ensures { OnOk result (map cell_of cells.new.items ≡ map cell_of cells.old.items
+        ++ dressed (Some own.now) (cell_for look.now alignment (text.now ++ spaces after)) ∷ []) }
+{
+    cells.push(dressed_cell(alloc, text, after, alignment, own, look)?)?;
+    Ok(())
+}
+
+// The cell of a text with spaces after it, and with settings. A text may be lent if they have no
+// colour and no attribute.
+#[inline(never)]
+fn dressed_cell<'r>(
+    alloc: Global,
+    text: &'r str,
+    after: usize,
+    alignment: Option<CellAlignment>,
+    own: &CellSettings,
+    look: &Look,
+) -> Result<RowCell<'r>>
+    ensures { IfOk result (λ cell. cell_of cell
+        ≡ dressed (Some own.now) (cell_for look.now alignment (text.now ++ spaces after))) }
+{
+    if own.is_plain() {
+        return row_cell(alloc, text, after, own.side(alignment), false, look);
+    }
+    let cell = own.dressed(made_cell(alloc, text, after, alignment, false, look)?)?;
+    Ok(RowCell::Made(Box::new(alloc, cell)?))
 }
 
 /// Appends the cell of a text that isn't cleaned yet, with spaces after it, as `row_cell` returns
@@ -233,16 +285,19 @@ fn made_cell(
     Ok(cell)
 }
 
-/// The row of the header: the name of the numbers, if there are any, and the names of columns.
+/// The row of the header: the name of the numbers, if there are any, and the names of columns with
+/// their settings.
 pub fn header_of(
     alloc: Global,
     is_numbered: bool,
     names: &Record<'_>,
     columns: &[ColumnPlan],
+    settings: &[CellSettings],
     look: &Look,
 ) -> Result<Row>
-    ensures { IfOk result (λ row. row
-        ≡ header_for look.now is_numbered columns.now names.now) }
+    ensures { IfOk result (λ row. row ≡ plain_row (dressed_cells
+        (placed is_numbered columns.now settings.now)
+        (header_for look.now is_numbered columns.now names.now).cells)) }
 {
     let capacity = columns.len() + usize::from(is_numbered);
     let mut row = Cells(Vec::with_capacity(alloc, capacity)?).into_row(alloc)?;
@@ -252,46 +307,61 @@ pub fn header_of(
             &mut row,
             number_name(names),
             Some(CellAlignment::Right),
+            None,
             look,
         )?;
     }
-    add_names(alloc, &mut row, names, columns, look)?;
+    add_names(alloc, &mut row, names, columns, settings, look)?;
     Ok(row)
 }
 
-// Appends the cells of names.
+// Appends the cells of names, with their settings.
 fn add_names(
     alloc: Global,
     row: &mut Row,
     names: &Record<'_>,
     columns: &[ColumnPlan],
+    settings: &[CellSettings],
     look: &Look,
 ) -> Result<()>
     ensures { OnOk result (row.new ≡ record row.old {
-      cells = row.old.cells ++ shown_cells look.now look.now.has_bold_header
-          (shown_fields look.now false columns.now names.now);
+      cells = row.old.cells ++ field_cells look.now look.now.has_bold_header false settings.now
+          columns.now names.now;
     }) }
 {
     for column in columns {
         let name = names.get(column.position).unwrap_or("");
-        add_name(alloc, row, name, column.alignment, look)?;
+        let own = settings_of(settings, column.position);
+        add_name(alloc, row, name, column.alignment, own, look)?;
     }
     Ok(())
 }
 
-// Appends the cell of a name.
+// Appends the cell of a name, with its settings if it has some.
 fn add_name(
     alloc: Global,
     row: &mut Row,
     name: &str,
     alignment: Option<CellAlignment>,
+    own: Option<&CellSettings>,
     look: &Look,
 ) -> Result<()>
-    ensures { OnOk result (row.new ≡ with_cell
-        (with_weight look.now.has_bold_header (cell_for look.now alignment name.now)) row.old) }
+    ensures { OnOk result (row.new ≡ with_cell (dressed (option_map (λ own. own.now) own.entry)
+        (with_weight look.now.has_bold_header (cell_for look.now alignment name.now)))
+        row.old) }
 {
     let cell = made_cell(alloc, name, 0, alignment, look.has_bold_header, look)?;
-    row.try_add_cell(cell)
+    row.try_add_cell(dressed_if(cell, own)?)
+}
+
+// A cell with its settings, if it has some.
+fn dressed_if(cell: Cell, own: Option<&CellSettings>) -> Result<Cell>
+    ensures { IfOk result (λ made. made ≡ dressed (option_map (λ own. own.now) own.entry) cell) }
+{
+    match own {
+        Some(own) => own.dressed(cell),
+        None => Ok(cell),
+    }
 }
 
 // The name of the numbers.

@@ -8,7 +8,6 @@ ghost use Rattle.csv_tables.specs.Contents.{greatest_at, headed_by, most_cells, 
 ghost use Rattle.csv_tables.specs.LazyRows.{AreWithin, IsFlat};
 
 use crate::rows::RecordRows;
-use crate::selected::SelectedRecords;
 use comfy_parts::content_split::ColumnDisplayInfo;
 use comfy_table::{Result, Table, TableSource};
 use std::marker::Model;
@@ -64,13 +63,12 @@ impl LazyTable {
         })
     }
 
-    /// What the records are of which its rows are made.
-    pub fn into_selected(self) -> SelectedRecords
-        ensures { result ≡ self.rows.selected }
+    /// Its rows.
+    pub fn into_rows(self) -> RecordRows
+        ensures { result ≡ self.rows }
     {
         let LazyTable { rows, .. } = self;
-        let RecordRows { selected, .. } = rows;
-        selected
+        rows
     }
 
     /// Whether each row is seen to have at most one line with these infos. If this returns

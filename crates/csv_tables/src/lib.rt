@@ -20,15 +20,17 @@ mod rows;
 mod selected;
 mod selection;
 mod separators;
+mod settings;
 mod summary;
 mod table;
 
 pub use columns::name_at;
 pub use drawn::RecordDrawing;
 pub use markdown::escaped;
-pub use options::{ColumnPlan, ColumnSettings, Expansion, Layout, Look, RowSeparators};
+pub use options::{ColumnPlan, Expansion, Layout, Look, RowSeparators};
 pub use output::{
     drawn_records, drawn_styled_records, output_of_records, output_of_styled_records,
     text_of_records,
 };
 pub use selection::{Columns, Selection};
+pub use settings::{CellSettings, ColumnSettings, RowSettings, Settings};

@@ -8,8 +8,8 @@ ghost use Rattle.csv_tables.specs.NoWrap.{lower_bound};
 ghost use Rattle.csv_tables.specs.Styled.{limits_in};
 
 use crate::lazy_table::LazyTable;
-use crate::options::ColumnSettings;
 use crate::selected::SelectedRecords;
+use crate::settings::ColumnSettings;
 use comfy_parts::content_split::ColumnDisplayInfo;
 use comfy_table::{Column, ColumnConstraint, Result, Table, TableSource, Width};
 use std::alloc::{AllocError, Global};

@@ -18,7 +18,6 @@ use crate::lazy_table::LazyTable;
 use crate::limits::{
     ColumnLimits, hold_points, limits_for, limits_in, pad_contents, reached_limits, taken_at,
 };
-use crate::options::ColumnSettings;
 use crate::selected::SelectedRecords;
 use comfy_parts::content_split::measure_text_width;
 use comfy_parts::for_tables::measured_lines;
@@ -40,17 +39,19 @@ const NEEDED_NAMES: u16 = 4;
 /// columns keep what they need, those of numbers and dates their whole contents. Returns whether
 /// there is room: never if decimal points are lined up in texts that are wrapped, else always if no
 /// width is kept.
-pub(crate) fn keep_nowrap(contents: &mut LazyTable, settings: &[ColumnSettings]) -> Result<bool>
+pub(crate) fn keep_nowrap(contents: &mut LazyTable) -> Result<bool>
     ensures contents { OnOk result (contents.new ≡ record contents.old {
-      table = limited_by (limits_in settings.now contents.old.rows.selected)
+      table = limited_by
+          (limits_in contents.old.rows.settings.columns contents.old.rows.selected)
           contents.old.rows.look.width (nowrap_in contents.old.rows.selected) contents.old.table;
     }) }
     ensures has_room { IfOk result (λ has. has
-        ≡ has_room_in (limits_in settings.now contents.old.rows.selected)
+        ≡ has_room_in (limits_in contents.old.rows.settings.columns contents.old.rows.selected)
         contents.old.rows.look.width contents.old.rows.is_aligned
         (nowrap_in contents.old.rows.selected) contents.old.table) }
 {
-    let limits = limits_in(settings, &contents.rows.selected)?;
+    let rows = &contents.rows;
+    let limits = limits_in(rows.settings.of_columns(), &rows.selected)?;
     pad_contents(contents, limits.as_slice());
     let hold_points = hold_points(limits.as_slice(), contents)? || !contents.rows.is_aligned;
     let reached = reached_limits(limits.as_slice(), contents)?;

@@ -1,8 +1,5 @@
 //! What a caller may choose about the drawing of records.
 
-ghost use Rattle.std.specs.Prelude.{◌≡◌};
-ghost use Rattle.csv_tables.specs.Limits.{unset};
-
 use crate::selection::{Columns, Selection};
 use comfy_parts::style::{CellAlignment, TableStyle};
 use csv_records::Points;
@@ -91,33 +88,4 @@ pub struct ColumnPlan {
     pub points: Option<Points>,
     /// Whether its fields are numbers and dates alone, which aren't broken.
     pub is_nowrap: bool,
-}
-
-/// The settings of a column in a table of rows. Numbers count terminal columns.
-#[derive(Clone, Copy, Debug, PartialEq, Eq)]
-pub struct ColumnSettings {
-    /// How many are left free to the left and to the right of its texts.
-    pub padding: (u16, u16),
-    /// How many its texts have at least.
-    pub least: Option<u16>,
-    /// How many its texts have at most, but never fewer than `least`, and never fewer than 1.
-    /// Longer texts are wrapped.
-    pub greatest: Option<u16>,
-    /// Whether its texts are in the middle, whatever side `Columns` gives them. Their decimal
-    /// points aren't below each other then.
-    pub is_centered: bool,
-}
-
-impl ColumnSettings {
-    /// Those of a column that has nothing of its own: one is left free on both sides.
-    pub fn none() -> ColumnSettings
-        ensures { result ≡ unset }
-    {
-        ColumnSettings {
-            padding: (1, 1),
-            least: None,
-            greatest: None,
-            is_centered: false,
-        }
-    }
 }

@@ -8,10 +8,10 @@ ghost use Rattle.comfy_table.specs.Laws.{HasNoBreak};
 ghost use Rattle.comfy_table.specs.TableValue.{max_content_widths};
 ghost use Rattle.comfy_table.specs.Parts.{IsArrangedTable};
 ghost use Rattle.csv_tables.specs.Markdown.{rule_line};
-ghost use Rattle.csv_tables.specs.Contents.{AreContentsOf, AreDrawnAs, AreDrawnContents, rows_from};
-ghost use Rattle.csv_tables.specs.Drawn.{RendersAnyRecords, RendersAsMarkdown, RendersRecords, are_more, below_first, note_text, note_for, output_table, rows_table, sides, nowrap_in};
-ghost use Rattle.csv_tables.specs.Limits.{limited_by};
-ghost use Rattle.csv_tables.specs.Styled.{RendersAnyStyledRecords, RendersStyledRecords, has_room_by, is_aligned_by, limited_table, limits_in};
+ghost use Rattle.csv_tables.specs.Contents.{AreContentsOf, AreDrawnAs, AreDrawnContents, rows_from, table_by};
+ghost use Rattle.csv_tables.specs.Drawn.{RendersAnyRecords, RendersAsMarkdown, RendersRecords, are_more, below_first, note_text, note_for, output_table, sides, nowrap_in};
+ghost use Rattle.csv_tables.specs.Limits.{has_room_in, limited_by};
+ghost use Rattle.csv_tables.specs.Styled.{RendersAnyStyledRecords, RendersStyledRecords, has_room_by, is_aligned_by, limits_in, styled_table};
 
 use crate::decimals::has_points;
 use crate::drawn::{RecordDrawing, Remaining, push_records};
@@ -19,10 +19,11 @@ use crate::expanded::is_expanded;
 use crate::lazy_table::LazyTable;
 use crate::markdown::push_rule;
 use crate::nowrap::{keep_nowrap, keep_nowrap_fields};
-use crate::options::{ColumnSettings, Expansion, Layout, Look};
+use crate::options::{Expansion, Layout, Look};
 use crate::rows::RecordRows;
 use crate::selected::SelectedRecords;
 use crate::separators::{separate_fields, separate_rows};
+use crate::settings::Settings;
 use crate::table::markdown_look;
 use comfy_parts::pieces::joined;
 use comfy_table::{ArrangedTable, PartEnds, Result};
@@ -40,12 +41,12 @@ pub fn drawn_records(
 ) -> Result<RecordDrawing>
     ensures { IfOk result (λ drawn. RendersRecords count layout.now records drawn) }
 {
-    drawn_styled_records(alloc, records, count, layout, &[])
+    drawn_styled_records(alloc, records, count, layout, Settings::none(alloc))
 }
 
-/// Draws records as `drawn_records` does, with settings of columns. The item at a position is for
-/// the fields at this position of the records. Columns past the last item have no settings, and
-/// neither has the column of numbers. Markdown, and records that are expanded, have none.
+/// Draws records as `drawn_records` does, with settings of columns, rows and cells. Markdown, and
+/// records that are expanded, have none. If there are settings of rows, colours and attributes are
+/// written wherever the drawing goes.
 ///
 /// If a width is kept, columns get what they need to keep numbers, dates and wide words whole, but
 /// no more than their greatest widths. A column with a greatest width is at most as wide as its
@@ -56,10 +57,10 @@ pub fn drawn_styled_records(
     records: Records,
     count: Option<usize>,
     layout: &Layout,
-    settings: &[ColumnSettings],
+    settings: Settings,
 ) -> Result<RecordDrawing>
     ensures { IfOk result (λ drawn.
-        RendersStyledRecords settings.now count layout.now records drawn) }
+        RendersStyledRecords settings count layout.now records drawn) }
 {
     let look = &layout.look;
     let note = note_of(alloc, look.is_markdown, layout.selection.limit, count)?;
@@ -67,7 +68,7 @@ pub fn drawn_styled_records(
     if look.is_markdown {
         return markdown_records(selected, look, note);
     }
-    let selected = selected.with_centers(settings)?;
+    let selected = selected.with_centers(settings.of_columns())?;
     let left = Remaining {
         arranged: arranged_contents(drawn_contents(selected, look, settings)?)?,
         place: 0,
@@ -96,7 +97,7 @@ pub fn output_of_records(alloc: Global, records: Records, layout: &Layout) -> Re
     ensures { IfOk result (λ output.
         RendersAnyRecords layout.now records (string_bytes output)) }
 {
-    output_of_styled_records(alloc, records, layout, &[])
+    output_of_styled_records(alloc, records, layout, Settings::none(alloc))
 }
 
 /// The text of `drawn_styled_records` for records that are all there are: nothing if there are
@@ -105,10 +106,10 @@ pub fn output_of_styled_records(
     alloc: Global,
     records: Records,
     layout: &Layout,
-    settings: &[ColumnSettings],
+    settings: Settings,
 ) -> Result<String>
     ensures { IfOk result (λ output.
-        RendersAnyStyledRecords settings.now layout.now records (string_bytes output)) }
+        RendersAnyStyledRecords settings layout.now records (string_bytes output)) }
 {
     let count = records.rows().len();
     if count == 0 {
@@ -133,13 +134,9 @@ fn arranged_contents(contents: LazyTable) -> Result<ArrangedTable<LazyTable>>
 }
 
 // What is drawn of records: a table of rows, or of expanded records.
-fn drawn_contents(
-    selected: SelectedRecords,
-    look: &Look,
-    settings: &[ColumnSettings],
-) -> Result<LazyTable>
+fn drawn_contents(selected: SelectedRecords, look: &Look, settings: Settings) -> Result<LazyTable>
     ensures { IfOk result (λ contents.
-        AreDrawnContents settings.now look.now selected contents) }
+        AreDrawnContents settings look.now selected contents) }
 {
     // The table of rows isn't needed to see this.
     if look.expansion == Expansion::Always {
@@ -148,7 +145,8 @@ fn drawn_contents(
     let (mut contents, has_room) = fitting_contents(selected, look, settings)?;
     let selected = &contents.rows.selected;
     if is_expanded(look.expansion, selected.rows().is_empty() || has_room) {
-        return expanded_contents(contents.into_selected(), look);
+        let RecordRows { selected, .. } = contents.into_rows();
+        return expanded_contents(selected, look);
     }
     separate_rows(&mut contents, look.separators)?;
     Ok(contents)
@@ -159,44 +157,50 @@ fn drawn_contents(
 fn fitting_contents(
     selected: SelectedRecords,
     look: &Look,
-    settings: &[ColumnSettings],
+    settings: Settings,
 ) -> Result<(LazyTable, bool)>
     ensures table { IfOk result (λ x.
-        x.0.table ≡ limited_table (limits_in settings.now selected) look.now selected) }
+        x.0.table ≡ styled_table settings false look.now selected) }
     ensures rows { IfOk result (λ x. AreContentsOf false look.now selected x.0) }
-    ensures has_room { IfOk result (λ x. x.1
-        ≡ has_room_by (limits_in settings.now selected) look.now selected
-        (is_aligned_by (limits_in settings.now selected) look.now selected)) }
+    ensures has_room { IfOk result (λ x. x.1 ≡ has_room_by settings look.now selected
+        (is_aligned_by settings look.now selected)) }
 {
     let is_aligned = look.aligns_decimals && has_points(selected.columns.as_slice());
-    let (contents, has_room) = nowrap_contents(selected, is_aligned, look, settings)?;
-    if has_room || !is_aligned {
-        return Ok((contents, has_room));
-    }
-    nowrap_contents(contents.into_selected(), false, look, settings)
-}
-
-// The table of rows, with decimal points below each other or not, and whether there is room for it.
-fn nowrap_contents(
-    selected: SelectedRecords,
-    is_aligned: bool,
-    look: &Look,
-    settings: &[ColumnSettings],
-) -> Result<(LazyTable, bool)>
-    ensures table { IfOk result (λ x. x.0.table
-        ≡ limited_by (limits_in settings.now selected) look.now.width (nowrap_in selected)
-        (rows_table look.now is_aligned selected)) }
-    ensures rows { IfOk result (λ x. AreContentsOf false look.now selected x.0) }
-    ensures has_room { IfOk result (λ x. x.1
-        ≡ has_room_by (limits_in settings.now selected) look.now selected is_aligned) }
-{
-    let mut contents = LazyTable::new(RecordRows {
+    let rows = RecordRows {
         selected,
+        settings,
         look: *look,
         is_expanded: false,
         is_aligned,
-    })?;
-    let has_room = keep_nowrap(&mut contents, settings)?;
+    };
+    let (contents, has_room) = nowrap_contents(rows)?;
+    if has_room || !is_aligned {
+        return Ok((contents, has_room));
+    }
+    nowrap_contents(unaligned(contents.into_rows()))
+}
+
+// Rows whose decimal points aren't below each other.
+fn unaligned(rows: RecordRows) -> RecordRows
+    ensures { result ≡ record rows { is_aligned = false } }
+{
+    let mut rows = rows;
+    rows.is_aligned = false;
+    rows
+}
+
+// The table of these rows, and whether there is room for it.
+fn nowrap_contents(rows: RecordRows) -> Result<(LazyTable, bool)>
+    ensures table { IfOk result (λ x. x.0.table
+        ≡ limited_by (limits_in rows.settings.columns rows.selected) rows.look.width
+        (nowrap_in rows.selected) (table_by rows)) }
+    ensures rows { IfOk result (λ x. x.0.rows ≡ rows) }
+    ensures has_room { IfOk result (λ x. x.1
+        ≡ has_room_in (limits_in rows.settings.columns rows.selected) rows.look.width
+        rows.is_aligned (nowrap_in rows.selected) (table_by rows)) }
+{
+    let mut contents = LazyTable::new(rows)?;
+    let has_room = keep_nowrap(&mut contents)?;
     Ok((contents, has_room))
 }
 
@@ -205,8 +209,10 @@ fn expanded_contents(selected: SelectedRecords, look: &Look) -> Result<LazyTable
     ensures { IfOk result (λ contents.
         AreDrawnAs true look.now selected (output_table true look.now selected) contents) }
 {
+    let settings = Settings::none(selected.alloc);
     let mut contents = LazyTable::new(RecordRows {
         selected,
+        settings,
         look: *look,
         is_expanded: true,
         is_aligned: false,
@@ -221,8 +227,10 @@ fn markdown_records(selected: SelectedRecords, look: &Look, note: String) -> Res
     ensures { IfOk result (λ drawn. (text : Text) × RendersAsMarkdown look.now selected text
         × (drawn ≡ text ++ string_bytes note)) }
 {
+    let settings = Settings::none(selected.alloc);
     let contents = LazyTable::new(RecordRows {
         selected: selected.with_header(),
+        settings,
         look: markdown_look(*look),
         is_expanded: false,
         is_aligned: false,

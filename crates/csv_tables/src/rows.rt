@@ -1,6 +1,6 @@
 //! The rows of records, whose cells are made or lent when they are asked for.
 
-ghost use Rattle.std.specs.Prelude.{◌≡◌, ◌<◌, ◌≤◌, ◌+◌, ◌++◌, ◌==◌, ◌∷◌, [], ℕ, false, IfOk, List, OnOk, Some, if◌then◌else◌, length, map, max, nat_lt, slice_get, string_bytes, true};
+ghost use Rattle.std.specs.Prelude.{◌≡◌, ◌<◌, ◌≤◌, ◌+◌, ◌++◌, ◌==◌, ◌∷◌, [], ℕ, false, IfOk, List, OnOk, Some, if◌then◌else◌, length, map, max, nat_lt, option_map, slice_get, string_bytes, true};
 ghost use Rattle.std.specs.List.{slice_index_or};
 ghost use Rattle.comfy_parts.specs.CellValue.{CellValue};
 ghost use Rattle.comfy_parts.specs.Text.{Text};
@@ -9,13 +9,14 @@ ghost use Rattle.comfy_table.specs.LongestLine.{cell_longest_line};
 ghost use Rattle.comfy_table.specs.Pieces.{row_height};
 ghost use Rattle.comfy_table.specs.RowCells.{cell_of};
 ghost use Rattle.comfy_table.specs.TableValue.{cell_content_width};
-ghost use Rattle.csv_tables.specs.Cells.{columns_within, shown_cells, shown_fields};
-ghost use Rattle.csv_tables.specs.Contents.{greatest_at, headed_by, made_by, measured_at, rows_at};
+ghost use Rattle.csv_tables.specs.Cells.{columns_within};
+ghost use Rattle.csv_tables.specs.Contents.{field_cell, field_cells, greatest_at, headed_by, made_by, measured_at, rows_at, settings_by};
 ghost use Rattle.csv_tables.specs.LazyRows.{IsFlat};
 
 use crate::cells::{field_cell, number_cell, push_field};
 use crate::options::{ColumnPlan, Look};
 use crate::selected::SelectedRecords;
+use crate::settings::{CellSettings, RowSettings, Settings, cell_settings, limit_by, settings_of};
 use crate::table::empty_table;
 use comfy_parts::content_split::ColumnDisplayInfo;
 use comfy_table::{PartEnds, Result, RowCell, RowWriter, Table};
@@ -26,6 +27,8 @@ use std::alloc::{AllocError, Global};
 #[derive(Drop)]
 pub(crate) struct RecordRows {
     pub selected: SelectedRecords,
+    // those of rows, which expanded records don't have
+    pub settings: Settings,
     pub look: Look,
     // each field has a row, with the name of its column
     pub is_expanded: bool,
@@ -40,9 +43,10 @@ impl RecordRows {
     {
         let selected = &self.selected;
         if self.is_expanded {
-            Ok(empty_table(selected.alloc, &self.look))
+            Ok(empty_table(selected.alloc, false, &self.look))
         } else {
-            selected.headed_table(selected.names(), &self.look)
+            let settings = &self.settings;
+            selected.headed_table(selected.names(), settings.of_rows(), &self.look)
         }
     }
 
@@ -64,9 +68,9 @@ impl RecordRows {
     {
         let mut is_flat = self.widen_number(widths, table, at)?;
         let first = self.number_count();
+        let settings = cell_settings(self.settings_at(at));
         for (place, column) in self.selected.columns_within(fields).iter().enumerate() {
-            let field = fields.get(column.position).unwrap_or("");
-            let cell = field_cell(self.alloc(), field, column, self.is_aligned, &self.look)?;
+            let cell = self.field_cell(fields, column, settings)?;
             is_flat &= has_one_line(&cell);
             widen_at(widths, first + place, cell.content_width(table))?;
         }
@@ -119,7 +123,8 @@ impl RecordRows {
             is_last: false,
         };
         self.list_cells(cells, at, fields)?;
-        writer.push_cells(text, cells.as_slice(), self.look.max_height, extent)
+        let limit = limit_by(self.settings_at(at), &self.look);
+        writer.push_cells(text, cells.as_slice(), limit, extent)
     }
 
     /// Whether the row of the record at a place is drawn in more than one line. `cells` is memory
@@ -135,7 +140,8 @@ impl RecordRows {
             (row_height writer.now.table writer.now.infos (made_by self.now at fields.now))) }
     {
         self.list_cells(cells, at, fields)?;
-        let height = writer.height_of_cells(cells.as_slice(), self.look.max_height)?;
+        let limit = limit_by(self.settings_at(at), &self.look);
+        let height = writer.height_of_cells(cells.as_slice(), limit)?;
         Ok(height > 1)
     }
 
@@ -197,7 +203,8 @@ impl RecordRows {
         position: usize,
     ) -> Result<RowCell<'r>>
         requires columns { columns.now ≡ columns_within fields.now self.now.selected.columns }
-        requires within { position < length (made_by self.now at fields.now).cells }
+        requires within { position
+            < length columns.now + (if self.now.selected.is_numbered then 1 else 0) }
         ensures { IfOk result (λ cell. slice_get (made_by self.now at fields.now).cells position
             ≡ Some (cell_of cell)) }
     {
@@ -209,9 +216,44 @@ impl RecordRows {
             }
             place = position - 1;
         }
-        let column = &columns[place];
+        self.field_cell(fields, &columns[place], cell_settings(self.settings_at(at)))
+    }
+
+    // The cell of the field of a column, in a row whose cells have these settings.
+    #[inline(always)]
+    fn field_cell<'r>(
+        &self,
+        fields: &Record<'r>,
+        column: &ColumnPlan,
+        settings: &[CellSettings],
+    ) -> Result<RowCell<'r>>
+        ensures { IfOk result (λ cell. cell_of cell ≡ field_cell self.now.look false
+            self.now.is_aligned settings.now fields.now column.now) }
+    {
         let field = fields.get(column.position).unwrap_or("");
-        field_cell(selected.alloc, field, column, self.is_aligned, &self.look)
+        let own = settings_of(settings, column.position);
+        field_cell(
+            self.alloc(),
+            field,
+            column,
+            own,
+            self.is_aligned,
+            &self.look,
+        )
+    }
+
+    // The settings of the row of the record at a place.
+    #[inline(always)]
+    fn settings_at(&self, at: usize) -> Option<&RowSettings>
+        ensures { option_map (λ row. row.now) result ≡ settings_by self.now at }
+    {
+        let settings = &self.settings;
+        let rows = settings.of_rows();
+        if at < rows.len() {
+            rows.get(at + 1)
+        } else {
+            None
+        }
     }
 
     // Lists the cells of the row of the record at a place.
@@ -229,25 +271,36 @@ impl RecordRows {
         if let Some(number) = selected.number_at(at) {
             cells.push(number_cell(selected.alloc, number, &self.look)?)?;
         }
-        self.push_fields(cells, fields, selected.columns_within(fields))
+        let settings = cell_settings(self.settings_at(at));
+        self.push_fields(cells, fields, selected.columns_within(fields), settings)
     }
 
-    // Appends the cells of the fields of these columns.
+    // Appends the cells of the fields of these columns, which have these settings.
     #[inline(always)]
     fn push_fields<'r>(
         &'r self,
         cells: &mut Vec<RowCell<'r>>,
         fields: &Record<'r>,
         columns: &[ColumnPlan],
+        settings: &[CellSettings],
     ) -> Result<()>
         ensures { OnOk result (map cell_of cells.new.items ≡ map cell_of cells.old.items
-            ++ shown_cells self.now.look false
-            (shown_fields self.now.look self.now.is_aligned columns.now fields.now)) }
+            ++ field_cells self.now.look false self.now.is_aligned settings.now columns.now
+            fields.now) }
     {
         let alloc = self.alloc();
         for column in columns {
             let field = fields.get(column.position).unwrap_or("");
-            push_field(cells, alloc, field, column, self.is_aligned, &self.look)?;
+            let own = settings_of(settings, column.position);
+            push_field(
+                cells,
+                alloc,
+                field,
+                column,
+                own,
+                self.is_aligned,
+                &self.look,
+            )?;
         }
         Ok(())
     }

@@ -9,8 +9,9 @@ ghost use Rattle.csv_tables.specs.Styled.{centered, with_centers};
 
 use crate::columns::drawn_columns;
 use crate::limits::settings_at;
-use crate::options::{ColumnPlan, ColumnSettings, Layout};
+use crate::options::{ColumnPlan, Layout};
 use crate::selection::{limited, names_of, records_below};
+use crate::settings::ColumnSettings;
 use comfy_parts::Result;
 use comfy_parts::style::CellAlignment;
 use csv_records::{Record, Records, Rows};

@@ -1,12 +1,14 @@
 //! The tables of some records.
 
-ghost use Rattle.std.specs.Prelude.{◌≡◌, ◌+◌, IfOk, decimal, option_map};
+ghost use Rattle.std.specs.Prelude.{◌≡◌, ◌+◌, ◌||◌, IfOk, decimal, option_map};
 ghost use Rattle.csv_tables.specs.Cells.{number_of};
 ghost use Rattle.csv_tables.specs.Drawn.{arrangement_for, empty_table, headed_table, markdown_look, markdown_style};
+ghost use Rattle.csv_tables.specs.Styled.{dressed_table};
 
 use crate::cells::header_of;
 use crate::options::Look;
 use crate::selected::SelectedRecords;
+use crate::settings::{RowSettings, cell_settings};
 use comfy_table::presets::ASCII_MARKDOWN;
 use comfy_table::{ContentArrangement, LineStyle, Result, Table, TableStyle};
 use csv_records::Record;
@@ -24,24 +26,32 @@ impl SelectedRecords {
         }
     }
 
-    // A table with a header of these names, where there are any.
-    pub(crate) fn headed_table(&self, names: Option<Record<'_>>, look: &Look) -> Result<Table>
-        ensures { IfOk result (λ table. table
-            ≡ headed_table look.now self.now.is_numbered self.now.columns names.entry) }
+    // A table with a header of these names, where there are any, and with the settings of rows.
+    pub(crate) fn headed_table(
+        &self,
+        names: Option<Record<'_>>,
+        settings: &[RowSettings],
+        look: &Look,
+    ) -> Result<Table>
+        ensures { IfOk result (λ table. table ≡ dressed_table self.now settings.now
+            (headed_table look.now self.now.is_numbered self.now.columns names.entry)) }
     {
-        let mut table = empty_table(self.alloc, look);
+        let mut table = empty_table(self.alloc, !settings.is_empty(), look);
         if let Some(names) = &names {
             let columns = self.columns.as_slice();
-            let header = header_of(self.alloc, self.is_numbered, names, columns, look)?;
+            let cells = cell_settings(settings.first());
+            let header = header_of(self.alloc, self.is_numbered, names, columns, cells, look)?;
             table.try_set_header(header)?;
         }
         Ok(table)
     }
 }
 
-/// A table without rows that looks as is wanted.
-pub(crate) fn empty_table(alloc: Global, look: &Look) -> Table
-    ensures { result ≡ empty_table look.now }
+/// A table without rows that looks as is wanted, and is styled anyway if `is_styled`.
+pub(crate) fn empty_table(alloc: Global, is_styled: bool, look: &Look) -> Table
+    ensures { result ≡ record (empty_table look.now) {
+      enforce_styling = is_styled || look.now.has_bold_header;
+    } }
 {
     let mut table = Table::new(alloc);
     table
@@ -50,7 +60,7 @@ pub(crate) fn empty_table(alloc: Global, look: &Look) -> Table
     if let Some(width) = look.width {
         table.set_width(width);
     }
-    if look.has_bold_header {
+    if is_styled || look.has_bold_header {
         table.enforce_styling();
     }
     if look.has_sequences {

@@ -31,6 +31,7 @@ mod QuoteTrials
 mod ReadingTrials
 mod RowTrials
 mod RunTrials
+mod SettingsTrials
 mod SpacesTrials
 mod RecordTrials
 mod StraightTrials

@@ -7,7 +7,7 @@ use Rattle.comfy_parts.specs.declared.style.column.ColumnConstraint.TheVariants.
 use Rattle.comfy_parts.specs.declared.style.column.Width.TheVariants.{Fixed}
 use Rattle.comfy_table.specs.TableValue.{TableValue, new_table, with_rows}
 use Rattle.csv_tables.specs.Limits.{bounded, bounded_width, has_room_within, hold_points, limit_for, limits_of, no_limits, reached_limits, taken}
-use Rattle.csv_tables.specs.declared.options.ColumnSettings.{ColumnSettings}
+use Rattle.csv_tables.specs.declared.settings.ColumnSettings.{ColumnSettings}
 
 -- from four to ten terminal columns, and three that are free at the right
 abbrev own : ColumnSettings

@@ -27,9 +27,9 @@ static const char *const texts[ROWS][COLUMNS] = {
 
 static struct comfy_cell cell_of(const char *text, int is_name) {
     struct comfy_cell cell = {.length = strlen(text)};
-    if (is_name) cell.attributes = COMFY_ATTRIBUTE_BOLD;
-    if (!strcmp(text, "passed")) cell.foreground = (struct comfy_color){.kind = COMFY_COLOR_NUMBERED, .number = COMFY_GREEN};
-    if (!strcmp(text, "failed")) cell.foreground = (struct comfy_color){.kind = COMFY_COLOR_NUMBERED, .number = COMFY_RED};
+    if (is_name) cell.look.attributes = COMFY_ATTRIBUTE_BOLD;
+    if (!strcmp(text, "passed")) cell.look.foreground = (struct comfy_color){.kind = COMFY_COLOR_NUMBERED, .number = COMFY_GREEN};
+    if (!strcmp(text, "failed")) cell.look.foreground = (struct comfy_color){.kind = COMFY_COLOR_NUMBERED, .number = COMFY_RED};
     return cell;
 }
 

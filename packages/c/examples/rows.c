@@ -32,7 +32,8 @@ int main(void) {
     const struct comfy_rows_settings settings = {
         .max_height = COMFY_NO_LIMIT, .limit = COMFY_NO_LIMIT, .style = COMFY_ASCII_FULL, .width = COMFY_NO_WIDTH, .has_header = 1};
     uint32_t result;
-    char *drawing = comfy_rows_text((const uint8_t *)texts, length, lengths, ROWS * COLUMNS, counts, ROWS, NULL, 0, &settings, &result);
+    char *drawing = comfy_rows_text((const uint8_t *)texts, length, lengths, ROWS * COLUMNS, counts, ROWS, NULL, 0, NULL, 0, NULL, 0,
+                                    &settings, &result);
     if (!drawing) {
         fprintf(stderr, "rows: result %u\n", (unsigned)result);
         return 1;

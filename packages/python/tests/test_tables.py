@@ -385,11 +385,12 @@ class Snippets(unittest.TestCase):
 │ d  │
 └────┘
 """)
+        # A space at the end of the first line counts for the width.
         self.expect(tabulate([["a\tb"]], maxcolwidths=3, style="box"), """
-┌───┐
-│ a │
-│ b │
-└───┘
+┌────┐
+│ a  │
+│ b  │
+└────┘
 """)
 
     def test_headers_that_name_keys_anew(self):
@@ -588,6 +589,7 @@ class Settings(unittest.TestCase):
             ({"style": ["+-++"] * 6}, "nothing but a space fills a line of texts, so the second character of '+-++' is one"),
             ({"center": 0, "markdown": True}, "a table for Markdown and expanded rows have no side in the middle"),
             ({"padding": 0, "expanded": "auto"}, "a table for Markdown and expanded rows have no padding"),
+            ({"maxcolwidths": 9, "tablefmt": "github"}, "a table for Markdown and expanded rows have no maxcolwidths"),
         ]:
             with self.assertRaises(ValueError, msg=settings) as caught:
                 tabulate([["x", "y"]], **settings)
@@ -769,11 +771,11 @@ FRAMES += ["ASCII_BORDERS_ONLY_CONDENSED", "ASCII_HORIZONTAL_ONLY", "UTF8_FULL_C
 
 
 class RandomCells(unittest.TestCase):
-    """A padding of one column at both sides is that of each table, but asks for one whose columns have settings."""
+    """Settings of cells and rows that ask for what is there without them."""
 
     maxDiff = None
 
-    def test_tables_of_cells_are_drawn_as_tables_of_rows(self):
+    def test_cells_without_colours_are_drawn_as_their_values(self):
         for seed in range(1000):
             chance = random.Random(seed)
             rows = [[value, chance.choice(["-12.80", 3, 2.5, "2026-11-27", None])] for row in random_rows(chance) for value in row]
@@ -786,7 +788,10 @@ class RandomCells(unittest.TestCase):
             if chance.random() < 0.3:
                 settings["width"] = chance.randint(9, 30)
             wanted = tabulate(rows, **settings)
-            self.assertEqual(tabulate(rows, padding=(1, 1), **settings), wanted, (seed, rows, settings))
+            if chance.random() < 0.5 and "max_height" in settings:
+                settings["max_height"] = [settings["max_height"]] * len(rows)
+            cells = [[Cell(value) for value in row] for row in rows]
+            self.assertEqual(tabulate(cells, **settings), wanted, (seed, rows, settings))
 
 
 @unittest.skipUnless(CSVTABLE, "CSVTABLE isn't set")

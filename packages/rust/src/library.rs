@@ -3,7 +3,8 @@
 
 pub mod numbers;
 
-use numbers::{Cell, CellsSettings, Column, Row, RowsSettings};
+use numbers::{Cell, CellsSettings, Column, Look, Row, RowsColumn, RowsSettings};
+use std::ptr;
 
 unsafe extern "C" {
     fn comfy_cells_draw(
@@ -30,7 +31,11 @@ unsafe extern "C" {
         lengths_length: usize,
         counts: *const usize,
         counts_length: usize,
-        columns: *const u8,
+        looks: *const Look,
+        looks_length: usize,
+        heights: *const usize,
+        heights_length: usize,
+        columns: *const RowsColumn,
         columns_length: usize,
         settings: *const RowsSettings,
         output: *mut u8,
@@ -106,8 +111,8 @@ pub struct Texts {
     pub counts: Vec<usize>,
 }
 
-/// The drawing of rows of texts, with a byte for each column that is there. As above, memory alone can be refused.
-pub fn draw_rows(texts: &Texts, columns: &[u8], settings: &RowsSettings) -> Result<String, OutOfMemory> {
+/// The drawing of rows of texts, with settings for each column that is there. As above, memory alone can be refused.
+pub fn draw_rows(texts: &Texts, columns: &[RowsColumn], settings: &RowsSettings) -> Result<String, OutOfMemory> {
     let room = room_for(texts.joined.len() + 8 * texts.lengths.len());
     let (status, drawing) = written(room, |output, room, needed| {
         // SAFETY: as above.
@@ -119,6 +124,10 @@ pub fn draw_rows(texts: &Texts, columns: &[u8], settings: &RowsSettings) -> Resu
                 texts.lengths.len(),
                 texts.counts.as_ptr(),
                 texts.counts.len(),
+                ptr::null(),
+                0,
+                ptr::null(),
+                0,
                 columns.as_ptr(),
                 columns.len(),
                 settings,

@@ -1,9 +1,12 @@
-//! Drawings of records whose columns have settings of their own.
+//! Drawings of records whose columns, rows and cells have settings of their own.
 
 use super::large::options;
+use comfy_parts::style::{Attribute, CellAlignment, Color};
 use csv_command::Options;
 use csv_records::{Delimiter, read_records};
-use csv_tables::{ColumnSettings, Columns, Layout, output_of_styled_records};
+use csv_tables::{
+    CellSettings, ColumnSettings, Columns, Layout, RowSettings, Settings, output_of_styled_records,
+};
 use std::alloc::{Alloc, Global};
 use std::process::Abort;
 
@@ -23,7 +26,21 @@ fn assert_drawn<const N: usize>(
     rt: &(impl Abort + Alloc<A = Global>),
     is_numbered: bool,
     width: Option<u16>,
-    settings: [ColumnSettings; N],
+    columns: [ColumnSettings; N],
+    wanted: &str,
+) {
+    let settings = Settings {
+        columns: Vec::from_array(rt.alloc(), columns).expect(rt, "memory"),
+        rows: Vec::new(rt.alloc()),
+    };
+    assert_drawn_with(rt, is_numbered, width, settings, wanted);
+}
+
+fn assert_drawn_with(
+    rt: &(impl Abort + Alloc<A = Global>),
+    is_numbered: bool,
+    width: Option<u16>,
+    settings: Settings,
     wanted: &str,
 ) {
     let mut options = options(rt.alloc(), width, false);
@@ -37,13 +54,9 @@ fn assert_drawn<const N: usize>(
         columns: Columns::new(drawn, Vec::new(rt.alloc()), Vec::new(rt.alloc())),
         look: options.look,
     };
-    let settings = Vec::from_array(rt.alloc(), settings).expect(rt, "memory");
-    let drawing = output_of_styled_records(
-        rt.alloc(),
-        records,
-        &layout,
-        settings.as_slice(),
-    ).expect(rt, "memory");
+    let drawing = output_of_styled_records(rt.alloc(), records, &layout, settings).expect(
+        rt, "memory",
+    );
     assert!(rt; drawing.as_str() == wanted);
 }
 
@@ -186,6 +199,127 @@ fn rows_have_numbers(rt: HostRuntime) {
 |---+--------+-------|
 | 2 |rye     | 14.25 |
 +---+--------+-------+
+",
+    );
+}
+
+// A cell with this colour and this attribute.
+fn cell(
+    rt: &(impl Abort + Alloc<A = Global>),
+    alignment: Option<CellAlignment>,
+    foreground: Option<Color>,
+    attribute: Option<Attribute>,
+) -> CellSettings {
+    let mut attributes = Vec::new(rt.alloc());
+    if let Some(attribute) = attribute {
+        attributes.push(attribute).expect(rt, "memory");
+    }
+    CellSettings {
+        alignment,
+        foreground,
+        background: None,
+        attributes,
+    }
+}
+
+// Rows with these settings of the first two cells and this height.
+fn add_row(
+    rt: &(impl Abort + Alloc<A = Global>),
+    rows: &mut Vec<RowSettings>,
+    max_height: Option<usize>,
+    first: CellSettings,
+    second: CellSettings,
+) {
+    let mut cells = Vec::new(rt.alloc());
+    cells.push(first).expect(rt, "memory");
+    cells.push(second).expect(rt, "memory");
+    rows.push(RowSettings { max_height, cells })
+        .expect(rt, "memory");
+}
+
+// Red is colour 9 of 256, and 4 is the sequence for an underline. The header has the first
+// settings, and the number of a row has none.
+#[test]
+fn cells_have_colours(rt: HostRuntime) {
+    let mut rows = Vec::new(rt.alloc());
+    let underlined = Some(Attribute::Underlined);
+    add_row(
+        &rt,
+        &mut rows,
+        None,
+        cell(&rt, None, None, None),
+        cell(&rt, None, None, underlined),
+    );
+    add_row(
+        &rt,
+        &mut rows,
+        None,
+        cell(&rt, None, Some(Color::Red), None),
+        cell(&rt, None, None, None),
+    );
+    let settings = Settings {
+        columns: Vec::new(rt.alloc()),
+        rows,
+    };
+    assert_drawn_with(
+        &rt,
+        true,
+        None,
+        settings,
+        "+---+-----------------+-------+
+| # | name            |\u{1b}[4m  days \u{1b}[0m|
++=============================+
+| 1 |\u{1b}[38;5;9m oats and barley \u{1b}[39m|  3    |
+|---+-----------------+-------|
+| 2 | rye             | 14.25 |
++---+-----------------+-------+
+",
+    );
+}
+
+// A row of a greatest height is cut, the other one isn't. A cell has its own side.
+#[test]
+fn rows_have_greatest_heights(rt: HostRuntime) {
+    let mut rows = Vec::new(rt.alloc());
+    let right = Some(CellAlignment::Right);
+    add_row(
+        &rt,
+        &mut rows,
+        Some(5),
+        cell(&rt, None, None, None),
+        cell(&rt, None, None, None),
+    );
+    add_row(
+        &rt,
+        &mut rows,
+        Some(0),
+        cell(&rt, None, None, None),
+        cell(&rt, None, None, None),
+    );
+    add_row(
+        &rt,
+        &mut rows,
+        None,
+        cell(&rt, right, None, None),
+        cell(&rt, None, None, None),
+    );
+    let mut columns = Vec::new(rt.alloc());
+    columns
+        .push(column((1, 1), None, Some(9)))
+        .expect(&rt, "memory");
+    let settings = Settings { columns, rows };
+    assert_drawn_with(
+        &rt,
+        false,
+        None,
+        settings,
+        "+----------+-------+
+| name     |  days |
++==================+
+| oats an… |  3    |
+|----------+-------|
+|      rye | 14.25 |
++----------+-------+
 ",
     );
 }

@@ -3,25 +3,18 @@
 from __future__ import annotations
 
 from collections.abc import Mapping
-from typing import Any, Iterable, NamedTuple, Optional, Sequence, Union
+from typing import Any, Iterable, Optional, Sequence, Union
 
+from ._library import ColumnNumbers
 from ._texts import Column
 
 Columns = Union[Column, Iterable[Column], None]
 Widths = Union[int, Sequence[Optional[int]], Mapping[Column, int], None]
 Padding = Union[int, tuple[int, int], Mapping[Column, Union[int, tuple[int, int]]]]
 
-# At which side a column stands: by its contents, at the left, at the right, in the middle. They are the library's numbers, but
-# for rows of texts without the last one.
-BY_CONTENTS, LEFT, RIGHT, CENTER = range(4)
+# The library's numbers for the side of a column: by its contents, at the left, at the right, in the middle. 3 is for a hidden one.
+BY_CONTENTS, LEFT, RIGHT, CENTER = 0, 1, 2, 4
 _SIDES = {None: BY_CONTENTS, "left": LEFT, "right": RIGHT, "decimal": RIGHT, "center": CENTER}
-
-
-class Limits(NamedTuple):
-    """The least and the greatest width of a column's texts, in terminal columns. They are equal where it is fixed."""
-
-    least: Optional[int]
-    greatest: Optional[int]
 
 
 class Layout:
@@ -44,6 +37,11 @@ class Layout:
             raise ValueError("no column is left that isn't hidden")
         return positions
 
+    def numbers(self, sides: list[int], padding: Padding, widths: tuple[Widths, Widths, Widths]) -> list[ColumnNumbers]:
+        """Each column, with the side, the padding and the widths that are asked for it: the one, or the least and the greatest."""
+        columns = zip(self._paddings(padding), sides, self._limits(*widths))
+        return [ColumnNumbers(*pair, side, *limits) for pair, side, limits in columns]
+
     def sides(self, left: Columns, right: Columns, center: Columns, colalign: Optional[Sequence[Optional[str]]]) -> list[int]:
         """At which side each column is asked to stand."""
         sides = self._aligned(colalign)
@@ -56,28 +54,27 @@ class Layout:
                 sides[position] = side
         return sides
 
-    def limits(self, colwidths: Widths, mincolwidths: Widths, maxcolwidths: Widths) -> list[Limits]:
-        """Between which widths the texts of each column are kept."""
-        fixed, least = self.widths(colwidths, "colwidths"), self.widths(mincolwidths, "mincolwidths")
+    def _limits(self, colwidths: Widths, mincolwidths: Widths, maxcolwidths: Widths) -> list[tuple[int, int]]:
+        """The least and the greatest width of each column's texts, in terminal columns; 0 sets none. A fixed width is both."""
+        fixed, least = self._widths(colwidths, "colwidths"), self._widths(mincolwidths, "mincolwidths")
         limits = []
-        for position, (width, *between) in enumerate(zip(fixed, least, self.widths(maxcolwidths, "maxcolwidths"))):
-            if width is not None and any(it is not None for it in between):
+        for position, (width, *between) in enumerate(zip(fixed, least, self._widths(maxcolwidths, "maxcolwidths"))):
+            if width and any(between):
                 raise ValueError(f"the column at position {position} has a width, and so no least or greatest one")
-            found = Limits(width, width) if width is not None else Limits(*between)
-            if found.least is not None and found.greatest is not None and found.least > found.greatest:
+            if all(between) and between[0] > between[1]:
                 raise ValueError(f"the column at position {position} has a least width above its greatest")
-            limits.append(found)
+            limits.append((width, width) if width else tuple(between))
         return limits
 
-    def widths(self, setting: Widths, name: str) -> list[Optional[int]]:
-        """The width that a setting has for each column, in terminal columns of its texts."""
+    def _widths(self, setting: Widths, name: str) -> list[int]:
+        """The width that a setting has for each column, in terminal columns of its texts; 0 for none."""
         widths = self._for_each(setting)
         for width in widths:
             if width is not None and not is_whole(width, 1, 65533):
                 raise ValueError(f"{name} has whole numbers from 1 to 65533, not {width!r}")
-        return [None if width is None else int(width) for width in widths]
+        return [0 if width is None else int(width) for width in widths]
 
-    def paddings(self, padding: Padding) -> list[tuple[int, int]]:
+    def _paddings(self, padding: Padding) -> list[tuple[int, int]]:
         """How many terminal columns are left free at the left and at the right of each column's texts."""
         asked = self._for_each(padding) if isinstance(padding, Mapping) else [padding] * self._count
         return [(1, 1) if it is None else _pair_of(it) for it in asked]

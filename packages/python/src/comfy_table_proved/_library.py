@@ -5,9 +5,8 @@ from __future__ import annotations
 import array
 import ctypes
 import functools
-import struct
 from pathlib import Path
-from typing import Any, Callable, Iterable, NamedTuple, Optional, Sequence
+from typing import Any, Callable, NamedTuple, Sequence
 
 _LIBRARY = ctypes.CDLL(str(Path(__file__).with_name("libcomfy_table.so")))
 
@@ -22,6 +21,8 @@ _NUMBER = ctypes.c_uint32
 NO_LIMIT = 2**64 - 1
 # Stands for no width, as each number above 65535 does.
 NO_WIDTH = 2**32 - 1
+# The style of a frame of one's own.
+OWN_STYLE = 2**32 - 1
 
 
 class _Line(ctypes.Structure):
@@ -68,56 +69,22 @@ class _Color(ctypes.Structure):
     _fields_ = [(name, ctypes.c_uint8) for name in ("kind", "number", "red", "green", "blue")]
 
 
-class _Cell(ctypes.Structure):
-    _fields_ = [
-        ("length", _SIZE),
-        ("delimiter", _NUMBER),
-        ("alignment", _NUMBER),
-        ("attributes", _NUMBER),
-        ("foreground", _Color),
-        ("background", _Color),
-    ]
-
-
-class _Row(ctypes.Structure):
-    _fields_ = [("cells", _SIZE), ("max_height", _SIZE)]
-
-
-class _Width(ctypes.Structure):
-    _fields_ = [("is_percentage", ctypes.c_uint16), ("value", ctypes.c_uint16)]
+class _Look(ctypes.Structure):
+    _fields_ = [("alignment", _NUMBER), ("attributes", _NUMBER), ("foreground", _Color), ("background", _Color)]
 
 
 class _Column(ctypes.Structure):
     _fields_ = [
         ("left_padding", ctypes.c_uint16),
         ("right_padding", ctypes.c_uint16),
-        ("delimiter", _NUMBER),
-        ("alignment", _NUMBER),
-        ("constraint", _NUMBER),
-        ("width", _Width),
-        ("upper", _Width),
+        ("side", _NUMBER),
+        ("least", ctypes.c_uint16),
+        ("greatest", ctypes.c_uint16),
     ]
 
 
-class CellsSettings(ctypes.Structure):
-    """The settings of a table of cells, in the order of comfy_table.h."""
-
-    _fields_ = [
-        ("form", _NUMBER),
-        ("style", _NUMBER),
-        ("arrangement", _NUMBER),
-        ("width", _NUMBER),
-        ("delimiter", _NUMBER),
-        ("has_header", _NUMBER),
-        ("enforce_styling", _NUMBER),
-        ("style_text_only", _NUMBER),
-        ("custom_styling", _NUMBER),
-        ("frame", _Frame),
-    ]
-
-
-class CellLook(NamedTuple):
-    """What a cell of comfy_table.h has beside its text: a side, bits of attributes, and colours by their five numbers."""
+class Look(NamedTuple):
+    """The look of a text in comfy_table.h: a side, bits of attributes, and colours by their five numbers."""
 
     alignment: int = 0
     attributes: int = 0
@@ -126,14 +93,13 @@ class CellLook(NamedTuple):
 
 
 class ColumnNumbers(NamedTuple):
-    """A column of comfy_table.h. Widths are in terminal columns, paddings included."""
+    """A column of rows in comfy_table.h. Widths are in terminal columns, without paddings; 0 sets none."""
 
-    left_padding: int = 1
-    right_padding: int = 1
-    alignment: int = 0
-    constraint: int = 0
-    width: int = 0
-    upper: int = 0
+    left_padding: int
+    right_padding: int
+    side: int
+    least: int
+    greatest: int
 
 
 def _declared(name: str, arguments: list[Any]) -> Callable[..., int]:
@@ -147,10 +113,7 @@ def _declared(name: str, arguments: list[Any]) -> Callable[..., int]:
 _BYTES = [ctypes.c_char_p, _SIZE]
 _SIZES = [ctypes.c_void_p, _SIZE]
 _CSV_DRAW = _declared("comfy_csv_draw", _BYTES * 2)
-_ROWS_DRAW = _declared("comfy_rows_draw", [*_BYTES, *_SIZES, *_SIZES, *_BYTES, ctypes.POINTER(RowsSettings)])
-_CELLS_DRAW = _declared("comfy_cells_draw", [*_BYTES, *_SIZES * 3, *_BYTES, ctypes.POINTER(CellsSettings)])
-# What stands behind a line at which a row's height cuts a text.
-_INDICATOR = "…".encode()
+_ROWS_DRAW = _declared("comfy_rows_draw", [*_BYTES, *_SIZES * 5, ctypes.POINTER(RowsSettings)])
 
 
 def draw_csv(data: str | bytes, arguments: Sequence[str] = ()) -> str:
@@ -171,48 +134,32 @@ def draw_csv(data: str | bytes, arguments: Sequence[str] = ()) -> str:
     return text
 
 
-def draw_rows(rows: Sequence[Sequence[str]], columns: bytes, settings: RowsSettings) -> str:
-    """The drawing of rows of texts, with a byte for each column."""
+def draw_rows(
+    rows: Sequence[Sequence[str]],
+    looks: Sequence[Look],
+    heights: Sequence[int],
+    columns: Sequence[ColumnNumbers],
+    settings: RowsSettings,
+) -> str:
+    """The drawing of rows of texts, with a look for each text or none, and a height for each row or none."""
     texts = [text.encode() for row in rows for text in row]
-    lengths = array.array("Q", map(len, texts))
-    counts = array.array("Q", map(len, rows))
     joined = b"".join(texts)
-    arguments = [joined, len(joined), *lengths.buffer_info(), *counts.buffer_info(), columns, len(columns), ctypes.byref(settings)]
-    status, text = _written(_ROWS_DRAW, len(joined) + 8 * len(texts), *arguments)
+    numbers = [array.array("Q", it) for it in (map(len, texts), map(len, rows), heights)]
+    lengths, counts, limits = (it.buffer_info() for it in numbers)
+    # A struct for each look would take most of the time.
+    joined_looks = b"".join(map(_bytes_of, looks))
+    column_numbers = (_Column * len(columns))(*columns)
+    arguments = [joined, len(joined), *lengths, *counts, joined_looks, len(looks), *limits, column_numbers, len(columns)]
+    status, text = _written(_ROWS_DRAW, len(joined) + 8 * len(texts), *arguments, ctypes.byref(settings))
     if status:
         raise ValueError(f"comfy_rows_draw returned {status}")
     return text
 
 
-def draw_cells(
-    rows: Iterable[Sequence[str]],
-    looks: Iterable[CellLook],
-    heights: Sequence[Optional[int]],
-    columns: Sequence[ColumnNumbers],
-    settings: CellsSettings,
-) -> str:
-    """The drawing of rows that have a text for each column, with the looks of all cells, and so many lines at most."""
-    texts = [text.encode() for row in rows for text in row]
-    joined = b"".join(texts)
-    # A struct for each cell would take most of the time.
-    cells = b"".join([_LENGTH(len(text)) + _behind_length(look) for text, look in zip(texts, looks)])
-    row_numbers = (_Row * len(heights))(*((len(columns), height or 0) for height in heights))
-    column_numbers = (_Column * len(columns))(*((*it[:2], 0, *it[2:4], (0, it.width), (0, it.upper)) for it in columns))
-    arguments = [joined, len(joined), cells, len(texts), row_numbers, len(heights), column_numbers, len(columns)]
-    size = len(joined) + 8 * len(texts)
-    status, text = _written(_CELLS_DRAW, size, *arguments, _INDICATOR, len(_INDICATOR), ctypes.byref(settings))
-    if status:
-        raise ValueError(f"comfy_cells_draw returned {status}")
-    return text
-
-
-_LENGTH = struct.Struct("@N").pack
-
-
 @functools.lru_cache(maxsize=256)
-def _behind_length(look: CellLook) -> bytes:
-    """The bytes of a cell's struct behind its length."""
-    return bytes(_Cell(0, 0, *look))[ctypes.sizeof(_SIZE) :]
+def _bytes_of(look: Look) -> bytes:
+    """The bytes of a look's struct."""
+    return bytes(_Look(*look))
 
 
 def _written(function: Callable[..., int], size: int, *arguments: object) -> tuple[int, str]:

@@ -4,7 +4,9 @@ from __future__ import annotations
 
 import functools
 import re
-from typing import NamedTuple, Optional
+from typing import Any, Optional
+
+from ._library import Look
 
 _COLORS = ("black", "red", "green", "yellow", "blue", "magenta", "cyan", "white")
 # The first 16 of the 256 colours of terminals.
@@ -20,22 +22,13 @@ _ATTRIBUTES = {
     "crossed_out": (9, 1 << 13),
     "overline": (53, 1 << 25),
 }
-BOLD = _ATTRIBUTES["bold"][1]
+PLAIN = Look()
 
 # The sides of comfy_table.h; 0 is that of the column.
 _SIDES = {None: 0, "left": 1, "right": 2, "center": 3}
 
 # A colour as comfy_table.h has it: its kind, its number, its red, green and blue.
 Color = tuple[int, ...]
-_NO_COLOR = (0, 0, 0, 0, 0)
-
-
-class Paint(NamedTuple):
-    """The colours and attributes of a cell, as numbers of comfy_table.h."""
-
-    attributes: int = 0
-    foreground: Color = _NO_COLOR
-    background: Color = _NO_COLOR
 
 
 class Cell:
@@ -58,15 +51,23 @@ class Cell:
         return f"Cell({self.value!r}, {self.colors!r}, {self.align!r})"
 
 
-def side_of(cell: Cell) -> int:
-    """The number of a cell's side."""
-    return _SIDES[cell.align]
+def value_of(value: Any) -> Any:
+    """A value, that of a cell where it is one."""
+    return value.value if isinstance(value, Cell) else value
+
+
+def look_of(value: object, has_styles: bool) -> Look:
+    """How a value looks, which only a cell says, with its colours or without."""
+    if not isinstance(value, Cell):
+        return PLAIN
+    paint = paint_of(value.colors) if has_styles else PLAIN
+    return paint._replace(alignment=_SIDES[value.align])
 
 
 @functools.lru_cache(maxsize=256)
-def paint_of(words: Optional[str]) -> Paint:
+def paint_of(words: Optional[str]) -> Look:
     """What words ask for, of a cell."""
-    paint = Paint()
+    paint = PLAIN
     for word in (words or "").split():
         ground, color = _color_of(word)
         if color is None:

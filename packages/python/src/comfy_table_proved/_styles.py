@@ -38,26 +38,22 @@ class Frame(NamedTuple):
     number: Optional[int]
     row_lines: int = EVERYWHERE
 
-    def without_row_lines(self) -> Frame:
-        return self._replace(lines=(*self.lines[:4], "    ", self.lines[5]), number=None)
-
-    def border_width(self, columns: int) -> int:
-        """The terminal columns of all borders of a line across so many columns."""
-        left, _, junction, right = (any(line[at] != " " for line in self.lines) for at in range(4))
-        return left + right + (columns - 1 if junction else 0)
+    def numbers(self) -> tuple[tuple[int, ...], ...]:
+        """The characters as comfy_table.h has them: nothing fills a line of texts, and 0 stands for none."""
+        lines = [tuple(0 if it == " " else ord(it) for it in line) for line in self.lines]
+        return tuple(line if at not in (1, 3) else (line[0], *line[2:]) for at, line in enumerate(lines))
 
 
 def _preset(name: str, row_lines: int = EVERYWHERE) -> Frame:
     return Frame(_PRESETS[name], _NUMBERS[name], row_lines)
 
 
-NOTHING = _preset("NOTHING")
 _STYLES = {
     "rounded": _preset("", WHERE_NEEDED),
     "box": _preset("UTF8_FULL", WHERE_NEEDED),
     "grid": _preset(""),
     "ascii": _preset("ASCII_FULL"),
-    "plain": NOTHING,
+    "plain": _preset("NOTHING"),
 }
 _STYLES.update({name.lower(): _preset(name) for name in _PRESETS if name})
 

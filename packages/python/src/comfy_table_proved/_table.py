@@ -5,17 +5,16 @@ from __future__ import annotations
 import dataclasses
 import html
 import shutil
-from typing import Any, Iterable, NoReturn, Optional, Sequence, Union
+from typing import Any, Iterable, NoReturn, Optional, Sequence, TypeVar, Union
 
-from ._cells import CellsTable, ColumnSettings, drawing_of
 from ._columns import Columns, Layout, Padding, Widths, is_whole
-from ._library import NO_LIMIT, NO_WIDTH, RowsSettings, draw_rows
-from ._paints import Cell
+from ._library import NO_LIMIT, NO_WIDTH, OWN_STYLE, Look, RowsSettings, draw_rows
+from ._paints import PLAIN, Cell, look_of, value_of
 from ._rows import Headers, ShowIndex, Values, kept, values_of
 from ._styles import EVERYWHERE, NOWHERE, Frame, Style, frame_of
-from ._texts import Colors, Text, Texts, Writer, cell_of
-from ._wrapping import wrapped
+from ._texts import Colors, Texts, Writer
 
+_Item = TypeVar("_Item")
 Width = Union[int, str, None]
 Heights = Union[int, Sequence[Optional[int]], None]
 
@@ -109,8 +108,8 @@ def tabulate(
         colours as "#ffcc00", each also after "on_" for the background, "bold", "dim", "italic", "underline", "blink", "reverse",
         "crossed_out" and "overline".
 
-    A table for Markdown and expanded rows have no side in the middle, no widths of columns but the greatest, no other padding, no
-    frame of your own, no heights by row and no `Cell`.
+    A table for Markdown and expanded rows have no side in the middle, no widths of columns, no other padding, no frame of your
+    own, no heights by row and no `Cell`.
 
     No text in a cell is taken for anything else: control characters become U+FFFD, TABs spaces, and line breaks stay.
 
@@ -227,65 +226,77 @@ def _drawing(table: Table, has_styles: bool = True) -> str:
     if values.header is None and not values.rows:
         return ""
     frame = frame_of(table.style, table.tablefmt)
+    _refuse_settings(table, values, frame)
+    looks = _looks_of(values, has_styles)
+    if looks:
+        values = _without_cells(values)
     writer = Writer(table.floatfmt, table.intfmt, table.missingval, table.colors)
     # An empty row has one empty cell, so that there is a column.
     names = [] if values.header is None else writer.header_of(values.header) or [""]
     layout = Layout(names, max(len(names), max(map(len, values.rows), default=0), 1))
-    asked = _asked_of_cells(table, values)
-    if frame is None or table.markdown or table.expanded:
-        if asked:
-            raise ValueError(f"a table for Markdown and expanded rows have no {asked[0]}")
-    elif asked or table.maxcolwidths is not None:
-        return _drawing_of_cells(table, values, writer, names, layout, frame, has_styles)
-    return _drawing_of_rows(table, values, writer, names, layout, frame)
+    header = [] if values.header is None else [names]
+    records = header + [writer.texts_of(position, row, names) or [""] for position, row in enumerate(values.rows)]
+    sides = layout.sides(table.left, table.right, table.center, table.colalign)
+    columns = layout.numbers(sides, table.padding, (table.colwidths, table.mincolwidths, table.maxcolwidths))
+    if table.columns is not None or table.hidden is not None:
+        chosen = layout.chosen(table.columns, table.hidden)
+        records = [_chosen(record, chosen, "") for record in records]
+        looks = [_chosen(row, chosen, PLAIN) for row in looks]
+        columns = [columns[position] for position in chosen]
+    settings = _settings_of(table, values.header is not None, frame)
+    heights = _heights_of(table.max_height, len(header), len(values.rows))
+    drawing = draw_rows(records, [look for row in looks for look in row], heights, columns, settings)[:-1]
+    # The library's line on rows that aren't drawn speaks of records.
+    return f"{drawing[:-len('records')]}rows" if settings.limit < len(values.rows) else drawing
 
 
-def _asked_of_cells(table: Table, values: Values) -> list[str]:
-    """What is asked for that a table of rows hasn't, by the names of settings."""
+def _refuse_settings(table: Table, values: Values, frame: Optional[Frame]) -> None:
+    """Refuses what a table for Markdown and expanded rows don't have."""
+    if frame is not None and not table.markdown and not table.expanded:
+        return
     asked = {
         "side in the middle": table.center is not None or "center" in (table.colalign or ()),
         "colwidths": table.colwidths is not None,
         "mincolwidths": table.mincolwidths is not None,
+        "maxcolwidths": table.maxcolwidths is not None,
         "padding": table.padding != 1,
         "frame of your own": not isinstance(table.style, (str, type(None))),
         "heights by row": isinstance(table.max_height, (list, tuple)),
         "Cell": any(isinstance(value, Cell) for row in [values.header or [], *values.rows] for value in row),
     }
-    return [name for name, is_asked in asked.items() if is_asked]
+    for name, is_asked in asked.items():
+        if is_asked:
+            raise ValueError(f"a table for Markdown and expanded rows have no {name}")
 
 
-def _drawing_of_rows(
-    table: Table, values: Values, writer: Writer, names: list[str], layout: Layout, frame: Optional[Frame]
-) -> str:
-    """The drawing of a table whose columns have sides alone."""
-    header = [] if values.header is None else [names]
-    records = header + [writer.texts_of(position, row, names) or [""] for position, row in enumerate(values.rows)]
-    sides = layout.sides(table.left, table.right, None, table.colalign)
-    records = wrapped(records, layout.widths(table.maxcolwidths, "maxcolwidths"), table.colors is not None)
-    if table.columns is not None or table.hidden is not None:
-        chosen = layout.chosen(table.columns, table.hidden)
-        records = [_chosen(record, chosen) for record in records]
-        sides = [sides[position] for position in chosen]
-    settings = _settings_of(table, values.header is not None, frame)
-    # The library speaks of records. No line of a row is taken for its note, since a space stands before each text.
-    note = f"{settings.limit} of {len(values.rows)} "
-    drawing = draw_rows(records, bytes(sides), settings)[:-1]
-    return f"{drawing[:-len('records')]}rows" if drawing.endswith(f"\n{note}records") else drawing
+def _looks_of(values: Values, has_styles: bool) -> list[list[Look]]:
+    """How the values of the header and of each row look, with colours or without; nothing if none is a cell."""
+    rows = [*([] if values.header is None else [values.header]), *values.rows]
+    if not any(isinstance(value, Cell) for row in rows for value in row):
+        return []
+    return [[look_of(value, has_styles) for value in row or [None]] for row in rows]
 
 
-def _chosen(record: list[str], positions: Iterable[int]) -> list[str]:
-    return [record[position] if position < len(record) else "" for position in positions]
+def _without_cells(values: Values) -> Values:
+    """The values, with that of a cell in its place."""
+    header = None if values.header is None else [value_of(value) for value in values.header]
+    return Values(header, [[value_of(value) for value in row] for row in values.rows])
+
+
+def _chosen(items: list[_Item], positions: Iterable[int], otherwise: _Item) -> list[_Item]:
+    return [items[position] if position < len(items) else otherwise for position in positions]
 
 
 def _settings_of(table: Table, has_header: bool, frame: Optional[Frame]) -> RowsSettings:
     is_markdown = frame is None or bool(table.markdown)
     shown = frame or frame_of(None, None)
     assert shown is not None
-    height, limit = _whole(table.max_height, "max_height"), _limit_of(table, has_header)
+    height = None if isinstance(table.max_height, (list, tuple)) else _whole(table.max_height, "max_height")
+    limit = _limit_of(table, has_header)
     return RowsSettings(
         max_height=NO_LIMIT if height is None else height,
         limit=NO_LIMIT if limit is None else limit,
-        style=shown.number,
+        style=OWN_STYLE if shown.number is None else shown.number,
         width=_width_of(table.width),
         fills_width=bool(table.full),
         row_lines=_row_lines_of(table, shown),
@@ -296,52 +307,17 @@ def _settings_of(table: Table, has_header: bool, frame: Optional[Frame]) -> Rows
         aligns_decimals=bool(table.align_decimals),
         has_sequences=table.colors is not None,
         is_markdown=is_markdown,
+        frame=shown.numbers(),
     )
 
 
-def _drawing_of_cells(
-    table: Table, values: Values, writer: Writer, names: list[str], layout: Layout, frame: Frame, has_styles: bool
-) -> str:
-    """The drawing of a table of which columns, rows or cells have settings of their own."""
-    limit = _limit_of(table, values.header is not None)
-    shown = values.rows if limit is None else values.rows[:limit]
-    header = [] if values.header is None else [[Text(name, None, cell_of(it)) for name, it in zip(names, values.header or [None])]]
-    records = header + [writer.cells_of(position, row, names) or [Text("")] for position, row in enumerate(shown)]
-    cells = CellsTable(
-        records=records,
-        columns=_columns_of(table, layout, max(map(len, records), default=0)),
-        heights=[None] * len(header) + _heights_of(table.max_height, len(shown)),
-        frame=frame,
-        row_lines=_row_lines_of(table, frame),
-        width=_width_of(table.width),
-        fills_width=bool(table.full),
-        has_header=bool(header),
-        has_bold_header=bool(table.bold_header),
-        aligns_decimals=bool(table.align_decimals),
-        has_styles=has_styles,
-        has_sequences=table.colors is not None,
-    )
-    drawing = drawing_of(cells)[:-1]
-    return f"{drawing}\n{limit} of {len(values.rows)} rows" if len(shown) < len(values.rows) else drawing
-
-
-def _columns_of(table: Table, layout: Layout, reached: int) -> list[ColumnSettings]:
-    """The columns that are drawn: those that are chosen, or those that rows reach."""
-    sides = layout.sides(table.left, table.right, table.center, table.colalign)
-    limits = layout.limits(table.colwidths, table.mincolwidths, table.maxcolwidths)
-    paddings = layout.paddings(table.padding)
-    chosen = layout.chosen(table.columns, table.hidden)
-    if table.columns is None and table.hidden is None:
-        chosen = chosen[:reached]
-    return [ColumnSettings(at, sides[at], limits[at], paddings[at]) for at in chosen]
-
-
-def _heights_of(heights: Heights, rows: int) -> list[Optional[int]]:
-    """The greatest height of each row. As csvtable takes it, 0 is 1."""
-    given = list(heights) if isinstance(heights, (list, tuple)) else [heights] * max(1, rows)
-    wholes = [_whole(height, "max_height") for height in given]
-    found = [None if height is None else max(1, height) for height in wholes]
-    return found[:rows] + [None] * (rows - len(found))
+def _heights_of(heights: Heights, headers: int, rows: int) -> list[int]:
+    """The greatest height of the header and of each row, if there is a list of them. As csvtable takes it, 0 is 1."""
+    if not isinstance(heights, (list, tuple)):
+        return []
+    wholes = [_whole(height, "max_height") for height in heights]
+    found = [0 if height is None else max(1, height) for height in wholes]
+    return [0] * headers + found[:rows] + [0] * (rows - len(found))
 
 
 def _limit_of(table: Table, has_header: bool) -> Optional[int]:

@@ -2,9 +2,9 @@
 
 from __future__ import annotations
 
-from typing import Any, Callable, Iterable, NamedTuple, Optional, Sequence, Union
+from typing import Any, Callable, Iterable, Optional, Sequence, Union
 
-from ._paints import Cell, sequence_of
+from ._paints import sequence_of
 
 Column = Union[str, int]
 Colors = Callable[[int, Column, Any], Optional[str]]
@@ -14,14 +14,6 @@ _ESCAPE = "\x1b"
 _REPLACEMENT = "\ufffd"
 
 
-class Text(NamedTuple):
-    """A text, the words that its table's `colors` has for it, and the cell that it comes from, where its value is one."""
-
-    text: str
-    words: Optional[str] = None
-    cell: Optional[Cell] = None
-
-
 class Writer:
     """Writes values as texts. A setting is one text for all columns, or a list with one for each of the first columns."""
 
@@ -29,21 +21,16 @@ class Writer:
         self._floatfmt, self._intfmt, self._missingval, self._colors = floatfmt, intfmt, missingval, colors
 
     def header_of(self, header: list[Any]) -> list[str]:
-        values = [_value_of(name) for name in header]
-        return [self._plain("" if value is None else str(value)) for value in values]
+        return [self._plain("" if name is None else str(name)) for name in header]
 
     def texts_of(self, position: int, row: list[Any], names: list[str]) -> list[str]:
         """The texts of the row at a position, below these names, with sequences of their colours."""
+        texts = [self._text_of(at, value) for at, value in enumerate(row)]
         if self._colors is None:
-            return [self._text_of(at, value) for at, value in enumerate(row)]
-        return [painted(text, words) for text, words, _ in self.cells_of(position, row, names)]
-
-    def cells_of(self, position: int, row: list[Any], names: list[str]) -> list[Text]:
-        """The same without sequences, and with what their values ask for."""
+            return texts
         columns: Iterable[Column] = [names[at] if at < len(names) else at for at in range(len(row))]
-        texts = [self._text_of(at, _value_of(value)) for at, value in enumerate(row)]
-        words = [self._colors and self._colors(position, column, _value_of(value)) for column, value in zip(columns, row)]
-        return [Text(text, word or None, cell_of(value)) for text, word, value in zip(texts, words, row)]
+        words = [self._colors(position, column, value) for column, value in zip(columns, row)]
+        return [_painted(text, it) for text, it in zip(texts, words)]
 
     def _text_of(self, at: int, value: Any) -> str:
         if value is None:
@@ -60,18 +47,9 @@ class Writer:
         return text if self._colors is None else text.replace(_ESCAPE, _REPLACEMENT)
 
 
-def cell_of(value: object) -> Optional[Cell]:
-    """The value where it is a cell."""
-    return value if isinstance(value, Cell) else None
-
-
-def painted(text: str, words: str | None) -> str:
+def _painted(text: str, words: str | None) -> str:
     """A text between the sequences of such words."""
     return f"{sequence_of(words)}{text}{_ESCAPE}[0m" if words else text
-
-
-def _value_of(value: Any) -> Any:
-    return value.value if isinstance(value, Cell) else value
 
 
 def _at(setting: Texts, at: int) -> str | None:

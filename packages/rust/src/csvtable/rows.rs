@@ -6,7 +6,7 @@ use crate::csvtable::into_cells::IntoCells;
 #[cfg(feature = "tty")]
 use crate::csvtable::sequences::between_sequences;
 use crate::csvtable::style::Style;
-use crate::library::numbers::{Frame, RowsSettings};
+use crate::library::numbers::{Frame, RowsColumn, RowsSettings};
 use crate::library::{Texts, draw_rows};
 #[cfg(feature = "tty")]
 use crate::terminal;
@@ -28,9 +28,9 @@ pub enum Expanded {
 }
 
 // What the library has for a column: by its contents, at the left, at the right.
-const BY_CONTENTS: u8 = 0;
-const LEFT: u8 = 1;
-const RIGHT: u8 = 2;
+const BY_CONTENTS: u32 = 0;
+const LEFT: u32 = 1;
+const RIGHT: u32 = 2;
 
 /// Rows, and how their table is drawn. Rows may have different lengths.
 ///
@@ -53,7 +53,7 @@ pub struct Rows {
     // the header and the rows
     texts: Texts,
     // what each column asks for, as many as a row has cells at most
-    sides: Vec<u8>,
+    sides: Vec<u32>,
     // the positions of the columns that are drawn; of all where there are none
     chosen: Vec<usize>,
     style: Style,
@@ -255,7 +255,8 @@ impl Rows {
     pub fn draw(&self) -> Result<String, Error> {
         let settings = self.settings();
         if self.chosen.is_empty() {
-            return Ok(self.counted_as_rows(draw_rows(&self.texts, &self.sides, &settings)?));
+            let columns: Vec<RowsColumn> = self.sides.iter().copied().map(RowsColumn::at).collect();
+            return Ok(self.counted_as_rows(draw_rows(&self.texts, &columns, &settings)?));
         }
         let mut texts = Texts::default();
         for row in self.texts.rows() {
@@ -264,8 +265,8 @@ impl Rows {
             }
             texts.counts.push(self.chosen.len());
         }
-        let sides: Vec<u8> = self.chosen.iter().map(|position| self.sides[*position]).collect();
-        Ok(self.counted_as_rows(draw_rows(&texts, &sides, &settings)?))
+        let columns: Vec<RowsColumn> = self.chosen.iter().map(|position| RowsColumn::at(self.sides[*position])).collect();
+        Ok(self.counted_as_rows(draw_rows(&texts, &columns, &settings)?))
     }
 
     // A drawing whose line on further rows speaks of rows, where the library's speaks of records. No line of a row is taken for it,
@@ -282,7 +283,7 @@ impl Rows {
         columns.into_iter().map(|column| column.into().position(&self.header, self.sides.len())).collect()
     }
 
-    fn aligned<T: Into<Column>>(mut self, columns: impl IntoIterator<Item = T>, side: u8) -> Result<Rows, Error> {
+    fn aligned<T: Into<Column>>(mut self, columns: impl IntoIterator<Item = T>, side: u32) -> Result<Rows, Error> {
         for position in self.positions(columns)? {
             if self.sides[position] != BY_CONTENTS && self.sides[position] != side {
                 return Err(Error::TwoSides(position));

@@ -23,13 +23,19 @@ pub struct Color {
 }
 
 #[repr(C)]
-pub struct Cell {
-    pub length: usize,
-    pub delimiter: u32,
+#[derive(Clone, Copy, Default)]
+pub struct Look {
     pub alignment: u32,
     pub attributes: u32,
     pub foreground: Color,
     pub background: Color,
+}
+
+#[repr(C)]
+pub struct Cell {
+    pub length: usize,
+    pub delimiter: u32,
+    pub look: Look,
 }
 
 #[repr(C)]
@@ -99,6 +105,23 @@ pub struct CellsSettings {
     pub style_text_only: u32,
     pub custom_styling: u32,
     pub frame: Frame,
+}
+
+#[repr(C)]
+#[derive(Clone, Copy)]
+pub struct RowsColumn {
+    pub left_padding: u16,
+    pub right_padding: u16,
+    pub side: u32,
+    pub least: u16,
+    pub greatest: u16,
+}
+
+impl RowsColumn {
+    /// A column with a side, and nothing else of its own.
+    pub fn at(side: u32) -> RowsColumn {
+        RowsColumn { left_padding: 1, right_padding: 1, side, least: 0, greatest: 0 }
+    }
 }
 
 #[repr(C)]

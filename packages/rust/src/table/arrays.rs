@@ -97,23 +97,19 @@ fn of_style(style: &TableStyle) -> numbers::Frame {
 }
 
 fn of_cell(cell: &Cell) -> numbers::Cell {
-    numbers::Cell {
-        length: cell.text.len(),
-        delimiter: of_character(cell.delimiter),
-        alignment: of_alignment(cell.alignment),
-        #[cfg(feature = "tty")]
+    numbers::Cell { length: cell.text.len(), delimiter: of_character(cell.delimiter), look: look_of(cell) }
+}
+
+fn look_of(cell: &Cell) -> numbers::Look {
+    let look = numbers::Look { alignment: of_alignment(cell.alignment), ..numbers::Look::default() };
+    #[cfg(feature = "tty")]
+    let look = numbers::Look {
         attributes: cell.attributes.iter().fold(0, |bits, attribute| bits | 1 << *attribute as u32),
-        #[cfg(feature = "tty")]
         foreground: of_color(cell.foreground),
-        #[cfg(feature = "tty")]
         background: of_color(cell.background),
-        #[cfg(not(feature = "tty"))]
-        attributes: 0,
-        #[cfg(not(feature = "tty"))]
-        foreground: numbers::Color::default(),
-        #[cfg(not(feature = "tty"))]
-        background: numbers::Color::default(),
-    }
+        ..look
+    };
+    look
 }
 
 fn of_column(column: &Column) -> numbers::Column {

@@ -3,8 +3,9 @@ use Rattle.std.specs.Prelude.{if◌then◌else◌}
 use Rattle.comfy_parts.specs.Text.{Text}
 use Rattle.comfy_parts.specs.CellValue.{CellValue, RowValue, plain_row, with_cell}
 use Rattle.comfy_parts.specs.declared.style.cell.CellAlignment.TheVariants.{Right}
-use Rattle.std.proofs.lemmas.List.{map-append}
-use Rattle.csv_tables.specs.Cells.{Shown, cell_for, number_name, shown_cells, shown_fields, shown_number, with_weight}
+use Rattle.csv_tables.proofs.DressedLemmas.{header_is}
+use Rattle.csv_tables.specs.Cells.{cell_for, number_name, shown_cells, shown_number, with_weight}
+use Rattle.csv_tables.specs.Contents.{field_cells}
 use Rattle.csv_tables.proofs.cells.header_of.Goals as goal
 use Rattle.csv_tables.proofs.cells.header_of.Goals.{then-is_numbered+in_ok-add_name, else-is_numbered}
 
@@ -23,5 +24,5 @@ returns c =
       | else-is_numbered w ↦ w.row-is ∙ none ∙ sym (ap (λ (b : Bool). plain_row (heading b)) w.if-is_numbered.false)
     ] in
     c.in_ok-add_names.ensures
-    ∙ ap (λ (r : RowValue). record r { cells = r.cells ++ shown_cells look bold (shown_fields look false columns names) }) begun
-    ∙ ap plain_row (sym (map-append (λ (s : Shown). with_weight bold (cell_for look s.alignment s.text)) (shown_number (if c.args.is_numbered then Some (number_name names) else None)) (shown_fields look false columns names)))
+    ∙ ap (λ (r : RowValue). record r { cells = r.cells ++ field_cells look bold false c.args.settings.now columns names }) begun
+    ∙ header_is look c.args.is_numbered columns names c.args.settings.now

@@ -12,6 +12,7 @@ use Rattle.csv_tables.proofs.ContentLemmas.{greatest_at-append, header_widths, m
 use Rattle.csv_tables.specs.Contents.{greatest_at, made_by, measured_at, most_cells, pairs_by, rows_from}
 use Rattle.csv_tables.specs.Drawn.{empty_table, headed_table}
 use Rattle.csv_tables.specs.LazyRows.{IsFlat}
+use Rattle.csv_tables.specs.Styled.{dressed_table}
 use Rattle.csv_tables.proofs.lazy_table.content_widths.Goals as goal
 
 pub loop-at-init : goal.loop-at-init
@@ -100,7 +101,7 @@ returns-then-rows-clause-each c = λ i.
     let table = c.args.table.now in
     let all = rows_from rows 0 rows.selected.rows in
     let expanded : rows.is_expanded ≡ true = search rules in
-    let bare : table ≡ empty_table rows.look = c.requires ∙ ap (λ (b : Bool). if b then empty_table rows.look else headed_table rows.look rows.selected.is_numbered rows.selected.columns rows.selected.names) expanded in
+    let bare : table ≡ empty_table rows.look = c.requires ∙ ap (λ (b : Bool). if b then empty_table rows.look else dressed_table rows.selected rows.settings.rows (headed_table rows.look rows.selected.is_numbered rows.selected.columns rows.selected.names)) expanded in
     let none : column_content_width table i ≡ 0 = sym (header_widths rows table c.requires i) ∙ ap (λ (t : TableValue). slice_index_or (max_content_widths t) i 0) bare in
     let below = width_below table all i (ap (λ t. t.rows) c.requires ∙ no_rows rows) in
     let own = c.in_ok-pair_widths.ensures.each i in
@@ -110,7 +111,7 @@ pub returns-then-rows-clause-count : goal.returns-then-rows-clause-count
 returns-then-rows-clause-count c =
     let rows = c.args.rows.now in
     let expanded : rows.is_expanded ≡ true = search rules in
-    let bare : c.args.table.now ≡ empty_table rows.look = c.requires ∙ ap (λ (b : Bool). if b then empty_table rows.look else headed_table rows.look rows.selected.is_numbered rows.selected.columns rows.selected.names) expanded in
+    let bare : c.args.table.now ≡ empty_table rows.look = c.requires ∙ ap (λ (b : Bool). if b then empty_table rows.look else dressed_table rows.selected rows.settings.rows (headed_table rows.look rows.selected.is_numbered rows.selected.columns rows.selected.names)) expanded in
     let none : length c.args.table.now.columns ≡ 0 = ap (λ (t : TableValue). length t.columns) bare in
     let own = c.in_ok-pair_widths.ensures.count in
     omega (arith, own, none)

@@ -12,7 +12,7 @@ pub returns-then-look : goal.returns-then-look
 returns-then-look c =
     let layout = c.args.layout.now in
     let look = layout.look in
-    let settings = c.args.settings.now in
+    let settings = c.args.settings in
     let selected = c.in_ok-selected.selected in
     let count = ap (λ (s : SelectedValue). s.count) c.in_ok-selected.ensures in
     IfOk-weaker c.markdown_records.result _ _
@@ -29,13 +29,14 @@ pub returns : goal.returns
 returns c =
     let layout = c.args.layout.now in
     let look = layout.look in
-    let settings = c.args.settings.now in
+    let settings = c.args.settings in
     let content = c.in_ok-selected.selected in
-    let selected = with_centers settings content in
+    let selected = with_centers settings.columns content in
     let contents = c.in_ok-drawn_contents.field-0 in
     let arranged = c.in_ok-arranged_contents.field-0 in
     let text = drawn_next contents.rows contents.table arranged.infos 0 true true contents.rows.selected.rows in
-    let made : AreDrawnContents settings look selected contents = subst (λ (s : SelectedValue). AreDrawnContents settings look s contents) c.in_ok-selected-2.ensures c.in_ok-drawn_contents.ensures in
+    let centred = c.in_ok-selected-2.ensures ∙ ap (λ columns. with_centers columns content) c.of_columns.ensures in
+    let made : AreDrawnContents settings look selected contents = subst (λ (s : SelectedValue). AreDrawnContents settings look s contents) centred c.in_ok-drawn_contents.ensures in
     let same : contents.rows.selected ≡ selected = made.drawn.are_contents.selected_is in
     let drawn : RendersStyled settings look selected text =
     subst (λ (s : SelectedValue). RendersStyled settings look s text) same

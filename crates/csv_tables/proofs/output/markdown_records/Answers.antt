@@ -14,6 +14,8 @@ use Rattle.csv_tables.specs.Contents.{drawn_next, expanded_from, rows_from, tabl
 use Rattle.csv_tables.specs.LazyTableValue.{LazyTableValue}
 use Rattle.csv_tables.specs.Drawn.{SelectedValue, below_first, markdown_content, markdown_look, markdown_rule, markdown_table, sides}
 use Rattle.csv_tables.specs.Markdown.{rule_line}
+use Rattle.csv_tables.specs.Settings.{SettingsValue}
+use Rattle.csv_tables.specs.Styled.{dressed_table}
 use Rattle.csv_tables.specs.declared.options.Look.{Look}
 use Rattle.csv_tables.specs.declared.rows.RecordRows.{RecordRows}
 use Rattle.csv_tables.proofs.output.markdown_records.Goals as goal
@@ -27,10 +29,12 @@ returns c =
     let infos = own.infos in
     let arranged : ArrangedValue = record { table = contents.table; infos = infos } in
     let same : own.contents ≡ contents = c.in_ok-arranged.ensures.contents in
-    let rows_by : SelectedValue → Look → RecordRows = λ s l. record { selected = s; look = l; is_expanded = false; is_aligned = false } in
+    let rows_by : SelectedValue → Look → RecordRows = λ s l. record { selected = s; settings = c.none-settings.result; look = l; is_expanded = false; is_aligned = false } in
     let wanted : rows_by c.with_header.result c.markdown_look.result ≡ rows_by (markdown_content selected) (markdown_look look) = ap₂ rows_by c.with_header.ensures c.markdown_look.ensures in
     let made : contents.rows ≡ rows_by (markdown_content selected) (markdown_look look) = c.in_ok-contents.ensures.rows ∙ wanted in
-    let table : contents.table ≡ markdown_table look selected = c.in_ok-contents.ensures.table ∙ ap table_by wanted in
+    let table : contents.table ≡ markdown_table look selected =
+    c.in_ok-contents.ensures.table ∙ ap table_by wanted
+    ∙ ap (λ (s : SettingsValue). dressed_table (markdown_content selected) s.rows (markdown_table look selected)) c.none-settings.ensures in
     let is : IsArrangedTable (markdown_table look selected) arranged = subst (λ (t : TableValue). IsArrangedTable t arranged) table c.in_ok-arranged.ensures.infos in
     let above = part_of_drawing contents.table infos true false [] in
     let below = part_of_drawing contents.table infos false true contents.table.rows in

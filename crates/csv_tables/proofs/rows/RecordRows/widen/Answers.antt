@@ -1,4 +1,4 @@
-use Rattle.std.proofs.Common.{rules, ◌≡◌, ◌≤◌, ◌+◌, ◌==◌, ℕ, Bool, List, Some, None, false, nat_lt, ap, arith, length, max, subst, sym, ◌∙◌, ⊎_elim}
+use Rattle.std.proofs.Common.{◌≡◌, ◌≤◌, ◌+◌, ◌==◌, ℕ, Bool, IfSome, List, Option, Some, false, nat_lt, ap, arith, length, max, subst, sym, ◌∙◌, ⊎_elim}
 use Rattle.std.proofs.lemmas.Bool.{and_parts, cases_lt}
 use Rattle.std.proofs.lemmas.Bool.Decides.{nat_tests}
 use Rattle.std.specs.List.{slice_get, slice_index_or}
@@ -11,10 +11,10 @@ use Rattle.csv_tables.proofs.PlainRowLemmas.{cell_behind, cell_of_column, inside
 use Rattle.csv_tables.proofs.ReachedLemmas.{no_column}
 use Rattle.csv_tables.proofs.ShownLemmas.{all_cells, as_many_cells, joined_width, one_wider, start_width}
 use Rattle.csv_tables.proofs.WholeRowLemmas.{high}
-use Rattle.csv_tables.specs.Cells.{cell_for, columns_within}
-use Rattle.csv_tables.specs.Contents.{made_by, measured_at}
-use Rattle.csv_tables.specs.Decimals.{spaced}
-use Rattle.csv_tables.specs.Fields.{field_or_blank}
+use Rattle.csv_tables.proofs.DressedLemmas.{height_made}
+use Rattle.csv_tables.specs.Cells.{columns_within}
+use Rattle.csv_tables.specs.Contents.{field_cell, made_by, measured_at, settings_by}
+use Rattle.csv_tables.specs.Settings.{CellSettingsValue, cell_settings, limit_by}
 use Rattle.csv_tables.specs.declared.options.ColumnPlan.{ColumnPlan}
 use Rattle.csv_tables.proofs.rows.RecordRows.widen.Goals as goal
 use Rattle.csv_tables.proofs.rows.RecordRows.widen.Invariants.{behind}
@@ -46,10 +46,10 @@ loop-place-preserved c =
     let one : first ≡ (if own.selected.is_numbered then 1 else 0) = c.number_count-first.ensures in
     let listed : items ≡ columns = c.columns_within-column-items.ensures in
     let found : slice_get columns k ≡ Some column = ap (λ (all : List ColumnPlan). slice_get all k) (sym listed) ∙ inside items k no_column c.loop-place-test.true in
-    let here : slice_get cells (first + k) ≡ Some (cell_of_column own fields column) = cell_behind own fields column c.args.at (first + k) k (omega (arith, one)) found in
-    let text : c.unwrap_or-field.result.now ≡ field_or_blank fields column.position = search rules in
-    let made : cell_of c.in_ok-cell.cell ≡ cell_of_column own fields column =
-    c.in_ok-cell.ensures ∙ ap (λ (field : Text). cell_for look column.alignment (spaced look.has_sequences (if own.is_aligned then column.points else None) field)) text in
+    let here : slice_get cells (first + k) ≡ Some (cell_of_column own c.args.at fields column) = cell_behind own fields column c.args.at (first + k) k (omega (arith, one)) found in
+    let settings = c.cell_settings-settings.ensures ∙ ap cell_settings c.settings_at.ensures in
+    let made : cell_of c.in_ok-cell.cell ≡ cell_of_column own c.args.at fields column =
+    c.in_ok-cell.ensures ∙ ap (λ (settings : List CellSettingsValue). field_cell look false own.is_aligned settings fields column) settings in
     let f : ℕ → ℕ = behind table cells first in
     let after : nat_lt (first + k) first ≡ false = grind (arith, nat_tests) in
     let width : c.content_width.result ≡ f (first + k) =
@@ -77,7 +77,7 @@ loop-place-preserved c =
                 ⊎_elim (λ earlier. before.1 i cell low earlier is_cell)
                 (λ later.
                 let at : i ≡ first + k = omega (arith, later, below) in
-                let same : cell_of_column own fields column ≡ cell = cc (sym here ∙ ap (slice_get cells) (sym at) ∙ is_cell) in
+                let same : cell_of_column own c.args.at fields column ≡ cell = cc (sym here ∙ ap (slice_get cells) (sym at) ∙ is_cell) in
                 subst (λ (cell : CellValue). length cell.text_lines ≤ 1) (made ∙ same) own_line) (cases_lt i (first + k)),
           ),
     )
@@ -125,5 +125,5 @@ returns-clause-flat c = λ is.
           let found : slice_get cells i ≡ Some cell = inside cells i d below in
           ⊎_elim (λ number. c.in_ok-is_flat.ensures.flat fields cell i (omega (arith, number, one)) found parts.0)
           (λ field. parts.1 i cell field (omega (arith, below, one, listed, many, c.loop-place-test.false, c.loop-place.auto.place-end)) found) (cases_lt i first);
-      some_height = high own.look own.look.max_height;
+      some_height = subst (λ (limit : Option ℕ). IfSome limit (λ h. 1 ≤ h)) (sym (height_made own c.args.at fields)) (high own.look (limit_by (settings_by own c.args.at) own.look));
     }

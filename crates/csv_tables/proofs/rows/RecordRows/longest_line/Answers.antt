@@ -1,0 +1,24 @@
+use Rattle.std.proofs.Common.{◌≡◌, ◌≤◌, ◌∷◌, ◌∙◌, [], Bool, ap, arith, length, sym}
+use Rattle.std.proofs.lemmas.Option.{slice_get_past}
+use Rattle.std.specs.Prelude.{if◌then◌else◌}
+use Rattle.comfy_parts.specs.CellValue.{RowValue}
+use Rattle.comfy_table.specs.LongestLine.{cell_longest_line}
+use Rattle.csv_tables.proofs.ShownLemmas.{as_many_cells}
+use Rattle.csv_tables.specs.Contents.{greatest_at, made_by, measured_at, pairs_by}
+use Rattle.csv_tables.proofs.rows.RecordRows.longest_line.Goals as goal
+
+pub returns-then-position-cell_count : goal.returns-then-position-cell_count
+returns-then-position-cell_count c =
+    let own = c.args.self.now in
+    let table = c.args.table.now in
+    let at = c.args.at in
+    let fields = c.args.fields.now in
+    let position = c.args.position in
+    let made : RowValue = made_by own at fields in
+    let many = as_many_cells own at fields in
+    let listed = ap length c.columns_within-columns.ensures in
+    let past : length made.cells ≤ position = omega (arith, many, listed, c.cell_count.ensures, c.if-position-cell_count.true) in
+    let f = cell_longest_line table c.args.info.now in
+    let one : greatest_at table f (made ∷ []) position ≡ 0 = let none = ap (measured_at table f) (slice_get_past made.cells position past) in omega (arith, none) in
+    let single = ap (λ (b : Bool). greatest_at table f (if b then pairs_by own fields else made ∷ []) position) c.if-self.false in
+    sym (single ∙ one)

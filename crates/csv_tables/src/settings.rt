@@ -1,0 +1,262 @@
+//! The settings that columns, rows and cells of a table of rows may have.
+
+ghost use Rattle.std.specs.Prelude.{◌≡◌, [], IfOk, None, Some, option_map, slice_get, true};
+ghost use Rattle.std.specs.Option.{option_or};
+ghost use Rattle.csv_tables.specs.Limits.{unset};
+ghost use Rattle.csv_tables.specs.Settings.{cell_settings, dressed, limit_by, no_settings};
+
+use crate::options::Look;
+use comfy_parts::style::{Attribute, CellAlignment, Color};
+use comfy_parts::{Cell, Result};
+use std::alloc::Global;
+use std::marker::Model;
+
+/// The settings of a column in a table of rows. Numbers count terminal columns.
+#[derive(Clone, Copy, Debug, PartialEq, Eq)]
+pub struct ColumnSettings {
+    /// How many are left free to the left and to the right of its texts.
+    pub padding: (u16, u16),
+    /// How many its texts have at least.
+    pub least: Option<u16>,
+    /// How many its texts have at most, but never fewer than `least`, and never fewer than 1.
+    /// Longer texts are wrapped.
+    pub greatest: Option<u16>,
+    /// Whether its texts are in the middle, whatever side `Columns` gives them. Their decimal
+    /// points aren't below each other then.
+    pub is_centered: bool,
+}
+
+impl ColumnSettings {
+    /// Those of a column that has nothing of its own: one is left free on both sides.
+    pub fn none() -> ColumnSettings
+        ensures { result ≡ unset }
+    {
+        ColumnSettings {
+            padding: (1, 1),
+            least: None,
+            greatest: None,
+            is_centered: false,
+        }
+    }
+}
+
+/// The settings of a cell in a table of rows.
+#[derive(Debug)]
+pub struct CellSettings {
+    /// Its alignment, in place of that of its column.
+    pub alignment: Option<CellAlignment>,
+    /// The colour of its text.
+    pub foreground: Option<Color>,
+    /// The colour behind its text.
+    pub background: Option<Color>,
+    /// Its attributes. In a bold header they come after bold.
+    pub attributes: Vec<Attribute>,
+}
+
+impl Drop for CellSettings {
+    fn drop(self) {
+        let CellSettings {
+            alignment: _,
+            foreground: _,
+            background: _,
+            attributes: _,
+        } = self;
+    }
+}
+
+impl Model for CellSettings {
+    ghost use Rattle.csv_tables.specs.Settings.{CellSettingsValue};
+
+    ghost Value = { CellSettingsValue };
+
+    ghost view = { λ c. record {
+      alignment = c.alignment;
+      foreground = c.foreground;
+      background = c.background;
+      attributes = c.attributes.items;
+    } };
+}
+
+impl CellSettings {
+    /// The alignment of a cell that would have this one without them.
+    pub(crate) fn side(&self, alignment: Option<CellAlignment>) -> Option<CellAlignment>
+        ensures { result ≡ option_or self.now.alignment alignment }
+    {
+        self.alignment.or(alignment)
+    }
+
+    /// Whether they have no colour and no attribute.
+    pub(crate) fn is_plain(&self) -> bool
+        ensures foreground { result ≡ true → self.now.foreground ≡ None }
+        ensures background { result ≡ true → self.now.background ≡ None }
+        ensures attributes { result ≡ true → self.now.attributes ≡ [] }
+    {
+        self.foreground.is_none() && self.background.is_none() && self.attributes.is_empty()
+    }
+
+    /// A cell with these settings. Its own attributes come first.
+    pub fn dressed(&self, cell: Cell) -> Result<Cell>
+        ensures { IfOk result (λ made. made ≡ dressed (Some self.now) cell) }
+    {
+        let aligned = aligned(cell, self.alignment);
+        let coloured = coloured(aligned, self.foreground, self.background);
+        coloured.add_attributes(self.attributes.clone()?)
+    }
+}
+
+// A cell with an alignment, if there is one.
+fn aligned(cell: Cell, alignment: Option<CellAlignment>) -> Cell
+    ensures { result ≡ record cell { alignment = option_or alignment cell.alignment } }
+{
+    match alignment {
+        Some(alignment) => cell.set_alignment(alignment),
+        None => cell,
+    }
+}
+
+// A cell with colours, if there are some.
+fn coloured(cell: Cell, foreground: Option<Color>, background: Option<Color>) -> Cell
+    ensures { result ≡ record cell {
+      foreground = option_or foreground cell.foreground;
+      background = option_or background cell.background;
+    } }
+{
+    let cell = match foreground {
+        Some(color) => cell.fg(color),
+        None => cell,
+    };
+    match background {
+        Some(color) => cell.bg(color),
+        None => cell,
+    }
+}
+
+/// The settings of a row in a table of rows.
+#[derive(Debug)]
+pub struct RowSettings {
+    /// How many lines it has at most, in place of what the look says; 0 counts as 1. The header
+    /// has no such limit.
+    pub max_height: Option<usize>,
+    /// The settings of its cells. The item at a position is for the field at this position of its
+    /// record. Fields past the last item have no settings, and neither has the row's number.
+    pub cells: Vec<CellSettings>,
+}
+
+impl Drop for RowSettings {
+    fn drop(self) {
+        let RowSettings {
+            max_height: _,
+            cells: _,
+        } = self;
+    }
+}
+
+impl Model for RowSettings {
+    ghost use Rattle.csv_tables.specs.Settings.{RowSettingsValue};
+
+    ghost Value = { RowSettingsValue };
+
+    ghost view = { λ r. record { max_height = r.max_height; cells = r.cells.items } };
+}
+
+impl RowSettings {
+    /// How many lines a row has at most that would have this limit without them.
+    pub(crate) fn limit(&self, limit: Option<usize>) -> Option<usize>
+        ensures { result ≡ option_or self.now.max_height limit }
+    {
+        self.max_height.or(limit)
+    }
+
+    /// The settings of its cells.
+    pub(crate) fn of_cells(&self) -> &[CellSettings]
+        ensures { result.now ≡ self.now.cells }
+    {
+        self.cells.as_slice()
+    }
+}
+
+/// The settings of a table of rows.
+#[derive(Debug)]
+pub struct Settings {
+    /// Those of its columns. The item at a position is for the fields at this position of the
+    /// records. Columns past the last item have no settings, and neither has the column of
+    /// numbers.
+    pub columns: Vec<ColumnSettings>,
+    /// Those of its rows. The first item is for the header, and isn't used if there is none. The
+    /// items after it are for the records in their order. Records past the last item have no
+    /// settings.
+    pub rows: Vec<RowSettings>,
+}
+
+impl Drop for Settings {
+    fn drop(self) {
+        let Settings {
+            columns: _,
+            rows: _,
+        } = self;
+    }
+}
+
+impl Model for Settings {
+    ghost use Rattle.csv_tables.specs.Settings.{SettingsValue};
+
+    ghost Value = { SettingsValue };
+
+    ghost view = { λ s. record { columns = s.columns.items; rows = s.rows.items } };
+}
+
+impl Settings {
+    /// Those of a table that has nothing of its own.
+    pub fn none(alloc: Global) -> Settings
+        ensures { result ≡ no_settings }
+    {
+        Settings {
+            columns: Vec::new(alloc),
+            rows: Vec::new(alloc),
+        }
+    }
+
+    /// Those of its columns.
+    pub(crate) fn of_columns(&self) -> &[ColumnSettings]
+        ensures { result.now ≡ self.now.columns }
+    {
+        self.columns.as_slice()
+    }
+
+    /// Those of its header and its rows.
+    pub(crate) fn of_rows(&self) -> &[RowSettings]
+        ensures { result.now ≡ self.now.rows }
+    {
+        self.rows.as_slice()
+    }
+}
+
+/// The settings of the cells of a row, which are none if the row has no settings.
+#[inline(always)]
+pub(crate) fn cell_settings(row: Option<&RowSettings>) -> &[CellSettings]
+    ensures { result.now ≡ cell_settings (option_map (λ row. row.now) row.entry) }
+{
+    match row {
+        Some(row) => row.of_cells(),
+        None => &[],
+    }
+}
+
+/// The settings of the cell of the field at a position, if it has some.
+#[inline(always)]
+pub(crate) fn settings_of(settings: &[CellSettings], position: usize) -> Option<&CellSettings>
+    ensures { option_map (λ own. own.now) result ≡ slice_get settings.now position }
+{
+    settings.get(position)
+}
+
+/// How many lines a row has at most, by its settings if they say so, else by the look.
+#[inline(always)]
+pub(crate) fn limit_by(row: Option<&RowSettings>, look: &Look) -> Option<usize>
+    ensures { result ≡ limit_by (option_map (λ row. row.now) row.entry) look.now }
+{
+    match row {
+        Some(row) => row.limit(look.max_height),
+        None => look.max_height,
+    }
+}
