@@ -5,6 +5,7 @@
 //! call carries.
 #![tactic(auto)]
 
+pub mod for_records;
 pub mod laws;
 mod table;
 pub mod utils;
@@ -24,10 +25,7 @@ pub use table::output::Lines;
 pub use table::parts::TableParts;
 pub use table::row_writer::RowWriter;
 pub use table::terminal::Terminal;
-pub use utils::arrangement::source::TableSource;
 pub use utils::formatting::drawing::PartEnds;
-pub use utils::formatting::row_cell::{RowCell, TextCell};
-pub use utils::formatting::text_style::TextStyle;
 
 /// A row of values of several types, as an array of their cells: of each value that a cell can be
 /// made of (`IntoCell`). It stands in a function that returns a `Result`.

@@ -24,7 +24,7 @@ use crate::settings::{CellSettings, settings_of};
 use comfy_parts::for_tables::printable_cell;
 use comfy_parts::style::{Attribute, CellAlignment};
 use comfy_parts::{Cell, Cells, IntoRow, Result, Row};
-use comfy_table::{RowCell, TextCell, TextStyle};
+use comfy_table::for_records::{RowCell, TextCell, TextStyle};
 use csv_records::{Record, cleaned, is_clean_line};
 use std::alloc::{AllocError, Global};
 use std::borrow::CowStr;

@@ -9,7 +9,8 @@ ghost use Rattle.csv_tables.specs.LazyRows.{AreWithin, IsFlat};
 
 use crate::rows::RecordRows;
 use comfy_parts::content_split::ColumnDisplayInfo;
-use comfy_table::{Result, Table, TableSource};
+use comfy_table::for_records::TableSource;
+use comfy_table::{Result, Table};
 use std::marker::Model;
 
 /// The table of records, whose rows are made only when they are drawn.

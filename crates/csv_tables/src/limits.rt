@@ -11,7 +11,8 @@ use crate::lazy_table::LazyTable;
 use crate::selected::SelectedRecords;
 use crate::settings::ColumnSettings;
 use comfy_parts::content_split::ColumnDisplayInfo;
-use comfy_table::{Column, ColumnConstraint, Result, Table, TableSource, Width};
+use comfy_table::for_records::TableSource;
+use comfy_table::{Column, ColumnConstraint, Result, Table, Width};
 use std::alloc::{AllocError, Global};
 
 /// The widths that the texts of a column may have, in terminal columns.

@@ -21,8 +21,9 @@ use crate::limits::{
 use crate::selected::SelectedRecords;
 use comfy_parts::content_split::measure_text_width;
 use comfy_parts::for_tables::measured_lines;
+use comfy_table::for_records::{RowCell, TextCell};
 use comfy_table::utils::arrangement::helper::count_border_columns;
-use comfy_table::{Cell, Column, ColumnConstraint, Result, RowCell, Table, TextCell, Width};
+use comfy_table::{Cell, Column, ColumnConstraint, Result, Table, Width};
 use csv_records::{is_neutral, is_number};
 use std::alloc::{AllocError, Global};
 

@@ -16,7 +16,8 @@ use crate::cells::{name_cell, push_name, push_text, row_cell};
 use crate::nowrap::cell_nowrap_width;
 use crate::rows::RecordRows;
 use comfy_parts::content_split::ColumnDisplayInfo;
-use comfy_table::{PartEnds, Result, RowCell, RowWriter, Table};
+use comfy_table::for_records::RowCell;
+use comfy_table::{PartEnds, Result, RowWriter, Table};
 use csv_records::Record;
 
 impl RecordRows {

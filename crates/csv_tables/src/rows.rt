@@ -19,7 +19,8 @@ use crate::selected::SelectedRecords;
 use crate::settings::{CellSettings, RowSettings, Settings, cell_settings, limit_by, settings_of};
 use crate::table::empty_table;
 use comfy_parts::content_split::ColumnDisplayInfo;
-use comfy_table::{PartEnds, Result, RowCell, RowWriter, Table};
+use comfy_table::for_records::RowCell;
+use comfy_table::{PartEnds, Result, RowWriter, Table};
 use csv_records::Record;
 use std::alloc::{AllocError, Global};
 

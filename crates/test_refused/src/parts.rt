@@ -2,7 +2,8 @@
 
 use crate::fixtures::fill_worked;
 use crate::outcome::{Outcome, succeeded};
-use comfy_table::{ArrangedTable, Cell, PartEnds, Result, RowCell, Table, TextCell};
+use comfy_table::for_records::{RowCell, TextCell};
+use comfy_table::{ArrangedTable, Cell, PartEnds, Result, Table};
 use std::alloc::Global;
 
 /// What came of the call of this name on a new table that `fill_worked` fills.

@@ -1,7 +1,8 @@
 //! Tables drawn in parts: all at the widths of the whole table, each with header and borders.
 
 use crate::support::{assert_given, table_of};
-use comfy_table::{ColumnConstraint, ContentArrangement, PartEnds, Row, RowCell, RowWriter, Table};
+use comfy_table::for_records::RowCell;
+use comfy_table::{ColumnConstraint, ContentArrangement, PartEnds, Row, RowWriter, Table};
 use std::alloc::{Alloc, Global};
 use std::process::Abort;
 
