@@ -63,7 +63,10 @@ impl Render for Twofold {
             second: Some(String::from_str(alloc, "second\n")?),
             is_refused: self.is_refused,
         };
-        Ok(Rendered { pieces, findings: () })
+        Ok(Rendered {
+            pieces,
+            findings: (),
+        })
     }
 
     fn render_beginning(
