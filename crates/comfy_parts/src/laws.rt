@@ -33,6 +33,7 @@ pub fn lines_end_at_the_first_full_element()
 
 /// Where a line ends, the text ends, or a delimiter follows, or the element there is wider than a
 /// line.
+#[tactic(auto, using(crate::proofs::UncutLemmas::is_cut_outside_narrow))]
 pub fn narrow_elements_stay_whole()
     ensures { (w d : ℕ) (text : Text) (lines : List Text) → IsScalar d → IsWrapped w d text lines
         → IsCutOutsideNarrow w d [] text lines }
@@ -46,6 +47,7 @@ pub fn lines_fit()
 {}
 
 /// In printable ASCII two neighbouring lines fill at least the width of one.
+#[tactic(auto, using(crate::proofs::NeighbourLemmas::neighbours_fill_a_line))]
 pub fn neighbours_fill_a_line()
     ensures { (w d : ℕ) (text : Text) (lines : List Text) → IsWrapped w d text lines
         → NeighboursFillALine w d text lines }
@@ -60,6 +62,7 @@ pub fn lines_are_few()
 {}
 
 /// In printable ASCII a line that ends inside an element fills its width.
+#[tactic(auto, using(crate::proofs::CutLineLemmas::cut_lines_are_full))]
 pub fn cut_lines_are_full()
     ensures { (w d : ℕ) (text : Text) (lines : List Text) → IsWrapped w d text lines
         → CutLinesAreFull w d text lines }
@@ -126,6 +129,7 @@ pub fn printable_adds_one_column_each()
 
 /// The lines of a cell, one after another, have all characters of its text lines, in order, but for
 /// delimiters.
+#[tactic(auto, using(crate::proofs::KeptLemmas::lines_keep_the_text))]
 pub fn lines_keep_the_text()
     ensures { (w d : ℕ) (text_lines : List Text) → LinesKeepTheText w d text_lines }
 {}

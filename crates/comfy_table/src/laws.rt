@@ -31,12 +31,14 @@ pub use comfy_parts::laws::{
 
 /// After columns were appended for a row of n cells, there are as many columns as before or n,
 /// whichever is more.
+#[tactic(auto, using(comfy_parts::proofs::CallerLemmas::no_fewer_columns))]
 pub fn columns_only_grow()
     ensures { (n : ℕ) (columns : List ColumnValue) → NoFewerColumns n columns }
 {}
 
 /// A frame line has as many characters as the borders and the whole widths of the shown columns
 /// together, whatever the texts.
+#[tactic(auto, using(crate::proofs::TableLemmas::frame_counts))]
 pub fn frame_lines_have_one_count()
     ensures { (table : TableValue) (widths : List ℕ) (line : LineStyle)
         → FrameCounts table widths line }
@@ -76,6 +78,7 @@ pub fn tables_of_fitting_characters_are_straight()
 {}
 
 /// The truncation indicator of a new table adds one terminal column after any printable ASCII text.
+#[tactic(auto, using(crate::proofs::EllipsisLemmas::ellipsis_adds))]
 pub fn the_ellipsis_adds_one_column()
     ensures { AddsOneColumnEach ellipsis }
 {}
@@ -132,6 +135,7 @@ pub fn dynamic_widths_are_levelled()
 
 /// Under `Dynamic` and without constraints the level is the best one: no contents within the room
 /// give each column its content or one more than the level.
+#[tactic(auto, using(crate::proofs::TableLemmas::table_level_is_best))]
 pub fn the_level_is_the_best()
     ensures { (table : TableValue) (w level : ℕ) (widths : List ℕ)
         → TableLevelIsBest table w level widths }
@@ -151,6 +155,7 @@ pub fn columns_are_at_most_three_wider()
 
 /// In printable ASCII a column that is made as narrow as its longest line keeps its lines, each but
 /// for at most one delimiter at its end.
+#[tactic(auto, using(crate::proofs::ColumnLemmas::shrinking_keeps_cells))]
 pub fn shrinking_keeps_the_lines()
     ensures { (table : TableValue) (p : ℕ × ColumnValue) (b : ℕ) → ShrinkingKeepsCells table p b }
 {}
@@ -158,6 +163,7 @@ pub fn shrinking_keeps_the_lines()
 /// The lines of a cell that no height cuts, as they are measured, have all characters of its text,
 /// in order, but for delimiters. What is drawn of a cell are these lines with paddings and spaces,
 /// and with sequences where styles are written.
+#[tactic(auto, using(crate::proofs::KeptLemmas::cell_keeps_its_text))]
 pub fn cells_keep_their_text()
     ensures { (table : TableValue) (row : RowValue) (info : ColumnInfo) (cell : CellValue)
         → CellKeepsItsText table row info cell }

@@ -1,4 +1,4 @@
--- What a terminal is told by a text.
+-- Commands of a text to a terminal.
 -- Source: this library's own.
 use Rattle.std.specs.Prelude.{◌≡◌, ◌==◌, ◌&&◌, ℕ, true, false, not, List, [], ◌∷◌, ◌++◌, Option, All, unwrap_or}
 use Rattle.std.specs.Char.{is_control}
@@ -26,7 +26,7 @@ pub data IsStyled : Text → Text → Type 0 where
   sequence : (code line styled : Text) → list_all is_parameter code ≡ true
       → IsStyled line styled → IsStyled line (0x1B ∷ 0x5B ∷ (code ++ 0x6D ∷ styled))
 
--- all that a terminal is told are characters, line ends, colours and attributes
+-- all that a terminal gets are characters, line ends, colours and attributes
 abbrev pub IsHarmless : Text → Type 0
 IsHarmless text =
     (shown : Text) × Shows text shown × NoCharPasses (λ c. is_control c && not (c == 0x0A)) shown

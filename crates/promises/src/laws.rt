@@ -30,18 +30,21 @@ pub fn tables_of_rows_keep_the_promises()
 {}
 
 /// Each character of printable ASCII takes one terminal column.
+#[tactic(auto, using(crate::proofs::ConditionLemmas::narrow_cell))]
 pub fn printable_texts_are_narrow()
     ensures { (text : Text) → is_printable_ascii text ≡ true → IsNarrowCell (plain_cell text) }
 {}
 
 /// Where the characters of a text fit a column, as `characters_fit` says, so do those of its text
 /// lines.
+#[tactic(auto, using(crate::proofs::FittingTextLemmas::fitting_lines))]
 pub fn fitting_texts_have_fitting_lines()
     ensures { (w : ℕ) (text : Text) → IsUtf8 text → CharactersFit w text
         → All (CharactersFit w) (plain_cell text).text_lines }
 {}
 
 /// What `Display` writes of a whole number is printable ASCII.
+#[tactic(auto, using(crate::proofs::ConditionLemmas::printable_number))]
 pub fn numbers_are_printable()
     ensures { (n : ℕ) → is_printable_ascii (decimal n) ≡ true }
 {}
@@ -53,6 +56,7 @@ pub fn new_frames_are_plain()
 {}
 
 /// The truncation indicator of a new table joins no text.
+#[tactic(auto, using(crate::proofs::ConditionLemmas::ellipsis_apart))]
 pub fn the_ellipsis_stands_apart()
     ensures { IsApart ellipsis }
 {}
@@ -63,6 +67,7 @@ pub fn frame_characters_make_plain_styles()
 {}
 
 /// A header and rows that an empty table gets stand below each other, and each cell has a column.
+#[tactic(auto, using(crate::proofs::ConditionLemmas::of_rows))]
 pub fn rows_stand_below_each_other()
     ensures { (base : TableValue) (header : RowValue) (rows : List RowValue) → IsEmpty base
         → IsOfRows base header rows (with_rows rows (with_header header base)) }

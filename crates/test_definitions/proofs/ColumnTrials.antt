@@ -1,23 +1,21 @@
 -- Columns by words: ranges, and columns that are left out.
-use Rattle.std.proofs.Common.{◌≡◌, List, [], ◌∷◌, None, Some, Ok, Err, codes, false, map, refl, true}
+use Rattle.std.proofs.Common.{◌≡◌, List, [], ◌∷◌, Some, Ok, Err, codes, false, map, refl, true}
 use Prim.Native.String.{String}
 use Rattle.std.specs.Fmt.{digits}
 use Rattle.comfy_parts.specs.Text.{Text}
 use Rattle.csv.specs.Records.{field_at}
-use Rattle.comfy_parts.specs.Presets.{ascii_full}
 use Rattle.ucd_category.proofs.Computing.{ucd_category}
 use Rattle.std.specs.Str.{chars}
 use Rattle.csv_records.specs.Number.{is_neutral, is_number}
 use Rattle.csv_records.specs.declared.decimals.DecimalMark.TheVariants.{Point}
-use Rattle.csv_tables.specs.declared.options.RowSeparators.TheVariants.{Styled}
 use Rattle.csv_tables.specs.declared.options.Look.{Look}
-use Rattle.csv_tables.specs.declared.options.Expansion.TheVariants.{Never}
 use Rattle.csv_tables.specs.declared.options.ColumnPlan.{ColumnPlan}
 use Rattle.csv_tables.specs.Cells.{counted_from, shown_in, shown_names}
 use Rattle.csv_command.specs.Columns.{less, positions_of_word}
 use Rattle.csv_command.specs.Columns.ColumnFault.{missing, none_left}
 use Rattle.comfy_parts.specs.declared.style.cell.CellAlignment.TheVariants.{Right}
 use Rattle.csv_command.specs.Hints.{hint_for}
+use Rattle.test_definitions.proofs.PlainLook.{plain_look}
 
 abbrev texts : List String → List Text
 texts words = map (λ (word : String). codes word) words
@@ -53,18 +51,18 @@ numbers_as_names :
     ≡ Ok (1 ∷ []) ∷ Ok (1 ∷ []) ∷ Ok (1 ∷ 2 ∷ []) ∷ Ok (1 ∷ 2 ∷ []) ∷ Ok (1 ∷ 2 ∷ []) ∷ Ok (0 ∷ 1 ∷ []) ∷ []
 numbers_as_names = refl
 
--- what a message tells: a name in another case of letters, or what columns there are
+-- hints: a name in another case of letters, or the columns that there are
 hints :
     map (hint_for (texts ("a" ∷ "Ab" ∷ "AB" ∷ "" ∷ [])) 5) (texts ("ab" ∷ "b" ∷ []))
     ≡ codes "did you mean Ab?" ∷ codes "there are a, Ab, AB, 4 and 5" ∷ []
 unfolding field_at digits
 hints = refl
 
-columns_are_told :
+columns_are_listed :
     map (λ count. hint_for (codes "a" ∷ []) count (codes "b")) (1 ∷ 2 ∷ 8 ∷ 9 ∷ 1000 ∷ [])
     ≡ texts ("there is a" ∷ "there are a and 2" ∷ "there are a, 2, 3, 4, 5, 6, 7 and 8" ∷ "there are a, 2, 3, 4, 5, 6, 7, 8 and 1 more" ∷ "there are a, 2, 3, 4, 5, 6, 7, 8 and 992 more" ∷ [])
 unfolding field_at digits
-columns_are_told = refl
+columns_are_listed = refl
 
 columns_are_counted : map (λ count. hint_for [] count (codes "b")) (0 ∷ 1 ∷ 2 ∷ []) ≡ texts ("there are 0 columns" ∷ "there is 1 column" ∷ "there are 2 columns" ∷ [])
 unfolding digits
@@ -85,7 +83,7 @@ chosen_before_left_out = refl
 
 -- the look of a table with fields as they are
 abbrev look : Look
-look = record { style = ascii_full; separators = Styled; expansion = Never; width = None; fills_width = false; max_height = None; has_bold_header = false; aligns_decimals = true; has_sequences = false; is_markdown = false }
+look = plain_look
 
 -- the second field of each record, which has a decimal mark
 abbrev prices : List ColumnPlan

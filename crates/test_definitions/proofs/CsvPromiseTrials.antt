@@ -27,7 +27,6 @@ use Rattle.csv_tables.specs.NoWrap.{framed_width, is_nowrap}
 use Rattle.csv_tables.specs.declared.options.Layout.{Layout}
 use Rattle.csv_tables.specs.declared.options.Look.{Look}
 use Rattle.csv_command.specs.declared.arguments.Options.{Options}
-use Rattle.csv_tables.specs.declared.options.RowSeparators.TheVariants.{Styled}
 use Rattle.promises.specs.Shown.{ShowsColumns}
 use Rattle.promises.specs.Tables.{HasCharactersWithin}
 use Rattle.csv_tables.specs.Columns.{ColumnsValue}
@@ -46,12 +45,13 @@ use Rattle.test_definitions.proofs.OutputLineTrials.{found, one_line, two_lines}
 use Rattle.test_definitions.proofs.PromiseTrials.{shows_itself}
 use Rattle.test_definitions.proofs.CsvFieldTrials.{IsOneText, begins, blank_line, dashed, ends_plain, has_line, one_row}
 use Rattle.test_definitions.proofs.TrialTables.{utf8}
+use Rattle.test_definitions.proofs.PlainLook.{plain_look}
 
 -- ---- straight edges
 
 -- the look of a table with a header in bold
 abbrev pub bold : Look
-bold = record { style = utf8_full; separators = Styled; expansion = Auto; width = None; fills_width = false; max_height = None; has_bold_header = true; aligns_decimals = true; has_sequences = false; is_markdown = false }
+bold = record plain_look { style = utf8_full; expansion = Auto; has_bold_header = true }
 
 -- a look without a bold header and lined up decimal marks, in a style whose hyphen no row draws
 abbrev unbold : Look

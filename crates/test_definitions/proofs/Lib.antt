@@ -24,6 +24,7 @@ mod OutputControlTrials
 mod OutputLineTrials
 mod OutputTrials
 mod PartTrials
+mod PlainLook
 mod PremiseTrials
 mod PresetTrials
 mod PromiseTrials

@@ -4,20 +4,18 @@ use Rattle.std.specs.Prelude.{codes, slice_index, slice_index_or}
 use Rattle.std.specs.Str.{chars}
 use Rattle.std.proofs.lemmas.Bool.{true≢false}
 use Rattle.comfy_parts.proofs.Computing.{wrapping}
-use Rattle.comfy_parts.specs.Presets.{ascii_full}
 use Rattle.csv.specs.Records.{field_at}
 use Rattle.comfy_parts.specs.Text.{Text}
 use Rattle.comfy_parts.specs.declared.style.cell.CellAlignment.TheVariants.{Right}
-use Rattle.comfy_table.specs.Drawing.{infos_of}
 use Rattle.csv_tables.specs.Cells.{Shown, shown_in}
+use Rattle.comfy_table.specs.Drawing.{infos_of}
 use Rattle.csv_tables.specs.Drawn.{SelectedValue, markdown_lines, markdown_table, sides}
 use Rattle.csv_tables.specs.Markdown.{rule_line}
 use Rattle.csv_tables.specs.declared.options.ColumnPlan.{ColumnPlan}
-use Rattle.csv_tables.specs.declared.options.Expansion.TheVariants.{Never}
 use Rattle.csv_tables.specs.declared.options.Look.{Look}
-use Rattle.csv_tables.specs.declared.options.RowSeparators.TheVariants.{Styled}
 use Rattle.csv_tables.proofs.MarkdownLineLemmas.{GivesBack}
 use Rattle.csv_tables.specs.MarkdownLines.{parts_between_bars, read_part, without_outer_spaces}
+use Rattle.test_definitions.proofs.PlainLook.{plain_look}
 
 -- a line as its parts are read
 abbrev read : List ℕ → List (List ℕ)
@@ -57,7 +55,7 @@ blank_fields_are_read = refl
 
 -- a look without anything kept
 abbrev look : Look
-look = record { style = ascii_full; separators = Styled; expansion = Never; width = None; fills_width = false; max_height = None; has_bold_header = false; aligns_decimals = true; has_sequences = false; is_markdown = true }
+look = record plain_look { is_markdown = true }
 
 -- two names, and one record
 abbrev content : SelectedValue

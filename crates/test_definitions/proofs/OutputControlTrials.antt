@@ -18,11 +18,11 @@ use Rattle.csv_records.specs.Cleaning.{is_harmful}
 use Rattle.csv_tables.specs.Controls.{HasNothingHarmful, IsHarmlessStyle}
 use Rattle.csv_command.specs.Styles.{style_for}
 use Rattle.csv_tables.specs.declared.options.Expansion.TheVariants.{Auto}
-use Rattle.csv_tables.specs.declared.options.RowSeparators.TheVariants.{Styled}
 use Rattle.csv_tables.specs.declared.options.ColumnPlan.{ColumnPlan}
 use Rattle.csv_tables.specs.declared.options.Look.{Look}
 use Rattle.csv_tables.specs.Drawn.{empty_table}
 use Rattle.test_definitions.proofs.TrialTables.{utf8}
+use Rattle.test_definitions.proofs.PlainLook.{plain_look}
 
 -- ---- texts
 
@@ -66,7 +66,7 @@ clearing_is_harmful = harmful (codes "\u{1b}[2J") refl
 
 -- sequences are kept, and the header is in bold
 abbrev look : Look
-look = record { style = ascii_full; separators = Styled; expansion = Auto; width = None; fills_width = false; max_height = None; has_bold_header = true; aligns_decimals = true; has_sequences = true; is_markdown = false }
+look = record plain_look { expansion = Auto; has_bold_header = true; has_sequences = true }
 
 its_style_is_without : IsHarmlessStyle look.style
 its_style_is_without = refl

@@ -1,26 +1,21 @@
 -- Outputs of which the conclusions of laws are false.
 use Rattle.std.proofs.Common.{◌≡◌, ◌==◌, ℕ, Bool, true, false, List, [], ◌∷◌, ◌++◌, None, Option, append-nil, arith, codes, refl, sym, ap, ◌∙◌, subst}
 use Rattle.std.specs.List.{All, slice_split}
-use Rattle.std.proofs.lemmas.Bool.{true≢false}
 use Rattle.std.proofs.lemmas.List.Elements.{All-head, All-tail}
 use lib.Utf8.{encode}
 use Rattle.comfy_parts.proofs.Computing.{wrapping}
-use Rattle.comfy_parts.specs.Presets.{ascii_full}
 use Rattle.comfy_parts.specs.Text.{Text, measure}
 use Rattle.comfy_table.proofs.BreakLemmas.{terminated_lines}
 use Rattle.comfy_table.specs.Laws.{AreLinesOf}
 use Rattle.csv_records.specs.Cleaning.{visible_of}
-use Rattle.csv_command.specs.declared.arguments.Invocation.{Invocation}
-use Rattle.csv_tables.specs.declared.options.Expansion.TheVariants.{Never}
 use Rattle.csv_tables.specs.declared.options.Layout.{Layout}
 use Rattle.csv_tables.specs.declared.options.Look.{Look}
-use Rattle.csv_command.specs.declared.arguments.Options.{Options}
-use Rattle.csv_tables.specs.declared.options.RowSeparators.TheVariants.{Styled}
 use Rattle.csv_tables.specs.Laws.{HasLines, IsOutputWith, IsStraightOutput, seen_lines}
+use Rattle.test_definitions.proofs.PlainLook.{plain_look}
 
 -- rows are never expanded, and all are drawn
 abbrev look : Look
-look = record { style = ascii_full; separators = Styled; expansion = Never; width = None; fills_width = false; max_height = None; has_bold_header = false; aligns_decimals = true; has_sequences = false; is_markdown = false }
+look = plain_look
 
 abbrev drawn_by : Layout → Layout
 drawn_by layout = record layout { selection = record layout.selection { limit = None }; look = look }

@@ -96,9 +96,9 @@ fn assert_ends(rt: &(impl Abort + Alloc<A = Global>), wanted: Ended) {
 }
 
 // The words and the input of a run that succeeds, and what it draws.
-type Drawn = (&'static [&'static str], &'static [u8], &'static str);
+type DrawnRun = (&'static [&'static str], &'static [u8], &'static str);
 
-const DRAWINGS: [Drawn; 15] = [
+const DRAWINGS: [DrawnRun; 15] = [
     (&[], README, README_DRAWN),
     (&["40", "dynamic", "UTF8_FULL"], README, DRAWN_IN_40),
     // no input is an empty table
@@ -144,7 +144,7 @@ fn tables_are_drawn(rt: HostRuntime) {
 }
 
 // Runs the program on devices that don't fail: it succeeds.
-fn assert_draws(rt: &(impl Abort + Alloc<A = Global>), wanted: Drawn) {
+fn assert_draws(rt: &(impl Abort + Alloc<A = Global>), wanted: DrawnRun) {
     let (words, input, drawn) = wanted;
     assert_ends(rt, (words, input, SOUND, 0, drawn, ""));
 }
