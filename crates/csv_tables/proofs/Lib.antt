@@ -35,7 +35,7 @@ pub mod SeparatorLemmas
 mod ShownLemmas
 pub mod SpacedLemmas
 pub mod StraightLemmas
-mod StyledLemmas
+pub mod StyledLemmas
 pub mod SummaryLemmas
 pub mod TextLineLemmas
 pub mod TextTableLemmas

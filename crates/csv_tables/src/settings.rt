@@ -94,8 +94,8 @@ impl CellSettings {
         self.foreground.is_none() && self.background.is_none() && self.attributes.is_empty()
     }
 
-    /// A cell with these settings.
-    pub(crate) fn dressed(&self, cell: Cell) -> Result<Cell>
+    /// A cell with these settings. Its own attributes come first.
+    pub fn dressed(&self, cell: Cell) -> Result<Cell>
         ensures { IfOk result (λ made. made ≡ dressed (Some self.now) cell) }
     {
         let aligned = aligned(cell, self.alignment);
