@@ -107,7 +107,7 @@ module _ (rows : RecordRows) (at : ℕ) (fields : List Text) where
       by_settings None = refl
       by_settings (Some own) = dressed-length (placed rows.selected.is_numbered rows.selected.columns own.cells) (plain_by rows at fields).cells
 
--- what cells give as they are measured, if it is what they give without settings
+-- a measure of cells that settings don't change
 module _ (table : TableValue) (f : CellValue → ℕ) (same : (own : CellSettingsValue) (cell : CellValue) → f (measured_cell table (dressed (Some own) cell)) ≡ f (measured_cell table cell)) where
   measured_cells : (settings : List (Option CellSettingsValue)) (cells : List CellValue) (i : ℕ) → measured_at table f (slice_get (dressed_cells settings cells) i) ≡ measured_at table f (slice_get cells i)
   measured_cells settings [] i = refl
