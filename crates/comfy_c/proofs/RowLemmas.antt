@@ -1,5 +1,5 @@
 -- What is drawn of rows is straight, and keeps to a width.
-use Rattle.std.proofs.Common.{◌⊎◌, ◌≡◌, ◌≤◌, ◌<◌, ◌==◌, ◌&&◌, ◌||◌, ℕ, zero, suc, Bool, true, false, not, List, [], ◌∷◌, ◌++◌, Option, Some, None, inl, inr, length, map, option_map, unwrap_or, refl, sym, ap, ◌∙◌, subst, arith, drop, eqb-true, take, slice_get}
+use Rattle.std.proofs.Common.{◌⊎◌, ◌≡◌, ◌≤◌, ◌<◌, ◌==◌, ◌&&◌, ◌||◌, ℕ, zero, suc, Bool, true, false, not, List, [], ◌∷◌, ◌++◌, Option, Some, None, inl, inr, length, map, option_map, unwrap_or, refl, sym, ap, ap₂, ◌∙◌, subst, arith, drop, eqb-true, take, slice_get}
 use Rattle.std.specs.List.{All, list_all, list_any, range_with_len}
 use Rattle.std.specs.Prelude.{if◌then◌else◌}
 use Rattle.std.specs.Str.{IsUtf8}
