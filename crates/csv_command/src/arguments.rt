@@ -26,7 +26,7 @@ const TERMINAL_WIDTH: u16 = 80;
 pub struct Options {
     /// How the input is read.
     pub input: InputOptions,
-    /// Whether an input is read to its end if there is a limit, to tell how many records it has.
+    /// Whether an input is read to its end if there is a limit, to say how many records it has.
     pub counts_all: bool,
     /// Which records are drawn.
     pub selection: Selection,
@@ -421,7 +421,7 @@ fn terminal_width(columns: Option<&str>) -> u16
     columns.unwrap_or(TERMINAL_WIDTH)
 }
 
-// This many terminal columns, where a width can be so great.
+// This many terminal columns, if a width can be so great.
 fn some_columns(columns: usize) -> Option<u16>
     ensures { result ≡ some_columns columns }
 {

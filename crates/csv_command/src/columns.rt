@@ -12,11 +12,11 @@ use std::alloc::{AllocError, Global};
 
 /// Columns by words. A word is the number of a column that is there, counted from 1, else a name,
 /// else a range around a hyphen. Each end of a range is such a number, else a name; nothing after
-/// the hyphen represents the last column. Of several hyphens the first one counts around which both
+/// the hyphen means the last column. Of several hyphens the first one counts around which both
 /// ends are there, in order.
 #[derive(Debug)]
 pub struct ColumnWords {
-    /// The columns in the order in which they are drawn; an empty list represents all of them.
+    /// The columns in the order in which they are drawn; an empty list means all of them.
     pub chosen: Vec<String>,
     /// Columns that aren't drawn.
     pub dropped: Vec<String>,

@@ -1,4 +1,4 @@
-//! Calls that only ask the system: the arguments, the streams, the environment and the file. Its
+//! Calls that only ask the system: the arguments, the streams, the environment and the file. The
 //! answers are used in `ending` and in `parse`.
 
 use crate::arguments::{Invocation, OutputContext, parse};

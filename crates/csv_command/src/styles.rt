@@ -23,7 +23,7 @@ pub(crate) fn style_of(name: Option<&str>) -> TableStyle
     name.map_or(rounded(), named_style)
 }
 
-/// Whether this is a name of `rounded` or `box`; no name represents `rounded`.
+/// Whether this is a name of `rounded` or `box`; no name means `rounded`.
 pub(crate) fn is_compact(name: Option<&str>) -> bool
     ensures { result ≡ is_compact (option_map (λ n. n.now) name.entry) }
 {
