@@ -1,5 +1,4 @@
-//! The parts of a table: styles, cells, rows, columns, and the cutting of texts into lines. Beside
-//! them texts in pieces.
+//! The parts of a table: styles, cells, rows, columns, and the cutting of texts into lines.
 //!
 //! The functions of `laws`, and `presets_are_as_tabled`, have empty bodies and do nothing when they
 //! run. A clause has to be on a function to be proved, and a caller's proof gains it by a call:
