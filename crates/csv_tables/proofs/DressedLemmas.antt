@@ -8,9 +8,9 @@ use Rattle.comfy_parts.specs.CellValue.{CellValue, IsCell, RowValue, columns_gro
 use Rattle.comfy_parts.specs.Text.{Text}
 use Rattle.comfy_parts.specs.declared.style.cell.CellAlignment.TheVariants.{Right}
 use Rattle.comfy_table.specs.RowCells.{row_with}
-use Rattle.comfy_table.specs.TableValue.{TableValue, with_header, with_other_rows}
+use Rattle.comfy_table.specs.TableValue.{TableValue, measured_cell, with_header, with_other_rows}
 use Rattle.csv_tables.specs.Cells.{cell_for, columns_within, counted_from, has_field, header_for, number_name, number_of, shown_cells, shown_fields, shown_number, with_weight}
-use Rattle.csv_tables.specs.Contents.{dressed_by, field_cell, field_cells, made_by, most_cells, plain_by, settings_by}
+use Rattle.csv_tables.specs.Contents.{dressed_by, field_cell, field_cells, made_by, measured_at, most_cells, plain_by, settings_by}
 use Rattle.csv_tables.specs.Drawn.{SelectedValue, empty_table, headed_table}
 use Rattle.csv_tables.specs.Settings.{CellSettingsValue, RowSettingsValue, cell_settings, dressed, dressed_cells, limit_by}
 use Rattle.csv_tables.specs.Styled.{dressed_header, dressed_rows, dressed_table, placed}
@@ -100,6 +100,29 @@ module _ (rows : RecordRows) (at : ℕ) (fields : List Text) where
   pub row_made : row_with (made_by rows at fields).cells (limit_by (settings_by rows at) rows.look) ≡ made_by rows at fields
   row_made = ap (λ (height : Option ℕ). record { cells = (made_by rows at fields).cells; max_height = height }) (sym height_made)
 
+  pub cells_made-length : length (made_by rows at fields).cells ≡ length (plain_by rows at fields).cells
+  cells_made-length = by_settings (settings_by rows at)
+    where
+      by_settings : (own : Option RowSettingsValue) → length (dressed_by rows.selected own (plain_by rows at fields)).cells ≡ length (plain_by rows at fields).cells
+      by_settings None = refl
+      by_settings (Some own) = dressed-length (placed rows.selected.is_numbered rows.selected.columns own.cells) (plain_by rows at fields).cells
+
+-- a measure of cells that settings don't change
+module _ (table : TableValue) (f : CellValue → ℕ) (same : (own : CellSettingsValue) (cell : CellValue) → f (measured_cell table (dressed (Some own) cell)) ≡ f (measured_cell table cell)) where
+  measured_cells : (settings : List (Option CellSettingsValue)) (cells : List CellValue) (i : ℕ) → measured_at table f (slice_get (dressed_cells settings cells) i) ≡ measured_at table f (slice_get cells i)
+  measured_cells settings [] i = refl
+  measured_cells [] (cell ∷ cells) i = refl
+  measured_cells (None ∷ settings) (cell ∷ cells) zero = refl
+  measured_cells (Some own ∷ settings) (cell ∷ cells) zero = same own cell
+  measured_cells (own ∷ settings) (cell ∷ cells) (suc i) = measured_cells settings cells i
+
+  pub measured_made : (rows : RecordRows) (at : ℕ) (fields : List Text) (i : ℕ) → measured_at table f (slice_get (made_by rows at fields).cells i) ≡ measured_at table f (slice_get (plain_by rows at fields).cells i)
+  measured_made rows at fields i = by_settings (settings_by rows at)
+    where
+      by_settings : (own : Option RowSettingsValue) → measured_at table f (slice_get (dressed_by rows.selected own (plain_by rows at fields)).cells i) ≡ measured_at table f (slice_get (plain_by rows at fields).cells i)
+      by_settings None = refl
+      by_settings (Some own) = measured_cells (placed rows.selected.is_numbered rows.selected.columns own.cells) (plain_by rows at fields).cells i
+
 -- ---- the header
 
 heading_dressed : (look : Look) (is_numbered : Bool) (columns : List ColumnPlan) (names : List Text) (settings : List CellSettingsValue)
@@ -164,10 +187,6 @@ module _ (content : SelectedValue) where
       ap (λ (rest : List RowValue). dressed_by content (slice_get settings n) (row (n, fields)) ∷ rest)
       (rows_dressed settings row (n + 1) left ∙ ap (λ k. dressed_rows content (drop k settings) (map row (counted_from (n + 1) left))) next)
       ∙ first_dressed settings n (row (n, fields)) (map row (counted_from (n + 1) left))
-
-  pub table_rows : (settings : List RowSettingsValue) (table : TableValue) → (dressed_table content settings table).rows ≡ dressed_rows content (drop 1 settings) table.rows
-  table_rows [] table = sym (none_dressed table.rows)
-  table_rows (heading ∷ settings) table = refl
 
   -- they have as many cells
   pub most_dressed : (settings : List RowSettingsValue) (rows : List RowValue) → most_cells (dressed_rows content settings rows) ≡ most_cells rows

@@ -15,8 +15,13 @@ use Rattle.comfy_table.proofs.CutLemmas.{whole-measured}
 use Rattle.comfy_table.specs.Lines.{cell_delimiter, cell_lines, cut_line, cut_to_limit, uncut_lines}
 use Rattle.comfy_table.specs.Pieces.{cell_pieces, piece, pieces_at, pieces_of_optional, row_cell_lines, row_height, shown_infos}
 use Rattle.comfy_table.specs.TableValue.{TableValue, cell_content_width, measured_cell}
-use Rattle.csv_tables.specs.Contents.{greatest_at, measured_at}
+use Rattle.csv_tables.proofs.DressedLemmas.{height_made}
+use Rattle.csv_tables.proofs.WholeRowLemmas.{high}
+use Rattle.csv_tables.specs.Contents.{dressed_by, greatest_at, made_by, measured_at, plain_by, settings_by}
 use Rattle.csv_tables.specs.LazyRows.{AreWithin, IsFlat}
+use Rattle.csv_tables.specs.Settings.{CellSettingsValue, RowSettingsValue, dressed, dressed_cells, limit_by}
+use Rattle.csv_tables.specs.Styled.{placed}
+use Rattle.csv_tables.specs.declared.rows.RecordRows.{RecordRows}
 
 -- one line isn't cut
 uncut : {A : Type 0} (cut : A → A) (limit : Option ℕ) (lines : List A) → length lines ≤ 1 → IfSome limit (λ h. 1 ≤ h) → length (cut_to_limit cut limit lines) ≤ 1
@@ -102,3 +107,27 @@ module _ (t : TableValue) (widths : List ℕ) (infos : List ColumnInfo) (within 
       let one = flat_row row (All-head IsFlat row rows flat) (λ i. let all = bound i in omega (arith, all)) in
       let own : nat_lt 1 (row_height t infos row) ≡ false = grind (arith, nat_tests, one) in
       ap₂ (λ a b. a || b) own (none_tall rows (All-tail IsFlat row rows flat) (λ i. let all = bound i in omega (arith, all)))
+
+-- ---- rows with settings
+
+-- a cell has at most one text line
+abbrev IsFew : CellValue → Type 0
+IsFew cell = length cell.text_lines ≤ 1
+
+-- settings add none
+few_dressed : (settings : List (Option CellSettingsValue)) (cells : List CellValue) → All IsFew cells → All IsFew (dressed_cells settings cells)
+few_dressed settings [] few = few
+few_dressed [] (cell ∷ cells) few = few
+few_dressed (None ∷ settings) (cell ∷ cells) few = All-cons IsFew cell (dressed_cells settings cells) (All-head IsFew cell cells few) (few_dressed settings cells (All-tail IsFew cell cells few))
+few_dressed (Some own ∷ settings) (cell ∷ cells) few = All-cons IsFew (dressed (Some own) cell) (dressed_cells settings cells) (All-head IsFew cell cells few) (few_dressed settings cells (All-tail IsFew cell cells few))
+
+pub flat_made : (rows : RecordRows) (at : ℕ) (fields : List Text) → IsFlat (plain_by rows at fields) → IsFlat (made_by rows at fields)
+flat_made rows at fields flat =
+    record {
+      lines = by_settings (settings_by rows at);
+      some_height = subst (λ (limit : Option ℕ). IfSome limit (λ h. 1 ≤ h)) (sym (height_made rows at fields)) (high rows.look (limit_by (settings_by rows at) rows.look));
+    }
+  where
+    by_settings : (own : Option RowSettingsValue) → All IsFew (dressed_by rows.selected own (plain_by rows at fields)).cells
+    by_settings None = flat.lines
+    by_settings (Some own) = few_dressed (placed rows.selected.is_numbered rows.selected.columns own.cells) (plain_by rows at fields).cells flat.lines

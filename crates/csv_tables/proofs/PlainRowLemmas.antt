@@ -14,12 +14,10 @@ use Rattle.comfy_parts.specs.declared.style.cell.CellAlignment.TheVariants.{Righ
 use Rattle.csv_records.proofs.CleaningLemmas.{drawn_so, none_replaced}
 use Rattle.csv_records.specs.Cleaning.{cleaned, is_replaced}
 use Rattle.csv_tables.proofs.BuiltLemmas.{blank_drawn}
-use Rattle.csv_tables.proofs.DressedLemmas.{cells_made}
-use Rattle.csv_tables.proofs.ShownLemmas.{spaces_printable}
-use Rattle.csv_tables.specs.Cells.{cell_for, columns_within, field_text, is_blank, marked, number_of, shown_cells, shown_number, unless_blank, with_weight}
+use Rattle.csv_tables.proofs.ShownLemmas.{shown_behind, spaces_printable}
+use Rattle.csv_tables.specs.Cells.{Shown, cell_for, columns_within, field_text, is_blank, marked, number_of, shown_cells, shown_fields, shown_number, text_in, unless_blank, with_weight}
 use Rattle.csv_tables.proofs.MarkedLemmas.{marked_stays}
-use Rattle.csv_tables.specs.Contents.{IsKept, field_cell, made_by, settings_by}
-use Rattle.csv_tables.specs.Settings.{cell_settings}
+use Rattle.csv_tables.specs.Contents.{IsKept, plain_by, shown_by}
 use Rattle.csv_tables.specs.Markdown.{may_be_escaped}
 use Rattle.csv_tables.specs.declared.options.ColumnPlan.{ColumnPlan}
 use Rattle.csv_tables.specs.declared.options.Look.{Look}
@@ -60,32 +58,16 @@ clean_stays look field kept utf8 clean =
 
 -- ---- cells
 
--- the cell of a column in the row of the record at a place
-abbrev pub cell_of_column : RecordRows → ℕ → List Text → ColumnPlan → CellValue
-cell_of_column rows at fields column = field_cell rows.look false rows.is_aligned (cell_settings (settings_by rows at)) fields column
+-- the cell of a column
+abbrev pub cell_of_column : RecordRows → List Text → ColumnPlan → CellValue
+cell_of_column rows fields column = cell_for rows.look column.alignment (text_in rows.look rows.is_aligned column fields)
 
 -- the cell of a column, behind that of the number
 pub cell_behind : (rows : RecordRows) (fields : List Text) (column : ColumnPlan) (at position place : ℕ) → position ≡ place + (if rows.selected.is_numbered then 1 else 0)
-    → slice_get (columns_within fields rows.selected.columns) place ≡ Some column → slice_get (made_by rows at fields).cells position ≡ Some (cell_of_column rows at fields column)
-cell_behind rows fields column at position place stands found = ap (λ (cells : List CellValue). slice_get cells position) (cells_made rows at fields) ∙ by_number rows.selected.is_numbered stands
-  where
-    drawn : List ColumnPlan
-    drawn = columns_within fields rows.selected.columns
-
-    cells : List CellValue
-    cells = map (cell_of_column rows at fields) drawn
-
-    in_fields : slice_get cells place ≡ Some (cell_of_column rows at fields column)
-    in_fields = slice_get-map (cell_of_column rows at fields) drawn place ∙ ap (option_map (cell_of_column rows at fields)) found
-
-    by_number : (b : Bool) → position ≡ place + (if b then 1 else 0)
-        → slice_get (shown_cells rows.look false (shown_number (if b then Some (decimal (at + 1)) else None)) ++ cells) position ≡ Some (cell_of_column rows at fields column)
-    by_number true is =
-        let next : place + 1 ≡ suc place = omega arith in
-        ap (slice_get (cell_for rows.look (Some Right) (decimal (at + 1)) ∷ cells)) (is ∙ next) ∙ in_fields
-    by_number false is =
-        let same : place + 0 ≡ place = omega arith in
-        ap (slice_get cells) (is ∙ same) ∙ in_fields
+    → slice_get (columns_within fields rows.selected.columns) place ≡ Some column → slice_get (plain_by rows at fields).cells position ≡ Some (cell_of_column rows fields column)
+cell_behind rows fields column at position place stands found =
+    slice_get-map (λ (s : Shown). cell_for rows.look s.alignment s.text) (shown_by rows at fields) position
+    ∙ ap (option_map (λ (s : Shown). cell_for rows.look s.alignment s.text)) (shown_behind rows fields column at position place stands found)
 
 -- whether rows are numbered, by the number of one of them
 pub some_number : (is_numbered : Bool) (n number : ℕ) → Some (decimal number) ≡ number_of is_numbered n → is_numbered ≡ true
@@ -98,10 +80,9 @@ no_number false n is = refl
 
 -- the cell of a number, at the beginning of its row
 pub cell_of_number : (rows : RecordRows) (fields : List Text) (at number : ℕ) → Some (decimal number) ≡ number_of rows.selected.is_numbered (at + 1)
-    → slice_get (made_by rows at fields).cells 0 ≡ Some (cell_for rows.look (Some Right) (decimal number))
+    → slice_get (plain_by rows at fields).cells 0 ≡ Some (cell_for rows.look (Some Right) (decimal number))
 cell_of_number rows fields at number is =
-    ap (λ (cells : List CellValue). slice_get cells 0) (cells_made rows at fields)
-    ∙ ap (λ (text : Option Text). slice_get (shown_cells rows.look false (shown_number text) ++ map (cell_of_column rows at fields) (columns_within fields rows.selected.columns)) 0) (sym is)
+    ap (λ (text : Option Text). slice_get (shown_cells rows.look false (shown_number text ++ shown_fields rows.look rows.is_aligned (columns_within fields rows.selected.columns) fields)) 0) (sym is)
 
 -- an element inside a list is the one at its position
 pub inside : {X : Type 0} (xs : List X) (i : ℕ) (d : X) → i < length xs → slice_get xs i ≡ Some (slice_index_or xs i d)

@@ -3,16 +3,14 @@ use Rattle.std.proofs.Common.{◌≡◌, ◌≤◌, ℕ, zero, suc, ◌+◌, Boo
 use Rattle.std.proofs.lemmas.Bool.{cases_lt, eqb-false, eqb-true}
 use Rattle.std.proofs.lemmas.Bool.Decides.{nat_tests}
 use Rattle.std.proofs.lemmas.List.{length-map}
-use Rattle.std.proofs.lemmas.Option.{slice_get_past}
+use Rattle.std.proofs.lemmas.Option.{slice_get-map, slice_get_past}
 use Rattle.std.specs.List.{slice_get}
-use Rattle.std.specs.Prelude.{decimal, if◌then◌else◌}
+use Rattle.std.specs.Prelude.{decimal, option_map, if◌then◌else◌}
 use Rattle.comfy_parts.specs.CellValue.{CellValue}
 use Rattle.comfy_parts.specs.Text.{Text, is_printable_ascii, spaces}
 use Rattle.comfy_table.specs.TableValue.{TableValue, cell_content_width}
-use Rattle.csv_tables.proofs.DressedLemmas.{cells_made}
-use Rattle.csv_tables.specs.Cells.{columns_within, shown_cells, shown_number}
-use Rattle.csv_tables.specs.Contents.{field_cell, field_cells, made_by, measured_at, settings_by}
-use Rattle.csv_tables.specs.Settings.{cell_settings}
+use Rattle.csv_tables.specs.Cells.{Shown, cell_for, columns_within, shown_fields, shown_number, text_in}
+use Rattle.csv_tables.specs.Contents.{plain_by, measured_at, shown_by}
 use Rattle.csv_tables.specs.declared.options.ColumnPlan.{ColumnPlan}
 use Rattle.csv_tables.specs.declared.rows.RecordRows.{RecordRows}
 
@@ -22,22 +20,46 @@ pub spaces_printable : (n : ℕ) → is_printable_ascii (spaces n) ≡ true
 spaces_printable zero = refl
 spaces_printable (suc n) = spaces_printable n
 
--- ---- all cells of a row
+-- ---- what a row shows
 
--- a row has a cell for its number and for each column
-pub as_many_cells : (rows : RecordRows) (at : ℕ) (fields : List Text) → length (made_by rows at fields).cells ≡ length (columns_within fields rows.selected.columns) + (if rows.selected.is_numbered then 1 else 0)
-as_many_cells rows at fields = ap length (cells_made rows at fields) ∙ by_number rows.selected.is_numbered
+-- behind its number stand its fields
+pub shown_behind : (rows : RecordRows) (fields : List Text) (column : ColumnPlan) (at position place : ℕ) → position ≡ place + (if rows.selected.is_numbered then 1 else 0)
+    → slice_get (columns_within fields rows.selected.columns) place ≡ Some column
+    → slice_get (shown_by rows at fields) position ≡ Some (record { alignment = column.alignment; text = text_in rows.look rows.is_aligned column fields })
+shown_behind rows fields column at position place stands found = by_number rows.selected.is_numbered stands
   where
     drawn : List ColumnPlan
     drawn = columns_within fields rows.selected.columns
 
-    cells : List CellValue
-    cells = field_cells rows.look false rows.is_aligned (cell_settings (settings_by rows at)) drawn fields
+    own : Shown
+    own = record { alignment = column.alignment; text = text_in rows.look rows.is_aligned column fields }
 
-    many : length cells ≡ length drawn
-    many = length-map drawn (field_cell rows.look false rows.is_aligned (cell_settings (settings_by rows at)) fields)
+    in_fields : slice_get (shown_fields rows.look rows.is_aligned drawn fields) place ≡ Some own
+    in_fields = slice_get-map (λ (d : ColumnPlan). record { alignment = d.alignment; text = text_in rows.look rows.is_aligned d fields }) drawn place ∙ ap (option_map (λ (d : ColumnPlan). record { alignment = d.alignment; text = text_in rows.look rows.is_aligned d fields })) found
 
-    by_number : (b : Bool) → length (shown_cells rows.look false (shown_number (if b then Some (decimal (at + 1)) else None)) ++ cells) ≡ length drawn + (if b then 1 else 0)
+    by_number : (b : Bool) → position ≡ place + (if b then 1 else 0)
+        → slice_get (shown_number (if b then Some (decimal (at + 1)) else None) ++ shown_fields rows.look rows.is_aligned drawn fields) position ≡ Some own
+    by_number true is =
+        let next : place + 1 ≡ suc place = omega arith in
+        ap (slice_get (shown_number (Some (decimal (at + 1))) ++ shown_fields rows.look rows.is_aligned drawn fields)) (is ∙ next) ∙ in_fields
+    by_number false is =
+        let same : place + 0 ≡ place = omega arith in
+        ap (slice_get (shown_fields rows.look rows.is_aligned drawn fields)) (is ∙ same) ∙ in_fields
+
+-- ---- all cells of a row
+
+-- a row has a cell for its number and for each column
+pub as_many_cells : (rows : RecordRows) (at : ℕ) (fields : List Text) → length (plain_by rows at fields).cells ≡ length (columns_within fields rows.selected.columns) + (if rows.selected.is_numbered then 1 else 0)
+as_many_cells rows at fields =
+    length-map (shown_by rows at fields) (λ (s : Shown). cell_for rows.look s.alignment s.text) ∙ by_number rows.selected.is_numbered
+  where
+    drawn : List ColumnPlan
+    drawn = columns_within fields rows.selected.columns
+
+    many : length (shown_fields rows.look rows.is_aligned drawn fields) ≡ length drawn
+    many = length-map drawn (λ (d : ColumnPlan). record { alignment = d.alignment; text = text_in rows.look rows.is_aligned d fields })
+
+    by_number : (b : Bool) → length (shown_number (if b then Some (decimal (at + 1)) else None) ++ shown_fields rows.look rows.is_aligned drawn fields) ≡ length drawn + (if b then 1 else 0)
     by_number true = let own = many in omega (arith, own)
     by_number false = let own = many in omega (arith, own)
 

@@ -6,7 +6,7 @@ use Rattle.comfy_parts.specs.CellValue.{CellValue, ColumnInfo, RowValue}
 use Rattle.comfy_parts.specs.Text.{Text, greatest, spaces}
 use Rattle.comfy_table.specs.Drawing.{part_of_drawing, terminated_text_of}
 use Rattle.comfy_table.specs.TableValue.{TableValue, cells_at, measured_cell}
-use Rattle.csv_tables.specs.Cells.{cell_for, is_blank, row_for, text_in, with_weight}
+use Rattle.csv_tables.specs.Cells.{Shown, cell_for, columns_within, is_blank, row_for, shown_in, text_in, with_weight}
 use Rattle.csv_tables.specs.LazyTableValue.{LazyTableValue}
 use Rattle.csv_tables.specs.Drawn.{SelectedValue, empty_table, headed_table, pairs_of, pairs_table, record_line, rows_table, separators_in}
 use Rattle.csv_tables.specs.Markdown.{may_be_escaped}
@@ -16,6 +16,12 @@ use Rattle.csv_tables.specs.Styled.{dressed_row, dressed_table, is_expanded_by, 
 use Rattle.csv_tables.specs.declared.options.ColumnPlan.{ColumnPlan}
 use Rattle.csv_tables.specs.declared.options.Look.{Look}
 use Rattle.csv_tables.specs.declared.rows.RecordRows.{RecordRows}
+
+-- what the row of the record at a place shows
+abbrev pub shown_by : RecordRows → ℕ → List Text → List Shown
+shown_by rows at fields =
+    shown_in rows.look rows.is_aligned rows.selected.is_numbered
+    (columns_within fields rows.selected.columns) (at + 1, fields)
 
 -- the cell of the field of a column, with its settings
 abbrev pub field_cell : Look → Bool → Bool → List CellSettingsValue → List Text → ColumnPlan
@@ -34,7 +40,7 @@ field_cells look is_bold is_aligned settings columns fields =
 abbrev pub settings_by : RecordRows → ℕ → Option RowSettingsValue
 settings_by rows at = slice_get rows.settings.rows (at + 1)
 
--- its row, before it has settings
+-- its row without settings
 abbrev pub plain_by : RecordRows → ℕ → List Text → RowValue
 plain_by rows at fields =
     row_for rows.look rows.is_aligned rows.selected.is_numbered rows.selected.columns

@@ -55,30 +55,25 @@ pub(crate) fn row_cell<'r>(
     boxed_cell(alloc, text, after, alignment, is_bold, look)
 }
 
-/// The cell of a field in its column, whose decimal mark is lined up if `is_aligned`, with its
-/// settings.
+/// The cell of a field in its column, whose decimal mark is lined up if `is_aligned`.
 #[inline(always)]
 pub(crate) fn field_cell<'r>(
     alloc: Global,
     field: &'r str,
     column: &ColumnPlan,
-    own: Option<&CellSettings>,
     is_aligned: bool,
     look: &Look,
 ) -> Result<RowCell<'r>>
-    ensures { IfOk result (λ cell. cell_of cell ≡ dressed (option_map (λ own. own.now) own.entry)
-        (cell_for look.now column.now.alignment
+    ensures { IfOk result (λ cell. cell_of cell ≡ cell_for look.now column.now.alignment
         (spaced look.now.has_sequences (if is_aligned then column.now.points else None)
-        field.now))) }
+        field.now)) }
 {
     let after = spaces_of(alloc, field, column, is_aligned, look)?;
-    match own {
-        None => row_cell(alloc, field, after, column.alignment, false, look),
-        Some(own) => dressed_cell(alloc, field, after, column.alignment, own, look),
-    }
+    row_cell(alloc, field, after, column.alignment, false, look)
 }
 
-/// Appends the cell of a field in its column, as `field_cell` returns it.
+/// Appends the cell of a field in its column, whose decimal mark is lined up if `is_aligned`, with
+/// its settings if it has some.
 #[inline(always)]
 pub(crate) fn push_field<'r>(
     cells: &mut Vec<RowCell<'r>>,

@@ -10,7 +10,7 @@ ghost use Rattle.comfy_table.specs.Pieces.{row_height};
 ghost use Rattle.comfy_table.specs.RowCells.{cell_of};
 ghost use Rattle.comfy_table.specs.TableValue.{cell_content_width};
 ghost use Rattle.csv_tables.specs.Cells.{columns_within};
-ghost use Rattle.csv_tables.specs.Contents.{field_cell, field_cells, greatest_at, headed_by, made_by, measured_at, rows_at, settings_by};
+ghost use Rattle.csv_tables.specs.Contents.{field_cells, greatest_at, headed_by, made_by, measured_at, plain_by, rows_at, settings_by};
 ghost use Rattle.csv_tables.specs.LazyRows.{IsFlat};
 
 use crate::cells::{field_cell, number_cell, push_field};
@@ -51,7 +51,7 @@ impl RecordRows {
     }
 
     /// Lets widths have room for the row of the record at a place. Returns whether each of its
-    /// cells has at most one text line.
+    /// cells has at most one text line. Settings change neither.
     pub fn widen(
         &self,
         widths: &mut Vec<u16>,
@@ -68,9 +68,9 @@ impl RecordRows {
     {
         let mut is_flat = self.widen_number(widths, table, at)?;
         let first = self.number_count();
-        let settings = cell_settings(self.settings_at(at));
         for (place, column) in self.selected.columns_within(fields).iter().enumerate() {
-            let cell = self.field_cell(fields, column, settings)?;
+            let field = fields.get(column.position).unwrap_or("");
+            let cell = field_cell(self.alloc(), field, column, self.is_aligned, &self.look)?;
             is_flat &= has_one_line(&cell);
             widen_at(widths, first + place, cell.content_width(table))?;
         }
@@ -85,12 +85,12 @@ impl RecordRows {
             → slice_index_or widths.new.items i 0 ≡ max (slice_index_or widths.old.items i 0)
             (if nat_lt i (if self.now.selected.is_numbered then 1 else 0)
             then measured_at table.now cell_content_width
-            (slice_get (made_by self.now at fields).cells i) else 0)) }
+            (slice_get (plain_by self.now at fields).cells i) else 0)) }
         ensures count { OnOk result (length widths.new.items ≡ max (length widths.old.items)
             (if self.now.selected.is_numbered then 1 else 0)) }
         ensures flat { (fields : List Text) (cell : CellValue) (i : ℕ)
             → i < (if self.now.selected.is_numbered then 1 else 0)
-            → slice_get (made_by self.now at fields).cells i ≡ Some cell
+            → slice_get (plain_by self.now at fields).cells i ≡ Some cell
             → IfOk result (λ is. is ≡ true → length cell.text_lines ≤ 1) }
     {
         let selected = &self.selected;
@@ -193,7 +193,8 @@ impl RecordRows {
         columns.len() + self.number_count()
     }
 
-    // The cell at a position of the row of the record at a place: its number, or a field.
+    // The cell at a position of the row of the record at a place, without settings: its number, or
+    // a field.
     #[inline(always)]
     fn cell_in<'r>(
         &'r self,
@@ -205,7 +206,7 @@ impl RecordRows {
         requires columns { columns.now ≡ columns_within fields.now self.now.selected.columns }
         requires within { position
             < length columns.now + (if self.now.selected.is_numbered then 1 else 0) }
-        ensures { IfOk result (λ cell. slice_get (made_by self.now at fields.now).cells position
+        ensures { IfOk result (λ cell. slice_get (plain_by self.now at fields.now).cells position
             ≡ Some (cell_of cell)) }
     {
         let selected = &self.selected;
@@ -216,30 +217,9 @@ impl RecordRows {
             }
             place = position - 1;
         }
-        self.field_cell(fields, &columns[place], cell_settings(self.settings_at(at)))
-    }
-
-    // The cell of the field of a column, in a row whose cells have these settings.
-    #[inline(always)]
-    fn field_cell<'r>(
-        &self,
-        fields: &Record<'r>,
-        column: &ColumnPlan,
-        settings: &[CellSettings],
-    ) -> Result<RowCell<'r>>
-        ensures { IfOk result (λ cell. cell_of cell ≡ field_cell self.now.look false
-            self.now.is_aligned settings.now fields.now column.now) }
-    {
+        let column = &columns[place];
         let field = fields.get(column.position).unwrap_or("");
-        let own = settings_of(settings, column.position);
-        field_cell(
-            self.alloc(),
-            field,
-            column,
-            own,
-            self.is_aligned,
-            &self.look,
-        )
+        field_cell(selected.alloc, field, column, self.is_aligned, &self.look)
     }
 
     // The settings of the row of the record at a place.

@@ -1,12 +1,14 @@
-use Rattle.std.proofs.Common.{◌≡◌, ◌+◌, ◌<◌, ℕ, Bool, List, Some, ap, arith, decimal, false, length, sym, ◌∙◌}
+use Rattle.std.proofs.Common.{◌≡◌, ◌+◌, ◌<◌, ℕ, Bool, Some, None, ap, arith, decimal, length, sym, ◌∙◌, rules}
 use Rattle.std.proofs.lemmas.Result.{IfOk-weaker}
 use Rattle.std.specs.List.{slice_index_or}
 use Rattle.std.specs.Prelude.{option_map, slice_get, if◌then◌else◌}
+use Rattle.comfy_parts.specs.Text.{Text}
 use Rattle.csv_tables.proofs.PlainRowLemmas.{cell_behind, cell_of_number, inside, no_number, some_number}
 use Rattle.csv_tables.proofs.ReachedLemmas.{no_column}
-use Rattle.csv_tables.specs.Cells.{columns_within}
-use Rattle.csv_tables.specs.Contents.{field_cell, made_by}
-use Rattle.csv_tables.specs.Settings.{CellSettingsValue, cell_settings}
+use Rattle.csv_tables.specs.Cells.{cell_for, columns_within}
+use Rattle.csv_tables.specs.Contents.{plain_by}
+use Rattle.csv_tables.specs.Decimals.{spaced}
+use Rattle.csv_tables.specs.Fields.{field_or_blank}
 use Rattle.csv_tables.specs.declared.options.ColumnPlan.{ColumnPlan}
 use Rattle.csv_tables.proofs.rows.RecordRows.cell_in.Goals as goal
 use Rattle.csv_tables.proofs.rows.RecordRows.cell_in.Goals.{in-Some+else-position-eq0, in_default}
@@ -18,7 +20,7 @@ returns-then-position-eq0 c =
     let numbered = sym (ap (option_map decimal) c.in-Some.is) ∙ c.number_at.ensures in
     IfOk-weaker c.number_cell.result _ _
     (λ cell is.
-    ap (slice_get (made_by own c.args.at fields).cells) c.if-position-eq0.true
+    ap (slice_get (plain_by own c.args.at fields).cells) c.if-position-eq0.true
     ∙ cell_of_number own fields c.args.at c.in-Some.number numbered
     ∙ ap Some (sym is))
     c.number_cell.ensures
@@ -45,9 +47,9 @@ returns c =
     let within : place < length columns = omega (arith, listed, follows, c.requires.within) in
     let found : slice_get columns place ≡ Some column =
     inside columns place no_column within ∙ ap (λ ds. Some (slice_index_or ds place no_column)) (sym c.requires.columns) in
-    let settings = c.cell_settings.ensures ∙ ap cell_settings c.settings_at.ensures in
+    let text : c.unwrap_or-field.result.now ≡ field_or_blank fields column.position = search rules in
     IfOk-weaker c.field_cell.result _ _
     (λ cell is.
     cell_behind own fields column c.args.at c.args.position place follows found
-    ∙ ap Some (sym (is ∙ ap (λ (settings : List CellSettingsValue). field_cell look false own.is_aligned settings fields column) settings)))
+    ∙ ap Some (sym (is ∙ ap (λ (field : Text). cell_for look column.alignment (spaced look.has_sequences (if own.is_aligned then column.points else None) field)) text)))
     c.field_cell.ensures
