@@ -28,7 +28,7 @@ fn is_none_or(given: usize, count: usize) -> bool
     given == 0 || given == count
 }
 
-/// The settings of a table of rows of so many texts each.
+/// The settings of a table of rows with these counts of texts.
 pub(crate) fn table_settings(
     alloc: Global,
     has_header: bool,
@@ -78,7 +78,7 @@ fn unset_row(alloc: Global) -> RowSettings
     }
 }
 
-// Appends the settings of rows of so many texts each.
+// Appends the settings of rows with these counts of texts.
 fn push_rows(
     alloc: Global,
     rows: &mut Vec<RowSettings>,
