@@ -27,7 +27,7 @@ use std::alloc::{AllocError, Global};
 #[derive(Drop)]
 pub(crate) struct RecordRows {
     pub selected: SelectedRecords,
-    // those of rows, which expanded records don't have
+    // of columns, rows and cells; none if records are expanded
     pub settings: Settings,
     pub look: Look,
     // each field has a row, with the name of its column
