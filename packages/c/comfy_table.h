@@ -16,7 +16,8 @@
  *  - COMFY_OUT_OF_MEMORY comes only after malloc or realloc returned null.
  *  - A call keeps no memory, and several threads may be inside one at once.
  *  - Null stands for no bytes.
- *  - Settings are looked at before lengths, counts and texts. That lengths and counts are looked at before texts is proved.
+ *  - Settings are looked at before lengths, counts, looks, heights and texts. That lengths, counts, looks and heights are looked at
+ *    before texts is proved.
  *  - What csvtable says of arguments. Proved is that it has no control character but line feeds.
  *  - The functions of this header that allocate.
  *

@@ -1,8 +1,18 @@
--- Examples of what is made of a buffer, and of the arguments that bytes stand for.
-use Rattle.std.proofs.Common.{◌≡◌, [], ◌∷◌, ◌++◌, codes, refl}
+-- Examples of what is made of a buffer, of the arguments that bytes stand for, and of the settings of
+-- rows.
+use Rattle.std.proofs.Common.{◌≡◌, ℕ, [], ◌∷◌, ◌++◌, None, Option, Some, codes, false, refl, true}
 use Rattle.std.proofs.lemmas.List.Elements.{All-cons, All-nil}
 use Rattle.comfy_parts.specs.Text.{HasNo}
+use Rattle.comfy_parts.specs.declared.style.attribute.Attribute.TheVariants.{Bold}
+use Rattle.comfy_parts.specs.declared.style.cell.CellAlignment.{CellAlignment}
+use Rattle.comfy_parts.specs.declared.style.cell.CellAlignment.TheVariants.{Left, Right}
+use Rattle.comfy_parts.specs.declared.style.color.Color.TheVariants.{AnsiValue}
 use Rattle.comfy_c.specs.Calls.{IsCommandLine, with_front}
+use Rattle.comfy_c.specs.Looks.{look_settings, rows_settings, unset_row}
+use Rattle.comfy_c.specs.RowColumns.{settings_for}
+use Rattle.comfy_c.specs.declared.cells_numbers.ColorNumbers.{ColorNumbers}
+use Rattle.comfy_c.specs.declared.cells_numbers.LookNumbers.{LookNumbers}
+use Rattle.csv_tables.specs.Settings.{CellSettingsValue}
 
 -- ---- the buffer
 
@@ -43,3 +53,40 @@ empty_argument = record { arguments = [] ∷ []; behind_name = refl; hold_no_end
 
 no_arguments : IsCommandLine [] (codes "csvtable" ∷ [])
 no_arguments = record { arguments = []; behind_name = refl; hold_no_end = All-nil (HasNo 0); are_all = refl }
+
+-- ---- settings of rows
+
+abbrev no_color : ColorNumbers
+no_color = record { kind = 0; number = 0; red = 0; green = 0; blue = 0 }
+
+-- a look with an alignment alone
+abbrev at : ℕ → LookNumbers
+at side = record { alignment = side; attributes = 0; foreground = no_color; background = no_color }
+
+-- what it stands for
+abbrev own : Option CellAlignment → CellSettingsValue
+own side = record { alignment = side; foreground = None; background = None; attributes = [] }
+
+-- the first row is the header; the second one has a text and a height
+below_a_header : rows_settings true (2 ∷ 1 ∷ []) (at 0 ∷ at 1 ∷ at 2 ∷ []) (0 ∷ 7 ∷ [])
+    ≡ (record { max_height = None; cells = own None ∷ own (Some Left) ∷ [] }) ∷ (record { max_height = Some 7; cells = own (Some Right) ∷ [] }) ∷ []
+below_a_header = refl
+
+-- without a header nothing is set for it
+without_header : rows_settings false (1 ∷ []) [] (3 ∷ []) ≡ unset_row ∷ (record { max_height = Some 3; cells = [] }) ∷ []
+without_header = refl
+
+-- and without looks and heights nothing is set
+without_looks : rows_settings false (1 ∷ []) [] [] ≡ []
+without_looks = refl
+
+bold_and_red : look_settings (record { alignment = 9; attributes = 2; foreground = record no_color { kind = 2; number = 9 }; background = record no_color { kind = 4 } })
+    ≡ record { alignment = None; foreground = Some (AnsiValue 9); background = None; attributes = Bold ∷ [] }
+bold_and_red = refl
+
+-- a column in the middle of at least three
+middle : settings_for ((record { left_padding = 1; right_padding = 1; side = 4; least = 3; greatest = 0 }) ∷ []) ≡ (record { padding = (1, 1); least = Some 3; greatest = None; is_centered = true }) ∷ []
+middle = refl
+
+sides_alone : settings_for ((record { left_padding = 1; right_padding = 1; side = 2; least = 0; greatest = 0 }) ∷ []) ≡ []
+sides_alone = refl

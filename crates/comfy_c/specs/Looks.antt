@@ -28,7 +28,7 @@ look_settings look =
       attributes = attributes_by all_attributes look.attributes;
     }
 
--- those of a row of texts, which has at most so many lines
+-- those of a row of texts with this greatest height
 abbrev pub row_settings : List LookNumbers → ℕ → RowSettingsValue
 row_settings looks height =
     record { max_height = height_of height; cells = map look_settings looks }
@@ -50,7 +50,7 @@ rows_settings has_header counts looks heights =
     then []
     else (if has_header then [] else unset_row ∷ []) ++ rows_by (cut_by counts looks) heights
 
--- those of a table of rows of so many texts each
+-- those of a table of rows with these counts of texts
 abbrev pub table_settings : Bool → List ℕ → List LookNumbers → List ℕ → List RowsColumn
     → SettingsValue
 table_settings has_header counts looks heights columns =

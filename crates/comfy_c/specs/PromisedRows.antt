@@ -86,7 +86,7 @@ ShowAllTexts layout rows bytes =
     IsPlainLook layout.look → layout.look.max_height ≡ None
     → ShowsAllFields (IsCountOf layout rows) layout rows bytes
 
--- what is promised of lines that are drawn of rows with nothing set but sides at the left and right
+-- the promises on lines that are drawn of rows with nothing set but sides at the left and right
 pub record KeepRowPromises (settings : RowsSettings) (layout : Layout) (rows : List (List Text))
     (bytes : Text) : Type 0 where
   pub all : HasHarmlessFrame settings → ShowAllTexts layout rows bytes

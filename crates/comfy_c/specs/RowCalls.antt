@@ -51,7 +51,7 @@ look_by settings (Some style) (Some lines) (Some expansion) =
     })
 look_by settings _ _ _ = None
 
--- how a table looks for these settings, where each number stands for something
+-- the look of a table with these settings, if each number has a meaning
 abbrev pub look_for : RowsSettings → Option Look
 look_for settings =
     look_by settings (style_for settings.style settings.frame)
@@ -89,8 +89,8 @@ can_have settings looks heights columns =
     have_sides columns
     && (has_sides_alone looks heights columns || is_table_of_rows settings)
 
--- what settings and columns ask for of rows, if each number has a meaning and the columns can be
--- drawn so
+-- the layout of rows that settings and columns ask for, if each number has a meaning and the
+-- columns can be drawn so
 abbrev pub layout_for : RowsSettings → List LookNumbers → List ℕ → List RowsColumn
     → List (List Text) → Option Layout
 layout_for settings looks heights columns rows =

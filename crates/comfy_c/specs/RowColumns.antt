@@ -49,12 +49,12 @@ settings_for columns = if are_unset columns then [] else map column_settings col
 abbrev pub side_at : List RowsColumn → ℕ → ℕ
 side_at columns position = (slice_index_or columns position unset_column).side
 
--- the positions of so many columns of which the side passes
+-- the positions of the first columns, up to a count, of which the side passes
 abbrev pub positions_where : (ℕ → Bool) → List RowsColumn → ℕ → List ℕ
 positions_where passes columns count =
     filter (λ position. passes (side_at columns position)) (range_with_len 0 count)
 
--- so many columns, with their sides at the left and right; some aren't drawn
+-- the first columns, up to a count, with their sides at the left and right; some aren't drawn
 abbrev pub columns_by : List RowsColumn → ℕ → ColumnsValue
 columns_by columns count =
     record {
@@ -63,7 +63,7 @@ columns_by columns count =
       left = positions_where (λ side. side == 1) columns count;
     }
 
--- no column beyond so many has settings
+-- no column past a count has settings
 abbrev pub are_there : List RowsColumn → ℕ → Bool
 are_there columns count =
     list_all (λ (column : RowsColumn). (column.side == 0) && is_unset column) (drop count columns)

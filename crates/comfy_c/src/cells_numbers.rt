@@ -2,9 +2,11 @@
 
 ghost use Rattle.std.specs.Prelude.{◌≡◌, None, IfOk, slice_index_or};
 ghost use Rattle.comfy_table.specs.Styling.{all_attributes};
+ghost use Rattle.comfy_c.specs.Looks.{look_settings};
 ghost use Rattle.comfy_c.specs.Numbers.{alignments, attributes_by, char_of, color_of};
 
 use comfy_parts::style::{Attribute, CellAlignment, Color};
+use csv_tables::CellSettings;
 use std::alloc::{AllocError, Global};
 
 /// A colour.
@@ -89,8 +91,8 @@ pub(crate) fn alignment_of(number: u32) -> Option<CellAlignment>
     }
 }
 
-/// The colour that numbers stand for.
-pub(crate) fn color_of(color: ColorNumbers) -> Option<Color>
+// The colour that numbers stand for.
+fn color_of(color: ColorNumbers) -> Option<Color>
     ensures { result ≡ color_of color }
 {
     match color.kind {
@@ -105,8 +107,8 @@ pub(crate) fn color_of(color: ColorNumbers) -> Option<Color>
     }
 }
 
-/// The attributes whose bits are set.
-pub(crate) fn attributes_of(alloc: Global, bits: u32) -> Result<Vec<Attribute>, AllocError>
+// The attributes whose bits are set.
+fn attributes_of(alloc: Global, bits: u32) -> Result<Vec<Attribute>, AllocError>
     ensures { IfOk result (λ attributes. attributes.items ≡ attributes_by all_attributes bits) }
 {
     let mut attributes = Vec::new(alloc);
@@ -118,4 +120,16 @@ pub(crate) fn attributes_of(alloc: Global, bits: u32) -> Result<Vec<Attribute>, 
         rest /= 2;
     }
     Ok(attributes)
+}
+
+/// The settings of a text that looks so.
+pub(crate) fn look_settings(alloc: Global, look: &LookNumbers) -> Result<CellSettings, AllocError>
+    ensures { IfOk result (λ settings. settings ≡ look_settings look.now) }
+{
+    Ok(CellSettings {
+        alignment: alignment_of(look.alignment),
+        foreground: color_of(look.foreground),
+        background: color_of(look.background),
+        attributes: attributes_of(alloc, look.attributes)?,
+    })
 }

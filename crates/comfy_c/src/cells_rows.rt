@@ -6,9 +6,8 @@ ghost use Rattle.comfy_c.specs.CellCalls.{cells_by, cells_with, counts_of, lengt
 ghost use Rattle.comfy_c.specs.Numbers.{cell_with, height_of, row_with};
 ghost use Rattle.comfy_c.specs.Texts.{AddUp, IsTextsRefusal};
 
-use crate::cells_numbers::{LookNumbers, char_of};
+use crate::cells_numbers::{LookNumbers, char_of, look_settings};
 use crate::refusal::DrawRefusal;
-use crate::rows_looks::look_settings;
 use crate::rows_settings::limit_of;
 use crate::texts::texts_of;
 use comfy_parts::{Cell, Cells, IntoRow, Row, TableError};

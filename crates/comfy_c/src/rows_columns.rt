@@ -121,7 +121,7 @@ pub(crate) fn columns_of(
     Ok(Some(columns))
 }
 
-// Whether no column beyond so many has settings.
+// Whether no column past a count has settings.
 fn are_there(columns: &[RowsColumn], count: usize) -> bool
     ensures { result ≡ are_there columns.now count }
 {
@@ -131,7 +131,7 @@ fn are_there(columns: &[RowsColumn], count: usize) -> bool
         .all(|column| column.side == BY_CONTENTS && is_unset(column))
 }
 
-// The columns of so many, with their sides.
+// The first columns, up to a count, with their sides.
 fn columns_by(alloc: Global, columns: &[RowsColumn], count: usize) -> Result<Columns, AllocError>
     ensures { IfOk result (λ made. made ≡ columns_by columns.now count) }
 {
@@ -141,7 +141,7 @@ fn columns_by(alloc: Global, columns: &[RowsColumn], count: usize) -> Result<Col
     Ok(Columns::new(drawn, right, left))
 }
 
-// The columns of so many that aren't hidden.
+// Those of the first columns that aren't hidden.
 fn drawn_by(alloc: Global, columns: &[RowsColumn], count: usize) -> Result<Vec<usize>, AllocError>
     ensures { IfOk result (λ drawn. drawn.items ≡ (columns_by columns.now count).drawn) }
 {
@@ -150,7 +150,7 @@ fn drawn_by(alloc: Global, columns: &[RowsColumn], count: usize) -> Result<Vec<u
         .collect(alloc)
 }
 
-// The columns of so many that have this side.
+// Those of the first columns that have this side.
 fn columns_with(
     alloc: Global,
     columns: &[RowsColumn],

@@ -4,7 +4,7 @@ ghost use Rattle.std.specs.Prelude.{◌≡◌, ◌++◌, IfOk, OnOk, drop, map, 
 ghost use Rattle.csv_records.specs.CutLists.{cut_by};
 ghost use Rattle.comfy_c.specs.Looks.{are_each, is_none_or, look_settings, row_settings, rows_by, rows_settings, table_settings, unset_row};
 
-use crate::cells_numbers::{LookNumbers, alignment_of, attributes_of, color_of};
+use crate::cells_numbers::{LookNumbers, look_settings};
 use crate::cells_rows::height_of;
 use crate::rows_columns::{RowsColumn, settings_for};
 use csv_tables::{CellSettings, RowSettings, Settings};
@@ -28,7 +28,7 @@ fn is_none_or(given: usize, count: usize) -> bool
     given == 0 || given == count
 }
 
-/// The settings of a table of rows of so many texts each.
+/// The settings of a table of rows with these counts of texts.
 pub(crate) fn table_settings(
     alloc: Global,
     has_header: bool,
@@ -78,7 +78,7 @@ fn unset_row(alloc: Global) -> RowSettings
     }
 }
 
-// Appends the settings of rows of so many texts each.
+// Appends the settings of rows with these counts of texts.
 fn push_rows(
     alloc: Global,
     rows: &mut Vec<RowSettings>,
@@ -134,16 +134,4 @@ fn cells_settings(alloc: Global, looks: &[LookNumbers]) -> Result<Vec<CellSettin
         cells.push(look_settings(alloc, look)?)?;
     }
     Ok(cells)
-}
-
-/// The settings of a text that looks so.
-pub(crate) fn look_settings(alloc: Global, look: &LookNumbers) -> Result<CellSettings, AllocError>
-    ensures { IfOk result (λ settings. settings ≡ look_settings look.now) }
-{
-    Ok(CellSettings {
-        alignment: alignment_of(look.alignment),
-        foreground: color_of(look.foreground),
-        background: color_of(look.background),
-        attributes: attributes_of(alloc, look.attributes)?,
-    })
 }

@@ -52,7 +52,7 @@ class Cell:
 
 
 def value_of(value: Any) -> Any:
-    """A value, that of a cell where it is one."""
+    """A value, or the value of a cell."""
     return value.value if isinstance(value, Cell) else value
 
 

@@ -29,7 +29,7 @@ returns-clause-drawn c =
     let look : look_for settings ≡ Some c.in-Some.look = search rules in
     let columns : columns_for selection asked rows ≡ Some c.in-Some-2.columns = search rules in
     let own : c.in_ok-own.own ≡ table_settings (is_set settings.has_header) counts looks heights asked =
-        c.in_ok-own.ensures ∙ ap (λ (s : Selection). table_settings s.has_header counts looks heights asked) c.selection-selection.ensures in
+    c.in_ok-own.ensures ∙ ap (λ (s : Selection). table_settings s.has_header counts looks heights asked) c.selection-selection.ensures in
     record {
       add_up = (c.in_ok-records.ensures.all, each);
       are_texts = c.in_ok-records.ensures.texts;
