@@ -1,0 +1,136 @@
+#!/usr/bin/env python3
+"""Builds a program without proving it, in a minute, so that two versions can be compared before either is proved.
+
+    tools/measure/unproved.py CRATE OUT
+
+CRATE is the folder of a program, as crates/ctable, and OUT the file to write. `rt try` compiles a program with tests between
+its instructions. This takes the LLVM module that it compiles, takes these tests out, gives each function the hint on inlining
+of its source, and compiles it with -O3.
+
+Compare the instructions of such a program only with those of another one. On ASCII they are within 4 % of those of the program
+that `rt ci` builds; on other texts they are up to 28 % more.
+"""
+import os
+import re
+import shutil
+import subprocess
+import sys
+import tempfile
+
+KIT = os.path.dirname(subprocess.check_output(["rt", "doc"], text=True).strip())
+CLANG = f"{KIT}/toolchain/bin/clang"
+
+# What takes the place of clang: it keeps the module and the words that it is called with, and calls clang.
+KEEPER = """#!/usr/bin/env python3
+import os, shutil, sys
+if "module.bc" in sys.argv:
+    shutil.copyfile("module.bc", {at!r} + "/module.bc")
+    open({at!r} + "/words", "w").write("\\n".join(sys.argv[1:]))
+os.execv({clang!r}, [{clang!r}, *sys.argv[1:]])
+"""
+
+
+def copied_kit(at):
+    """A folder with all that the kit has, but the keeper in place of clang."""
+    kit = f"{at}/kit"
+    os.makedirs(f"{kit}/toolchain/bin")
+    for name in os.listdir(KIT):
+        if name not in ("bin", "toolchain"):
+            os.symlink(f"{KIT}/{name}", f"{kit}/{name}")
+    # `rt` finds its kit by where its own file is, so links don't do.
+    shutil.copytree(f"{KIT}/bin", f"{kit}/bin")
+    os.symlink(f"{KIT}/toolchain/lib", f"{kit}/toolchain/lib")
+    for name in os.listdir(f"{KIT}/toolchain/bin"):
+        if name != "clang":
+            os.symlink(f"{KIT}/toolchain/bin/{name}", f"{kit}/toolchain/bin/{name}")
+    with open(f"{kit}/toolchain/bin/clang", "w") as keeper:
+        keeper.write(KEEPER.format(at=at, clang=CLANG))
+    os.chmod(f"{kit}/toolchain/bin/clang", 0o755)
+    return kit
+
+
+def hints_in(folder, crate):
+    """The functions of a crate's sources that have a hint on inlining, by the names that they have in the module."""
+    hints = {}
+    for root, _, files in os.walk(folder):
+        for file in files:
+            if file.endswith(".rt"):
+                path = os.path.relpath(os.path.join(root, file), folder)[:-3].split("/")
+                modules = [crate, *(name for name in path if name not in ("lib", "main", "mod"))]
+                hints.update(hints_of(os.path.join(root, file), modules))
+    return hints
+
+
+def hints_of(file, modules):
+    hints, hint, owner = {}, None, None
+    for line in open(file, encoding="utf-8", errors="replace"):
+        if found := re.match(r"\s*#\[inline\((always|never)\)\]", line):
+            hint = found[1]
+        elif found := re.match(r"impl(?:<[^{]*?>)?\s+(?:([\w:]+)(?:<[^{]*?>)?\s+for\s+)?(?:&\s*)?(\w+)", line):
+            owner = found[2] + (found[1].split("::")[-1] if found[1] else "")
+        elif line.startswith("}"):
+            owner = None
+        elif found := re.match(r"(\s*)(?:pub(?:\([^)]*\))? )?(?:const )?(?:unsafe )?fn (\w+)", line):
+            if hint:
+                hints["::".join([*modules, *([owner] if owner and found[1] else []), found[2]])] = hint
+            hint = None
+        elif line.strip() and not line.strip().startswith(("#", "//")):
+            hint = None
+    return hints
+
+
+def is_test(line):
+    """Whether a line of the module only serves the tests of `rt try`."""
+    if "call void @llvm.trap()" in line or 'call void @"rattle-llvm-checks::' in line:
+        return True
+    filled = re.search(r"call void @llvm\.memset\.p0\.i64\(ptr %[^,]*, i8 (-86|0), i64 (\d+),", line)
+    # Larger zeros are those of the program.
+    return bool(filled) and (filled[1] == "-86" or int(filled[2]) <= 32)
+
+
+def without_tests(text, hints):
+    lines = []
+    for line in text:
+        if is_test(line):
+            continue
+        if line.startswith("attributes #"):
+            line = line.replace(" sanitize_address", "").replace(' "frame-pointer"="all"', "")
+            line = re.sub(r"= \{\s*\}", "= { nounwind }", line)
+        elif line.startswith("define "):
+            name = re.search(r'@"?([^"(]+)"?\(', line)[1]
+            hint = hints.get(name) or hints.get(re.sub(r"(?:::)?<.*>", "", name))
+            if hint:
+                word = "alwaysinline" if hint == "always" else "noinline"
+                line = re.sub(r"\) (?=#\d+ \{)", f") {word} ", line, count=1)
+        lines.append(line)
+    return "".join(lines)
+
+
+def main():
+    if len(sys.argv) != 3:
+        sys.exit(__doc__)
+    crate, out = os.path.abspath(sys.argv[1]), os.path.abspath(sys.argv[2])
+    with tempfile.TemporaryDirectory() as at:
+        kit = copied_kit(at)
+        tried = [sys.executable, f"{kit}/bin/rt", "try", "--", "--help"]
+        said = subprocess.run(tried, cwd=crate, stdin=subprocess.DEVNULL, capture_output=True, text=True)
+        if not os.path.exists(f"{at}/module.bc"):
+            sys.exit(said.stdout + said.stderr)
+        read = ["-x", "ir", "module.bc", "-S", "-emit-llvm", "-O0", "-Xclang", "-disable-llvm-passes", "-o", "module.ll"]
+        subprocess.check_call([CLANG, *read], cwd=at)
+        hints = {}
+        for folder in (os.path.dirname(crate), f"{KIT}/rattle"):
+            for name in os.listdir(folder):
+                hints.update(hints_in(f"{folder}/{name}/src", name))
+        with open(f"{at}/module.ll", encoding="utf-8") as text, open(f"{at}/plain.ll", "w", encoding="utf-8") as plain:
+            plain.write(without_tests(text, hints))
+        words = open(f"{at}/words").read().split("\n")
+        flags = words[: words.index("module.bc")]
+        flags = [it for it in flags if not it.startswith(("-O", "-fsanitize", "-Werror"))]
+        subprocess.check_call([CLANG, *flags, "plain.ll", "-fPIE", "-O3", "-o", "plain.o"], cwd=at)
+        link = ["--target", "x86_64-unknown-linux-gnu", "--toolchain", f"{KIT}/toolchain", "-o", out, f"{at}/plain.o"]
+        subprocess.check_call([f"{KIT}/bin/rattle-link", *link, f"{KIT}/c/libos_c.a", f"{KIT}/c/liblibc_c.a"])
+
+
+if __name__ == "__main__":
+    main()
