@@ -1,14 +1,14 @@
 -- The widths of the names and the fields of expanded records.
-use Rattle.std.proofs.Common.{◌≡◌, ◌≢◌, ◌<◌, ℕ, zero, suc, ◌+◌, ◌*◌, Bool, true, false, cond, List, [], ◌∷◌, ◌++◌, Some, None, drop, filter, flat_map, length, map, max, nat_lt, take, arith, refl, ap, ap₂, sym, ◌∙◌}
+use Rattle.std.proofs.Common.{◌≡◌, ◌≢◌, ◌<◌, ℕ, zero, suc, ◌+◌, ◌*◌, Bool, true, false, cond, List, [], ◌∷◌, ◌++◌, Some, drop, filter, flat_map, length, map, max, nat_lt, take, arith, refl, ap, ap₂, sym, ◌∙◌}
 use Rattle.std.proofs.lemmas.Bool.Decides.{nat_tests}
-use Rattle.std.proofs.lemmas.List.{length-set}
+use Rattle.std.proofs.lemmas.List.{length-append, length-set}
 use Rattle.std.specs.List.{slice_get, slice_index_or, slice_set}
 use Rattle.std.specs.Prelude.{if◌then◌else◌}
 use Rattle.comfy_parts.specs.CellValue.{CellValue, RowValue}
 use Rattle.comfy_parts.specs.Text.{Text, greatest}
 use Rattle.comfy_table.specs.TableValue.{TableValue, cell_content_width, measured_cell}
 use Rattle.csv_tables.proofs.ContentLemmas.{greatest_at-append, most_cells-append}
-use Rattle.csv_tables.specs.Cells.{cell_for, held}
+use Rattle.csv_tables.specs.Cells.{held}
 use Rattle.csv_tables.specs.Contents.{greatest_at, most_cells, pairs_by}
 use Rattle.csv_tables.specs.Fields.{field_or_blank}
 use Rattle.csv_tables.specs.LazyRows.{AreNamed, name_cell, names_width, pair_in}
@@ -149,23 +149,6 @@ module _ (t : TableValue) (rows : RecordRows) where
 
 -- ---- cells of names, each before a field
 
--- the names, each before an empty cell
-abbrev pub named : RecordRows → List ColumnPlan → List CellValue
-named rows columns = flat_map (λ (column : ColumnPlan). name_cell rows column ∷ cell_for rows.look None [] ∷ []) columns
-
-pub named-length : (rows : RecordRows) (columns : List ColumnPlan) → length (named rows columns) ≡ 2 * length columns
-named-length rows [] = refl
-named-length rows (column ∷ columns) = let rest = named-length rows columns in omega (arith, rest)
-
-pub named-at : (rows : RecordRows) (columns : List ColumnPlan) (k : ℕ) (column : ColumnPlan) → slice_get columns k ≡ Some column → slice_get (named rows columns) (2 * k) ≡ Some (name_cell rows column)
-named-at rows [] k column is = absurd (cc is)
-named-at rows (first ∷ columns) zero column is =
-    let same : first ≡ column = cc is in
-    ap (λ (c : ColumnPlan). Some (name_cell rows c)) same
-named-at rows (first ∷ columns) (suc k) column is =
-    let next : 2 * suc k ≡ suc (suc (2 * k)) = omega arith in
-    ap (slice_get (named rows (first ∷ columns))) next ∙ named-at rows columns k column is
-
 -- two cells beside each other
 pub two_at : {X : Type 0} (xs : List X) (n : ℕ) (x y : X) → slice_get xs n ≡ Some x → slice_get xs (n + 1) ≡ Some y → take 2 (drop n xs) ≡ x ∷ y ∷ []
 two_at [] n x y first second = absurd (cc first)
@@ -202,20 +185,50 @@ map_taken f zero xs = refl
 map_taken f (suc n) [] = refl
 map_taken f (suc n) (x ∷ xs) = ap (λ rest. f x ∷ rest) (map_taken f n xs)
 
+-- ---- a name and a field after those of the columns before
+
+get_before : {X : Type 0} (xs ys : List X) (n : ℕ) → n < length xs → slice_get (xs ++ ys) n ≡ slice_get xs n
+get_before [] ys n below = absurd (omega (arith, below))
+get_before (x ∷ xs) ys zero below = refl
+get_before (x ∷ xs) ys (suc n) below = get_before xs ys n (omega (arith, below))
+
+get_at : {X : Type 0} (xs : List X) (y : X) (ys : List X) (n : ℕ) → n ≡ length xs → slice_get (xs ++ y ∷ ys) n ≡ Some y
+get_at [] y ys n is = ap (slice_get (y ∷ ys)) is
+get_at (x ∷ xs) y ys zero is = absurd (omega (arith, is))
+get_at (x ∷ xs) y ys (suc n) is = get_at xs y ys n (omega (arith, is))
+
+pub named_more : (rows : RecordRows) (cells : List CellValue) (place : ℕ) (column : ColumnPlan) (field : CellValue) → AreNamed rows cells → length cells ≡ 2 * place
+    → slice_get rows.selected.columns place ≡ Some column → AreNamed rows (cells ++ name_cell rows column ∷ field ∷ [])
+named_more rows cells place column field are size is =
+    let tail = name_cell rows column ∷ field ∷ [] in
+    record {
+      columns = place + 1;
+      count = omega (arith, length-append cells tail, size);
+      names = λ k own below at.
+          let earlier : 2 * k < length cells → slice_get (cells ++ tail) (2 * k) ≡ slice_get cells (2 * k) = get_before cells tail (2 * k) in
+          let here : 2 * k ≡ length cells → slice_get (cells ++ tail) (2 * k) ≡ Some (name_cell rows column) = get_at cells (name_cell rows column) (field ∷ []) (2 * k) in
+          let own_name : k < are.columns → slice_get cells (2 * k) ≡ Some (name_cell rows own) = λ less. are.names k own less at in
+          grind (arith, earlier, here, own_name, is, at, size, are.count, below);
+    }
+
 -- a field after the name of its column
-module _ (rows : RecordRows) (cells : List CellValue) (place : ℕ) (field : CellValue) (are : AreNamed rows cells) (within : place < length rows.selected.columns) where
+module _ (rows : RecordRows) (cells : List CellValue) (place : ℕ) (field : CellValue) (are : AreNamed rows cells) (within : 2 * place + 1 < length cells) where
   abbrev pub put : List CellValue
   put = slice_set cells (2 * place + 1) field
 
   pub put_named : AreNamed rows put
   put_named =
       record {
+        columns = are.columns;
         count = length-set cells (2 * place + 1) field ∙ are.count;
-        names = λ k column is. set_other cells (2 * place + 1) (2 * k) field (λ same. absurd (omega (arith, same))) ∙ are.names k column is;
+        names = λ k column below is. set_other cells (2 * place + 1) (2 * k) field (λ same. absurd (omega (arith, same))) ∙ are.names k column below is;
       }
 
   pub put_pair : (column : ColumnPlan) → slice_get rows.selected.columns place ≡ Some column → take 2 (drop (2 * place) put) ≡ name_cell rows column ∷ field ∷ []
-  put_pair column is = two_at put (2 * place) (name_cell rows column) field (put_named.names place column is) (set_same cells (2 * place + 1) field (omega (arith, within, are.count)))
+  unfolding put_named
+  put_pair column is =
+      let below : place < are.columns = omega (arith, within, are.count) in
+      two_at put (2 * place) (name_cell rows column) field (put_named.names place column below is) (set_same cells (2 * place + 1) field within)
 
 -- ---- the list of both widths
 

@@ -26,11 +26,13 @@ names_width table rows count =
     greatest (map (λ column. cell_content_width (measured_cell table (name_cell rows column)))
     (filter (λ (column : ColumnPlan). nat_lt column.position count) rows.selected.columns))
 
--- every second cell is a name, that of each column in their order
+-- cells for the first columns: a name and a field for each
 pub record AreNamed (rows : RecordRows) (cells : List CellValue) : Type 0 where
-  pub count : length cells ≡ 2 * length rows.selected.columns
+  pub columns : ℕ
+  pub count : length cells ≡ 2 * columns
   pub names :
-      (k : ℕ) (column : ColumnPlan) → slice_get rows.selected.columns k ≡ Some column
+      (k : ℕ) (column : ColumnPlan) → k < columns
+      → slice_get rows.selected.columns k ≡ Some column
       → slice_get cells (2 * k) ≡ Some (name_cell rows column)
 
 -- no cell has several text lines, and the greatest height is at least 1

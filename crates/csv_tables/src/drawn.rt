@@ -228,7 +228,7 @@ fn push_expanded(
 {
     let rows = &arranged.contents().rows;
     let mut writer = arranged.row_writer()?;
-    let mut cells = rows.pair_cells()?;
+    let mut cells = Vec::new(rows.selected.alloc);
     let mut at = place;
     for fields in next.iter() {
         push_record_line(text, at, rows.selected.count())?;

@@ -1,6 +1,6 @@
 //! The rows of expanded records: each field has a row, with the name of its column.
 
-ghost use Rattle.std.specs.Prelude.{◌≡◌, ◌<◌, ◌≤◌, ◌++◌, ◌∷◌, [], IfOk, None, OnOk, Some, false, length, map, max, option_map, slice_get, string_bytes};
+ghost use Rattle.std.specs.Prelude.{◌≡◌, ◌<◌, ◌≤◌, ◌+◌, ◌*◌, ◌++◌, ◌∷◌, [], IfOk, None, OnOk, Some, false, length, map, max, option_map, slice_get, string_bytes};
 ghost use Rattle.comfy_table.specs.Drawing.{part_of_drawing, terminated_text_of};
 ghost use Rattle.comfy_table.specs.LongestLine.{cell_longest_line};
 ghost use Rattle.comfy_table.specs.RowCells.{cell_of};
@@ -8,12 +8,13 @@ ghost use Rattle.comfy_table.specs.TableValue.{cell_content_width, measured_cell
 ghost use Rattle.csv_tables.specs.Cells.{cell_for, pair_for};
 ghost use Rattle.csv_tables.specs.Columns.{name_or_number};
 ghost use Rattle.csv_tables.specs.Contents.{greatest_at, measured_at, pairs_by};
-ghost use Rattle.csv_tables.specs.LazyRows.{AreNamed, names_width, pair_in};
+ghost use Rattle.csv_tables.specs.LazyRows.{AreNamed, name_cell, names_width, pair_in};
 ghost use Rattle.csv_tables.specs.NoWrap.{cell_nowrap_width};
 ghost use Rattle.csv_tables.specs.declared.options.ColumnPlan.{ColumnPlan};
 
 use crate::cells::{name_cell, push_name, push_text, row_cell};
 use crate::nowrap::cell_nowrap_width;
+use crate::options::ColumnPlan;
 use crate::rows::RecordRows;
 use comfy_parts::content_split::ColumnDisplayInfo;
 use comfy_table::for_records::RowCell;
@@ -62,29 +63,58 @@ impl RecordRows {
         Ok(widest)
     }
 
-    /// The names of the columns as cells, each with an empty cell after it for a field.
-    pub fn pair_cells(&self) -> Result<Vec<RowCell<'_>>>
-        ensures { IfOk result (λ cells. AreNamed self.now (map cell_of cells.items)) }
+    // Lets a list have cells for the columns up to that at a place.
+    #[inline(always)]
+    fn list_names<'r>(&'r self, cells: &mut Vec<RowCell<'r>>, place: usize) -> Result<()>
+        requires named { AreNamed self.now (map cell_of cells.old.items) }
+        requires place { place < length self.now.selected.columns }
+        ensures named { OnOk result (AreNamed self.now (map cell_of cells.new.items)) }
+        ensures there { OnOk result (2 * place + 1 < length cells.new.items) }
+    {
+        let listed = cells.len() / 2;
+        if listed > place {
+            return Ok(());
+        }
+        self.push_names(cells, listed, place)
+    }
+
+    // Appends cells for the columns from the first to the last place.
+    #[inline(never)]
+    fn push_names<'r>(
+        &'r self,
+        cells: &mut Vec<RowCell<'r>>,
+        first: usize,
+        last: usize,
+    ) -> Result<()>
+        requires named { AreNamed self.now (map cell_of cells.old.items) }
+        requires first { length cells.old.items ≡ 2 * first }
+        requires places { (first ≤ last) × (last < length self.now.selected.columns) }
+        ensures named { OnOk result (AreNamed self.now (map cell_of cells.new.items)) }
+        ensures count { OnOk result (length cells.new.items ≡ 2 * (last + 1)) }
+    {
+        let columns = self.selected.columns.as_slice();
+        for place in first..last + 1 {
+            self.push_pair_of(cells, &columns[place])?;
+        }
+        Ok(())
+    }
+
+    // Appends the name of a column, and an empty cell for its field.
+    #[inline(always)]
+    fn push_pair_of<'r>(&'r self, cells: &mut Vec<RowCell<'r>>, column: &ColumnPlan) -> Result<()>
+        ensures { OnOk result (map cell_of cells.new.items ≡ map cell_of cells.old.items
+            ++ name_cell self.now column.now ∷ cell_for self.now.look None [] ∷ []) }
     {
         let names = self.selected.names_or_blank();
-        let mut cells = Vec::with_capacity(self.alloc(), self.selected.columns.len())?;
-        for column in &self.selected.columns {
-            let position = column.position;
-            push_name(
-                &mut cells,
-                self.alloc(),
-                names.get(position),
-                position,
-                &self.look,
-            )?;
-            push_text(&mut cells, self.alloc(), "", 0, None, false, &self.look)?;
-        }
-        Ok(cells)
+        let position = column.position;
+        let name = names.get(position);
+        push_name(cells, self.alloc(), name, position, &self.look)?;
+        push_text(cells, self.alloc(), "", 0, None, false, &self.look)
     }
 
     /// Appends the row of a field in the column at a place, below the top border if it is the
-    /// first, else below the row separator. `cells` are the names, as `pair_cells` returns them;
-    /// the field takes the place of the one before.
+    /// first, else below the row separator. `cells` is an empty list at first, and keeps the names
+    /// for later records. The field takes the place of the one before.
     pub fn push_pair<'r>(
         &'r self,
         text: &mut String,
@@ -104,6 +134,7 @@ impl RecordRows {
         ensures kept { writer.new ≡ writer.old }
         ensures named { OnOk result (AreNamed self.now (map cell_of cells.new.items)) }
     {
+        self.list_names(cells, place)?;
         let name = 2 * place;
         cells[name + 1] = row_cell(self.alloc(), field, 0, None, false, &self.look)?;
         let extent = PartEnds {

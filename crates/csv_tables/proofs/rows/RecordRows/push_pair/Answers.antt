@@ -1,5 +1,5 @@
-use Rattle.std.proofs.Common.{rules, ◌≡◌, ◌+◌, ◌-◌, ◌++◌, ℕ, ◌*◌, ◌∷◌, [], List, None, ap, ap₂, append-nil, arith, drop, false, map, string_bytes, subst, sym, take, ◌∙◌}
-use Rattle.std.proofs.lemmas.List.{drop-map}
+use Rattle.std.proofs.Common.{rules, ◌≡◌, ◌<◌, ◌+◌, ◌-◌, ◌++◌, ℕ, ◌*◌, ◌∷◌, [], List, None, ap, ap₂, append-nil, arith, drop, false, length, map, string_bytes, subst, sym, take, ◌∙◌}
+use Rattle.std.proofs.lemmas.List.{drop-map, length-map}
 use Rattle.std.proofs.lemmas.Result.{on_ok_weaker}
 use Rattle.std.specs.List.{slice_set}
 use Rattle.comfy_parts.specs.CellValue.{CellValue}
@@ -14,15 +14,16 @@ use Rattle.csv_tables.proofs.rows.RecordRows.push_pair.Goals as goal
 pub returns-clause-text : goal.returns-clause-text
 returns-clause-text c = λ column is.
     let own = c.args.self.now in
-    let before : List RowCell = c.args.cells.now.items in
+    let before : List RowCell = c.list_names.new.cells.items in
     let at = 2 * c.args.place + 1 in
+    let there : at < length (map cell_of before) = omega (arith, c.in_ok-list_names.ensures.there, length-map before cell_of) in
     let items : List RowCell = slice_set before at c.in_ok-cells.field-0 in
     let same : map cell_of items ≡ slice_set (map cell_of before) at (cell_of c.in_ok-cells.field-0) = map_set cell_of before at c.in_ok-cells.field-0 in
     let pair : map cell_of (take 2 (drop (2 * c.args.place) items)) ≡ name_cell own column ∷ cell_of c.in_ok-cells.field-0 ∷ [] =
     map_taken cell_of 2 (drop (2 * c.args.place) items)
     ∙ ap (take 2) (sym (drop-map cell_of (2 * c.args.place) items))
     ∙ ap (λ (cells : List CellValue). take 2 (drop (2 * c.args.place) cells)) same
-    ∙ put_pair own (map cell_of before) c.args.place (cell_of c.in_ok-cells.field-0) c.requires.named c.requires.place column is in
+    ∙ put_pair own (map cell_of before) c.args.place (cell_of c.in_ok-cells.field-0) c.in_ok-list_names.ensures.named there column is in
     let field : cell_of c.in_ok-cells.field-0 ≡ cell_for own.look None c.args.field.now = c.in_ok-cells.ensures ∙ ap (cell_for own.look None) (append-nil c.args.field.now) in
     let two : (2 * c.args.place + 2) - (2 * c.args.place) ≡ 2 = omega arith in
     let whole : c.deref.result.now ≡ items = search rules in
@@ -36,7 +37,8 @@ returns-clause-text c = λ column is.
 pub returns-clause-named : goal.returns-clause-named
 returns-clause-named c =
     let own = c.args.self.now in
-    let before : List RowCell = c.args.cells.now.items in
+    let before : List RowCell = c.list_names.new.cells.items in
     let at = 2 * c.args.place + 1 in
+    let there : at < length (map cell_of before) = omega (arith, c.in_ok-list_names.ensures.there, length-map before cell_of) in
     let same : map cell_of (slice_set before at c.in_ok-cells.field-0) ≡ slice_set (map cell_of before) at (cell_of c.in_ok-cells.field-0) = map_set cell_of before at c.in_ok-cells.field-0 in
-    on_ok_weaker c.push_cells.result (λ _. subst (AreNamed own) (sym same) (put_named own (map cell_of before) c.args.place (cell_of c.in_ok-cells.field-0) c.requires.named c.requires.place)) c.push_cells.ensures.ok
+    on_ok_weaker c.push_cells.result (λ _. subst (AreNamed own) (sym same) (put_named own (map cell_of before) c.args.place (cell_of c.in_ok-cells.field-0) c.in_ok-list_names.ensures.named there)) c.push_cells.ensures.ok
