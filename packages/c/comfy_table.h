@@ -128,7 +128,7 @@ struct comfy_frame {
 
 /* ---- how texts look */
 
-/* The alignment of a text; any other number stands for the first. */
+/* The alignment of a text; any other number means the first. */
 enum { COMFY_ALIGNED_BY_COLUMN, COMFY_ALIGNED_LEFT, COMFY_ALIGNED_RIGHT, COMFY_ALIGNED_CENTER };
 
 /* What a colour is: none, the terminal's own, one of 256, or one by its parts. Any other number stands for none. */
@@ -194,7 +194,7 @@ enum {
     COMFY_ATTRIBUTE_NOT_OVERLINED = 1 << 27
 };
 
-/* How a text looks. 0 stands for nothing that is set. */
+/* How a text looks. 0 means that nothing is set. */
 struct comfy_look {
     uint32_t alignment;  /* COMFY_ALIGNED_.. */
     uint32_t attributes; /* COMFY_ATTRIBUTE_.., joined by | */
@@ -245,7 +245,7 @@ struct comfy_rows_settings {
     uint32_t has_header;      /* a flag: the first row is the header */
     uint32_t has_bold_header; /* a flag: it is written in bold */
     uint32_t is_numbered;     /* a flag: a first column has the numbers of the rows */
-    uint32_t aligns_decimals; /* a flag: decimal points of a column of numbers stand below each other */
+    uint32_t aligns_decimals; /* a flag: decimal points of a column of numbers are below each other */
     uint32_t has_sequences;   /* a flag: SGR sequences in texts stay, and count no columns */
     uint32_t is_markdown;     /* a flag: the table is one for Markdown, whatever else is set here */
     struct comfy_frame frame; /* the lines of COMFY_OWN_STYLE, which no other style reads */
@@ -282,10 +282,10 @@ uint32_t comfy_rows_draw(const uint8_t *texts, size_t texts_length, const size_t
 
 /* ---- cells with settings of their own */
 
-/* In the structs of this part 0 stands for nothing that is set, but as a width and as a padding. */
+/* In the structs of this part 0 means that nothing is set, but not as a width and as a padding. */
 
 struct comfy_cell {
-    size_t length;       /* the bytes of its text, in which line feeds stand between lines */
+    size_t length;       /* the bytes of its text, in which line feeds are between lines */
     uint32_t delimiter;  /* the character at which its lines may break, in place of the column's */
     struct comfy_look look;
 };

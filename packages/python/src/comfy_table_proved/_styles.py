@@ -39,7 +39,7 @@ class Frame(NamedTuple):
     row_lines: int = EVERYWHERE
 
     def numbers(self) -> tuple[tuple[int, ...], ...]:
-        """The characters as comfy_table.h has them: nothing fills a line of texts, and 0 stands for none."""
+        """The characters as comfy_table.h has them: nothing fills a line of texts, and 0 means none."""
         lines = [tuple(0 if it == " " else ord(it) for it in line) for line in self.lines]
         return tuple(line if at not in (1, 3) else (line[0], *line[2:]) for at, line in enumerate(lines))
 

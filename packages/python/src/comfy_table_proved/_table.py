@@ -251,7 +251,7 @@ def _drawing(table: Table, has_styles: bool = True) -> str:
 
 
 def _refuse_settings(table: Table, values: Values, frame: Optional[Frame]) -> None:
-    """Refuses what a table for Markdown and expanded rows don't have."""
+    """Refuses settings that a table for Markdown and expanded rows don't have."""
     if frame is not None and not table.markdown and not table.expanded:
         return
     asked = {
