@@ -17,6 +17,12 @@ use Rattle.comfy_c.specs.declared.cells_rows.RowNumbers.{RowNumbers}
 abbrev pub no_row : RowNumbers
 no_row = record { cells = 0; max_height = 0 }
 
+-- ---- parts
+
+-- the part from a start is the front of what is left there
+pub part : {A : Type 0} (xs : List A) (start n : ℕ) → take n (drop start xs) ≡ slice_range xs start (start + n)
+part xs start n = ap (λ (k : ℕ). take k (drop start xs)) (omega arith)
+
 -- ---- attributes
 
 -- one attribute more, by the last bit
@@ -30,10 +36,24 @@ attributes_more all i d below bits made =
     by_test true = refl
     by_test false = refl
 
+-- no bits are set
+none_set : (all : List Attribute) → attributes_by all 0 ≡ []
+none_set [] = refl
+none_set (attribute ∷ attributes) = none_set attributes
+
+-- one bit is set
+pub one_set : (all : List Attribute) (i : ℕ) (d : Attribute) → i < length all → slice_range all i (i + 1) ≡ attributes_by (drop i all) 1
+one_set all i d below =
+    let rest = drop (i + 1) all in
+    sym (part all i 1)
+    ∙ at_drop_more (λ xs. take 1 xs) all i d below
+    ∙ ap (λ (xs : List Attribute). get_or all i d ∷ xs) (sym (none_set rest))
+    ∙ sym (at_drop_more (λ xs. attributes_by xs 1) all i d below)
+
 -- ---- cells
 
 -- the texts that references are to
-abbrev lent : List (Bor Text) → List Text
+abbrev pub lent : List (Bor Text) → List Text
 lent texts = map (λ (text : Bor Text). text.now) texts
 
 -- pairs of numbers and texts are cells
@@ -42,17 +62,23 @@ cells_paired [] texts = refl
 cells_paired (cell ∷ cells) [] = refl
 cells_paired (cell ∷ cells) (text ∷ texts) = ap (λ xs. cell_with cell text.now ∷ xs) (cells_paired cells texts)
 
+-- there are as many of them
+pub as_many : (cells : List CellNumbers) (texts : List Text) → length texts ≡ length cells → length (cells_by cells texts) ≡ length cells
+as_many [] texts same = refl
+as_many (cell ∷ cells) [] same = absurd (omega (arith, same))
+as_many (cell ∷ cells) (text ∷ texts) same = ap suc (as_many cells texts (omega (arith, same)))
+
 -- ---- rows
 
 -- the first of some cells are those of the first numbers and texts
-taken : (n : ℕ) (cells : List CellNumbers) (texts : List (Bor Text)) → take n (cells_by cells (lent texts)) ≡ cells_by (take n cells) (lent (take n texts))
+pub taken : (n : ℕ) (cells : List CellNumbers) (texts : List (Bor Text)) → take n (cells_by cells (lent texts)) ≡ cells_by (take n cells) (lent (take n texts))
 taken zero cells texts = refl
 taken (suc n) [] texts = refl
 taken (suc n) (cell ∷ cells) [] = refl
 taken (suc n) (cell ∷ cells) (text ∷ texts) = ap (λ xs. cell_with cell text.now ∷ xs) (taken n cells texts)
 
 -- and the others are those of the others
-dropped : (n : ℕ) (cells : List CellNumbers) (texts : List (Bor Text)) → drop n (cells_by cells (lent texts)) ≡ cells_by (drop n cells) (lent (drop n texts))
+pub dropped : (n : ℕ) (cells : List CellNumbers) (texts : List (Bor Text)) → drop n (cells_by cells (lent texts)) ≡ cells_by (drop n cells) (lent (drop n texts))
 dropped zero cells texts = refl
 dropped (suc n) [] texts = refl
 dropped (suc n) (cell ∷ cells) [] = by_cells (drop n cells)
@@ -61,10 +87,6 @@ dropped (suc n) (cell ∷ cells) [] = by_cells (drop n cells)
     by_cells [] = refl
     by_cells (first ∷ rest) = refl
 dropped (suc n) (cell ∷ cells) (text ∷ texts) = dropped n cells texts
-
--- the part from a start is the front of what is left there
-part : {A : Type 0} (xs : List A) (start n : ℕ) → take n (drop start xs) ≡ slice_range xs start (start + n)
-part xs start n = ap (λ (k : ℕ). take k (drop start xs)) (omega arith)
 
 module _ (all : List RowNumbers) (i : ℕ) (below : i < length all) where
   abbrev own : RowNumbers

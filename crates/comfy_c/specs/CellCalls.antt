@@ -55,13 +55,13 @@ abbrev pub below_header : CellsSettings → List RowValue → List RowValue
 below_header settings rows = if is_set settings.has_header then drop 1 rows else rows
 
 -- a table of these, whose width and styles are the caller's: no terminal is asked
-abbrev pub table_with : List RowValue → List ColumnNumbers → Text → CellsSettings → TableStyle
-    → ContentArrangement → TableValue
-table_with rows columns indicator settings style arrangement =
+abbrev pub table_by : Option RowValue → List RowValue → List ColumnNumbers → Text → CellsSettings
+    → TableStyle → ContentArrangement → TableValue
+table_by header rows columns indicator settings style arrangement =
     record {
       columns = columns_with columns;
-      header = header_among settings rows;
-      rows = below_header settings rows;
+      header = header;
+      rows = rows;
       style = style;
       arrangement = arrangement;
       delimiter = char_of settings.delimiter;
@@ -74,6 +74,12 @@ table_with rows columns indicator settings style arrangement =
       style_text_only = is_set settings.style_text_only;
       custom_styling = is_set settings.custom_styling;
     }
+
+-- of these rows, the first of which may be the header
+abbrev pub table_with : List RowValue → List ColumnNumbers → Text → CellsSettings → TableStyle
+    → ContentArrangement → TableValue
+table_with rows columns indicator settings =
+    table_by (header_among settings rows) (below_header settings rows) columns indicator settings
 
 -- the table that numbers and texts describe: these add up, and style and arrangement are known
 pub record IsDescribed (texts : Text) (cells : List CellNumbers) (rows : List RowNumbers)
@@ -133,6 +139,11 @@ abbrev pub IsUnknown : CellsSettings → Type 0
 IsUnknown settings =
     (2 < settings.form) ⊎ (style_for settings.style settings.frame ≡ None)
     ⊎ (slice_get arrangements settings.arrangement ≡ None)
+
+-- why an indicator is refused: it isn't UTF-8, or memory ran out
+abbrev pub IsIndicatorRefusal : Text → DrawRefusal → Type 0
+IsIndicatorRefusal indicator refusal =
+    (refusal ≡ OutOfMemory) ⊎ (refusal ≡ NotUtf8) × ¬ (IsUtf8 indicator)
 
 -- why there is no drawing
 abbrev pub IsCellsRefusal : Text → List CellNumbers → List RowNumbers → Text → CellsSettings

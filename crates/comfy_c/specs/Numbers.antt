@@ -21,6 +21,7 @@ use Rattle.comfy_c.specs.Calls.{is_set, limit_of}
 use Rattle.comfy_c.specs.declared.cells_columns.ColumnNumbers.{ColumnNumbers}
 use Rattle.comfy_c.specs.declared.cells_columns.WidthNumbers.{WidthNumbers}
 use Rattle.comfy_c.specs.declared.cells_numbers.ColorNumbers.{ColorNumbers}
+use Rattle.comfy_c.specs.declared.cells_numbers.LookNumbers.{LookNumbers}
 use Rattle.comfy_c.specs.declared.cells_rows.CellNumbers.{CellNumbers}
 use Rattle.comfy_c.specs.declared.cells_rows.RowNumbers.{RowNumbers}
 
@@ -64,6 +65,15 @@ attributes_by (attribute ∷ attributes) bits =
     if bits % 2 == 1
     then attribute ∷ attributes_by attributes (bits / 2)
     else attributes_by attributes (bits / 2)
+
+-- colours and attributes alone
+abbrev pub look_alone : LookNumbers → CellValue
+look_alone look =
+    record (plain_cell []) {
+      foreground = color_of look.foreground;
+      background = color_of look.background;
+      attributes = attributes_by all_attributes look.attributes;
+    }
 
 -- a cell of a text
 abbrev pub cell_with : CellNumbers → Text → CellValue

@@ -1,16 +1,24 @@
 //! Tables of cells with settings of their own.
 
-ghost use Rattle.std.specs.Prelude.{◌≡◌, ◌≢◌, ◌≤◌, ◌<◌, IfErr, IfOk, List, ℕ, drop, length, string_bytes, take};
-ghost use Rattle.comfy_c.specs.CellCalls.{AreNotTexts, DoNotAddUp, IsCellsDrawing, IsCellsRefusal, IsDescribed, IsUnknown, below_header, header_among, listed};
+ghost use Rattle.std.specs.Prelude.{◌≡◌, ◌≢◌, ◌≤◌, ◌<◌, ◌+◌, All, IfErr, IfOk, List, Some, ℕ, drop, length, map, slice_get, string_bytes, take};
+ghost use Rattle.comfy_parts.specs.CellValue.{CellValue, IsRow};
+ghost use Rattle.csv_records.specs.CutLists.{total};
+ghost use Rattle.comfy_c.specs.CellCalls.{AreNotTexts, DoNotAddUp, IsCellsDrawing, IsCellsRefusal, IsDescribed, IsIndicatorRefusal, IsUnknown, below_header, cells_by, counts_of, header_among, listed, rows_with, table_by};
+ghost use Rattle.comfy_c.specs.Frames.{style_for};
+ghost use Rattle.comfy_c.specs.Numbers.{arrangements};
+ghost use Rattle.comfy_c.specs.declared.refusal.DrawRefusal.TheVariants as refusal;
 
 use crate::buffer::hand_over;
 use crate::cells_columns::{ColumnNumbers, columns_of};
+use crate::cells_lent::{LentTable, push_table};
 use crate::cells_numbers::char_of;
-use crate::cells_rows::{CellNumbers, RowNumbers, rows_of};
+use crate::cells_rows::{CellNumbers, RowNumbers, cell_texts, lent_cells, row_of, rows_of};
 use crate::cells_settings::CellsSettings;
+use crate::cells_styles::{KnownLook, known_looks};
 use crate::frame::style_for;
 use crate::refusal::DrawRefusal;
-use comfy_table::{Row, Table, TableParts, Terminal};
+use comfy_parts::style::{ContentArrangement, TableStyle};
+use comfy_table::{ArrangedTable, Row, Table, TableParts, Terminal};
 use simdutf8::basic::from_utf8;
 use std::alloc::{AllocError, Global};
 
@@ -94,12 +102,81 @@ fn cells_drawing(
     if settings.form > CONTENT_WIDTHS {
         return Err(DrawRefusal::Settings);
     }
-    let table = table_of(alloc, texts, cells, rows, columns, indicator, settings)?;
-    match settings.form {
-        LINES => Ok(table.to_terminated_text()?),
-        TRIMMED => Ok(table.trim_fmt()?),
-        _ => Ok(listed(alloc, table.column_max_content_widths()?.as_slice())?),
+    if settings.form == LINES {
+        return lines_of(alloc, texts, cells, rows, columns, indicator, settings);
     }
+    let table = table_of(alloc, texts, cells, rows, columns, indicator, settings)?;
+    if settings.form == TRIMMED {
+        return Ok(table.trim_fmt()?);
+    }
+    Ok(listed(alloc, table.column_max_content_widths()?.as_slice())?)
+}
+
+// The lines of the table that numbers and texts describe, each with a line feed after it.
+fn lines_of(
+    alloc: Global,
+    texts: &[u8],
+    cells: &[CellNumbers],
+    rows: &[RowNumbers],
+    columns: &[ColumnNumbers],
+    indicator: &[u8],
+    settings: &CellsSettings,
+) -> Result<String, DrawRefusal>
+    requires { settings.now.form ≡ 0 }
+    ensures drawn { IfOk result (λ drawing.
+        IsCellsDrawing texts.now cells.now rows.now columns.now indicator.now settings.now
+        (string_bytes drawing)) }
+    ensures refused { IfErr result (λ refusal.
+        IsCellsRefusal texts.now cells.now rows.now indicator.now settings.now refusal) }
+{
+    let looks = known_looks(alloc, cells)?;
+    let looks = looks.as_slice();
+    let lent = lent_table(
+        alloc, texts, cells, rows, columns, indicator, settings, looks,
+    )?;
+    let arranged = ArrangedTable::of_contents(lent)?;
+    let mut text = String::new(alloc);
+    push_table(&mut text, &arranged)?;
+    Ok(text)
+}
+
+// The table that numbers and texts describe. Its texts are lent.
+fn lent_table<'a>(
+    alloc: Global,
+    texts: &'a [u8],
+    cells: &[CellNumbers],
+    rows: &'a [RowNumbers],
+    columns: &[ColumnNumbers],
+    indicator: &[u8],
+    settings: &CellsSettings,
+    looks: &'a [KnownLook],
+) -> Result<LentTable<'a>, DrawRefusal>
+    ensures table { IfOk result (IsDescribed texts.now cells.now rows.now columns.now
+        indicator.now settings.now) }
+    ensures rows { IfOk result (λ lent. All IsRow lent.rows) }
+    ensures refused { IfErr result (λ refusal. IsCellsRefusal texts.now cells.now
+        rows.now indicator.now settings.now refusal) }
+{
+    let (style, arrangement) = asked_for(settings)?;
+    let found = cell_texts(alloc, rows, cells, texts)?;
+    let found = found.as_slice();
+    let header = header_of(alloc, settings, rows, cells, found)?;
+    let none = Vec::new(alloc);
+    let table = table_by(
+        alloc,
+        header,
+        none,
+        columns,
+        indicator,
+        settings,
+        style,
+        arrangement,
+    )?;
+    let (skipped, below) = rows_below(settings, rows);
+    let own = cells.split_at(skipped).1;
+    let texts = found.split_at(skipped).1;
+    let cells = lent_cells(alloc, own, texts, looks)?;
+    Ok(LentTable::new(alloc, table, below, cells)?)
 }
 
 // The table that numbers and texts describe.
@@ -117,13 +194,54 @@ fn table_of(
     ensures refused { IfErr result (λ refusal.
         IsCellsRefusal texts.now cells.now rows.now indicator.now settings.now refusal) }
 {
+    let (style, arrangement) = asked_for(settings)?;
+    let (header, rows) = parted(settings, rows_of(alloc, rows, cells, texts)?);
+    let table = table_by(
+        alloc,
+        header,
+        rows,
+        columns,
+        indicator,
+        settings,
+        style,
+        arrangement,
+    )?;
+    Ok(table)
+}
+
+// The style and the arrangement that settings ask for.
+fn asked_for(settings: &CellsSettings) -> Result<(TableStyle, ContentArrangement), DrawRefusal>
+    ensures style { IfOk result (λ asked.
+        style_for settings.now.style settings.now.frame ≡ Some asked.0) }
+    ensures arrangement { IfOk result (λ asked.
+        slice_get arrangements settings.now.arrangement ≡ Some asked.1) }
+    ensures refused { IfErr result (λ r. (r ≡ refusal.Settings)
+        × IsUnknown settings.now) }
+{
     let Some(style) = style_for(settings.style, &settings.frame) else {
         return Err(DrawRefusal::Settings);
     };
     let Some(arrangement) = settings.content_arrangement() else {
         return Err(DrawRefusal::Settings);
     };
-    let (header, rows) = parted(settings, rows_of(alloc, rows, cells, texts)?);
+    Ok((style, arrangement))
+}
+
+// The table of this header and these rows.
+fn table_by(
+    alloc: Global,
+    header: Option<Row>,
+    rows: Vec<Row>,
+    columns: &[ColumnNumbers],
+    indicator: &[u8],
+    settings: &CellsSettings,
+    style: TableStyle,
+    arrangement: ContentArrangement,
+) -> Result<Table, DrawRefusal>
+    ensures table { IfOk result (λ table. table ≡ table_by header rows.items columns.now
+        indicator.now settings.now style arrangement) }
+    ensures refused { IfErr result (IsIndicatorRefusal indicator.now) }
+{
     let Ok(indicator) = from_utf8(indicator) else {
         return Err(DrawRefusal::NotUtf8);
     };
@@ -143,6 +261,46 @@ fn table_of(
         style_text_only: settings.style_text_only != 0,
         custom_styling: settings.custom_styling != 0,
     }))
+}
+
+// The first row, if it is the header.
+fn header_of(
+    alloc: Global,
+    settings: &CellsSettings,
+    rows: &[RowNumbers],
+    cells: &[CellNumbers],
+    texts: &[&str],
+) -> Result<Option<Row>, DrawRefusal>
+    requires counted { total (counts_of rows.now) ≡ length cells.now }
+    requires paired { length texts.now ≡ length cells.now }
+    ensures header { IfOk result (λ header. header ≡ header_among settings.now (rows_with rows.now
+        (cells_by cells.now (map (λ text. text.now) texts.now)))) }
+    ensures refused { IfErr result (λ r. r ≡ refusal.OutOfMemory) }
+{
+    if settings.has_header == 0 {
+        return Ok(None);
+    }
+    let Some(row) = rows.first() else {
+        return Ok(None);
+    };
+    let header = row_of(alloc, row, &cells[..row.cells], &texts[..row.cells])?;
+    Ok(Some(header))
+}
+
+// How many cells the header has, and the rows below it.
+fn rows_below<'a>(settings: &CellsSettings, rows: &'a [RowNumbers]) -> (usize, &'a [RowNumbers])
+    ensures rows { (cells : List CellValue)
+        → below_header settings.now (rows_with rows.now cells)
+        ≡ rows_with result.1.now (drop result.0 cells) }
+    ensures count { total (counts_of rows.now) ≡ result.0 + total (counts_of result.1.now) }
+{
+    if settings.has_header == 0 {
+        return (0, rows);
+    }
+    match rows.split_first() {
+        Some((header, below)) => (header.cells, below),
+        None => (0, rows),
+    }
 }
 
 // The first row, if it is the header, and the rows below it.

@@ -1,6 +1,6 @@
 //! What the numbers of a cell stand for.
 
-ghost use Rattle.std.specs.Prelude.{◌≡◌, None, IfOk, slice_index_or};
+ghost use Rattle.std.specs.Prelude.{◌≡◌, [], None, IfOk, IfSome, slice_index_or, true};
 ghost use Rattle.comfy_table.specs.Styling.{all_attributes};
 ghost use Rattle.comfy_c.specs.Looks.{look_settings};
 ghost use Rattle.comfy_c.specs.Numbers.{alignments, attributes_by, char_of, color_of};
@@ -91,8 +91,8 @@ pub(crate) fn alignment_of(number: u32) -> Option<CellAlignment>
     }
 }
 
-// The colour that numbers stand for.
-fn color_of(color: ColorNumbers) -> Option<Color>
+/// The colour that numbers stand for.
+pub(crate) fn color_of(color: ColorNumbers) -> Option<Color>
     ensures { result ≡ color_of color }
 {
     match color.kind {
@@ -120,6 +120,44 @@ fn attributes_of(alloc: Global, bits: u32) -> Result<Vec<Attribute>, AllocError>
         rest /= 2;
     }
     Ok(attributes)
+}
+
+/// The attributes whose bits are set; none for several attributes.
+pub(crate) fn lent_attributes(bits: u32) -> Option<&'static [Attribute]>
+    ensures { IfSome result (λ attributes.
+        attributes.now ≡ attributes_by all_attributes bits) }
+{
+    lent_among(&ATTRIBUTES, bits)
+}
+
+// Those of some attributes whose bits are set; none for several ones.
+fn lent_among(all: &'static [Attribute], bits: u32) -> Option<&'static [Attribute]>
+    ensures { IfSome result (λ own. own.now ≡ attributes_by all.now bits) }
+{
+    let mut rest = bits;
+    for position in 0..all.len() {
+        if rest == 1 {
+            return Some(&all[position..position + 1]);
+        }
+        if rest % 2 == 1 {
+            return None;
+        }
+        rest /= 2;
+    }
+    Some(&[])
+}
+
+impl LookNumbers {
+    /// Whether the text is known to have neither a colour nor an attribute.
+    #[inline(always)]
+    pub(crate) fn is_plain(&self) -> bool
+        ensures foreground { result ≡ true → color_of self.now.foreground ≡ None }
+        ensures background { result ≡ true → color_of self.now.background ≡ None }
+        ensures attributes { result ≡ true
+            → attributes_by all_attributes self.now.attributes ≡ [] }
+    {
+        self.attributes == 0 && self.foreground.kind == 0 && self.background.kind == 0
+    }
 }
 
 /// The settings of a text that looks so.

@@ -1,16 +1,20 @@
 //! The rows of a table of cells, from numbers and from texts in one block of bytes.
 
-ghost use Rattle.std.specs.Prelude.{◌≡◌, IfErr, IfOk, length, map};
-ghost use Rattle.csv_records.specs.CutLists.{total};
+ghost use Rattle.std.specs.Prelude.{◌≡◌, All, IfErr, IfOk, IfSome, IsUtf8, length, map, option_map};
+ghost use Rattle.comfy_table.specs.RowCells.{cell_of};
+ghost use Rattle.comfy_table.specs.TextStyles.{text_cell};
+ghost use Rattle.csv_records.specs.CutLists.{cut_by, total};
 ghost use Rattle.comfy_c.specs.CellCalls.{cells_by, cells_with, counts_of, lengths_of, rows_with};
-ghost use Rattle.comfy_c.specs.Numbers.{cell_with, height_of, row_with};
+ghost use Rattle.comfy_c.specs.Numbers.{alignment_of, cell_with, height_of, row_with};
 ghost use Rattle.comfy_c.specs.Texts.{AddUp, IsTextsRefusal};
 
-use crate::cells_numbers::{LookNumbers, char_of, look_settings};
+use crate::cells_numbers::{LookNumbers, alignment_of, char_of, look_settings};
+use crate::cells_styles::{KnownLook, style_among};
 use crate::refusal::DrawRefusal;
 use crate::rows_settings::limit_of;
 use crate::texts::texts_of;
 use comfy_parts::{Cell, Cells, IntoRow, Row, TableError};
+use comfy_table::for_records::{RowCell, TextCell, TextStyle};
 use std::alloc::{AllocError, Global};
 
 /// A cell.
@@ -48,10 +52,31 @@ pub(crate) fn rows_of(
     ensures refused { IfErr result
         (IsTextsRefusal texts.now (lengths_of cells.now) (counts_of rows.now)) }
 {
+    let texts = cell_texts(alloc, rows, cells, texts)?;
+    Ok(rows_by(alloc, rows, cells, texts.as_slice())?)
+}
+
+/// The text of each cell, in a block of texts.
+pub(crate) fn cell_texts<'a>(
+    alloc: Global,
+    rows: &[RowNumbers],
+    cells: &[CellNumbers],
+    texts: &'a [u8],
+) -> Result<Vec<&'a str>, DrawRefusal>
+    ensures cut { IfOk result (λ found. map (λ text. text.now) found.items
+        ≡ cut_by (lengths_of cells.now) texts.now) }
+    ensures count { IfOk result (λ found. length found.items ≡ length cells.now) }
+    ensures all { IfOk result (λ _.
+        AddUp texts.now (lengths_of cells.now) (counts_of rows.now)) }
+    ensures counted { IfOk result (λ _. total (counts_of rows.now) ≡ length cells.now) }
+    ensures texts { IfOk result (λ _. All IsUtf8 (cut_by (lengths_of cells.now) texts.now)) }
+    ensures refused { IfErr result
+        (IsTextsRefusal texts.now (lengths_of cells.now) (counts_of rows.now)) }
+{
     let lengths = lengths_of(alloc, cells)?;
     let counts = counts_of(alloc, rows)?;
-    let texts = texts_of(alloc, texts, lengths.as_slice(), counts.as_slice())?;
-    Ok(rows_by(alloc, rows, cells, texts.as_slice())?)
+    let found = texts_of(alloc, texts, lengths.as_slice(), counts.as_slice())?;
+    Ok(found)
 }
 
 // The bytes of the text of each cell.
@@ -90,8 +115,8 @@ fn rows_by(
     Ok(made)
 }
 
-// The row of cells that have these texts.
-fn row_of(
+/// The row of cells that have these texts.
+pub(crate) fn row_of(
     alloc: Global,
     row: &RowNumbers,
     cells: &[CellNumbers],
@@ -135,4 +160,87 @@ fn cell_of(alloc: Global, numbers: &CellNumbers, text: &str) -> Result<Cell, Tab
         cell = cell.set_delimiter(delimiter);
     }
     look_settings(alloc, &numbers.look)?.dressed(cell)
+}
+
+/// The cells that have these texts. A text of one line is lent, unless it has a delimiter of its
+/// own or a look that isn't known.
+pub(crate) fn lent_cells<'a>(
+    alloc: Global,
+    cells: &[CellNumbers],
+    texts: &[&'a str],
+    looks: &'a [KnownLook],
+) -> Result<Vec<RowCell<'a>>, TableError>
+    ensures { IfOk result (λ made. map cell_of made.items
+        ≡ cells_by cells.now (map (λ text. text.now) texts.now)) }
+{
+    let mut made = Vec::with_capacity(alloc, cells.len())?;
+    for (cell, text) in cells.iter().zip(texts) {
+        made.push(row_cell(alloc, cell, text, looks)?)?;
+    }
+    Ok(made)
+}
+
+// The cell of a text, which is lent if it can be.
+#[inline(always)]
+fn row_cell<'a>(
+    alloc: Global,
+    numbers: &CellNumbers,
+    text: &'a str,
+    looks: &'a [KnownLook],
+) -> Result<RowCell<'a>, TableError>
+    ensures { IfOk result (λ cell. cell_of cell ≡ cell_with numbers.now text.now) }
+{
+    if let Some(cell) = lent_cell(numbers, text, looks) {
+        return Ok(RowCell::Lent(cell));
+    }
+    made_cell(alloc, numbers, text)
+}
+
+// The cell of a text of its own.
+#[inline(never)]
+fn made_cell<'a>(
+    alloc: Global,
+    numbers: &CellNumbers,
+    text: &str,
+) -> Result<RowCell<'a>, TableError>
+    ensures { IfOk result (λ cell. cell_of cell ≡ cell_with numbers.now text.now) }
+{
+    Ok(RowCell::Made(Box::new(alloc, cell_of(alloc, numbers, text)?)?))
+}
+
+// The cell of a text that is lent; none for a text of several lines or with ESC, for a delimiter,
+// or for a look that isn't known.
+#[inline(always)]
+fn lent_cell<'a>(
+    numbers: &CellNumbers,
+    text: &'a str,
+    looks: &'a [KnownLook],
+) -> Option<TextCell<'a>>
+    ensures { IfSome result (λ cell. cell ≡ cell_with numbers.now text.now) }
+{
+    if numbers.delimiter != 0 {
+        return None;
+    }
+    if numbers.look.is_plain() {
+        return text_cell(numbers, text, None);
+    }
+    let style = style_among(looks, &numbers.look)?;
+    text_cell(numbers, text, Some(style))
+}
+
+// The cell of a text of one line without ESC in this style. Most texts are printable ASCII.
+#[inline(always)]
+fn text_cell<'a>(
+    numbers: &CellNumbers,
+    text: &'a str,
+    style: Option<&'a TextStyle<'a>>,
+) -> Option<TextCell<'a>>
+    ensures { IfSome result (λ cell. cell ≡ text_cell (alignment_of numbers.now.look.alignment)
+        (option_map (λ style. style.now) style.entry) text.now) }
+{
+    let alignment = alignment_of(numbers.look.alignment);
+    if let Some(cell) = TextCell::of_printable(text, 0, alignment, style) {
+        return Some(cell);
+    }
+    TextCell::of_line(text, alignment, style)
 }

@@ -1,0 +1,121 @@
+//! Styles of cells whose texts are lent.
+
+ghost use Rattle.std.specs.Prelude.{◌≡◌, ◌≤◌, IfOk, IfSome, length, true};
+ghost use Rattle.comfy_table.specs.Styling.{all_attributes};
+ghost use Rattle.comfy_table.specs.TextStyles.{styling};
+ghost use Rattle.comfy_c.specs.Numbers.{attributes_by, color_of, look_alone};
+
+use crate::cells_numbers::{ColorNumbers, LookNumbers, color_of, lent_attributes};
+use crate::cells_rows::CellNumbers;
+use comfy_table::for_records::TextStyle;
+use std::alloc::{AllocError, Global};
+use std::marker::Model;
+
+// How many looks are kept.
+const MOST: usize = 8;
+
+/// The colours and attributes of some cells, as numbers and as a style.
+#[derive(Drop)]
+pub(crate) struct KnownLook {
+    look: LookNumbers,
+    style: TextStyle<'static>,
+}
+
+impl Model for KnownLook {
+    ghost use Rattle.std.specs.Prelude.{◌≡◌};
+    ghost use Rattle.comfy_table.specs.TextStyles.{styling};
+    ghost use Rattle.comfy_c.specs.Numbers.{look_alone};
+    ghost use Rattle.comfy_c.specs.declared.cells_numbers.LookNumbers.{LookNumbers};
+
+    ghost Value = { LookNumbers };
+
+    ghost invariant = { λ k. styling k.style ≡ look_alone k.look };
+
+    ghost view = { λ k. k.look };
+}
+
+impl KnownLook {
+    // A look; none if it has several attributes.
+    fn new(look: LookNumbers) -> Option<KnownLook>
+        ensures { IfSome result (λ known. known ≡ look) }
+    {
+        let style = TextStyle {
+            foreground: color_of(look.foreground),
+            background: color_of(look.background),
+            attributes: lent_attributes(look.attributes)?,
+        };
+        Some(KnownLook { look, style })
+    }
+
+    // Its style, if it is such a look.
+    #[inline(always)]
+    fn style_for<'a>(&'a self, look: &LookNumbers) -> Option<&'a TextStyle<'a>>
+        ensures { IfSome result (λ style. styling style.now ≡ look_alone look.now) }
+    {
+        let own = &self.look;
+        if own.attributes == look.attributes
+            && is_same(own.foreground, look.foreground)
+            && is_same(own.background, look.background)
+        {
+            Some(&self.style)
+        } else {
+            None
+        }
+    }
+}
+
+/// The looks of cells that have colours or an attribute, each once, and at most 8.
+pub(crate) fn known_looks(
+    alloc: Global,
+    cells: &[CellNumbers],
+) -> Result<Vec<KnownLook>, AllocError>
+    ensures { IfOk result (λ looks. length looks.items ≤ 8) }
+{
+    let mut looks = Vec::new(alloc);
+    for cell in cells {
+        if looks.len() < MOST && !cell.look.is_plain() {
+            if let Some(look) = further_look(looks.as_slice(), cell.look) {
+                looks.push(look)?;
+            }
+        }
+    }
+    Ok(looks)
+}
+
+// A look that isn't known yet, if it can be.
+fn further_look(looks: &[KnownLook], look: LookNumbers) -> Option<KnownLook>
+    ensures { IfSome result (λ known. known ≡ look) }
+{
+    if style_among(looks, &look).is_some() {
+        return None;
+    }
+    KnownLook::new(look)
+}
+
+/// The style of a look, if it is known.
+#[inline(always)]
+pub(crate) fn style_among<'a>(
+    looks: &'a [KnownLook],
+    look: &LookNumbers,
+) -> Option<&'a TextStyle<'a>>
+    ensures { IfSome result (λ style. styling style.now ≡ look_alone look.now) }
+{
+    for known in looks {
+        if let Some(style) = known.style_for(look) {
+            return Some(style);
+        }
+    }
+    None
+}
+
+// Whether two colours are the same.
+#[inline(always)]
+fn is_same(one: ColorNumbers, other: ColorNumbers) -> bool
+    ensures { result ≡ true → color_of one ≡ color_of other }
+{
+    one.kind == other.kind
+        && one.number == other.number
+        && one.red == other.red
+        && one.green == other.green
+        && one.blue == other.blue
+}
