@@ -48,11 +48,6 @@ greatest_height cells = greatest (map (λ (drawn : DrawnCell). length drawn.piec
 abbrev pub piece_at : ℕ → DrawnCell → Text
 piece_at k drawn = slice_index_or drawn.pieces k (blank_piece drawn.info)
 
--- cells that are kept for further lines, and one more behind them
-abbrev pub with_further : List DrawnCell → DrawnCell → List DrawnCell
-with_further [] cell = if nat_lt 1 (length cell.pieces) then cell ∷ [] else []
-with_further (first ∷ others) cell = first ∷ others ++ cell ∷ []
-
 -- the last ones of some cells, before which none has more than one piece
 pub record AreFurther (further cells : List DrawnCell) : Type 0 where
   pub low : List DrawnCell

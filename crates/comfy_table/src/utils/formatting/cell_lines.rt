@@ -61,6 +61,17 @@ impl<'a> Line<'a> {
         }
     }
 
+    /// Its terminal columns, and the two parts of the text that is written for it.
+    #[inline(always)]
+    pub fn parts(&self) -> (usize, &str, &str)
+        ensures { record {
+          columns = result.0;
+          written = result.1.now ++ result.2.now;
+        } ≡ self.now }
+    {
+        (self.columns, self.text.as_str(), self.end)
+    }
+
     // The same line, with a text of its own.
     fn copied<'b>(&self, alloc: Global) -> Result<Line<'b>>
         ensures { IfOk result (λ line. line ≡ self.now) }
@@ -83,8 +94,8 @@ impl<'a> Line<'a> {
 /// The lines of a cell of a row, from the top.
 #[derive(Drop)]
 pub enum CellLines<'a> {
-    // the columns and the two parts of the text of one line that fits
-    Single(usize, &'a str, &'a str),
+    // one line that fits
+    Single(Line<'a>),
     Multiple(Vec<Line<'a>>),
 }
 
@@ -94,27 +105,20 @@ impl<'a> CellLines<'a> {
         ensures { result ≡ length (lines_of self.now) }
     {
         match self {
-            CellLines::Single(_, _, _) => 1,
+            CellLines::Single(_) => 1,
             CellLines::Multiple(lines) => lines.len(),
         }
     }
 
-    /// A line by its position, counted from 0: its terminal columns, and the two parts of the text
-    /// that is written for it.
-    pub fn get(&self, position: usize) -> Option<(usize, &str, &str)>
-        ensures { option_map (λ line. record {
-          columns = line.0;
-          written = line.1.now ++ line.2.now;
-        }) result ≡ slice_get (lines_of self.now) position }
+    /// A line by its position, counted from 0.
+    #[inline(always)]
+    pub fn get(&self, position: usize) -> Option<&Line<'a>>
+        ensures { option_map (λ line. line.now) result
+            ≡ slice_get (lines_of self.now) position }
     {
         match self {
-            CellLines::Single(columns, text, end) => {
-                (position == 0).then_some((*columns, *text, *end))
-            }
-            CellLines::Multiple(lines) => {
-                let line = lines.get(position)?;
-                Some((line.columns, line.text.as_str(), line.end))
-            }
+            CellLines::Single(line) => (position == 0).then_some(line),
+            CellLines::Multiple(lines) => lines.get(position),
         }
     }
 }
@@ -133,7 +137,11 @@ pub fn row_cell_lines<'a>(
         ≡ map drawn_line (lines_within table.now limit info.now (cell_in cell.entry))) }
 {
     if let Some((columns, text, end)) = only_line(table, cell, info) {
-        return Ok(CellLines::Single(columns, text, end));
+        return Ok(CellLines::Single(Line {
+            columns,
+            text: CowStr::Borrowed(text),
+            end,
+        }));
     }
     let lines = listed_lines(table, limit, cell, info, empty_list(spare))?;
     Ok(CellLines::Multiple(lines))
