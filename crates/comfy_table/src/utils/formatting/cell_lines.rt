@@ -15,7 +15,7 @@ ghost use Rattle.comfy_table.specs.TableValue.{TableValue, measured_cell};
 
 use crate::table::Table;
 use crate::utils::formatting::gap::few_spaces;
-use crate::utils::formatting::row_cell::{CellSource, TextCell};
+use crate::utils::formatting::row_cell::{CellSource, LinesCell, TextCell};
 use crate::utils::formatting::styling::push_reset;
 use comfy_parts::content_split::{
     ColumnDisplayInfo, adds_one_column, leaves_sequence_open, measure_text_width, split_long_word,
@@ -172,6 +172,7 @@ pub fn only_line<'a>(
 {
     match cell {
         CellSource::Line(cell) => fitting_text(cell, info),
+        CellSource::Lines(_) => None,
         CellSource::Own(cell) => {
             let (columns, text) = fitting_line(table, cell, info)?;
             Some((columns, text, ""))
@@ -274,6 +275,7 @@ fn measured_lines<'a>(
 {
     match cell {
         CellSource::Line(cell) => text_lines(table, cell, info, list),
+        CellSource::Lines(cell) => several_lines(table, cell, info, list),
         CellSource::Own(cell) => cell_lines(table, cell, info, list),
     }
 }
@@ -321,6 +323,26 @@ fn push_spaced<'a>(
         lines.push(line.copied(alloc)?)?;
     }
     Ok(())
+}
+
+// The lines of a text of several lines in a column, in an empty list.
+fn several_lines<'a>(
+    table: &Table,
+    cell: &LinesCell<'a>,
+    info: &ColumnDisplayInfo,
+    mut lines: Vec<Line<'a>>,
+) -> Result<Vec<Line<'a>>>
+    requires { lines.items ≡ [] }
+    ensures { IfOk result (λ lines. lines.items
+        ≡ map drawn_text (cell_lines info.now.content_width
+        (cell_delimiter table.now info.now.delimiter cell.now)
+        (measured_cell table.now cell.now))) }
+{
+    let delimiter = table.delimiter_in(info.delimiter);
+    for line in cell.text().split('\n') {
+        push_lines(&mut lines, line, measure_text_width(line), info, delimiter)?;
+    }
+    Ok(lines)
 }
 
 // The lines of a cell that is made, in an empty list.
@@ -403,6 +425,11 @@ fn uncut_lines<'a>(
         CellSource::Line(cell) => {
             // its clause says that there is no ESC, so each line is written as it is measured
             let _ = cell.line();
+            Ok(measured)
+        }
+        CellSource::Lines(cell) => {
+            // so does that of a text of several lines
+            let _ = cell.text();
             Ok(measured)
         }
         CellSource::Own(cell) => written_cell_lines(table, cell, info, measured),
