@@ -22,6 +22,7 @@ pub mod PlaceLemmas
 pub mod QuoteLemmas
 pub mod ReadTextLemmas
 pub mod RecordLemmas
+pub mod ReplacedLemmas
 pub mod ShownLemmas
 pub mod SpacesLemmas
 pub mod TextLemmas

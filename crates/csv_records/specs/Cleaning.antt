@@ -1,6 +1,6 @@
 -- Fields without control characters, and without those that turn the direction of text.
 -- Source: this library's own; UAX 9 for the directions of text.
-use Rattle.std.specs.Prelude.{◌≡◌, ℕ, Bool, false, not, ◌%◌, ◌==◌, ◌&&◌, ◌||◌, [], ◌∷◌, ◌++◌, List, fold, map, chars, codes, encode_utf8, IsUtf8, if◌then◌else◌}
+use Rattle.std.specs.Prelude.{◌≡◌, ℕ, Bool, false, not, nat_lt, ◌%◌, ◌==◌, ◌&&◌, ◌||◌, [], ◌∷◌, ◌++◌, List, fold, map, chars, codes, encode_utf8, IsUtf8, if◌then◌else◌}
 use Rattle.std.specs.Char.{is_control}
 use Rattle.std.specs.Int.{is_in_range}
 use Rattle.std.specs.List.{list_any}
@@ -22,6 +22,11 @@ turns_direction c = is_in_range 0x202A 0x202E c || is_in_range 0x2066 0x2069 c
 -- a character isn't drawn as it is
 abbrev pub is_replaced : ℕ → Bool
 is_replaced c = is_control c || turns_direction c
+
+-- the UTF-8 of a character that isn't drawn as it is begins with such a byte
+abbrev pub may_begin_replaced : ℕ → Bool
+may_begin_replaced byte =
+    nat_lt byte 0x20 || ((byte == 0x7F) || ((byte == 0xC2) || (byte == 0xE2)))
 
 -- a character as it is drawn, where it is no line break and no TAB
 abbrev pub shown : ℕ → ℕ

@@ -7,7 +7,7 @@ ghost use Rattle.std.specs.List.{list_any};
 ghost use Rattle.std.specs.Str.{IsCharBoundary};
 ghost use Rattle.comfy_parts.specs.Text.{is_printable_ascii};
 ghost use Rattle.comfy_parts.specs.VisibleText.{sequence_len};
-ghost use Rattle.csv_records.specs.Cleaning.{after_character, after_piece, blanks_after, cleaned, is_harmful, is_replaced, pieces, shown, start, turns_direction};
+ghost use Rattle.csv_records.specs.Cleaning.{after_character, after_piece, blanks_after, cleaned, is_harmful, is_replaced, may_begin_replaced, pieces, shown, start, turns_direction};
 ghost use Rattle.csv_records.specs.Pieces.{part_of};
 
 use crate::characters::split_first;
@@ -55,10 +55,26 @@ pub fn is_clean_line(field: &str) -> bool
     is_printable(field.as_bytes()) || !has_replaced(field)
 }
 
+// Whether a field has a character that is replaced. Bytes are looked at first: few scripts have
+// characters that begin as these do.
 fn has_replaced(field: &str) -> bool
     ensures { result ≡ list_any is_replaced (chars field.now) }
 {
-    field.chars().any(is_replaced)
+    may_hold_replaced(field.as_bytes()) && field.chars().any(is_replaced)
+}
+
+// Whether there is a byte with which the UTF-8 of a character may begin that is replaced.
+fn may_hold_replaced(bytes: &[u8]) -> bool
+    ensures { result ≡ list_any may_begin_replaced bytes.now }
+{
+    bytes.iter().any(|byte| may_begin_replaced(*byte))
+}
+
+// Whether the UTF-8 of a character that is replaced may begin with a byte.
+fn may_begin_replaced(byte: u8) -> bool
+    ensures { result ≡ may_begin_replaced byte }
+{
+    matches!(byte, 0..=0x1F | 0x7F | 0xC2 | 0xE2)
 }
 
 fn has_harmful(field: &str) -> bool

@@ -177,22 +177,26 @@ fn room_for(size: usize) -> usize {
 }
 
 // What a call returns and writes, into this room or else into as much as it needs. Pages of the room that stay unused cost
-// nothing.
-fn written(mut room: usize, mut call: impl FnMut(*mut u8, usize, &mut usize) -> u32) -> Result<(u32, String), OutOfMemory> {
+// nothing. If there is no such room, the first call only finds out how much is needed.
+fn written(room: usize, mut call: impl FnMut(*mut u8, usize, &mut usize) -> u32) -> Result<(u32, String), OutOfMemory> {
+    let mut output = Vec::new();
+    let _ = output.try_reserve_exact(room);
     loop {
-        let mut output = Vec::with_capacity(room);
+        let room = output.capacity();
         let mut needed = 0;
         let status = call(output.as_mut_ptr(), room, &mut needed);
         if status == OUT_OF_MEMORY {
             return Err(OutOfMemory);
         }
         if needed <= room {
-            // SAFETY: where the room is enough, the functions write the first `needed` bytes.
-            unsafe { output.set_len(needed) };
-            // They are proved to write UTF-8, but the library that is linked may be another one.
-            let text = String::from_utf8(output).expect("libcomfy_c.a writes UTF-8");
+            // SAFETY: if the room is enough, the functions write the first `needed` bytes, and these are UTF-8. Both are proved.
+            let text = unsafe {
+                output.set_len(needed);
+                String::from_utf8_unchecked(output)
+            };
             return Ok((status, text));
         }
-        room = needed;
+        output = Vec::new();
+        output.try_reserve_exact(needed).map_err(|_| OutOfMemory)?;
     }
 }

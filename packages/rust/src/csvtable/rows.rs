@@ -272,7 +272,10 @@ impl Rows {
     // A drawing whose line on further rows speaks of rows, where the library's speaks of records. No line of a row is taken for it,
     // since a space stands before each text.
     fn counted_as_rows(&self, drawing: String) -> String {
-        let of = format!("\n{} of {} ", self.settings.limit.unwrap_or(usize::MAX), self.len());
+        let Some(limit) = self.settings.limit else {
+            return drawing;
+        };
+        let of = format!("\n{limit} of {} ", self.len());
         match drawing.strip_suffix("records\n") {
             Some(front) if front.ends_with(&of) => format!("{front}rows\n"),
             _ => drawing,

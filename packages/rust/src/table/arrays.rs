@@ -42,7 +42,7 @@ fn bytes_in(row: &Row) -> usize {
 /// second drawing. For each row it counts the lines that its texts may take, one of the frame, and sequences of its cells.
 pub fn room_for(table: &Table, cells: &CellTable, width: Option<u16>) -> usize {
     const SEQUENCES: usize = 64;
-    const MOST: usize = 1 << 26;
+    const MOST: usize = 1 << 30;
     let columns = table.columns.len();
     let paddings: usize = table.columns.iter().map(|column| usize::from(column.padding_width())).sum();
     // The longest texts of the columns may stand in different rows.
