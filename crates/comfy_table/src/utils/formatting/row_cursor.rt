@@ -80,7 +80,9 @@ impl<'a, 'r> RowCursor<'a, 'r> {
                 let cell = drawn_cell(row, column, table, styles, &mut self.spare)?;
                 height = cell.height().max(height);
                 self.further.push(cell)?;
-                free = self.further[self.further.len() - 1].piece_at(0).push(text, gap, free)?;
+                free = self.further[self.further.len() - 1]
+                    .piece_at(0)
+                    .push(text, gap, free)?;
             }
             gap = gaps.junction();
         }

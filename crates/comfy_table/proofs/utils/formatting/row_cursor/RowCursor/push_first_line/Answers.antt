@@ -1,7 +1,6 @@
 use Rattle.std.proofs.Common.{ap₂, refl, ◌≡◌, ◌<◌, ◌+◌, ◌-◌, ◌++◌, ◌∷◌, [], ℕ, List, length, map, max, take, drop, string_bytes, sym, subst, ap, ◌∙◌, arith, append_assoc, slice_index_or}
 use Rattle.std.proofs.lemmas.Bool.Decides.{nat_tests}
 use Rattle.std.proofs.lemmas.List.{at_drop_more, get_or-map, length-map, map_more, nil_from_length}
-use Rattle.std.specs.Prelude.{if◌then◌else◌}
 use Rattle.comfy_parts.specs.CellValue.{ColumnInfo}
 use Rattle.comfy_parts.specs.Text.{Text, spaces}
 use Rattle.comfy_table.proofs.FurtherLineLemmas.{further-more, further-none, kept-last}
