@@ -22,9 +22,11 @@ use crate::rows_settings::{RowsSettings, expansion_at, separators_at};
 /// | 2 | `row_lines` has no meaning |
 /// | 3 | `expansion` has no meaning |
 /// | 4 | a column's `side` has no meaning |
-/// | 5 | looks, heights or columns ask for more than a side at the left or right, and the table is one for Markdown, or rows are or may be expanded |
+/// | 5 | there are looks, heights or columns that only a table of rows has |
 ///
-/// The first of these is returned. Texts, lengths and counts aren't looked at.
+/// 5 is returned if the table is one for Markdown, or rows are or may be expanded, and there are
+/// looks, heights or columns with more than a side at the left or right. The first of these is
+/// returned. Texts, lengths and counts aren't looked at.
 #[unsafe(no_mangle)]
 pub extern "C" fn comfy_rows_refused(
     looks: &[LookNumbers],

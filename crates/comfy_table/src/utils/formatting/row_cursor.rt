@@ -16,9 +16,9 @@ use comfy_parts::Result;
 use std::alloc::Global;
 use std::marker::Model;
 
-/// The row that is drawn now. Its first line is drawn while its cells are found, and only cells that
-/// may have further lines are kept: most rows have none. One row after another is drawn by it, in the
-/// memory of those before.
+/// The row that is drawn now. Its first line is drawn while its cells are found, and only cells
+/// that may have further lines are kept: most rows have none. One row after another is drawn by it,
+/// in the memory of those before.
 #[derive(Drop)]
 pub struct RowCursor<'a, 'r> {
     // the cells from the first one on that may have more than one line
