@@ -17,7 +17,8 @@
  *    COMFY_FORM_TRIMMED this is so of the lines before the white space at their ends is left out: then they aren't equally wide.
  *  - The table that comfy_rows_draw writes keeps all that is promised of rows there: no text is lost, edges are straight, and a
  *    width holds, with the conditions that it names. This is proved without looks and heights, and for columns with nothing but
- *    COMFY_COLUMN_LEFT, COMFY_COLUMN_RIGHT and COMFY_COLUMN_HIDDEN.
+ *    COMFY_COLUMN_LEFT, COMFY_COLUMN_RIGHT and COMFY_COLUMN_HIDDEN. With looks, heights or other settings of
+ *    columns, the lines before the count of rows keep all that is promised of a table's lines, as those of comfy_cells_draw do.
  *  - A call returns, and reads and writes only memory of its own, and that which its arguments give it.
  *
  * Not proved, but tested:
