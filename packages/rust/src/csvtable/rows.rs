@@ -295,7 +295,18 @@ impl Rows {
 
     // The settings as numbers of comfy_table.h.
     fn settings(&self) -> RowsSettings {
-        let Settings { is_numbered, leaves_decimals, has_header, width, is_full, max_height, limit, expanded, has_bold_header, has_sequences } = self.settings;
+        let Settings {
+            is_numbered,
+            leaves_decimals,
+            has_header,
+            width,
+            is_full,
+            max_height,
+            limit,
+            expanded,
+            has_bold_header,
+            has_sequences,
+        } = self.settings;
         RowsSettings {
             max_height: max_height.unwrap_or(usize::MAX),
             limit: limit.unwrap_or(usize::MAX),
