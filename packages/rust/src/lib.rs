@@ -24,6 +24,11 @@
 //! there, with their decimal points below each other.
 #![warn(missing_docs)]
 
+#[cfg(feature = "reexport_crossterm")]
+compile_error!(
+    "comfy_table_proved has no feature reexport_crossterm: Color and Attribute are its own types; leave the feature out"
+);
+
 mod cell;
 mod column;
 mod column_cells;
