@@ -1,7 +1,7 @@
 #!/bin/sh
 # Puts the package for Rust in the place of comfy-table 8.0.1, and looks at what a program gets:
 #  - random tables, built by the same code over both, must be drawn and read alike, but for the rows of docs/DIFFERENCES.md,
-#    which are counted
+#    which are counted. If sequences differ, each character that isn't white space still has to be in the same style
 #  - the examples of the original's README and doc comments must compile and run over the package, and so must its own tests,
 #    where the folder has them
 #
