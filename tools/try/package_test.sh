@@ -211,6 +211,16 @@ if command -v python3 > /dev/null; then
   "$work/venv/bin/pip" install -q --no-index --disable-pip-version-check "$work"/packages/*.whl
   compare_csv "$work/venv/bin/python" packages/python/examples/draw_csv.py
   "$work/venv/bin/python" -m unittest discover -s packages/python/tests
+  # The stored answers of the package tabulate are compared with what it says, where Debian's Python has it.
+  if /usr/bin/python3 -c 'import tabulate' 2> /dev/null; then
+    tried="$tried, tabulate"
+    installed=$("$work/venv/bin/python" -c 'import sysconfig; print(sysconfig.get_path("platlib"))')
+    PYTHONPATH=$installed /usr/bin/python3 -m unittest discover -s packages/python/tests -p 'test_tabulate.py'
+  fi
+  if command -v mypy > /dev/null; then
+    tried="$tried, mypy"
+    mypy --strict --no-incremental --cache-dir /dev/null packages/python/src/comfy_table_proved
+  fi
 fi
 # An installer takes a wheel by its tag alone, so it says what the library asks of the system.
 case $(ls "$work/packages") in
