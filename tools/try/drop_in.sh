@@ -21,7 +21,7 @@ top=$PWD
 work=$(mktemp -d)
 trap 'rm -rf "$work"' EXIT
 if [ -z "${COMFY_C-}" ]; then
-  (cd crates/comfy_c && rt lib > /dev/null)
+  tools/make/c_library.py > /dev/null
   mkdir "$work/library"
   cp crates/comfy_c/out/libcomfy_c.a "$(dirname "$(rt doc)")/c/liblibc_c.a" "$work/library"
   export COMFY_C="$work/library"
