@@ -68,11 +68,16 @@ class Writer:
 
 def _is_float(value: object) -> bool:
     """Whether a value is a float, one of numpy too, or a Decimal."""
+    # Abstract classes take much longer to ask, so common types come first.
+    if isinstance(value, (float, int, str)):
+        return isinstance(value, float)
     return isinstance(value, (numbers.Real, decimal.Decimal)) and not isinstance(value, numbers.Rational)
 
 
 def _is_int(value: object) -> bool:
-    return isinstance(value, numbers.Integral) and not isinstance(value, bool)
+    if isinstance(value, (float, int, str)):
+        return isinstance(value, int) and not isinstance(value, bool)
+    return isinstance(value, numbers.Integral)
 
 
 def _text(value: object) -> str:
