@@ -48,7 +48,7 @@ def library_at(crate):
 
 
 def missing(crate):
-    """What makes a library useless here, if anything does: it has to be newer than all that it was built of."""
+    """The reason why a library is of no use here, if there is one: it has to be newer than all that it was built of."""
     built = library_at(crate) / "format"
     if not built.exists():
         return f"{built.parent} isn't there"

@@ -89,7 +89,8 @@ try_debian() {
   echo "$(basename "$(dirname "$1")")/$(basename "$1") is installed and removed"
 }
 
-# Writes a project of cargo in a folder, with what its Cargo.toml has below the name, and its source: project NAME FILE SOURCE.
+# Writes a project of cargo in a folder, with its source and, from standard input, the rest of its Cargo.toml:
+# project NAME FILE SOURCE.
 project() {
   mkdir -p "$work/$1/src"
   { printf '[package]\nname = "%s"\nversion = "8.0.1"\nedition = "2024"\n\n' "$1"; cat; } > "$work/$1/Cargo.toml"
@@ -211,7 +212,7 @@ if command -v python3 > /dev/null; then
   "$work/venv/bin/pip" install -q --no-index --disable-pip-version-check "$work"/packages/*.whl
   compare_csv "$work/venv/bin/python" packages/python/examples/draw_csv.py
   "$work/venv/bin/python" -m unittest discover -s packages/python/tests
-  # The stored answers of the package tabulate are compared with what it says, where Debian's Python has it.
+  # The stored answers of the package tabulate are compared with what it says, if Debian's Python has it.
   if /usr/bin/python3 -c 'import tabulate' 2> /dev/null; then
     tried="$tried, tabulate"
     installed=$("$work/venv/bin/python" -c 'import sysconfig; print(sysconfig.get_path("platlib"))')

@@ -2,7 +2,7 @@
 
     tabulate_calls.py
 
-prints what the installed tabulate draws for them, as tabulate_answers.json has it. The keys of CALLS are the rows of TABULATE.md.
+prints the drawings of the installed tabulate, as tabulate_answers.json has them. The keys of CALLS are the rows of TABULATE.md.
 """
 
 import collections
@@ -136,7 +136,7 @@ CALLS = {
 
 
 def drawing(call, tabulate, ansi=False):
-    """What a call draws, or how it is refused."""
+    """The drawing of a call, or its refusal."""
     try:
         return eval(call, {**globals(), "tabulate": tabulate, "ANSI": {"ansi": True} if ansi else {}})
     except Exception as error:

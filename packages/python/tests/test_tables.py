@@ -219,12 +219,17 @@ class Colors(unittest.TestCase):
     def test_a_header_in_bold(self):
         self.assertIn("\x1b[1m", tabulate([["x"]], headers=["a"], bold_header=True, color="always"))
 
-    def test_where_colours_are_written(self):
+    def test_places_for_colours(self):
         settings = {"headers": [Cell("a", "green")], "colors": lambda row, column, value: "red", "bold_header": True}
         plain = tabulate([["x"]], headers=["a"])
         self.assertEqual(tabulate([["x"]], color="never", **settings), plain)
         with self.assertRaises(ValueError):
             tabulate([["x"]], color="sometimes")
+        closed = io.StringIO()
+        closed.close()
+        for output in None, closed:
+            with mock.patch("sys.stdout", output):
+                self.assertEqual(tabulate([["x"]], **settings), plain)
         for is_terminal, no_color, are_written in [(True, "", True), (True, "1", False), (False, "", False)]:
             output = io.StringIO()
             output.isatty = lambda: is_terminal
@@ -349,7 +354,7 @@ class Snippets(unittest.TestCase):
 """)
 
     def test_gaps_between_columns(self):
-        # A character that stands for a gap in the library is another one if a text has it.
+        # The library draws another character for a gap if a text has the first one.
         self.assertEqual(tabulate([["\ue000", "\ue001"]], tablefmt="plain"), "\ue000  \ue001")
         lines = tabulate([["one two three four", "five six seven"]], tablefmt="simple", width=17).split("\n")
         self.assertEqual(max(map(len, lines)), 17)
@@ -621,7 +626,7 @@ class Settings(unittest.TestCase):
         self.assertIn("|\x1b[48;2;1;2;3m \x1b[31ma\x1b[0m", drawing)
         self.assertIn("| \x1b[31m1\x1b[0m |", drawing)
 
-    def test_cells_and_columns_in_the_middle_where_rows_may_be_expanded(self):
+    def test_cells_and_columns_in_the_middle_if_rows_may_be_expanded(self):
         rows, names = [[Cell("late", "red"), "a long remark on it"]], ["state", "remark"]
         settings = {"expanded": "auto", "style": "ascii", "color": "always", "center": 1}
         self.assertEqual(tabulate(rows, names, width=40, **settings), tabulate(rows, names, **{**settings, "expanded": False}))

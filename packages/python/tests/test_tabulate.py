@@ -21,7 +21,7 @@ def ours(call):
 
 
 def ours_with_wider_columns(call):
-    """What a call draws if each column is two wider than its header, as in tabulate."""
+    """The drawing of a call if each column is two wider than its header, as in tabulate."""
 
     def tabulate(*arguments, **settings):
         table = comfy_table_proved.Table(*arguments, **settings)

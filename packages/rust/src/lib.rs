@@ -20,6 +20,14 @@
 //! comfy-table = { package = "comfy_table_proved", path = "../comfy_table_proved-0.1.0" }
 //! ```
 //!
+//! # Features
+//!
+//! - `tty`, on by default: colours and attributes are written, and the output is asked whether it is a terminal, and how wide.
+//! - `custom_styling`: escape sequences for colours (SGR) in texts count no columns. It includes `tty`.
+//! - `_debug` and `_integration_test` do nothing, and `reexport_crossterm` is refused.
+//!
+//! # The tables of csvtable
+//!
 //! The module [`csvtable`] has the tables of the program csvtable, of CSV and of rows: columns of numbers stand at the right
 //! there, with their decimal points below each other.
 #![warn(missing_docs)]

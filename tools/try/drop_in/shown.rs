@@ -1,8 +1,8 @@
-//! What a terminal shows of a text with SGR sequences: characters, each with the style that is in effect.
+//! The characters that a terminal shows of a text with SGR sequences, each with the style that is in effect.
 
 use std::collections::BTreeMap;
 
-/// Colours and attributes by what they change, each with its parameters in a sequence. One that isn't there is the terminal's own.
+/// Colours and attributes, each with its parameters in a sequence. One that isn't there is the terminal's own.
 #[derive(Clone, Debug, Default, PartialEq)]
 pub struct Style(BTreeMap<&'static str, String>);
 
@@ -61,7 +61,7 @@ impl Style {
     }
 }
 
-// The parameters of a colour behind 38 or 48: a number of 256, or three parts.
+// The parameters of a colour after 38 or 48: a number of 256, or three parts.
 fn color<'a>(words: &mut impl Iterator<Item = &'a str>) -> String {
     let kind = words.next().unwrap_or_default();
     let count = if kind == "2" { 3 } else { 1 };
@@ -82,7 +82,7 @@ pub fn shown_from(first: &Style, text: &str) -> Vec<Shown> {
     shown
 }
 
-/// What a drawing may show of a cell's text, in the cell's own style. A line is closed at its end. The next one begins in the
+/// The characters that a drawing may show of a cell's text, in the cell's own style. A line is closed at its end. The next one begins in the
 /// cell's style, and has the sequences since the last reset. Those of a line that is cut by height are left out.
 pub fn may_be_shown(own: &Style, text: &str, is_cut: bool) -> Vec<Shown> {
     let mut allowed = shown_from(own, text);
@@ -117,9 +117,9 @@ fn each_part<'a>(text: &'a str, mut call: impl FnMut(Option<&'a str>, &'a str)) 
     let mut parts = text.split("\u{1b}[");
     call(None, parts.next().unwrap_or_default());
     for part in parts {
-        let behind = part.trim_start_matches(|it: char| it.is_ascii_digit() || it == ';' || it == ':');
-        match behind.strip_prefix('m') {
-            Some(rest) => call(Some(&part[..part.len() - behind.len()]), rest),
+        let rest = part.trim_start_matches(|it: char| it.is_ascii_digit() || it == ';' || it == ':');
+        match rest.strip_prefix('m') {
+            Some(visible) => call(Some(&part[..part.len() - rest.len()]), visible),
             None => call(None, part),
         }
     }

@@ -62,8 +62,15 @@ def writes_colors(asked: str) -> bool:
     """Whether colours are written: if the standard output is a terminal and NO_COLOR isn't set, always, or never."""
     if asked not in ("auto", "always", "never"):
         raise ValueError(f'color is "auto", "always" or "never", not {asked!r}')
-    is_shown = asked == "auto" and sys.stdout is not None and sys.stdout.isatty()
-    return asked == "always" or is_shown and not os.environ.get("NO_COLOR")
+    return asked == "always" or asked == "auto" and not os.environ.get("NO_COLOR") and _is_terminal(sys.stdout)
+
+
+def _is_terminal(output: Any) -> bool:
+    """Whether an output is a terminal; one that is closed or isn't there is none."""
+    try:
+        return bool(output.isatty())
+    except (AttributeError, ValueError):
+        return False
 
 
 def look_of(value: object, has_colors: bool) -> Look:

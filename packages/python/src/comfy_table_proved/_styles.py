@@ -32,7 +32,7 @@ _PRESETS = {
 _NUMBERS = {name: number for number, name in enumerate(_PRESETS)}
 
 
-# Stands between columns of a frame with gaps until the drawing is there. No text of such a table has it.
+# The character between columns of a frame with gaps, until the drawing is made. No text of such a table has it.
 GAP = "\ue000"
 
 
@@ -62,7 +62,7 @@ class Frame(NamedTuple):
         return tuple(line if at not in (1, 3) else (line[0], *line[2:]) for at, line in enumerate(lines))
 
     def beside(self, has_header: bool, texts: Sequence[Sequence[str]]) -> Frame:
-        """The frame of a table with a header or without, in which no text has the character that stands for a gap."""
+        """The frame of a table with a header or without, and with a character for gaps that no text of the table has."""
         lines = self.lines if has_header or self.headless is None else self.headless
         if not self.has_gaps:
             return self._replace(lines=lines)
@@ -71,7 +71,7 @@ class Frame(NamedTuple):
         return self._replace(lines=tuple(line.replace(GAP, gap) for line in lines))
 
     def finished(self, drawing: str) -> str:
-        """A drawing with gaps in place of what stands for them, and without spaces at the ends of lines."""
+        """A drawing with gaps in place of their character, and without spaces at the ends of lines."""
         if self.has_gaps:
             drawing = drawing.replace(self.lines[1][2], "  ")
         return re.sub(" +$", "", drawing, flags=re.MULTILINE) if self.is_trimmed else drawing
@@ -135,7 +135,7 @@ _TABLEFMTS = {
     "github": MARKDOWN,
     "pipe": MARKDOWN._replace(has_colons=True),
 }
-# What makes the other formats of tabulate.
+# Programs for the other formats of tabulate.
 _CONVERTED = "html unsafehtml latex latex_raw latex_booktabs latex_longtable mediawiki jira textile asciidoc"
 _INSTEAD = {
     **{name: 'pandoc, which reads tablefmt="grid"' for name in _CONVERTED.split()},

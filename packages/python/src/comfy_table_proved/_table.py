@@ -88,34 +88,34 @@ def tabulate(
         place of "_grid", "psql", "pretty", "presto", "orgtbl", "rst", "github" and "pipe". Columns of "pretty" are in the middle.
     style: a frame by name: "rounded" (without it), "box", "grid", "ascii", "plain" or a preset, as "UTF8_FULL"; "markdown" is as
         `markdown=True`. Or a frame of your own, by six lines of four characters: ("╭─┬╮", "│ ┆│", "╞═╪╡", "│ ┆│", "├╌┼┤", "╰─┴╯")
-        are the lines above the table, of the header, below it, of a row, between rows and below the table. The characters stand
-        at the left, all along, between columns and at the right; a space stands for none, and "" for no line.
-    floatfmt, intfmt, missingval: how floats and ints are written, as ".2f" and ",", and what stands for `None`: one text for all
+        are the lines above the table, of the header, below it, of a row, between rows and below the table. The characters are
+        at the left, all along, between columns and at the right; a space is no character, and "" no line.
+    floatfmt, intfmt, missingval: how floats and ints are written, as ".2f" and ",", and the text for `None`: one for all
         columns, or a list with one for each column. Decimals are written as floats are, and so are ints of a column that has
         floats. Beside "", "-", "n/a", "na", "null", "nan" and "inf" a column of numbers stays one; another `missingval` makes it
         a column of texts.
     showindex: True puts a column with the number of each row in front, counted from 0, or the index of a DataFrame; a list puts
-        its values there; "default" does so where rows have an index.
+        its values there; "default" does so if rows have an index.
 
     left, right, center, columns, hidden: a column, or a list of them, by name or position. Names are those of the header.
         Positions count from 0, and from -1 at the end. `columns` chooses which are drawn, in which order, and `hidden` which
-        aren't. A column in none of the first three stands at the right where its values are numbers, negative ones and amounts of
-        money too.
+        aren't. A column in none of the first three is at the right if its values are numbers, negative ones and amounts of money
+        too.
     colalign: the sides of the first columns, as ("left", "right", "center").
-    align_decimals: decimal points of a column of numbers stand below each other; False leaves them where they are.
-    width: so many terminal columns are kept to; "terminal" is the width of the terminal; with None no width is kept. `full=True`
-        fills it, and makes columns with widths of their own wider where no other is there.
+    align_decimals: decimal points of a column of numbers are below each other; False leaves them as they are.
+    width: the greatest width in terminal columns; "terminal" is the width of the terminal, and None is no width. `full=True`
+        fills it, and makes columns with widths of their own wider if no other is there.
     colwidths, mincolwidths, maxcolwidths: how many terminal columns a column's texts take, take at least, or at most: a number
         for all columns, a list with a number or None for each column, or a dict of columns by name or position.
     padding: how many terminal columns stay free beside texts, at the left and at the right: a number, a pair for left and right,
         or a dict of such by columns.
     max_height: how many lines a row below the header has at most, or a list with a number or None for each row.
-    limit: how many rows are drawn; where there are more, a line below says so.
+    limit: how many rows are drawn; if there are more, a line below says so.
     row_lines: True has lines between rows in each style that has them, False in none.
-    expanded: True draws each row as a table of its own, of names and values; "auto" does so where the width is too small.
+    expanded: True draws each row as a table of its own, of names and values; "auto" does so if the width is too small.
     markdown: True draws a table for Markdown, which keeps to no width. A column in the middle has two colons there.
     bold_header: True writes the header in bold.
-    colors: a function of a row's position, a column's name (its position where it has none) and a value, which returns None or
+    colors: a function of a row's position, a column's name (its position if it has none) and a value, which returns None or
         words such as "red", "bold bright_green" or "black on_#ffcc00". Words are the colours of terminals, those after "bright_",
         colours as "#ffcc00", each also after "on_" for the background, "bold", "dim", "italic", "underline", "blink", "reverse",
         "crossed_out" and "overline".
@@ -258,7 +258,7 @@ _shorten_help()
 
 
 class _Contents(NamedTuple):
-    """What a table has: the texts of its header and of each row, a look for each text or none, and its columns."""
+    """The texts of the header and of each row, a look for each text or none, and the columns."""
 
     records: list[list[str]]
     looks: list[list[Look]]
