@@ -678,6 +678,14 @@ class Settings(unittest.TestCase):
 ╚═══╩═══╝
 """)
         self.assertEqual(tabulate(rows, style=["", "   !", "", "", "", "    "], padding=0), "ab \ncd ")
+        self.expect(tabulate(rows[:1], ["x", "y"], style=frame, expanded=True), """
+record 1 of 1
+╔═══╦═══╗
+║ x │ a ║
+╟───┼───╢
+║ y │ b ║
+╚═══╩═══╝
+""")
 
     def test_what_stands_for_nothing_is_refused(self):
         for settings, message in [
@@ -692,9 +700,9 @@ class Settings(unittest.TestCase):
             ({"max_height": [1, -2]}, "max_height is a whole number from 0 on or None, not -2"),
             ({"style": ["+-++"]}, "a frame has six lines, each of four printable characters or none, not ['+-++']"),
             ({"style": ["+-++"] * 6}, "nothing but a space fills a line of texts, so the second character of '+-++' is one"),
-            ({"center": 0, "expanded": True}, "a table for Markdown and expanded rows have no side in the middle"),
-            ({"padding": 0, "expanded": "auto"}, "a table for Markdown and expanded rows have no padding"),
-            ({"maxcolwidths": 9, "tablefmt": "github"}, "a table for Markdown and expanded rows have no maxcolwidths"),
+            ({"center": 0, "expanded": True}, "expanded rows have no side in the middle"),
+            ({"padding": 0, "expanded": "auto"}, "expanded rows have no padding"),
+            ({"maxcolwidths": 9, "tablefmt": "github"}, "a table for Markdown has no maxcolwidths"),
         ]:
             with self.assertRaises(ValueError, msg=settings) as caught:
                 tabulate([["x", "y"]], **settings)

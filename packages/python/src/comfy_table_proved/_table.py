@@ -124,9 +124,9 @@ def tabulate(
         want.
     ansi: True keeps sequences of colours and attributes (SGR) in values, wherever they are written. They take no columns.
 
-    A table for Markdown and expanded rows have no widths of columns, no other padding, no frame of your own, no heights by row
-    and no `Cell`, and expanded rows have no side in the middle. With "auto", expanded rows show a `Cell` by its value alone, and
-    a column in the middle as its values ask for.
+    A table for Markdown and expanded rows have no widths of columns, no other padding, no heights by row and no `Cell`. A table
+    for Markdown has no frame of your own, and expanded rows have no side in the middle. With "auto", expanded rows show a `Cell`
+    by its value alone, and a column in the middle as its values ask for.
 
     Without `ansi`, no text in a cell is taken for anything else: control characters become U+FFFD, TABs spaces, and line breaks
     stay. Bytes are texts if they are UTF-8.
@@ -346,31 +346,35 @@ def _colons(cell: str, side: int, has_all: bool) -> str:
 
 
 def _refuse_settings(table: Table, values: Values, is_markdown: bool) -> None:
-    """Refuses settings that a table for Markdown and expanded rows don't have."""
+    """Refuses settings that a table for Markdown or expanded rows don't have."""
     if not is_markdown and not table.expanded:
         return
-    is_auto = not is_markdown and table.expanded == "auto"
+    is_expanded = not is_markdown and table.expanded != "auto"
     asked = {
-        "side in the middle": not is_markdown and not is_auto and (table.center is not None or "center" in (table.colalign or ())),
+        "side in the middle": is_expanded and (table.center is not None or "center" in (table.colalign or ())),
         "colwidths": table.colwidths is not None,
         "mincolwidths": table.mincolwidths is not None,
         "maxcolwidths": table.maxcolwidths is not None,
         "padding": table.padding != 1,
-        "frame of your own": not isinstance(table.style, (str, type(None))),
+        "frame of your own": is_markdown and not isinstance(table.style, (str, type(None))),
         "heights by row": isinstance(table.max_height, (list, tuple)),
-        "Cell": not is_auto and any(isinstance(value, Cell) for row in [values.header or [], *values.rows] for value in row),
+        "Cell": (is_markdown or is_expanded) and _has_cells(values),
     }
     for name, is_asked in asked.items():
         if is_asked:
-            raise ValueError(f"a table for Markdown and expanded rows have no {name}")
+            raise ValueError(f"{'a table for Markdown has' if is_markdown else 'expanded rows have'} no {name}")
 
 
 def _looks_of(values: Values, has_colors: bool) -> list[list[Look]]:
     """How the values of the header and of each row look, with colours or without; nothing if none is a cell."""
     rows = [*([] if values.header is None else [values.header]), *values.rows]
-    if not any(isinstance(value, Cell) for row in rows for value in row):
+    if not _has_cells(values):
         return []
     return [[look_of(value, has_colors) for value in row or [None]] for row in rows]
+
+
+def _has_cells(values: Values) -> bool:
+    return any(isinstance(value, Cell) for row in [values.header or [], *values.rows] for value in row)
 
 
 def _without_cells(values: Values) -> Values:
