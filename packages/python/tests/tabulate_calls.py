@@ -116,6 +116,11 @@ CALLS = {
     "a list of keys chooses columns": ["tabulate([Pair('oats', 3)], headers=['price', 'name'], tablefmt='grid')"],
     "a column is drawn if only its header is there": ["tabulate([['a']], headers=['x', 'y'], tablefmt='grid')"],
     "an empty row has an empty cell": ["tabulate([[]], tablefmt='grid')"],
+    "an empty row has a line beside texts of several lines": ["tabulate([['a\\nb'], [''], ['c']], tablefmt='grid')"],
+    "texts have several lines in each format": ["tabulate([['a\\nb', 1]], tablefmt='fancy_outline')"],
+    "a column without texts is one wide": ["tabulate([[None, 1], ['', 2]], tablefmt='simple')"],
+    "`..` in `rst` is in place of None too": ["tabulate([[None, 1], ['b', 2]], tablefmt='rst')"],
+    "numbers at the right have their decimal points below each other": ["tabulate([[1.5], [10.25]], tablefmt='grid', colalign=['right'])"],
     "a dataclass has keys": ["tabulate([Boat('Albatross', 9)], headers='keys', tablefmt='grid')"],
     "there are `left`, `right`, `center` and other settings": [
         "tabulate(FOODS, tablefmt='grid', center=0)",

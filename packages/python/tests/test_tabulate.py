@@ -1,6 +1,7 @@
 """Calls of the package tabulate, whose answers are stored with its version: each drawing is the same, or differs as TABULATE.md says."""
 
 import json
+import random
 import re
 import shutil
 import subprocess
@@ -38,6 +39,32 @@ def rows_of_page():
     return [line.split(" | ")[0].replace("\\|", "|") for line in lines]
 
 
+KINDS = {
+    "words": ["a", "word", "two words", "x-y", "Ann", "end", "b c d", "n/s", "two\nlines"],
+    "ints": [0, 7, -12, 345, 67890, -1000],
+    "floats": [0.5, 1.25, -3.75, 10.5, 100.125],
+}
+
+
+def random_call(chance):
+    """A call of which no row of the page speaks. Each column has a value, and each row has one, too."""
+    kinds = [chance.choice([*KINDS.values()]) for _ in range(chance.randint(1, 4))]
+    rows = [[chance.choice(kind) for kind in kinds] for _ in range(chance.randint(1, 4))]
+    has_lines = any("\n" in str(value) for row in rows for value in row)
+    formats = "plain simple grid fancy_grid orgtbl presto psql".split() + ["rst", "fancy_outline"] * (not has_lines)
+    settings = {"tablefmt": chance.choice(formats)}
+    if chance.random() < 0.6:
+        count = len(kinds) if settings["tablefmt"] == "rst" else chance.randint(1, len(kinds))
+        settings["headers"] = ["name" * chance.randint(1, 3) for _ in range(count)]
+    if chance.random() < 0.3:
+        settings["floatfmt"] = ".2f"
+    if chance.random() < 0.2 and settings["tablefmt"] != "rst":
+        settings["showindex"] = True
+    if len(kinds) > 1 and len(rows) > 1 and settings["tablefmt"] != "rst":
+        rows[chance.randrange(len(rows))][chance.randrange(len(kinds))] = None
+    return f"tabulate({rows!r}, **{settings!r})"
+
+
 class Tabulate(unittest.TestCase):
     maxDiff = None
 
@@ -67,15 +94,25 @@ class Tabulate(unittest.TestCase):
         said = re.search(r"(\d+) calls were compared.* (\d+) calls draw the same bytes, and (\d+) do if", page, re.DOTALL)
         self.assertEqual([int(count) for count in said.groups()], counts)
 
-    def test_the_installed_package_still_says_so(self):
+    def installed(self):
         try:
             import tabulate
         except ImportError:
             self.skipTest("tabulate isn't there")
         if tabulate.__version__ != STORED["version"] or tabulate.wcwidth is not None:
             self.skipTest(f"the answers are those of tabulate {STORED['version']} without wcwidth, and {tabulate.__version__} is there")
+        return tabulate.tabulate
+
+    def test_the_installed_package_still_says_so(self):
+        tabulate = self.installed()
         for call, answer in STORED["answers"].items():
-            self.assertEqual(drawing(call, tabulate.tabulate), answer, call)
+            self.assertEqual(drawing(call, tabulate), answer, call)
+
+    def test_random_tables(self):
+        tabulate = self.installed()
+        for seed in range(5000):
+            call = random_call(random.Random(seed))
+            self.assertEqual(ours_with_wider_columns(call), drawing(call, tabulate), (seed, call))
 
 
 class Readers(unittest.TestCase):
