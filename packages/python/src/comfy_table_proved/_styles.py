@@ -61,7 +61,7 @@ class Frame(NamedTuple):
         lines = [tuple(0 if it == " " else ord(it) for it in line or "    ") for line in self.lines]
         return tuple(line if at not in (1, 3) else (line[0], *line[2:]) for at, line in enumerate(lines))
 
-    def beside(self, has_header: bool, texts: Sequence[Sequence[str]]) -> Frame:
+    def for_table(self, has_header: bool, texts: Sequence[Sequence[str]]) -> Frame:
         """The frame of a table with a header or without, and with a character for gaps that no text of the table has."""
         lines = self.lines if has_header or self.headless is None else self.headless
         if not self.has_gaps:

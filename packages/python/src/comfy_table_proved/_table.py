@@ -280,7 +280,7 @@ def _drawing(table: Table) -> str:
     has_colors = writes_colors(table.color)
     contents = _contents_of(table, values, frame, has_colors)
     headers = 0 if values.header is None else 1
-    frame = frame.beside(headers == 1, contents.records)
+    frame = frame.for_table(headers == 1, contents.records)
     settings = _settings_of(table, has_colors, headers == 1, is_markdown, frame, len(contents.columns))
     drawing = _drawn(contents, _heights_of(table.max_height, headers, len(values.rows)), settings)[:-1]
     if is_markdown:
