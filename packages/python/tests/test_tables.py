@@ -365,6 +365,8 @@ class Snippets(unittest.TestCase):
         wanted = "| x   | num |\n|:---:|----:|\n| a   |   1 |\n| bcd |  22 |"
         self.assertEqual(tabulate(rows, names, tablefmt="pipe", colalign=("center",)), wanted)
         self.assertEqual(tabulate(rows, names, markdown=True, center="x"), wanted)
+        colors = {"colors": lambda row, column, value: "red", "bold_header": True, "color": "always"}
+        self.assertEqual(tabulate([["a", 1], ["\x1b[1mbcd\x1b[0m", 22]], names, markdown=True, center="x", ansi=True, **colors), wanted)
         self.assertEqual(tabulate(rows, names, tablefmt="pipe", left=1).split("\n")[1], "|:----|:----|")
 
     def test_formats_that_other_programs_make(self):

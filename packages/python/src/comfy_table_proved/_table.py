@@ -124,8 +124,8 @@ def tabulate(
         want.
     ansi: True keeps sequences of colours and attributes (SGR) in values, wherever they are written. They take no columns.
 
-    A table for Markdown and expanded rows have no widths of columns, no other padding, no heights by row and no `Cell`. A table
-    for Markdown has no frame of your own, and expanded rows have no side in the middle. With "auto", expanded rows show a `Cell`
+    A table for Markdown has no colours. It and expanded rows have no widths of columns, no other padding, no heights by row and no
+    `Cell`. A table for Markdown has no frame of your own, and expanded rows have no side in the middle. With "auto", expanded rows show a `Cell`
     by its value alone, and a column in the middle as its values ask for.
 
     Without `ansi`, no text in a cell is taken for anything else: control characters become U+FFFD, TABs spaces, and line breaks
@@ -269,6 +269,9 @@ class _Contents(NamedTuple):
         looks = [_chosen(row, positions, PLAIN) for row in self.looks]
         return _Contents(records, looks, [self.columns[position] for position in positions])
 
+    def without_sequences(self) -> _Contents:
+        return self._replace(records=[[re.sub(_SEQUENCE, "", text) for text in record] for record in self.records])
+
 
 def _drawing(table: Table) -> str:
     values = values_of(table.rows, table.headers, table.showindex)
@@ -277,8 +280,10 @@ def _drawing(table: Table) -> str:
     frame = frame_of(table.style, table.tablefmt)
     is_markdown = frame.is_markdown or bool(table.markdown)
     _refuse_settings(table, values, is_markdown)
-    has_colors = writes_colors(table.color)
+    has_colors = writes_colors(table.color) and not is_markdown
     contents = _contents_of(table, values, frame, has_colors)
+    if is_markdown and table.ansi:
+        contents = contents.without_sequences()
     headers = 0 if values.header is None else 1
     frame = frame.for_table(headers == 1, contents.records)
     settings = _settings_of(table, has_colors, headers == 1, is_markdown, frame, len(contents.columns))
