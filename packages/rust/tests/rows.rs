@@ -175,6 +175,8 @@ fn painted_cells() {
     });
     let wanted = "+----+---+\n|  a | 1 |\n+========+\n| \x1b[49;38;5;9;4:2m-1\x1b[0m | \u{fffd} |\n+----+---+\n";
     assert_eq!(painted.to_string(), wanted);
+    let markdown = painted.style(Style::Markdown).columns(["1", "a"]).unwrap().to_string();
+    assert_eq!(markdown, "| 1 |  a |\n|---|---:|\n| \u{fffd} | -1 |\n");
 }
 
 #[test]
