@@ -559,6 +559,11 @@ class Snippets(unittest.TestCase):
         self.assertEqual(tabulate(numpy.array([[1, 2], [3, 4]])), tabulate([[1, 2], [3, 4]]))
         array = numpy.array([(1, 2.5)], dtype=[("a", "i4"), ("b", "f8")])
         self.assertEqual(tabulate(array, headers="keys"), tabulate([{"a": 1, "b": 2.5}], headers="keys"))
+        frame = pandas.DataFrame({"a": [1, 2], "b": ["x", "y"]})
+        self.assertEqual(tabulate(frame, headers=["b"], tablefmt="plain"), "   b\n0  x\n1  y")
+        self.assertEqual(tabulate(frame, headers=["B"], tablefmt="plain"), "      B\n0  1  x\n1  2  y")
+        numbers = [[numpy.float32(1.5), numpy.int64(2000)], [numpy.int64(2), None]]
+        self.assertEqual(tabulate(numbers, floatfmt=".2f", intfmt=",", tablefmt="plain"), "1.50  2,000\n2.00")
 
 
 class Settings(unittest.TestCase):
