@@ -197,6 +197,9 @@ END
   "$work/project/target/debug/boats" | sed 's/.\[[0-9;]*m//g' | cmp "$work/wanted" -
   compare_csv "$work/project/target/debug/csv"
   try_in_terminal "$work/project/target/debug/bikes"
+  for page in $(grep -o '](docs/[A-Za-z.]*' "$work/crate/README.md" | cut -c 3-); do
+    [ -e "$work/crate/$page" ]
+  done
   try_patch
   try_targets
   try_refusals
