@@ -49,6 +49,7 @@ impl<'a, 'r> RowCursor<'a, 'r> {
 
     /// Goes on to a row, appends its first line, and returns its height. In no columns it has no
     /// line.
+    #[inline(always)]
     pub fn push_first_line(
         &mut self,
         text: &mut String,
