@@ -18,8 +18,11 @@ put() {
 
 # The library for C, with what it needs of the toolchain.
 put_library() {
-  build comfy_c libcomfy_c.a rt lib
+  build comfy_c libcomfy_c.a ../../tools/make/c_library.py
   put 644 packages/c/comfy_table.h include
+  for file in packages/c/examples/*; do
+    put 644 "$file" share/doc/comfy_table/examples
+  done
   put 644 crates/comfy_c/out/libcomfy_c.a lib
   put 644 "$(dirname "$(rt doc)")/c/liblibc_c.a" lib
   put 644 packages/c/comfy_table.pc lib/pkgconfig

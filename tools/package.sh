@@ -48,6 +48,10 @@ name=comfy_table_proved-$version
 mkdir "$work/$name" "$work/$name/lib"
 cp -r packages/rust/* LICENSE "$work/$name"
 cp "$prefix"/lib/*.a "$work/$name/lib"
+# The pages that its README names are there too.
+mkdir "$work/$name/docs"
+cp docs/DIFFERENCES.md docs/PROVED.md "$work/$name/docs"
+sed -i 's|](../../docs/|](docs/|g' "$work/$name/README.md"
 packed "$work" "$name" | gzip -9n > "$out/$name.crate"
 
 cp -r packages/python "$work/python"

@@ -1,6 +1,14 @@
 /*
  * Tables drawn by the library comfy_table: of rows of texts, of cells with settings of their own, and of CSV.
  *
+ * Begin with COMFY_ROWS_SETTINGS, COMFY_CELLS_SETTINGS and COMFY_COLUMN, and then change fields:
+ *
+ *     struct comfy_rows_settings settings = COMFY_ROWS_SETTINGS;
+ *     settings.width = 80;
+ *
+ * A struct of zeros asks for something else: no row, and a width of 0. Each field says what 0 means in it. Whole programs are in
+ * share/doc/comfy_table/examples.
+ *
  * Proved of each function:
  *  - Each result comes only where the function's list says so, but for what it says of malloc. There is no other result.
  *  - The drawing, the message about an input, *needed and what stays unchanged are as the list says.
@@ -9,7 +17,8 @@
  *    COMFY_FORM_TRIMMED this is so of the lines before the white space at their ends is left out: then they aren't equally wide.
  *  - The table that comfy_rows_draw writes keeps all that is promised of rows there: no text is lost, edges are straight, and a
  *    width holds, with the conditions that it names. This is proved without looks and heights, and for columns with nothing but
- *    COMFY_COLUMN_LEFT, COMFY_COLUMN_RIGHT and COMFY_COLUMN_HIDDEN.
+ *    COMFY_COLUMN_LEFT, COMFY_COLUMN_RIGHT and COMFY_COLUMN_HIDDEN. With looks, heights or other settings of
+ *    columns, the lines before the count of rows keep all that is promised of a table's lines, as those of comfy_cells_draw do.
  *  - A call returns, and reads and writes only memory of its own, and that which its arguments give it.
  *
  * Not proved, but tested:
@@ -40,6 +49,9 @@
 #include <stddef.h>
 #include <stdint.h>
 #include <stdlib.h>
+
+/* The version of this header, and of the library that it comes with. */
+#define COMFY_TABLE_VERSION "0.1.0"
 
 #ifdef __cplusplus
 extern "C" {
@@ -123,7 +135,11 @@ struct comfy_frame {
     struct comfy_line bottom_border;
 };
 
-/* Stands for no width, as every width above 65535 does. */
+/* A frame of no characters. */
+#define COMFY_NO_FRAME \
+    {{0, 0, 0, 0}, {0, 0, 0}, {0, 0, 0, 0}, {0, 0, 0}, {0, 0, 0, 0}, {0, 0, 0, 0}}
+
+/* No width, as every width above 65535 is. A width of 0 is a width: the narrowest table that the columns allow. */
 #define COMFY_NO_WIDTH UINT32_MAX
 
 /* ---- how texts look */
@@ -204,7 +220,7 @@ struct comfy_look {
 
 /* ---- rows of texts */
 
-/* Stands for no limit. */
+/* No limit. In settings of rows a limit of 0 draws no row, and a height of 0 counts as 1. */
 #define COMFY_NO_LIMIT SIZE_MAX
 
 /* Where the style's lines between rows are drawn: everywhere, where a row has more than one line, or nowhere. */
@@ -233,15 +249,15 @@ struct comfy_rows_column {
 
 #define COMFY_PLAIN_COLUMN {1, 1, COMFY_COLUMN_BY_CONTENTS, 0, 0}
 
-/* How rows are drawn. A flag is set where it isn't 0. */
+/* How rows are drawn. A flag is set if it isn't 0. COMFY_ROWS_SETTINGS are those of csvtable without arguments. */
 struct comfy_rows_settings {
-    size_t max_height;        /* how many lines a row below the header has at most, or COMFY_NO_LIMIT */
-    size_t limit;             /* how many rows are drawn, or COMFY_NO_LIMIT; where there are more, a line below says so */
-    uint32_t style;           /* a preset, COMFY_ROUNDED or COMFY_OWN_STYLE */
-    uint32_t width;           /* in terminal columns, or COMFY_NO_WIDTH */
+    size_t max_height;        /* how many lines a row below the header has at most, 0 counts as 1; or COMFY_NO_LIMIT */
+    size_t limit;             /* how many rows are drawn, 0 draws none; or COMFY_NO_LIMIT. A line below says if there are more */
+    uint32_t style;           /* a preset, 0 is COMFY_ASCII_FULL; COMFY_ROUNDED; or COMFY_OWN_STYLE */
+    uint32_t width;           /* in terminal columns, 0 is the narrowest; or COMFY_NO_WIDTH */
     uint32_t fills_width;     /* a flag: the width is filled */
-    uint32_t row_lines;       /* COMFY_LINES_.. */
-    uint32_t expansion;       /* COMFY_EXPANDED_.. */
+    uint32_t row_lines;       /* COMFY_LINES_.., 0 draws them everywhere */
+    uint32_t expansion;       /* COMFY_EXPANDED_.., 0 expands no row */
     uint32_t has_header;      /* a flag: the first row is the header */
     uint32_t has_bold_header; /* a flag: it is written in bold */
     uint32_t is_numbered;     /* a flag: a first column has the numbers of the rows */
@@ -250,6 +266,11 @@ struct comfy_rows_settings {
     uint32_t is_markdown;     /* a flag: the table is one for Markdown, whatever else is set here */
     struct comfy_frame frame; /* the lines of COMFY_OWN_STYLE, which no other style reads */
 };
+
+/* All rows, no width, round corners, lines between rows where one is tall, and a header. */
+#define COMFY_ROWS_SETTINGS \
+    {COMFY_NO_LIMIT, COMFY_NO_LIMIT, COMFY_ROUNDED, COMFY_NO_WIDTH, 0, COMFY_LINES_WHERE_NEEDED, COMFY_EXPANDED_AUTO, \
+     1, 0, 0, 1, 0, 0, COMFY_NO_FRAME}
 
 /*
  * Draws the table of rows into the caller's buffer, as csvtable draws records of these texts into a pipe, all of them counted.
@@ -280,9 +301,31 @@ uint32_t comfy_rows_draw(const uint8_t *texts, size_t texts_length, const size_t
                          size_t columns_length, const struct comfy_rows_settings *settings, uint8_t *output,
                          size_t output_length, size_t *needed);
 
+/* ---- which setting is refused */
+
+/* What a result of COMFY_SETTINGS_REFUSED comes from, if it doesn't come from the columns that rows have. */
+enum {
+    COMFY_NONE_REFUSED,
+    COMFY_STYLE_REFUSED,       /* style is none of those above */
+    COMFY_ROW_LINES_REFUSED,   /* nor is row_lines */
+    COMFY_EXPANSION_REFUSED,   /* nor is expansion */
+    COMFY_SIDE_REFUSED,        /* nor is the side of a column */
+    COMFY_TABLE_ONLY_REFUSED,  /* there are looks, heights or columns that only a table of rows has */
+    COMFY_FORM_REFUSED,        /* form of a table of cells is none of those below */
+    COMFY_ARRANGEMENT_REFUSED  /* nor is arrangement */
+};
+
+/*
+ * Returns which setting comfy_rows_draw refuses, whatever the texts are: the first of those above. With COMFY_NONE_REFUSED it can
+ * only refuse a column that no row has, or columns of which none is drawn.
+ */
+uint32_t comfy_rows_refused(const struct comfy_look *looks, size_t looks_length, const size_t *heights, size_t heights_length,
+                            const struct comfy_rows_column *columns, size_t columns_length,
+                            const struct comfy_rows_settings *settings);
+
 /* ---- cells with settings of their own */
 
-/* In the structs of this part 0 means that nothing is set, but not as a width and as a padding. */
+/* In the structs of this part 0 means that nothing is set, except as a width and as a padding: those are 0 then. */
 
 struct comfy_cell {
     size_t length;       /* the bytes of its text, in which line feeds are between lines */
@@ -315,14 +358,17 @@ struct comfy_width {
 };
 
 struct comfy_column {
-    uint16_t left_padding;    /* in terminal columns, as the other; comfy-table begins with 1 and 1 */
-    uint16_t right_padding;
+    uint16_t left_padding;    /* how many terminal columns stay free at the left of texts */
+    uint16_t right_padding;   /* how many at the right */
     uint32_t delimiter;       /* the character at which its lines may break, in place of the table's */
     uint32_t alignment;       /* COMFY_ALIGNED_..; the first stands for the left */
     uint32_t constraint;      /* COMFY_CONSTRAINT_.. */
     struct comfy_width width; /* that of the constraint; the least of COMFY_CONSTRAINT_BOUNDARIES */
     struct comfy_width upper; /* the greatest of COMFY_CONSTRAINT_BOUNDARIES */
 };
+
+/* A column as comfy-table makes it: with paddings of 1. */
+#define COMFY_COLUMN {1, 1, 0, COMFY_ALIGNED_BY_COLUMN, COMFY_CONSTRAINT_NONE, {0, 0}, {0, 0}}
 
 /* What is written: the lines; the lines without white space at their ends, and without the last line feed; or the greatest width
  * of each column's contents, in decimal with a line feed behind it. */
@@ -331,27 +377,33 @@ enum { COMFY_FORM_LINES, COMFY_FORM_TRIMMED, COMFY_FORM_CONTENT_WIDTHS };
 /* How the widths of the columns are found: by their contents alone, within the table's width, or so that they fill it. */
 enum { COMFY_DISABLED, COMFY_DYNAMIC, COMFY_DYNAMIC_FULL_WIDTH };
 
-/* How a table of cells is drawn. A flag is set where it isn't 0. */
+/* How a table of cells is drawn. A flag is set if it isn't 0. COMFY_CELLS_SETTINGS are those of a new table with a header. */
 struct comfy_cells_settings {
-    uint32_t form;            /* COMFY_FORM_.. */
-    uint32_t style;           /* a preset, COMFY_ROUNDED or COMFY_OWN_STYLE */
-    uint32_t arrangement;     /* COMFY_DISABLED, COMFY_DYNAMIC or COMFY_DYNAMIC_FULL_WIDTH */
-    uint32_t width;           /* in terminal columns, or COMFY_NO_WIDTH; no terminal is asked */
-    uint32_t delimiter;       /* the character at which lines may break; 0 stands for a space */
+    uint32_t form;            /* COMFY_FORM_.., 0 writes lines */
+    uint32_t style;           /* a preset, 0 is COMFY_ASCII_FULL; COMFY_ROUNDED; or COMFY_OWN_STYLE */
+    uint32_t arrangement;     /* COMFY_DISABLED, which is 0, COMFY_DYNAMIC or COMFY_DYNAMIC_FULL_WIDTH */
+    uint32_t width;           /* in terminal columns, 0 is the narrowest; or COMFY_NO_WIDTH. COMFY_DISABLED reads none */
+    uint32_t delimiter;       /* the character at which lines may break, 0 is a space */
     uint32_t has_header;      /* a flag: the first row is the header */
     uint32_t enforce_styling; /* a flag: colours and attributes are written */
-    uint32_t style_text_only; /* a flag: they stand round the texts alone, and not round the paddings */
+    uint32_t style_text_only; /* a flag: they are around texts alone, and not around paddings */
     uint32_t custom_styling;  /* a flag: SGR sequences in texts count no columns */
     struct comfy_frame frame; /* the lines of COMFY_OWN_STYLE, which no other style reads */
 };
+
+#define COMFY_CELLS_SETTINGS \
+    {COMFY_FORM_LINES, COMFY_ASCII_FULL, COMFY_DISABLED, COMFY_NO_WIDTH, 0, 1, 0, 0, 0, COMFY_NO_FRAME}
 
 /*
  * Draws a table of cells, rows and columns into the caller's buffer, as comfy-table 8.0.1 draws such a table, but for the
  * differences that docs/DIFFERENCES.md of the sources lists.
  *
- * texts are the texts of all cells, one behind another. cells has the length and the settings of each, rows how many of them each
- * row has, and columns each column of the table; a cell that has no column isn't drawn. indicator is UTF-8, and stands behind a
- * line at which a row's height cuts a text; comfy-table has "\xe2\x80\xa6".
+ * texts has the texts of all cells in their order, without anything between them. cells has the length and the settings of each,
+ * rows how many of them each row has, and columns each column of the table; a cell that has no column isn't drawn. indicator is
+ * UTF-8, and comes after a line at which a row's height cuts a text; comfy-table has "\xe2\x80\xa6".
+ *
+ * Texts are drawn as they are: control characters and escape sequences in them reach the terminal. Without custom_styling the
+ * characters of a sequence count columns. Draw texts that you don't trust by comfy_rows_draw, which replaces both.
  *
  * These are looked at in this order, so the first that holds is returned:
  *
@@ -363,6 +415,9 @@ uint32_t comfy_cells_draw(const uint8_t *texts, size_t texts_length, const struc
                           const struct comfy_row *rows, size_t rows_length, const struct comfy_column *columns,
                           size_t columns_length, const uint8_t *indicator, size_t indicator_length,
                           const struct comfy_cells_settings *settings, uint8_t *output, size_t output_length, size_t *needed);
+
+/* Returns which setting comfy_cells_draw refuses: form, else style, else arrangement. */
+uint32_t comfy_cells_refused(const struct comfy_cells_settings *settings);
 
 /* ---- CSV */
 

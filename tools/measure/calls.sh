@@ -18,7 +18,7 @@ cd "$(dirname "$0")/../.."
 work=$(mktemp -d)
 trap 'rm -rf "$work"' EXIT
 if [ -z "${COMFY_C-}" ]; then
-  (cd crates/comfy_c && rt lib > /dev/null)
+  tools/make/c_library.py > /dev/null
   cp crates/comfy_c/out/libcomfy_c.a "$(dirname "$(rt doc)")/c/liblibc_c.a" "$work"
   export COMFY_C="$work"
 fi

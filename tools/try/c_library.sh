@@ -15,7 +15,7 @@ libc=$(dirname "$(rt doc)")/c/liblibc_c.a
 work=$(mktemp -d)
 trap 'rm -rf "$work"' EXIT
 
-(cd "$crate" && rt lib > "$work/log") || { cat "$work/log"; exit 1; }
+tools/make/c_library.py > "$work/log" || { cat "$work/log"; exit 1; }
 (cd "$top/crates/csvtable" && rt run -- --version > /dev/null 2> "$work/log") || { cat "$work/log"; exit 1; }
 cp "$crate/out/libcomfy_c.a" "$libc" "$work"
 

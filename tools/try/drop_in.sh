@@ -1,7 +1,7 @@
 #!/bin/sh
 # Puts the package for Rust in the place of comfy-table 8.0.1, and looks at what a program gets:
 #  - random tables, built by the same code over both, must be drawn and read alike, but for the rows of docs/DIFFERENCES.md,
-#    which are counted
+#    which are counted. If sequences differ, each character that isn't white space still has to be in the same style
 #  - the examples of the original's README and doc comments must compile and run over the package, and so must its own tests,
 #    where the folder has them
 #
@@ -21,7 +21,7 @@ top=$PWD
 work=$(mktemp -d)
 trap 'rm -rf "$work"' EXIT
 if [ -z "${COMFY_C-}" ]; then
-  (cd crates/comfy_c && rt lib > /dev/null)
+  tools/make/c_library.py > /dev/null
   mkdir "$work/library"
   cp crates/comfy_c/out/libcomfy_c.a "$(dirname "$(rt doc)")/c/liblibc_c.a" "$work/library"
   export COMFY_C="$work/library"

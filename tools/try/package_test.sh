@@ -89,6 +89,63 @@ try_debian() {
   echo "$(basename "$(dirname "$1")")/$(basename "$1") is installed and removed"
 }
 
+# Writes a project of cargo in a folder, with its source and, from standard input, the rest of its Cargo.toml:
+# project NAME FILE SOURCE.
+project() {
+  mkdir -p "$work/$1/src"
+  { printf '[package]\nname = "%s"\nversion = "8.0.1"\nedition = "2024"\n\n' "$1"; cat; } > "$work/$1/Cargo.toml"
+  printf '%s\n' "$3" > "$work/$1/src/$2"
+}
+
+# A table of a crate that depends on comfy-table has the type of the program's, if [patch.crates-io] names the package.
+try_patch() {
+  project between lib.rs 'pub fn table() -> comfy_table::Table { comfy_table::Table::new() }' <<END
+[dependencies]
+comfy-table = "8.0"
+END
+  project patched main.rs 'fn main() { let mut table: comfy_table::Table = between::table(); println!("{}", table.add_row(["a"])); }' <<END
+[dependencies]
+between = { path = "../between" }
+comfy-table = { version = "8", features = ["custom_styling", "_debug", "_integration_test"] }
+
+[patch.crates-io]
+comfy-table = { path = "../crate/comfy-table" }
+END
+  printf '+---+\n| a |\n+---+\n' > "$work/wanted"
+  (cd "$work/patched" && cargo run -q --offline) | cmp "$work/wanted" -
+  echo "the package takes the place of comfy-table in two crates"
+}
+
+# By the form of the README, a project has the package on this target and the original on others. Here the original is empty.
+try_targets() {
+  project comfy-table lib.rs '' < /dev/null
+  project anywhere lib.rs "$(sed -n '/^```rust,ignore/,/^```$/p' packages/rust/README.md | grep -v '^```')" <<END
+$(sed -n '/^\[target/,/^```$/p' packages/rust/README.md | grep -v '^```' \
+    | sed 's|path = "[^"]*"|path = "../crate"|; s|version = "8.0.1"|path = "../comfy-table"|')
+END
+  (cd "$work/anywhere" && cargo check -q --offline && cargo tree --offline -q) > "$work/drawn"
+  (cd "$work/anywhere" && cargo tree --offline -q --target aarch64-apple-darwin) >> "$work/drawn"
+  [ "$(sed -n 's/^└── \([^ ]*\) .*/\1/p' "$work/drawn" | tr '\n' ' ')" = "comfy_table_proved comfy-table " ]
+  echo "a project has the package on one target and the original on another one"
+}
+
+# A build says why it fails: another target, no library, a feature that isn't there.
+try_refusals() {
+  refused() { # WORDS COMMAND..
+    words=$1
+    shift
+    if (cd "$work/crate" && "$@" --offline) > "$work/said" 2>&1; then
+      echo "$*: no error" >&2
+      return 1
+    fi
+    grep -qF "$words" "$work/said"
+  }
+  refused "this build is for aarch64-apple-darwin" cargo check --target aarch64-apple-darwin
+  refused "no libcomfy_c.a in $work/csv;" env COMFY_C="$work/csv" cargo build
+  refused "has no feature reexport_crossterm" cargo check --features reexport_crossterm
+  (cd "$work/crate" && COMFY_C="$work/csv" cargo check -q --offline && COMFY_C="$work/csv" cargo doc -q --offline)
+}
+
 # csvtable, from its archive, and from its Debian package by dpkg; where that isn't there the package is only unpacked.
 mkdir "$work/prefix" "$work/programs"
 tar -C "$work/prefix" --strip-components=1 -xzf "$work"/packages/csvtable-*.tar.gz
@@ -140,6 +197,13 @@ END
   "$work/project/target/debug/boats" | sed 's/.\[[0-9;]*m//g' | cmp "$work/wanted" -
   compare_csv "$work/project/target/debug/csv"
   try_in_terminal "$work/project/target/debug/bikes"
+  for page in $(grep -o '](docs/[A-Za-z.]*' "$work/crate/README.md" | cut -c 3-); do
+    [ -e "$work/crate/$page" ]
+  done
+  try_patch
+  try_targets
+  try_refusals
+  (cd "$work/crate" && cargo fmt --check)
   (cd "$work/crate" && cargo test -q --offline)
   (cd "$work/crate" && cargo test -q --offline --no-default-features)
   (cd "$work/crate" && cargo test -q --offline --features custom_styling)
@@ -151,6 +215,16 @@ if command -v python3 > /dev/null; then
   "$work/venv/bin/pip" install -q --no-index --disable-pip-version-check "$work"/packages/*.whl
   compare_csv "$work/venv/bin/python" packages/python/examples/draw_csv.py
   "$work/venv/bin/python" -m unittest discover -s packages/python/tests
+  # The stored answers of the package tabulate are compared with what it says, if Debian's Python has it.
+  if /usr/bin/python3 -c 'import tabulate' 2> /dev/null; then
+    tried="$tried, tabulate"
+    installed=$("$work/venv/bin/python" -c 'import sysconfig; print(sysconfig.get_path("platlib"))')
+    PYTHONPATH=$installed /usr/bin/python3 -m unittest discover -s packages/python/tests -p 'test_tabulate.py'
+  fi
+  if command -v mypy > /dev/null; then
+    tried="$tried, mypy"
+    mypy --strict --no-incremental --cache-dir /dev/null packages/python/src/comfy_table_proved
+  fi
 fi
 # An installer takes a wheel by its tag alone, so it says what the library asks of the system.
 case $(ls "$work/packages") in

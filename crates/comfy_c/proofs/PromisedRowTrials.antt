@@ -13,6 +13,7 @@ use Rattle.comfy_parts.proofs.Computing.{wrapping}
 use Rattle.comfy_parts.specs.Presets.{nothing as no_frame}
 use Rattle.comfy_parts.specs.Text.{HasNo, Text, measure}
 use Rattle.comfy_table.proofs.BreakLemmas.{terminated_lines}
+use Rattle.comfy_table.specs.Drawing.{terminated_text_of}
 use Rattle.comfy_table.specs.Laws.{AreLinesOf}
 use Rattle.csv_promises.specs.Counted.{DrawsLines, HasEachLine}
 use Rattle.csv_promises.specs.Width.{KeepsTo, frame_room, framed_columns_in}
@@ -26,11 +27,13 @@ use Rattle.promises.specs.Shown.Shows.{byte, nothing, sequence}
 use Rattle.promises.specs.Tables.{HasCharactersWithin}
 use Rattle.comfy_c.specs.Calls.{limit_of, width_of}
 use Rattle.comfy_c.specs.Frames.{own_number}
-use Rattle.comfy_c.specs.PromisedRows.{AreStraightLines, EachRowsLine, HasHarmlessFrame, HasOneColumnFrame, KeepToWidth, ShowRows}
+use Rattle.comfy_c.specs.PromisedRows.{AreStraightLines, EachRowsLine, HasHarmlessFrame, HasOneColumnFrame, KeepTablePromises, KeepToWidth, ShowRows}
+use Rattle.comfy_c.specs.Looks.{table_settings}
 use Rattle.comfy_c.specs.RowCalls.{layout_for}
 use Rattle.comfy_c.specs.declared.frame.ContentLineNumbers.{ContentLineNumbers}
 use Rattle.comfy_c.specs.declared.frame.FrameNumbers.{FrameNumbers}
 use Rattle.comfy_c.specs.declared.frame.LineNumbers.{LineNumbers}
+use Rattle.comfy_c.specs.declared.rows_columns.RowsColumn.{RowsColumn}
 use Rattle.comfy_c.specs.declared.rows_settings.RowsSettings.{RowsSettings}
 
 -- ---- two rows of a text each without a frame, which takes five terminal columns at most
@@ -203,4 +206,26 @@ three_rows is =
     let noted = kept.1 in
     let made : codes " a \n1 of 3 records\n" ≡ noted.drawn ++ note_for false (Some 1) (Some 2) = noted.joined ∙ ap (λ (count : Option ℕ). noted.drawn ++ note_for false (Some 1) count) noted.is_count in
     let letter : ◌≡◌ {A = ℕ} 0x33 0x32 = ap (λ (t : Text). slice_index_or t 9 0) (ap reverse made ∙ reverse-append noted.drawn (note_for false (Some 1) (Some 2))) in
+    absurd (omega (arith, letter))
+
+-- ---- the same rows, in a column with paddings of two
+
+abbrev wide_column : RowsColumn
+wide_column = record { left_padding = 2; right_padding = 2; side = 0; least = 0; greatest = 0 }
+
+abbrev Padded : ℕ → Text → Type 0
+Padded limit bytes = ShowRows (codes "ab") (1 ∷ 1 ∷ []) (1 ∷ 1 ∷ []) [] [] (wide_column ∷ []) (settings no_width limit) bytes
+
+padded_layout : (limit : ℕ) → layout_for (settings no_width limit) [] [] (wide_column ∷ []) the_rows ≡ Some (the_layout no_width limit) → (bytes : Text) (is : Padded limit bytes) → is.layout ≡ the_layout no_width limit
+padded_layout limit asked bytes is = same_Some _ _ (sym is.is_layout ∙ asked)
+
+-- a line that counts three rows, where one of two is drawn
+padded_three_rows : ¬ (Padded 1 (codes "  a  \n1 of 3 records\n"))
+unfolding digits
+padded_three_rows is =
+    let bytes = codes "  a  \n1 of 3 records\n" in
+    let own = table_settings false (1 ∷ 1 ∷ []) [] [] (wide_column ∷ []) in
+    let kept = subst (λ (layout : Layout). KeepTablePromises own layout the_rows bytes) (padded_layout 1 refl bytes is) (is.keep_table refl (omega arith)) in
+    let made : bytes ≡ terminated_text_of kept.lines ++ note_for false (Some 1) (Some 2) = kept.written in
+    let letter : ◌≡◌ {A = ℕ} 0x33 0x32 = ap (λ (t : Text). slice_index_or t 9 0) (ap reverse made ∙ reverse-append (terminated_text_of kept.lines) (note_for false (Some 1) (Some 2))) in
     absurd (omega (arith, letter))

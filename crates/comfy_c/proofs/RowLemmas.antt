@@ -12,6 +12,10 @@ use Rattle.comfy_parts.specs.Columns.{IsOneColumnStyle, has_frame_characters, st
 use Rattle.comfy_parts.specs.Presets.{named_presets, preset_at}
 use Rattle.comfy_parts.specs.Text.{Text}
 use Rattle.comfy_parts.specs.declared.style.table_style.TableStyle.{TableStyle}
+use Rattle.comfy_table.proofs.PartLemmas.{all_rows_are_the_table}
+use Rattle.comfy_table.specs.Drawing.{drawing_of_infos, terminated_text_of}
+use Rattle.comfy_table.specs.Headline.{IsTableDrawing}
+use Rattle.comfy_table.specs.TableValue.{TableValue}
 use Rattle.csv.specs.Records.{AllText}
 use Rattle.csv_command.specs.Styles.{compact_style}
 use Rattle.csv_promises.proofs.DrawnColumnLemmas.{AreBelow}
@@ -30,20 +34,22 @@ use Rattle.csv_tables.proofs.OutputControlLemmas.{unbroken_without}
 use Rattle.csv_tables.proofs.StyledLemmas.{without_settings_any}
 use Rattle.csv_tables.specs.Columns.{ColumnsValue, count_of}
 use Rattle.csv_tables.specs.Controls.{IsHarmlessStyle}
-use Rattle.csv_tables.specs.Drawn.{RendersAnyRecords, RendersRecords, column_count, count_below, drawn_rows, names_or_none}
+use Rattle.csv_tables.specs.Drawn.{RendersAnyRecords, RendersRecords, SelectedValue, column_count, count_below, drawn_rows, is_expanded_in, names_or_none, note_for, selected_of}
 use Rattle.csv_tables.specs.Laws.{CharactersFitEachWidth}
 use Rattle.csv_tables.specs.Settings.{RowSettingsValue, SettingsValue, no_settings}
-use Rattle.csv_tables.specs.Styled.{RendersAnyStyledRecords}
+use Rattle.csv_tables.specs.Styled.{RendersAnyStyledRecords, RendersStyled, RendersStyledContent, RendersStyledTable, with_centers}
 use Rattle.csv_tables.specs.declared.settings.ColumnSettings.{ColumnSettings}
 use Rattle.csv_tables.specs.declared.options.Expansion.{Expansion}
+use Rattle.csv_tables.specs.declared.options.Expansion.TheVariants.{Never}
 use Rattle.csv_tables.specs.declared.options.Layout.{Layout}
 use Rattle.csv_tables.specs.declared.options.Look.{Look}
 use Rattle.csv_tables.specs.declared.options.RowSeparators.{RowSeparators}
 use Rattle.csv_tables.specs.declared.selection.Selection.{Selection}
+use Rattle.promises.specs.Promises.{KeepsPromises}
 use Rattle.promises.specs.Shown.{ShowsColumns}
 use Rattle.promises.specs.Tables.{HasCharactersWithin}
 use Rattle.comfy_c.specs.Frames.{own_number, own_style, style_at, style_for}
-use Rattle.comfy_c.specs.PromisedRows.{AreStraightLines, EachRowsLine, FitTheWidth, HasHarmlessFrame, HasOneColumnFrame, HaveRoom, IsCountOf, IsPlainLook, KeepRowPromises, KeepToWidth, ShowAllTexts, ShowRows}
+use Rattle.comfy_c.specs.PromisedRows.{AreStraightLines, EachRowsLine, FitTheWidth, HasHarmlessFrame, HasOneColumnFrame, HaveRoom, IsCountOf, IsPlainLook, KeepRowPromises, KeepTablePromises, KeepToWidth, ShowAllTexts, ShowRows, table_by}
 use Rattle.comfy_c.specs.Calls.{is_set}
 use Rattle.comfy_c.specs.Looks.{rows_by, table_settings, unset_row}
 use Rattle.comfy_c.specs.RowCalls.{IsRowsDrawing, can_have, expansions, has_sides_alone, layout_by, layout_for, look_by, look_for, selection_for, separators}
@@ -254,16 +260,69 @@ none_set has_header counts looks heights columns alone =
     (ap (λ (b : Bool). if b then [] else map column_settings columns) rest.1)
     (ap (λ (b : Bool). if b then [] else (if has_header then [] else unset_row ∷ []) ++ rows_by (cut_by counts looks) heights) empty)
 
+-- ---- tables of rows with settings
+
+-- a look has the expansion and the kind that settings ask for
+look_kind : (settings : RowsSettings) (style : Option TableStyle) (lines : Option RowSeparators) (expansion : Option Expansion) (look : Look) → look_by settings style lines expansion ≡ Some look → (expansion ≡ Some look.expansion) × (look.is_markdown ≡ is_set settings.is_markdown)
+look_kind settings (Some style) (Some lines) (Some expansion) look is =
+    let same = same_Some _ look is in (ap (λ (l : Look). Some l.expansion) same, sym (ap (λ (l : Look). l.is_markdown) same))
+look_kind settings (Some style) (Some lines) None look is = absurd (cc is)
+look_kind settings (Some style) None lines look is = absurd (cc is)
+look_kind settings None lines expansion look is = absurd (cc is)
+
+-- rows that may not be expanded aren't
+never_expanded : (expansion : Expansion) → Some Never ≡ Some expansion → (has_room : Bool) → is_expanded_in expansion has_room ≡ false
+never_expanded expansion is has_room = ap (λ (e : Expansion). is_expanded_in e has_room) (sym (same_Some Never expansion is))
+
+module _ (law : (table : TableValue) (lines : List Text) → IsTableDrawing table lines → KeepsPromises table lines) (own : SettingsValue) (layout : Layout) (bytes : Text) where
+  -- the lines of the table that is drawn keep its promises
+  module _ (rows : List (List Text)) (text : Text) (joined : bytes ≡ text ++ note_for false layout.selection.limit (Some (count_below layout.selection rows))) where
+    abbrev content : SelectedValue
+    content = with_centers own.columns (selected_of (Some (count_below layout.selection rows)) layout rows)
+
+    keep_drawn : RendersStyledTable own false layout.look content text → KeepTablePromises own layout rows bytes
+    keep_drawn drawn =
+        let lines = drawing_of_infos (table_by own layout drawn.has_separators rows) drawn.arranged.infos in
+        record {
+          has_separators = drawn.has_separators;
+          lines = lines;
+          keep = law (table_by own layout drawn.has_separators rows) lines drawn.is_arranged.headline;
+          written =
+              joined
+              ∙ ap (λ (t : Text). t ++ note_for false layout.selection.limit (Some (count_below layout.selection rows)))
+              (drawn.is
+              ∙ ap (λ (t : TableValue). terminated_text_of (drawing_of_infos t drawn.arranged.infos))
+              (all_rows_are_the_table drawn.arranged.table (length drawn.arranged.table.rows) (omega arith) ∙ drawn.is_arranged.of_table));
+        }
+
+  keep_rows : (rows : List (List Text)) → Some Never ≡ Some layout.look.expansion → layout.look.is_markdown ≡ false → 0 < length rows → RendersAnyStyledRecords own layout rows bytes → KeepTablePromises own layout rows bytes
+  keep_rows [] never plain some made = absurd (omega (arith, some))
+  keep_rows (row ∷ rest) never plain some made =
+      let rows = row ∷ rest in
+      let drawn : RendersStyled own layout.look (with_centers own.columns made.content) made.text = subst (λ (b : Bool). RendersStyledContent own b layout.look made.content made.text) plain made.is_text in
+      let expanded : drawn.is_expanded ≡ false = drawn.expansion ∙ never_expanded layout.look.expansion never _ in
+      keep_drawn rows made.text
+      (made.joined ∙ ap₂ (λ (b : Bool) (content : SelectedValue). made.text ++ note_for b layout.selection.limit content.count) plain (sym made.is_content))
+      (subst (λ (content : SelectedValue). RendersStyledTable own false layout.look (with_centers own.columns content) made.text) (sym made.is_content)
+      (subst (λ (b : Bool). RendersStyledTable own b layout.look (with_centers own.columns made.content) made.text) expanded drawn.drawn))
+
 -- so a drawing of rows shows them
-pub shows_rows : (texts : Text) (lengths counts : List ℕ) (looks : List LookNumbers) (heights : List ℕ) (columns : List RowsColumn) (settings : RowsSettings) (bytes : Text)
+pub shows_rows : ((table : TableValue) (lines : List Text) → IsTableDrawing table lines → KeepsPromises table lines) → (texts : Text) (lengths counts : List ℕ) (looks : List LookNumbers) (heights : List ℕ) (columns : List RowsColumn) (settings : RowsSettings) (bytes : Text)
     → IsRowsDrawing texts lengths counts looks heights columns settings bytes → ShowRows texts lengths counts looks heights columns settings bytes
-shows_rows texts lengths counts looks heights columns settings bytes is =
+shows_rows law texts lengths counts looks heights columns settings bytes is =
     let rows : List (List Text) = rows_of texts lengths counts in
+    let asked = is_asked settings looks heights columns rows is.layout is.is_layout in
+    let kind = look_kind settings (style_for settings.style settings.frame) (slice_get separators settings.row_lines) (slice_get expansions settings.expansion) is.layout.look asked.look in
     record {
       are_text = is.is_text;
       layout = is.layout;
       is_layout = is.is_layout;
       keep = λ alone.
-          rows_keep settings columns is.layout bytes rows (is_asked settings looks heights columns rows is.layout is.is_layout) (rows_are_text counts (cut_by lengths texts) is.are_texts)
+          rows_keep settings columns is.layout bytes rows asked (rows_are_text counts (cut_by lengths texts) is.are_texts)
           (without_settings_any is.layout rows bytes (subst (λ (own : SettingsValue). RendersAnyStyledRecords own is.layout rows bytes) (none_set (is_set settings.has_header) counts looks heights columns alone) is.is_output));
+      keep_table = λ table some.
+          let both = and_parts (settings.expansion == 0) (not (is_set settings.is_markdown)) table in
+          keep_rows law (table_settings (is_set settings.has_header) counts looks heights columns) is.layout bytes rows
+          (ap (slice_get expansions) (sym (eqb-true settings.expansion 0 both.0)) ∙ kind.0)
+          (kind.1 ∙ not-true _ both.1) some is.is_output;
     }

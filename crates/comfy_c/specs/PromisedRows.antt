@@ -1,8 +1,10 @@
 -- What a caller in C is promised of a table of rows.
 -- Source: this library's own.
-use Rattle.std.specs.Prelude.{◌≡◌, ◌⊎◌, ℕ, false, true, List, Option, Some, None, IsUtf8}
+use Rattle.std.specs.Prelude.{◌≡◌, ◌⊎◌, ◌<◌, ◌++◌, ℕ, Bool, false, true, List, Option, Some, None, IsUtf8, length}
 use Rattle.comfy_parts.specs.Columns.{IsOneColumnStyle}
 use Rattle.comfy_parts.specs.Text.{Text}
+use Rattle.comfy_table.specs.Drawing.{terminated_text_of}
+use Rattle.comfy_table.specs.TableValue.{TableValue}
 use Rattle.csv_promises.specs.Counted.{EachLineFor}
 use Rattle.csv_promises.specs.Fields.{ShowsAllFields}
 use Rattle.csv_promises.specs.Harmless.{IsHarmlessFor}
@@ -10,13 +12,18 @@ use Rattle.csv_promises.specs.Straight.{EachField, IsPlainField}
 use Rattle.csv_promises.specs.WideTexts.{HaveRoomEach}
 use Rattle.csv_promises.specs.Width.{KeepsTo, frame_room, framed_columns_in}
 use Rattle.csv_tables.specs.Controls.{IsHarmlessStyle}
-use Rattle.csv_tables.specs.Drawn.{count_below}
+use Rattle.csv_tables.specs.Drawn.{count_below, note_for, selected_of, separated_table}
 use Rattle.csv_tables.specs.Laws.{CharactersFitEachWidth}
+use Rattle.csv_tables.specs.Settings.{SettingsValue}
+use Rattle.csv_tables.specs.Styled.{styled_table, with_centers}
 use Rattle.csv_tables.specs.declared.options.Layout.{Layout}
 use Rattle.csv_tables.specs.declared.options.Look.{Look}
+use Rattle.promises.specs.Promises.{KeepsPromises}
 use Rattle.promises.specs.Shown.{ShowsColumns}
+use Rattle.comfy_c.specs.Calls.{is_set}
 use Rattle.comfy_c.specs.Frames.{own_number, own_style}
-use Rattle.comfy_c.specs.RowCalls.{has_sides_alone, layout_for}
+use Rattle.comfy_c.specs.Looks.{table_settings}
+use Rattle.comfy_c.specs.RowCalls.{has_sides_alone, is_table_of_rows, layout_for}
 use Rattle.comfy_c.specs.Texts.{rows_of}
 use Rattle.comfy_c.specs.declared.cells_numbers.LookNumbers.{LookNumbers}
 use Rattle.comfy_c.specs.declared.rows_columns.RowsColumn.{RowsColumn}
@@ -96,6 +103,24 @@ pub record KeepRowPromises (settings : RowsSettings) (layout : Layout) (rows : L
   pub width : HasHarmlessFrame settings → HasOneColumnFrame settings
       → KeepToWidth layout rows bytes
 
+-- the table that is drawn of rows, with lines between rows or without
+abbrev pub table_by : SettingsValue → Layout → Bool → List (List Text) → TableValue
+table_by settings layout has_separators rows =
+    separated_table has_separators (styled_table settings false layout.look
+    (with_centers settings.columns
+    (selected_of (Some (count_below layout.selection rows)) layout rows)))
+
+-- bytes are the lines of that table, which keep each promise on a table's lines, and then the line
+-- that counts rows, if not all are drawn
+pub record KeepTablePromises (settings : SettingsValue) (layout : Layout) (rows : List (List Text))
+    (bytes : Text) : Type 0 where
+  pub has_separators : Bool
+  pub lines : List Text
+  pub keep : KeepsPromises (table_by settings layout has_separators rows) lines
+  pub written :
+      bytes ≡ terminated_text_of lines
+      ++ note_for false layout.selection.limit (Some (count_below layout.selection rows))
+
 -- bytes are UTF-8, of lines of the table of rows that settings, looks, heights and columns ask for
 pub record ShowRows (texts : Text) (lengths counts : List ℕ) (looks : List LookNumbers)
     (heights : List ℕ) (columns : List RowsColumn) (settings : RowsSettings)
@@ -106,3 +131,8 @@ pub record ShowRows (texts : Text) (lengths counts : List ℕ) (looks : List Loo
       layout_for settings looks heights columns (rows_of texts lengths counts) ≡ Some layout
   pub keep : has_sides_alone looks heights columns ≡ true
       → KeepRowPromises settings layout (rows_of texts lengths counts) bytes
+  pub keep_table : is_table_of_rows settings ≡ true
+      → 0 < length (rows_of texts lengths counts)
+      → KeepTablePromises
+      (table_settings (is_set settings.has_header) counts looks heights columns) layout
+      (rows_of texts lengths counts) bytes

@@ -28,7 +28,7 @@ const LINES: u32 = 0;
 
 const TRIMMED: u32 = 1;
 
-const CONTENT_WIDTHS: u32 = 2;
+pub(crate) const CONTENT_WIDTHS: u32 = 2;
 
 /// Draws a table into the caller's buffer: one of cells, rows, columns and settings as
 /// `comfy_table::Table` has them.

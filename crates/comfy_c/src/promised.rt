@@ -66,6 +66,12 @@ pub fn drawn_cells(
 /// - Under a width no such line shows more terminal columns than the width, or than the frame of n
 ///   columns takes, if each character takes at most one, or two under such a width. If the width is
 ///   filled and has room for the frame, each line shows exactly as many.
+///
+/// These hold for columns without settings but sides at the left and right, and without looks and
+/// heights. With any looks, heights and columns, a table that is never expanded and not for
+/// Markdown keeps each promise that is made of a table's lines, as `drawn_cells` says. The lines
+/// are those before the line that counts rows. The table is the one that `csvtable` draws of such
+/// rows, with the settings of columns, rows and cells.
 pub fn drawn_rows(
     alloc: Global,
     texts: &[u8],
@@ -82,6 +88,7 @@ pub fn drawn_rows(
         → ShowRows texts.now lengths.now counts.now looks.now heights.now columns.now settings.now
         (take needed.new output.new) }
 {
+    drawings_keep_the_promises();
     comfy_rows_draw(
         alloc, texts, lengths, counts, looks, heights, columns, settings, output, needed,
     )

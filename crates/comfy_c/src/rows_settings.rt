@@ -104,7 +104,8 @@ fn has_sides_alone(looks: &[LookNumbers], heights: &[usize], columns: &[RowsColu
     looks.is_empty() && heights.is_empty() && are_unset(columns)
 }
 
-fn separators_at(number: u32) -> Option<RowSeparators>
+/// When lines between rows are drawn; none if the number has no meaning.
+pub(crate) fn separators_at(number: u32) -> Option<RowSeparators>
     ensures { result ≡ slice_get separators number }
 {
     match number {
@@ -115,7 +116,8 @@ fn separators_at(number: u32) -> Option<RowSeparators>
     }
 }
 
-fn expansion_at(number: u32) -> Option<Expansion>
+/// When rows are expanded; none if the number has no meaning.
+pub(crate) fn expansion_at(number: u32) -> Option<Expansion>
     ensures { result ≡ slice_get expansions number }
 {
     match number {

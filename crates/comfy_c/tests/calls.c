@@ -252,6 +252,13 @@ static void expect_rows_refused(const char *what, const struct rows *rows, struc
     free(call.output);
 }
 
+/* Rows that are refused for a setting, which a call on settings alone names. */
+static void expect_setting_refused(const char *what, const struct rows *rows, struct comfy_rows_settings settings, uint32_t which) {
+    expect_rows_refused(what, rows, settings, COMFY_SETTINGS_REFUSED);
+    expect(what, comfy_rows_refused(rows->looks, rows->look_count, rows->heights, rows->height_count, rows->columns,
+                                    rows->column_count, &settings) == which);
+}
+
 static void expect_rows_are_drawn(void) {
     struct comfy_rows_settings settings = plain_settings();
     struct rows rows = ROWS;
@@ -315,13 +322,13 @@ static void expect_rows_have_looks_and_heights(void) {
     expect_rows_refused("a height is missing", &rows, settings, COMFY_LENGTHS_REFUSED);
     rows.height_count = 2;
     settings.is_markdown = 1;
-    expect_rows_refused("Markdown has no heights", &rows, settings, COMFY_SETTINGS_REFUSED);
+    expect_setting_refused("Markdown has no heights", &rows, settings, COMFY_TABLE_ONLY_REFUSED);
     rows.height_count = 0;
     rows.look_count = 4;
-    expect_rows_refused("Markdown has no looks", &rows, settings, COMFY_SETTINGS_REFUSED);
+    expect_setting_refused("Markdown has no looks", &rows, settings, COMFY_TABLE_ONLY_REFUSED);
     settings.is_markdown = 0;
     settings.expansion = COMFY_EXPANDED_ALWAYS;
-    expect_rows_refused("expanded rows have no looks", &rows, settings, COMFY_SETTINGS_REFUSED);
+    expect_setting_refused("expanded rows have no looks", &rows, settings, COMFY_TABLE_ONLY_REFUSED);
 }
 
 static void expect_rows_are_refused(void) {
@@ -347,30 +354,30 @@ static void expect_rows_are_refused(void) {
     rows = (struct rows){{"\xff" "a", 2}, {1, 1}, 2, {3}, 1, {COMFY_PLAIN_COLUMN}, 0, {{0}}, 0, {0}, 0};
     expect_rows_refused("counts are looked at before texts", &rows, plain, COMFY_LENGTHS_REFUSED);
     set_sides(&rows, TEXT("\5"));
-    expect_rows_refused("a column's side is looked at first", &rows, plain, COMFY_SETTINGS_REFUSED);
+    expect_setting_refused("a column's side is looked at first", &rows, plain, COMFY_SIDE_REFUSED);
     rows = ROWS;
     set_sides(&rows, TEXT("\5"));
-    expect_rows_refused("there is no column's side 5", &rows, plain, COMFY_SETTINGS_REFUSED);
+    expect_setting_refused("there is no column's side 5", &rows, plain, COMFY_SIDE_REFUSED);
     set_sides(&rows, TEXT("\0\0\1"));
-    expect_rows_refused("a side is for a column that isn't there", &rows, plain, COMFY_SETTINGS_REFUSED);
+    expect_setting_refused("a side is for a column that isn't there", &rows, plain, COMFY_NONE_REFUSED);
     set_sides(&rows, TEXT("\3\3"));
-    expect_rows_refused("no column is left", &rows, plain, COMFY_SETTINGS_REFUSED);
+    expect_setting_refused("no column is left", &rows, plain, COMFY_NONE_REFUSED);
     set_sides(&rows, TEXT("\4"));
     settings.is_markdown = 1;
-    expect_rows_refused("Markdown has no column in the middle", &rows, settings, COMFY_SETTINGS_REFUSED);
+    expect_setting_refused("Markdown has no column in the middle", &rows, settings, COMFY_TABLE_ONLY_REFUSED);
     settings = plain;
     settings.expansion = COMFY_EXPANDED_AUTO;
-    expect_rows_refused("rows that may be expanded have none either", &rows, settings, COMFY_SETTINGS_REFUSED);
+    expect_setting_refused("rows that may be expanded have none either", &rows, settings, COMFY_TABLE_ONLY_REFUSED);
     settings = plain;
     rows = ROWS;
     settings.style = COMFY_ROUNDED + 1;
-    expect_rows_refused("there is no such style", &rows, settings, COMFY_SETTINGS_REFUSED);
+    expect_setting_refused("there is no such style", &rows, settings, COMFY_STYLE_REFUSED);
     settings = plain;
     settings.row_lines = 3;
-    expect_rows_refused("there are no such lines", &rows, settings, COMFY_SETTINGS_REFUSED);
+    expect_setting_refused("there are no such lines", &rows, settings, COMFY_ROW_LINES_REFUSED);
     settings = plain;
     settings.expansion = UINT32_MAX;
-    expect_rows_refused("there is no such expansion", &rows, settings, COMFY_SETTINGS_REFUSED);
+    expect_setting_refused("there is no such expansion", &rows, settings, COMFY_EXPANSION_REFUSED);
 }
 
 /* Without bytes there is nothing to point to. */

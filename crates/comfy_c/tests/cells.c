@@ -175,16 +175,22 @@ static void expect_texts_are_refused(void) {
     expect_refused("settings are looked at first", &table, COMFY_SETTINGS_REFUSED);
 }
 
+/* A table that is refused for a setting, which a call on settings alone names. */
+static void expect_setting_refused(const char *what, const struct table *table, uint32_t which) {
+    expect_refused(what, table, COMFY_SETTINGS_REFUSED);
+    expect(what, comfy_cells_refused(&table->settings) == which);
+}
+
 static void expect_settings_are_refused(void) {
     struct table table = plain();
     table.settings.form = COMFY_FORM_CONTENT_WIDTHS + 1;
-    expect_refused("there is no such form", &table, COMFY_SETTINGS_REFUSED);
+    expect_setting_refused("there is no such form", &table, COMFY_FORM_REFUSED);
     table = plain();
     table.settings.style = COMFY_ROUNDED + 1;
-    expect_refused("there is no such style", &table, COMFY_SETTINGS_REFUSED);
+    expect_setting_refused("there is no such style", &table, COMFY_STYLE_REFUSED);
     table = plain();
     table.settings.arrangement = COMFY_DYNAMIC_FULL_WIDTH + 1;
-    expect_refused("there is no such arrangement", &table, COMFY_SETTINGS_REFUSED);
+    expect_setting_refused("there is no such arrangement", &table, COMFY_ARRANGEMENT_REFUSED);
 }
 
 /* Numbers that stand for nothing, in each place, leave a table as it is. */

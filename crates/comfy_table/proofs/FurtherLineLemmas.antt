@@ -1,15 +1,13 @@
--- The lines of a row behind its first, of the cells that are kept for them.
-use Rattle.std.proofs.Common.{◌≡◌, ◌<◌, ◌≤◌, ◌+◌, ◌-◌, ℕ, zero, suc, Bool, true, false, List, [], ◌∷◌, ◌++◌, length, map, take, nat_lt, refl, ap, ap₂, sym, subst, ◌∙◌, arith, append-nil, append_assoc, slice_index_or}
-use Rattle.std.proofs.lemmas.Bool.Decides.{nat_tests}
+-- The lines of a row after its first, of the cells that are kept for them.
+use Rattle.std.proofs.Common.{◌≡◌, ◌<◌, ◌≤◌, ◌+◌, ◌-◌, ℕ, zero, suc, List, [], ◌∷◌, ◌++◌, length, map, take, refl, ap, ap₂, sym, subst, ◌∙◌, arith, append-nil, append_assoc, slice_index_or}
 use Rattle.std.proofs.lemmas.List.{get_or_append_left, get_or-append_right, get_or-map, get_or_past, get_or-take, length-append, length-map, length-take-le, map-append, take-map}
 use Rattle.std.proofs.Math.Seq.{take-append_seam}
 use Rattle.std.proofs.lemmas.List.Elements.{All-append, All-cons, All-head, All-nil, All-tail}
 use Rattle.std.specs.List.{All, range_with_len}
-use Rattle.std.specs.Prelude.{if◌then◌else◌}
 use Rattle.comfy_parts.specs.CellValue.{RowValue, ColumnInfo}
 use Rattle.comfy_parts.specs.Text.{Text}
 use Rattle.comfy_table.proofs.DrawnCellLemmas.{drawn_between}
-use Rattle.comfy_table.specs.DrawnCells.{AreFurther, DrawnCell, drawn_cell, filled, greatest_height, piece_at, with_further, without_piece}
+use Rattle.comfy_table.specs.DrawnCells.{AreFurther, DrawnCell, drawn_cell, filled, greatest_height, piece_at, without_piece}
 use Rattle.comfy_table.specs.Gaps.{RowGapsValue, gap_line, row_between}
 use Rattle.comfy_table.specs.Pieces.{blank_piece, shown_infos}
 use Rattle.comfy_table.specs.TableValue.{TableValue}
@@ -21,24 +19,30 @@ IsLow drawn = length drawn.pieces ≤ 1
 -- ---- the cells that are kept
 
 -- and one more
-pub further-more : (further cells : List DrawnCell) (drawn : DrawnCell) → AreFurther further cells → AreFurther (with_further further drawn) (cells ++ drawn ∷ [])
-further-more [] cells drawn are = by_height (nat_lt 1 (length drawn.pieces)) refl
-  where
-    by_height : (b : Bool) → nat_lt 1 (length drawn.pieces) ≡ b → AreFurther (if b then drawn ∷ [] else []) (cells ++ drawn ∷ [])
-    by_height true is = record { low = are.low; before = are.before; all = ap (λ (ds : List DrawnCell). ds ++ drawn ∷ []) (are.all ∙ append-nil are.low) }
-    by_height false is =
-        let low : length drawn.pieces ≤ 1 = grind (arith, nat_tests, is) in
-        record {
-          low = are.low ++ drawn ∷ [];
-          before = All-append IsLow are.low (drawn ∷ []) are.before (All-cons IsLow drawn [] low (All-nil IsLow));
-          all = ap (λ (ds : List DrawnCell). ds ++ drawn ∷ []) (are.all ∙ append-nil are.low) ∙ sym (append-nil (are.low ++ drawn ∷ []));
-        }
-further-more (first ∷ others) cells drawn are =
+pub further-more : (further cells : List DrawnCell) (drawn : DrawnCell) → AreFurther further cells → AreFurther (further ++ drawn ∷ []) (cells ++ drawn ∷ [])
+further-more further cells drawn are =
     record {
       low = are.low;
       before = are.before;
-      all = ap (λ (ds : List DrawnCell). ds ++ drawn ∷ []) are.all ∙ append_assoc are.low (first ∷ others) (drawn ∷ []);
+      all = ap (λ (ds : List DrawnCell). ds ++ drawn ∷ []) are.all ∙ append_assoc are.low further (drawn ∷ []);
     }
+
+-- one that isn't kept, before all that are
+pub further-none : (cells : List DrawnCell) (drawn : DrawnCell) → length drawn.pieces ≤ 1 → AreFurther [] cells → AreFurther [] (cells ++ drawn ∷ [])
+further-none cells drawn low are =
+    record {
+      low = are.low ++ drawn ∷ [];
+      before = All-append IsLow are.low (drawn ∷ []) are.before (All-cons IsLow drawn [] low (All-nil IsLow));
+      all = ap (λ (ds : List DrawnCell). ds ++ drawn ∷ []) (are.all ∙ append-nil are.low) ∙ sym (append-nil (are.low ++ drawn ∷ []));
+    }
+
+-- the one that is kept last
+pub kept-last : (further : List DrawnCell) (drawn other : DrawnCell) (i : ℕ) → i ≡ length (further ++ drawn ∷ []) - 1 → slice_index_or (further ++ drawn ∷ []) i other ≡ drawn
+kept-last further drawn other i is =
+    let size = length-append further (drawn ∷ []) in
+    let from : length further ≤ i = omega (arith, is, size) in
+    let first : i - length further ≡ 0 = omega (arith, is, size) in
+    get_or-append_right further (drawn ∷ []) (length further) i other refl from ∙ ap (λ k. slice_index_or (drawn ∷ []) k other) first
 
 -- there are no more of them than cells
 pub further-few : (further cells : List DrawnCell) → AreFurther further cells → length further ≤ length cells
@@ -72,7 +76,7 @@ module _ (columns : List (ℕ × ColumnInfo)) (further : List DrawnCell) where
 -- ---- the lines of a row
 
 module _ (table : TableValue) (row : RowValue) where
-  -- in a line behind the first a low cell has no piece
+  -- in a line after the first a low cell has no piece
   low-pieces : (k : ℕ) (xs : List (ℕ × ColumnInfo)) → 0 < k → All IsLow (map (drawn_cell table row) xs) → map (piece_at k) (map without_piece xs) ≡ map (piece_at k) (map (drawn_cell table row) xs)
   low-pieces k [] some low = refl
   low-pieces k (x ∷ xs) some low =
@@ -110,7 +114,7 @@ module _ (table : TableValue) (row : RowValue) where
       others from zero some = refl
       others from (suc count) some = ap₂ (λ (line : Text) (lines : List Text). line ∷ lines) (ap (gap_line gaps) (same-pieces from some)) (others (from + 1) count (omega arith))
 
-      -- the first line and those behind it
+      -- the first line and those after it
       pub lines-between : (infos : List ColumnInfo) (height : ℕ) → columns ≡ shown_infos infos → height ≡ greatest_height (map (drawn_cell table row) columns) → 0 < height
           → gap_line gaps (map (piece_at 0) (map (drawn_cell table row) columns)) ∷ map (λ k. gap_line gaps (map (piece_at k) (filled columns further))) (range_with_len 1 (height - 1)) ≡ row_between gaps table infos row
       lines-between infos zero shown is some = absurd (omega (arith, some))

@@ -1,12 +1,12 @@
 -- Cells of texts of one line without escape sequences.
 use Rattle.std.proofs.Common.{◌≡◌, ◌≤◌, ◌+◌, ℕ, zero, suc, Bool, true, false, ◌&&◌, ◌||◌, ◌==◌, List, [], ◌∷◌, ◌++◌, length, map, refl, ap, ap₂, sym, ◌∙◌, arith, append-nil, slice_index_or}
-use Rattle.std.proofs.lemmas.Bool.{and_parts}
+use Rattle.std.proofs.lemmas.Bool.{and_parts, cond_both, or_parts}
 use Rattle.std.proofs.lemmas.Bool.Decides.{nat_tests}
 use Rattle.std.proofs.lemmas.List.{length-append, length-replicate}
 use Rattle.std.proofs.lemmas.List.Folds.{list_all-append}
 use Rattle.std.proofs.lemmas.List.Splits.{slice_split_none}
 use Rattle.std.specs.Int.{is_in_range}
-use Rattle.std.specs.List.{flat_map, list_any}
+use Rattle.std.specs.List.{flat_map, list_any, onto_first}
 use Rattle.std.specs.Prelude.{if◌then◌else◌}
 use Rattle.comfy_parts.proofs.CallerLemmas.{All-none, clear_lines, measure-printable}
 use Rattle.comfy_parts.specs.CellValue.{CellValue, plain_cell}
@@ -55,6 +55,20 @@ escapeless (b ∷ bs) printable =
 
 pub printable_clear : (text : Text) (n : ℕ) → is_printable_ascii text ≡ true → has_escape (text ++ spaces n) ≡ false
 printable_clear text n printable = escapeless (text ++ spaces n) (spaced-printable text n printable)
+
+-- ---- lines of texts without escape sequences
+
+onto_first-clear : (b : ℕ) (lines : List Text) → (b == 0x1B) ≡ false → list_any has_escape lines ≡ false → list_any has_escape (onto_first b lines) ≡ false
+onto_first-clear b [] own clear = rw own refl
+onto_first-clear b (line ∷ lines) own clear = rw own clear
+
+-- no line of such a text has one
+pub lines_clear : (text : Text) → has_escape text ≡ false → list_any has_escape (plain_cell text).text_lines ≡ false
+lines_clear [] clear = refl
+lines_clear (b ∷ bs) clear =
+    let each = or_parts (b == 0x1B) (has_escape bs) clear in
+    let others = lines_clear bs each.1 in
+    cond_both (b == 0x0A) _ _ (λ lines. list_any has_escape lines ≡ false) (λ _. others) (λ _. onto_first-clear b (plain_cell bs).text_lines each.0 others)
 
 -- ---- cells without escape sequences
 

@@ -1,6 +1,6 @@
 -- Private: the lines of a cell of a row as they are kept.
 -- Source: this library's own.
-use Rattle.std.specs.Prelude.{List, [], ◌∷◌, ◌++◌, Option, Some, None}
+use Rattle.std.specs.Prelude.{List, [], ◌∷◌, Option, Some, None}
 use Rattle.comfy_parts.specs.CellValue.{CellValue}
 use Rattle.comfy_table.specs.DrawnLines.{DrawnLine}
 use Rattle.comfy_table.specs.RowCells.{cell_in}
@@ -10,8 +10,7 @@ use Rattle.comfy_table.specs.declared.utils.formatting.row_cell.CellSource.{Cell
 
 -- its lines, from the top
 abbrev pub lines_of : CellLines → List DrawnLine
-lines_of (Single columns text end) =
-    record { columns = columns; written = text.now ++ end.now } ∷ []
+lines_of (Single line) = line ∷ []
 lines_of (Multiple lines) = lines.items
 
 -- the cell with its lines, if there is one

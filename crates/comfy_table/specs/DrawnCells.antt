@@ -1,6 +1,6 @@
 -- Private: the cells of a row as its shown columns draw them.
 -- Source: this library's own.
-use Rattle.std.specs.Prelude.{◌≡◌, ◌≤◌, ◌-◌, ℕ, List, [], ◌∷◌, ◌++◌, Option, Some, None, map, nat_lt, length, slice_index_or, take, if◌then◌else◌}
+use Rattle.std.specs.Prelude.{◌≡◌, ◌≤◌, ◌-◌, ℕ, List, [], ◌∷◌, ◌++◌, Option, Some, None, map, length, slice_index_or, take, if◌then◌else◌}
 use Rattle.std.specs.List.{All}
 use Rattle.comfy_parts.specs.CellValue.{CellValue, RowValue, ColumnInfo}
 use Rattle.comfy_parts.specs.Text.{Text, greatest}
@@ -47,11 +47,6 @@ greatest_height cells = greatest (map (λ (drawn : DrawnCell). length drawn.piec
 -- the piece in line k of the row
 abbrev pub piece_at : ℕ → DrawnCell → Text
 piece_at k drawn = slice_index_or drawn.pieces k (blank_piece drawn.info)
-
--- cells that are kept for further lines, and one more behind them
-abbrev pub with_further : List DrawnCell → DrawnCell → List DrawnCell
-with_further [] cell = if nat_lt 1 (length cell.pieces) then cell ∷ [] else []
-with_further (first ∷ others) cell = first ∷ others ++ cell ∷ []
 
 -- the last ones of some cells, before which none has more than one piece
 pub record AreFurther (further cells : List DrawnCell) : Type 0 where

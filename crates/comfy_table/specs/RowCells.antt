@@ -6,19 +6,21 @@ use Rattle.comfy_parts.specs.VisibleLines.{CellLine}
 use Rattle.comfy_table.specs.Pieces.{row_cell_lines}
 use Rattle.comfy_table.specs.TableValue.{TableValue}
 use Rattle.comfy_table.specs.declared.utils.formatting.row_cell.CellSource.{CellSource}
-use Rattle.comfy_table.specs.declared.utils.formatting.row_cell.CellSource.TheVariants.{Line, Own}
+use Rattle.comfy_table.specs.declared.utils.formatting.row_cell.CellSource.TheVariants.{Line, Lines, Own}
 use Rattle.comfy_table.specs.declared.utils.formatting.row_cell.RowCell.{RowCell}
-use Rattle.comfy_table.specs.declared.utils.formatting.row_cell.RowCell.TheVariants.{Lent, Made}
+use Rattle.comfy_table.specs.declared.utils.formatting.row_cell.RowCell.TheVariants.{Lent, Made, Several}
 use Rattle.comfy_table.specs.declared.utils.formatting.row_cell.RowSource.{RowSource}
 use Rattle.comfy_table.specs.declared.utils.formatting.row_cell.RowSource.TheVariants.{Listed, Whole}
 
 -- the cell itself
 abbrev pub cell_of : RowCell → CellValue
 cell_of (Lent cell) = cell
+cell_of (Several cell) = cell
 cell_of (Made cell) = cell.value
 
 abbrev pub cell_in : CellSource → CellValue
 cell_in (Line cell) = cell.now
+cell_in (Lines cell) = cell.now
 cell_in (Own cell) = cell.now
 
 -- a row of these cells with this greatest height; 0 counts as 1

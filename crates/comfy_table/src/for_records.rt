@@ -3,5 +3,5 @@
 //! needs none of it.
 
 pub use crate::utils::arrangement::source::TableSource;
-pub use crate::utils::formatting::row_cell::{RowCell, TextCell};
+pub use crate::utils::formatting::row_cell::{LinesCell, RowCell, TextCell};
 pub use crate::utils::formatting::text_style::TextStyle;

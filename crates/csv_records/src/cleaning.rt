@@ -48,6 +48,7 @@ fn is_clean(field: &str) -> bool
 
 /// Whether a field is one text line that is drawn as it is: no character of it is replaced, and it
 /// has no line feed. Most fields are printable ASCII, which is seen faster.
+#[inline(always)]
 pub fn is_clean_line(field: &str) -> bool
     ensures { result ≡ not (list_any is_replaced (chars field.now)) }
 {

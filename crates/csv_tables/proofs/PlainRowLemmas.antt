@@ -1,18 +1,22 @@
 -- Rows and cells that aren't made before they are drawn.
-use Rattle.std.proofs.Common.{◌≡◌, ◌+◌, ◌<◌, length, inl, inr, ℕ, Bool, true, false, ◌&&◌, List, [], ◌∷◌, ◌++◌, Option, Some, None, chars, map, decimal, zero, suc, refl, ap, ap₂, subst, sym, ◌∙◌, append-nil, arith}
-use Rattle.std.proofs.lemmas.List.{map-append}
-use Rattle.std.proofs.lemmas.List.Folds.{list_all-append}
+use Rattle.std.proofs.Common.{◌≡◌, ◌+◌, ◌<◌, ◌==◌, length, get_or, inl, inr, ℕ, Bool, true, false, ◌&&◌, ◌||◌, List, [], ◌∷◌, ◌++◌, Option, Some, None, map, decimal, zero, suc, refl, ap, ap₂, subst, sym, ◌∙◌, append-nil, arith}
+use Rattle.std.proofs.Math.Seq.{drop-append-add, get_or-append_seam, take-append_seam}
+use Rattle.std.proofs.lemmas.Bool.{or_parts}
+use Rattle.std.proofs.lemmas.List.{length-append, map-append}
+use Rattle.std.proofs.lemmas.List.Folds.{list_all-append, list_any-append}
+use Rattle.std.proofs.lemmas.List.Splits.{join_with_byte-slice_split}
 use Rattle.std.proofs.lemmas.Option.{slice_get-map}
-use Rattle.std.specs.List.{list_any, slice_index_or}
+use Rattle.std.proofs.lemmas.Str.{IsCharBoundary-after_ascii, IsCharBoundary-before_ascii, IsUtf8-drop, IsUtf8-take, chars-append, chars-nil}
+use Rattle.std.specs.List.{join_with_byte, list_any, slice_index_or, slice_split}
 use Rattle.std.specs.Prelude.{option_map, slice_get, if◌then◌else◌}
-use Rattle.std.specs.Str.{IsUtf8}
+use Rattle.std.specs.Str.{IsUtf8, chars}
 use Rattle.comfy_parts.proofs.CallerLemmas.{IsUtf8-printable}
 use Rattle.comfy_parts.specs.CellValue.{CellValue, plain_cell}
 use Rattle.comfy_parts.specs.Text.{Text, is_printable_ascii, spaces}
 use Rattle.comfy_parts.specs.declared.style.cell.CellAlignment.{CellAlignment}
 use Rattle.comfy_parts.specs.declared.style.cell.CellAlignment.TheVariants.{Right}
-use Rattle.csv_records.proofs.CleaningLemmas.{drawn_so, none_replaced}
-use Rattle.csv_records.specs.Cleaning.{cleaned, is_replaced}
+use Rattle.csv_records.proofs.CleaningLemmas.{drawn_so, harmless_so, none_harmful, none_replaced}
+use Rattle.csv_records.specs.Cleaning.{cleaned, is_harmful, is_replaced}
 use Rattle.csv_tables.proofs.BuiltLemmas.{blank_drawn}
 use Rattle.csv_tables.proofs.ShownLemmas.{shown_behind, spaces_printable}
 use Rattle.csv_tables.specs.Cells.{Shown, cell_for, columns_within, field_text, is_blank, marked, number_of, shown_cells, shown_fields, shown_number, text_in, unless_blank, with_weight}
@@ -55,6 +59,53 @@ pub clean_stays : (look : Look) (field : Text) → IsKept look field 0 → IsUtf
 clean_stays look field kept utf8 clean =
     let same : field ++ [] ≡ field = append-nil field in
     sym (ap (field_text look) same) ∙ stays_if look field 0 kept (subst IsUtf8 (sym same) utf8) (ap (λ (t : Text). list_any is_replaced (chars t)) same ∙ clean) ∙ same
+
+-- ---- texts of several lines that are what their cells have
+
+-- a text without harmful characters is what its cell has, if it isn't blank
+pub harmless_stays : (look : Look) (field : Text) → look.is_markdown ≡ false → is_blank field ≡ false → IsUtf8 field → list_any is_harmful (chars field) ≡ false → field_text look field ≡ field
+harmless_stays look field unmarked filled utf8 harmless =
+    ap (λ (b : Bool). if b then marked (cleaned false field) else unless_blank (cleaned look.has_sequences field)) unmarked
+    ∙ ap unless_blank (sym (harmless_so look.has_sequences field utf8 harmless))
+    ∙ ap (λ (b : Bool). if b then [] else field) filled
+
+-- a character of a line is replaced
+abbrev pub is_replaced_in : Text → Bool
+is_replaced_in line = list_any is_replaced (chars line)
+
+-- what is before and after a line feed are whole characters
+around_feed : (front back : Text) → IsUtf8 (front ++ 0x0A ∷ back) → IsUtf8 front × IsUtf8 back
+around_feed front back utf8 =
+    let text = front ++ 0x0A ∷ back in
+    let within : length front < length text = omega (arith, length-append front (0x0A ∷ back)) in
+    let feed : get_or text (length front) 0 ≡ 0x0A = get_or-append_seam front 0x0A back 0 in
+    let ascii : get_or text (length front) 0 < 128 = omega (arith, feed) in (
+      subst IsUtf8 (take-append_seam front (0x0A ∷ back)) (IsUtf8-take text (length front) utf8 (IsCharBoundary-before_ascii text (length front) within ascii)),
+      subst IsUtf8 (drop-append-add front (0x0A ∷ back) 1) (IsUtf8-drop text (length front + 1) utf8 (IsCharBoundary-after_ascii text (length front) utf8 within ascii)),
+    )
+
+feed_first : (rest : Text) → chars (0x0A ∷ rest) ≡ 0x0A ∷ chars rest
+unfolding chars
+feed_first [] = refl
+feed_first (b ∷ bs) = refl
+
+joined_harmless : (lines : List Text) → IsUtf8 (join_with_byte 0x0A lines) → list_any is_replaced_in lines ≡ false → list_any is_harmful (chars (join_with_byte 0x0A lines)) ≡ false
+joined_harmless [] utf8 none = ap (list_any is_harmful) chars-nil
+joined_harmless (line ∷ []) utf8 none = none_harmful (chars line) (or_parts (is_replaced_in line) false none).0
+joined_harmless (line ∷ (next ∷ lines)) utf8 none =
+    let rest = join_with_byte 0x0A (next ∷ lines) in
+    let whole = around_feed line rest utf8 in
+    let each = or_parts (is_replaced_in line) (list_any is_replaced_in (next ∷ lines)) none in
+    let others = joined_harmless (next ∷ lines) whole.1 each.1 in
+    ap (list_any is_harmful) (chars-append line (0x0A ∷ rest) whole.0 ∙ ap (λ (cs : List ℕ). chars line ++ cs) (feed_first rest))
+    ∙ list_any-append is_harmful (chars line) (0x0A ∷ chars rest)
+    ∙ ap₂ (λ a b. a || b) (none_harmful (chars line) each.0) others
+
+-- a text has no harmful character if none is replaced in its lines
+pub harmless_lines : (text : Text) → IsUtf8 text → list_any is_replaced_in (slice_split (λ b. b == 0x0A) text) ≡ false → list_any is_harmful (chars text) ≡ false
+harmless_lines text utf8 none =
+    let same = join_with_byte-slice_split 0x0A text in
+    sym (ap (λ (t : Text). list_any is_harmful (chars t)) same) ∙ joined_harmless (slice_split (λ b. b == 0x0A) text) (subst IsUtf8 (sym same) utf8) none
 
 -- ---- cells
 

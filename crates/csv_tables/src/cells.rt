@@ -1,6 +1,6 @@
 //! Cells of texts that aren't cleaned yet, and the header.
 
-ghost use Rattle.std.specs.Prelude.{◌≡◌, ◌++◌, ◌∷◌, [], IfOk, IfSome, None, OnOk, Some, chars, decimal, false, if◌then◌else◌, map, option_map, string_bytes};
+ghost use Rattle.std.specs.Prelude.{◌≡◌, ◌++◌, ◌∷◌, [], IfOk, IfSome, None, OnOk, Some, chars, decimal, false, if◌then◌else◌, map, option_map, string_bytes, true};
 ghost use Rattle.std.specs.Cow.{cow_str_bytes};
 ghost use Rattle.std.specs.List.{list_any};
 ghost use Rattle.comfy_parts.specs.CellValue.{plain_cell, plain_row, with_cell};
@@ -8,7 +8,7 @@ ghost use Rattle.comfy_parts.specs.Text.{spaces};
 ghost use Rattle.comfy_parts.specs.declared.style.cell.CellAlignment.TheVariants.{Right};
 ghost use Rattle.comfy_table.specs.RowCells.{cell_of};
 ghost use Rattle.comfy_table.specs.TextStyles.{styled_by, text_cell};
-ghost use Rattle.csv_records.specs.Cleaning.{is_replaced};
+ghost use Rattle.csv_records.specs.Cleaning.{is_harmful, is_replaced};
 ghost use Rattle.csv_tables.specs.Cells.{cell_for, field_text, header_for, is_blank, number_name, with_weight};
 ghost use Rattle.csv_tables.specs.Columns.{name_or_number};
 ghost use Rattle.csv_tables.specs.Contents.{IsKept, field_cells};
@@ -24,7 +24,7 @@ use crate::settings::{CellSettings, settings_of};
 use comfy_parts::for_tables::printable_cell;
 use comfy_parts::style::{Attribute, CellAlignment};
 use comfy_parts::{Cell, Cells, IntoRow, Result, Row};
-use comfy_table::for_records::{RowCell, TextCell, TextStyle};
+use comfy_table::for_records::{LinesCell, RowCell, TextCell, TextStyle};
 use csv_records::{Record, cleaned, is_clean_line};
 use std::alloc::{AllocError, Global};
 use std::borrow::CowStr;
@@ -36,7 +36,7 @@ const BOLD: &TextStyle<'static> = &TextStyle {
 };
 
 /// The cell of a text that isn't cleaned yet, with spaces after it. The text is lent if it is drawn
-/// as it is, on one line; else a cell is made.
+/// as it is; else a cell is made.
 #[inline(always)]
 pub(crate) fn row_cell<'r>(
     alloc: Global,
@@ -52,7 +52,7 @@ pub(crate) fn row_cell<'r>(
     if let Some(cell) = lent_cell(text, after, alignment, style_of(is_bold), look) {
         return Ok(RowCell::Lent(cell));
     }
-    boxed_cell(alloc, text, after, alignment, is_bold, look)
+    other_cell(alloc, text, after, alignment, is_bold, look)
 }
 
 /// The cell of a field in its column, whose decimal mark is lined up if `is_aligned`.
@@ -154,7 +154,7 @@ pub(crate) fn push_text<'r>(
         cells.push(RowCell::Lent(cell))?;
         return Ok(());
     }
-    push_made(cells, alloc, text, after, alignment, is_bold, look)
+    push_other(cells, alloc, text, after, alignment, is_bold, look)
 }
 
 /// Appends the cell of the name of a column, or of its number if it has none.
@@ -196,12 +196,12 @@ fn spaces_of(
     spaces_after(alloc, points, field, look.has_sequences)
 }
 
-// Appends the cell of a text with spaces after it, made with a text of its own.
+// Appends the cell of a text with spaces after it that isn't one line as it is.
 #[inline(never)]
-fn push_made(
-    cells: &mut Vec<RowCell<'_>>,
+fn push_other<'r>(
+    cells: &mut Vec<RowCell<'r>>,
     alloc: Global,
-    text: &str,
+    text: &'r str,
     after: usize,
     alignment: Option<CellAlignment>,
     is_bold: bool,
@@ -210,7 +210,7 @@ fn push_made(
     ensures { OnOk result (map cell_of cells.new.items ≡ map cell_of cells.old.items
         ++ with_weight is_bold (cell_for look.now alignment (text.now ++ spaces after)) ∷ []) }
 {
-    cells.push(boxed_cell(alloc, text, after, alignment, is_bold, look)?)?;
+    cells.push(other_cell(alloc, text, after, alignment, is_bold, look)?)?;
     Ok(())
 }
 
@@ -241,6 +241,26 @@ pub(crate) fn name_cell<'r>(
         CowStr::Borrowed(name) => row_cell(alloc, name, 0, None, is_bold, look),
         CowStr::Owned(number) => boxed_cell(alloc, number.as_str(), 0, None, is_bold, look),
     }
+}
+
+// The cell of a text with spaces after it that isn't one line as it is: it is lent if it is several
+// lines as it is, else made with a text of its own.
+#[inline(never)]
+fn other_cell<'r>(
+    alloc: Global,
+    text: &'r str,
+    after: usize,
+    alignment: Option<CellAlignment>,
+    is_bold: bool,
+    look: &Look,
+) -> Result<RowCell<'r>>
+    ensures { IfOk result (λ cell. cell_of cell
+        ≡ with_weight is_bold (cell_for look.now alignment (text.now ++ spaces after))) }
+{
+    if let Some(cell) = lines_cell(text, after, alignment, style_of(is_bold), look) {
+        return Ok(RowCell::Several(cell));
+    }
+    boxed_cell(alloc, text, after, alignment, is_bold, look)
 }
 
 // The cell of such a text, made with a text of its own, as a cell of a row.
@@ -455,6 +475,37 @@ fn clean_cell<'r>(
     }
     let cell = TextCell::of_line(text, alignment, style)?;
     Some(cell)
+}
+
+// The cell of a text with spaces after it, if these are none and each line is drawn as it is.
+fn lines_cell<'r>(
+    text: &'r str,
+    after: usize,
+    alignment: Option<CellAlignment>,
+    style: Option<&'r TextStyle<'r>>,
+    look: &Look,
+) -> Option<LinesCell<'r>>
+    ensures { IfSome result (λ cell. cell
+        ≡ text_cell alignment (option_map (λ style. style.now) style.entry)
+        (field_text look.now (text.now ++ spaces after))) }
+{
+    if after > 0 || look.is_markdown || is_blank(text.as_bytes()) || !has_clean_lines(text) {
+        return None;
+    }
+    let cell = LinesCell::of_lines(text, alignment, style)?;
+    Some(cell)
+}
+
+// Whether each line of a text is drawn as it is.
+fn has_clean_lines(text: &str) -> bool
+    ensures { result ≡ true → list_any is_harmful (chars text.now) ≡ false }
+{
+    for line in text.split('\n') {
+        if !is_clean_line(line) {
+            return false;
+        }
+    }
+    true
 }
 
 // Whether a clean field with spaces after it may be drawn as another text: it is blank, but not

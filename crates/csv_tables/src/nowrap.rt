@@ -21,7 +21,7 @@ use crate::limits::{
 use crate::selected::SelectedRecords;
 use comfy_parts::content_split::measure_text_width;
 use comfy_parts::for_tables::measured_lines;
-use comfy_table::for_records::{RowCell, TextCell};
+use comfy_table::for_records::{LinesCell, RowCell, TextCell};
 use comfy_table::utils::arrangement::helper::count_border_columns;
 use comfy_table::{Cell, Column, ColumnConstraint, Result, Table, Width};
 use csv_records::{is_neutral, is_number};
@@ -394,6 +394,7 @@ pub(crate) fn cell_nowrap_width(
 {
     match cell {
         RowCell::Lent(cell) => text_nowrap_width(alloc, cell, room),
+        RowCell::Several(cell) => Ok(lent_nowrap_width(cell, room)),
         RowCell::Made(cell) => Ok(lines_nowrap_width(table, cell, room)),
     }
 }
@@ -410,6 +411,19 @@ fn text_nowrap_width(alloc: Global, cell: &TextCell<'_>, room: u16) -> Result<u1
     }
     let spaced = cell.spaced(alloc)?;
     Ok(nowrap_width(spaced.as_str(), room))
+}
+
+// The widest among the lines of a text that is lent.
+fn lent_nowrap_width(cell: &LinesCell<'_>, room: u16) -> u16
+    ensures value { (table : TableValue)
+        → result ≡ cell_nowrap_width room (measured_cell table cell.now) }
+    ensures within { result ≤ room }
+{
+    let mut widest = 0;
+    for line in cell.text().split('\n') {
+        widest = nowrap_width(line, room).max(widest);
+    }
+    widest
 }
 
 // The widest among the lines of a cell that is made.

@@ -298,6 +298,7 @@ fn has_one_line(cell: &RowCell<'_>) -> bool
             let _ = cell.columns();
             true
         }
+        RowCell::Several(_) => false,
         RowCell::Made(cell) => cell.text_lines().len() <= 1,
     }
 }

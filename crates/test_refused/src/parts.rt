@@ -2,7 +2,7 @@
 
 use crate::fixtures::fill_worked;
 use crate::outcome::{Outcome, succeeded};
-use comfy_table::for_records::{RowCell, TextCell};
+use comfy_table::for_records::{LinesCell, RowCell, TextCell};
 use comfy_table::{ArrangedTable, Cell, PartEnds, Result, Table};
 use std::alloc::Global;
 
@@ -33,11 +33,12 @@ fn outcome_of_pushing(alloc: Global, arranged: &ArrangedTable<&Table>) -> Result
     Ok(Outcome::refused(differs.then_some("the text")))
 }
 
-// A row of cells of which none fits its column: a text, a `Cell`, and a number before spaces.
+// A row of cells of which none fits its column: a text of two lines, a `Cell`, and a number before
+// spaces.
 fn cells(alloc: Global) -> Result<Vec<RowCell<'static>>> {
     let mut cells = Vec::new(alloc);
-    if let Some(text) = TextCell::of_line("a long text that is wrapped", None, None) {
-        cells.push(RowCell::Lent(text))?;
+    if let Some(text) = LinesCell::of_lines("a long text\nthat is wrapped", None, None) {
+        cells.push(RowCell::Several(text))?;
     }
     let made = Cell::new(alloc, "a text\nof two lines")?;
     cells.push(RowCell::Made(Box::new(alloc, made)?))?;

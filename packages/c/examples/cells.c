@@ -49,12 +49,15 @@ int main(void) {
             cells[row * COLUMNS + column] = cell;
         }
     }
-    for (int column = 0; column < COLUMNS; column++) columns[column] = (struct comfy_column){.left_padding = 1, .right_padding = 1};
+    for (int column = 0; column < COLUMNS; column++) columns[column] = (struct comfy_column)COMFY_COLUMN;
     columns[1].alignment = COMFY_ALIGNED_RIGHT;
     columns[3].constraint = COMFY_CONSTRAINT_UPPER_BOUNDARY;
     columns[3].width.value = 24;
-    const struct comfy_cells_settings settings = {
-        .style = COMFY_ASCII_FULL_CONDENSED, .arrangement = COMFY_DYNAMIC, .width = 72, .has_header = 1, .enforce_styling = 1};
+    struct comfy_cells_settings settings = COMFY_CELLS_SETTINGS;
+    settings.style = COMFY_ASCII_FULL_CONDENSED;
+    settings.arrangement = COMFY_DYNAMIC;
+    settings.width = 72;
+    settings.enforce_styling = 1;
     uint32_t result;
     char *drawing = comfy_cells_text((const uint8_t *)joined, length, cells, ROWS * COLUMNS, rows, ROWS, columns, COLUMNS, NULL, 0, &settings, &result);
     if (!drawing) {

@@ -29,8 +29,9 @@ int main(void) {
             length += bytes;
         }
     }
-    const struct comfy_rows_settings settings = {
-        .max_height = COMFY_NO_LIMIT, .limit = COMFY_NO_LIMIT, .style = COMFY_ASCII_FULL, .width = COMFY_NO_WIDTH, .has_header = 1};
+    struct comfy_rows_settings settings = COMFY_ROWS_SETTINGS;
+    settings.style = COMFY_ASCII_FULL;
+    settings.row_lines = COMFY_LINES_EVERYWHERE;
     uint32_t result;
     char *drawing = comfy_rows_text((const uint8_t *)texts, length, lengths, ROWS * COLUMNS, counts, ROWS, NULL, 0, NULL, 0, NULL, 0,
                                     &settings, &result);

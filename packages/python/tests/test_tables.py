@@ -19,7 +19,9 @@ import threading
 import typing
 import unittest
 from collections import namedtuple
+from decimal import Decimal
 from pathlib import Path
+from unittest import mock
 
 import comfy_table_proved
 from comfy_table_proved import Cell, Table, draw_csv, tabulate
@@ -211,11 +213,40 @@ class Colors(unittest.TestCase):
             return "bold red" if value == -1 else None
 
         wanted = "+----+---+\n|  a | 1 |\n+========+\n| \x1b[1;31m-1\x1b[0m | \ufffd |\n+----+---+"
-        self.assertEqual(tabulate([[-1, "\x1b"]], headers=["a", 1], colors=red_if_negative, style="ascii"), wanted)
+        self.assertEqual(tabulate([[-1, "\x1b"]], headers=["a", 1], colors=red_if_negative, style="ascii", color="always"), wanted)
         self.assertEqual(called, [(0, "a", -1), (0, "1", "\x1b")])
 
     def test_a_header_in_bold(self):
-        self.assertIn("\x1b[1m", tabulate([["x"]], headers=["a"], bold_header=True))
+        self.assertIn("\x1b[1m", tabulate([["x"]], headers=["a"], bold_header=True, color="always"))
+
+    def test_places_for_colours(self):
+        settings = {"headers": [Cell("a", "green")], "colors": lambda row, column, value: "red", "bold_header": True}
+        plain = tabulate([["x"]], headers=["a"])
+        self.assertEqual(tabulate([["x"]], color="never", **settings), plain)
+        with self.assertRaises(ValueError):
+            tabulate([["x"]], color="sometimes")
+        closed = io.StringIO()
+        closed.close()
+        for output in None, closed:
+            with mock.patch("sys.stdout", output):
+                self.assertEqual(tabulate([["x"]], **settings), plain)
+        for is_terminal, no_color, are_written in [(True, "", True), (True, "1", False), (False, "", False)]:
+            output = io.StringIO()
+            output.isatty = lambda: is_terminal
+            with mock.patch("sys.stdout", output), mock.patch.dict(os.environ, NO_COLOR=no_color):
+                drawing = tabulate([["x"]], **settings)
+            self.assertEqual("\x1b[31m" in drawing and "\x1b[1m" in drawing, are_written)
+            self.assertEqual(drawing == plain, not are_written)
+
+    def test_colours_of_values(self):
+        rows = [["\x1b[31mred\x1b[0m", 1], ["\x1b]0;t\x07", 2]]
+        self.assertEqual(
+            tabulate(rows, ansi=True, style="ascii"),
+            "+--------+---+\n| \x1b[31mred\x1b[0m    | 1 |\n|--------+---|\n| \ufffd]0;t\ufffd | 2 |\n+--------+---+",
+        )
+        colored = tabulate(rows[:1], ansi=True, colors=lambda row, column, value: "bold", color="always", style="ascii")
+        self.assertIn("| \x1b[1m\x1b[31mred\x1b[0m | \x1b[1m1\x1b[0m |", colored)
+        self.assertIn("| red | 1 |", Table(rows[:1], ansi=True, style="ascii")._repr_html_())
 
 
 class Tables(unittest.TestCase):
@@ -267,7 +298,7 @@ class Snippets(unittest.TestCase):
         self.expect(tabulate({"a": [1, 2], "b": ["x"]}, headers="keys", tablefmt="outline"), """
 +---+---+
 | a | b |
-+=======+
++===+===+
 | 1 | x |
 | 2 |   |
 +---+---+
@@ -277,7 +308,7 @@ class Snippets(unittest.TestCase):
         self.expect(tabulate([["a", 1]], ["x", "y"], "grid"), """
 +---+---+
 | x | y |
-+=======+
++===+===+
 | a | 1 |
 +---+---+
 """)
@@ -285,29 +316,64 @@ class Snippets(unittest.TestCase):
     def test_frames_of_tabulate(self):
         rows = [["a", 1], ["b", 22]]
         self.expect(tabulate(rows, ["x", "n"], tablefmt="fancy_grid"), """
-┌───┬────┐
-│ x ┆  n │
+╒═══╤════╕
+│ x │  n │
 ╞═══╪════╡
-│ a ┆  1 │
-├╌╌╌┼╌╌╌╌┤
-│ b ┆ 22 │
-└───┴────┘
+│ a │  1 │
+├───┼────┤
+│ b │ 22 │
+╘═══╧════╛
 """)
         self.expect(tabulate(rows, ["x", "n"], tablefmt="rounded_outline"), """
 ╭───┬────╮
-│ x ┆  n │
-╞═══╪════╡
-│ a ┆  1 │
-│ b ┆ 22 │
+│ x │  n │
+├───┼────┤
+│ a │  1 │
+│ b │ 22 │
 ╰───┴────╯
 """)
         self.expect(tabulate(rows, ["x", "n"], tablefmt="pipe"), """
 | x |  n |
-|---|---:|
+|:--|---:|
 | a |  1 |
 | b | 22 |
 """)
-        self.assertEqual(tabulate(rows, tablefmt="plain"), " a   1 \n b  22 ")
+        self.assertEqual(tabulate(rows, tablefmt="plain"), "a   1\nb  22")
+        self.assertEqual(tabulate(rows, ["x", "n"], tablefmt="simple"), "x   n\n-  --\na   1\nb  22")
+        self.assertEqual(tabulate(rows, tablefmt="simple"), "-  --\na   1\nb  22\n-  --")
+        self.assertEqual(tabulate(rows, ["", "n"], tablefmt="rst"), "==  ==\n..   n\n==  ==\na    1\nb   22\n==  ==")
+        self.assertEqual(tabulate(rows, ["x", "n"], tablefmt="presto"), " x |  n\n---+----\n a |  1\n b | 22")
+        self.assertEqual(tabulate(rows, ["x", "n"], tablefmt="orgtbl"), "| x |  n |\n|---+----|\n| a |  1 |\n| b | 22 |")
+        self.expect(tabulate([["a", 1], ["bcd", 22]], ["x", "num"], tablefmt="pretty", left="x"), """
++-----+-----+
+| x   | num |
++-----+-----+
+| a   |  1  |
+| bcd |  22 |
++-----+-----+
+""")
+
+    def test_gaps_between_columns(self):
+        # The library draws another character for a gap if a text has the first one.
+        self.assertEqual(tabulate([["\ue000", "\ue001"]], tablefmt="plain"), "\ue000  \ue001")
+        lines = tabulate([["one two three four", "five six seven"]], tablefmt="simple", width=17).split("\n")
+        self.assertEqual(max(map(len, lines)), 17)
+        self.assertEqual(tabulate([["a", 1]], ["x", "y"], tablefmt="plain", expanded=True), "record 1 of 1\n x    a\n y    1")
+
+    def test_columns_in_the_middle_of_markdown(self):
+        rows, names = [["a", 1], ["bcd", 22]], ["x", "num"]
+        wanted = "| x   | num |\n|:---:|----:|\n| a   |   1 |\n| bcd |  22 |"
+        self.assertEqual(tabulate(rows, names, tablefmt="pipe", colalign=("center",)), wanted)
+        self.assertEqual(tabulate(rows, names, markdown=True, center="x"), wanted)
+        colors = {"colors": lambda row, column, value: "red", "bold_header": True, "color": "always"}
+        self.assertEqual(tabulate([["a", 1], ["\x1b[1mbcd\x1b[0m", 22]], names, markdown=True, center="x", ansi=True, **colors), wanted)
+        self.assertEqual(tabulate(rows, names, tablefmt="pipe", left=1).split("\n")[1], "|:----|:----|")
+
+    def test_formats_that_other_programs_make(self):
+        with self.assertRaisesRegex(ValueError, "^tablefmt 'html' isn't there; in its place there is pandoc"):
+            tabulate([["a"]], tablefmt="html")
+        with self.assertRaisesRegex(ValueError, "^tablefmt is one of grid, simple_grid, .*, not 'grids'"):
+            tabulate([["a"]], tablefmt="grids")
 
     def test_an_index(self):
         self.expect(tabulate([["F", 24], ["M", 19]], showindex="always", style="box"), """
@@ -346,6 +412,38 @@ class Snippets(unittest.TestCase):
 │ 1.5 ┆ 2.2 │
 └─────┴─────┘
 """)
+
+    def test_formats_of_columns_with_floats(self):
+        rows = [[1, Decimal(1) / 3], [2.5, 4], [True, "5"]]
+        self.expect(tabulate(rows, floatfmt=".2f", intfmt=",", style="box"), """
+┌──────┬──────┐
+│ 1.00 ┆ 0.33 │
+│ 2.50 ┆ 4.00 │
+│ True ┆ 5    │
+└──────┴──────┘
+""")
+        self.assertEqual(tabulate([[1000, 1]], intfmt=",", floatfmt=".1f", tablefmt="plain"), "1,000  1")
+
+    def test_bytes(self):
+        self.assertEqual(tabulate([["ä".encode(), b"\xff"]], [b"x", "y"], tablefmt="plain"), "x  y\nä  b'\\xff'")
+
+    def test_fewer_headers_than_columns(self):
+        self.assertEqual(tabulate([["a", 1, 2], [3]], headers=["x", "y"], tablefmt="plain"), "   x  y\na  1  2\n3")
+
+    def test_headers_that_choose_by_keys(self):
+        wanted = "price  name\n    3  oats"
+        record = dataclasses.make_dataclass("Record", ["name", "price"])("oats", 3)
+        connection = sqlite3.connect(":memory:")
+        connection.row_factory = sqlite3.Row
+        selected = connection.execute("select 'oats' as name, 3 as price").fetchall()
+        for rows in [{"name": "oats", "price": 3}], [record], selected, [namedtuple("Pair", "name price")("oats", 3)]:
+            self.assertEqual(tabulate(rows, headers=["price", "name"], tablefmt="plain"), wanted)
+            self.assertEqual(tabulate(rows, headers=[Cell("price")], tablefmt="plain"), "price\n    3")
+        self.assertEqual(tabulate([record], headers=["Name", "EUR"], tablefmt="plain"), "Name  EUR\noats    3")
+        self.assertEqual(tabulate({"name": ["oats"], "price": [3]}, ["Name", "EUR"], tablefmt="plain"), "Name  EUR\noats    3")
+        with self.assertRaises(ValueError) as caught:
+            tabulate([{"name": "oats", "price": 3}], headers=["name", "EUR"])
+        self.assertEqual(str(caught.exception), "no row has the key 'EUR'; a dict of headers, as {key: name}, names keys anew")
 
     def test_sides_of_columns(self):
         self.expect(tabulate([["one", 1], ["three", 3]], colalign=("right", "left"), style="box"), """
@@ -406,9 +504,9 @@ class Snippets(unittest.TestCase):
         self.expect(tabulate([["Name", "Age"], ["Alice", 24], ["Bob", 19]], headers="firstrow", tablefmt="grid"), """
 +-------+-----+
 | Name  | Age |
-+=============+
++=======+=====+
 | Alice |  24 |
-|-------+-----|
++-------+-----+
 | Bob   |  19 |
 +-------+-----+
 """)
@@ -461,6 +559,11 @@ class Snippets(unittest.TestCase):
         self.assertEqual(tabulate(numpy.array([[1, 2], [3, 4]])), tabulate([[1, 2], [3, 4]]))
         array = numpy.array([(1, 2.5)], dtype=[("a", "i4"), ("b", "f8")])
         self.assertEqual(tabulate(array, headers="keys"), tabulate([{"a": 1, "b": 2.5}], headers="keys"))
+        frame = pandas.DataFrame({"a": [1, 2], "b": ["x", "y"]})
+        self.assertEqual(tabulate(frame, headers=["b"], tablefmt="plain"), "   b\n0  x\n1  y")
+        self.assertEqual(tabulate(frame, headers=["B"], tablefmt="plain"), "      B\n0  1  x\n1  2  y")
+        numbers = [[numpy.float32(1.5), numpy.int64(2000)], [numpy.int64(2), None]]
+        self.assertEqual(tabulate(numbers, floatfmt=".2f", intfmt=",", tablefmt="plain"), "1.50  2,000\n2.00")
 
 
 class Settings(unittest.TestCase):
@@ -513,7 +616,7 @@ class Settings(unittest.TestCase):
 
     def test_cells(self):
         rows = [[Cell("wide text"), Cell(-1000, "bold #ff0000 on_blue")], [Cell("x", align="right"), Cell(None, align="center")]]
-        self.expect(tabulate(rows, [Cell("a", "underline", "center"), "b"], style="ascii", intfmt=",", missingval="n/a"), """
+        self.expect(tabulate(rows, [Cell("a", "underline", "center"), "b"], style="ascii", intfmt=",", missingval="n/a", color="always"), """
 +-----------+--------+
 |\x1b[4m     a     \x1b[0m|      b |
 +====================+
@@ -525,10 +628,19 @@ class Settings(unittest.TestCase):
 
     def test_cells_beside_colours_by_value(self):
         called = []
-        drawing = tabulate([[Cell("a", "on_#010203"), 1]], colors=lambda *asked: called.append(asked) or "red", style="ascii")
+        drawing = tabulate([[Cell("a", "on_#010203"), 1]], colors=lambda *asked: called.append(asked) or "red", style="ascii", color="always")
         self.assertEqual(called, [(0, 0, "a"), (0, 1, 1)])
         self.assertIn("|\x1b[48;2;1;2;3m \x1b[31ma\x1b[0m", drawing)
         self.assertIn("| \x1b[31m1\x1b[0m |", drawing)
+
+    def test_cells_and_columns_in_the_middle_if_rows_may_be_expanded(self):
+        rows, names = [[Cell("late", "red"), "a long remark on it"]], ["state", "remark"]
+        settings = {"expanded": "auto", "style": "ascii", "color": "always", "center": 1}
+        self.assertEqual(tabulate(rows, names, width=40, **settings), tabulate(rows, names, **{**settings, "expanded": False}))
+        self.assertEqual(tabulate(rows, names, **settings), tabulate(rows, names, **{**settings, "expanded": False}))
+        self.assertEqual(
+            tabulate(rows, names, width=8, **settings), tabulate([["late", "a long remark on it"]], names, width=8, expanded=True, style="ascii")
+        )
 
     def test_cells_in_notebooks(self):
         table = Table([[Cell("x<y", "bold red")]], [Cell("a", "bold")], style="ascii")
@@ -573,6 +685,14 @@ class Settings(unittest.TestCase):
 ╚═══╩═══╝
 """)
         self.assertEqual(tabulate(rows, style=["", "   !", "", "", "", "    "], padding=0), "ab \ncd ")
+        self.expect(tabulate(rows[:1], ["x", "y"], style=frame, expanded=True), """
+record 1 of 1
+╔═══╦═══╗
+║ x │ a ║
+╟───┼───╢
+║ y │ b ║
+╚═══╩═══╝
+""")
 
     def test_what_stands_for_nothing_is_refused(self):
         for settings, message in [
@@ -587,9 +707,9 @@ class Settings(unittest.TestCase):
             ({"max_height": [1, -2]}, "max_height is a whole number from 0 on or None, not -2"),
             ({"style": ["+-++"]}, "a frame has six lines, each of four printable characters or none, not ['+-++']"),
             ({"style": ["+-++"] * 6}, "nothing but a space fills a line of texts, so the second character of '+-++' is one"),
-            ({"center": 0, "markdown": True}, "a table for Markdown and expanded rows have no side in the middle"),
-            ({"padding": 0, "expanded": "auto"}, "a table for Markdown and expanded rows have no padding"),
-            ({"maxcolwidths": 9, "tablefmt": "github"}, "a table for Markdown and expanded rows have no maxcolwidths"),
+            ({"center": 0, "expanded": True}, "expanded rows have no side in the middle"),
+            ({"padding": 0, "expanded": "auto"}, "expanded rows have no padding"),
+            ({"maxcolwidths": 9, "tablefmt": "github"}, "a table for Markdown has no maxcolwidths"),
         ]:
             with self.assertRaises(ValueError, msg=settings) as caught:
                 tabulate([["x", "y"]], **settings)
@@ -723,7 +843,7 @@ CHOICES = [
     [({}, ["--expanded", "never"]), ({}, ["--expanded", "never"]), ({"expanded": True}, ["-x"]), ({"expanded": "auto"}, [])],
     [({}, []), ({"row_lines": True}, ["--rows"]), ({"row_lines": False}, ["--no-rows"])],
     [({}, []), ({"style": "grid"}, ["-s", "grid"]), ({"style": "UTF8_HORIZONTAL_ONLY"}, ["-s", "utf8_horizontal_only"])],
-    [({}, []), ({"limit": 3}, ["--limit", "3"]), ({"max_height": 2}, ["-m", "2"]), ({"bold_header": True}, ["--color", "always"])],
+    [({}, []), ({"limit": 3}, ["--limit", "3"]), ({"max_height": 2}, ["-m", "2"]), ({"bold_header": True, "color": "always"}, ["--color", "always"])],
 ]
 MARKDOWN = {"markdown": True}, ["--markdown"]
 
@@ -785,6 +905,7 @@ class RandomCells(unittest.TestCase):
                 settings["headers"] = "firstrow"
             if chance.random() < 0.2:
                 settings["colors"] = lambda row, column, value: "red" if row % 2 else None
+                settings["color"] = "always"
             if chance.random() < 0.3:
                 settings["width"] = chance.randint(9, 30)
             wanted = tabulate(rows, **settings)
@@ -804,6 +925,8 @@ class RandomRows(unittest.TestCase):
             rows, (settings, words) = random_rows(chance), random_settings(chance)
             if chance.random() < 0.5 and rows:
                 drawing = tabulate(rows, headers="firstrow", **settings)
+                # The first columns are those without a name, if the second row has more columns.
+                rows[0] = [""] * (len(rows[1]) - len(rows[0]) if len(rows) > 1 and rows[0] else 0) + rows[0]
             else:
                 drawing, words = tabulate(rows, **settings), [*words, "-n"]
             text = csv_of([[text_of(value) for value in row] for row in rows])
@@ -814,7 +937,7 @@ class RandomRows(unittest.TestCase):
         for seed in range(200):
             chance = random.Random(seed)
             rows = random_rows(chance)
-            drawing = tabulate(rows, colors=lambda row, column, value: "red" if (row + column) % 2 else None)
+            drawing = tabulate(rows, colors=lambda row, column, value: "red" if (row + column) % 2 else None, color="always")
             texts = [[text_of(value).replace("\x1b", "\ufffd") for value in row] for row in rows]
             painted = [[f"\x1b[31m{text}\x1b[0m" if (row + at) % 2 else text for at, text in enumerate(it)] for row, it in enumerate(texts)]
             wanted = by_csvtable(csv_of(painted), ["-n", "--ansi", "--expanded", "never"])

@@ -20,9 +20,22 @@
 //! comfy-table = { package = "comfy_table_proved", path = "../comfy_table_proved-0.1.0" }
 //! ```
 //!
+//! # Features
+//!
+//! - `tty`, on by default: colours and attributes are written, and the output is asked whether it is a terminal, and how wide.
+//! - `custom_styling`: escape sequences for colours (SGR) in texts count no columns. It includes `tty`.
+//! - `_debug` and `_integration_test` do nothing, and `reexport_crossterm` is refused.
+//!
+//! # The tables of csvtable
+//!
 //! The module [`csvtable`] has the tables of the program csvtable, of CSV and of rows: columns of numbers stand at the right
 //! there, with their decimal points below each other.
 #![warn(missing_docs)]
+
+#[cfg(feature = "reexport_crossterm")]
+compile_error!(
+    "comfy_table_proved has no feature reexport_crossterm: Color and Attribute are its own types; leave the feature out"
+);
 
 mod cell;
 mod column;

@@ -152,17 +152,7 @@ pub enum CsvAnswer {
 pub fn draw_csv(input: &[u8], arguments: &str) -> Result<CsvAnswer, OutOfMemory> {
     let (status, text) = written(room_for(input.len()), |output, room, needed| {
         // SAFETY: as above.
-        unsafe {
-            comfy_csv_draw(
-                input.as_ptr(),
-                input.len(),
-                arguments.as_ptr(),
-                arguments.len(),
-                output,
-                room,
-                needed,
-            )
-        }
+        unsafe { comfy_csv_draw(input.as_ptr(), input.len(), arguments.as_ptr(), arguments.len(), output, room, needed) }
     })?;
     Ok(match status {
         DRAWN => CsvAnswer::Drawing(text),

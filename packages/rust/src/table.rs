@@ -299,7 +299,8 @@ impl Table {
         self.arrangement.clone()
     }
 
-    /// Sets the width in terminal columns, for arrangements that keep to one and for widths in percent.
+    /// Sets the width in terminal columns. [`ContentArrangement::Dynamic`] and [`ContentArrangement::DynamicFullWidth`] keep to it,
+    /// and widths in percent are parts of it. A new table is [`ContentArrangement::Disabled`], and as wide as its texts.
     pub fn set_width(&mut self, width: u16) -> &mut Table {
         self.width = Some(width);
         self
@@ -317,7 +318,8 @@ impl Table {
         self.width
     }
 
-    /// Sets the constraints of the first columns; of those that are there by now.
+    /// Sets the constraints of the first columns. A column is there as soon as a header or a row has a cell for it; before, this does
+    /// nothing.
     pub fn set_constraints<T: IntoIterator<Item = ColumnConstraint>>(&mut self, constraints: T) -> &mut Table {
         for (column, constraint) in self.columns.iter_mut().zip(constraints) {
             column.set_constraint(constraint);

@@ -2,8 +2,8 @@
 
 use std::env;
 use std::fs::File;
-use std::os::fd::{AsFd, AsRawFd};
 use std::io;
+use std::os::fd::{AsFd, AsRawFd};
 use std::sync::OnceLock;
 
 // As Linux declares it.

@@ -39,30 +39,41 @@ fn columns_are_chosen_and_aligned() {
 #[test]
 fn width_height_and_limit() {
     let rows = Rows::without_header().row(["oats"]).row(["rye"]);
-    assert_eq!(rows.width(12).full(true).limit(1).style(Style::Box).to_string(), "\
+    assert_eq!(
+        rows.width(12).full(true).limit(1).style(Style::Box).to_string(),
+        "\
 ┌──────────┐
 │ oats     │
 └──────────┘
 1 of 2 rows
-");
+"
+    );
     let sided = Rows::new(["a"]).row(["x"]).row(["y", "5", "7"]).right([2]).unwrap().limit(1).style(Style::Box);
-    assert_eq!(sided.to_string(), "\
+    assert_eq!(
+        sided.to_string(),
+        "\
 ┌───┐
 │ a │
 ╞═══╡
 │ x │
 └───┘
 1 of 2 rows
-");
+"
+    );
     let cut = Rows::without_header().row(["a\nb\nlong text"]).row(["c"]).max_height(2).row_lines(false);
-    assert_eq!(cut.to_string(), "\
+    assert_eq!(
+        cut.to_string(),
+        "\
 ╭───────────╮
 │ a         │
 │ b…        │
 │ c         │
 ╰───────────╯
-");
-    assert_eq!(Rows::new(["a"]).row(["b"]).row(["c"]).row_lines(true).to_string(), "\
+"
+    );
+    assert_eq!(
+        Rows::new(["a"]).row(["b"]).row(["c"]).row_lines(true).to_string(),
+        "\
 ╭───╮
 │ a │
 ╞═══╡
@@ -70,7 +81,8 @@ fn width_height_and_limit() {
 ├╌╌╌┤
 │ c │
 ╰───╯
-");
+"
+    );
 }
 
 #[test]
@@ -78,13 +90,16 @@ fn markdown_records_and_bold() {
     let rows = Rows::new(["x", "y"]).row(["a|b", "1"]);
     let drawing = "| x    | y |\n|------|--:|\n| a\\|b | 1 |\n";
     assert_eq!(rows.clone().style(Style::Markdown).to_string(), drawing);
-    assert_eq!(rows.clone().expanded(Expanded::Always).style(Style::Box).to_string(), "\
+    assert_eq!(
+        rows.clone().expanded(Expanded::Always).style(Style::Box).to_string(),
+        "\
 record 1 of 1
 ┌───┬─────┐
 │ x ┆ a|b │
 │ y ┆ 1   │
 └───┴─────┘
-");
+"
+    );
     assert!(rows.bold_header(true).to_string().contains("\x1b[1m"));
 }
 
@@ -96,7 +111,9 @@ fn no_text_is_taken_for_the_form_of_a_file() {
         .row([""; 0])
         .row(["a\tb", "x\",\"y"])
         .row(["\x1b[31m\0", "\u{202e}"]);
-    assert_eq!(rows.to_string(), "\
+    assert_eq!(
+        rows.to_string(),
+        "\
 ╭────────┬───────╮
 │ \u{feff}id     ┆ sep=; │
 │ sep=;  ┆ \"     │
@@ -104,7 +121,8 @@ fn no_text_is_taken_for_the_form_of_a_file() {
 │ a   b  ┆ x\",\"y │
 │ \u{fffd}[31m\u{fffd} ┆ \u{fffd}     │
 ╰────────┴───────╯
-");
+"
+    );
     assert_eq!(Rows::without_header().draw(), Ok(String::new()));
 }
 
@@ -128,7 +146,9 @@ fn rows_of_many_forms() {
     rows.extend([vec!["rye".to_string(), "12".into()]]);
     rows.push(&["barley", "7"][..]);
     assert_eq!(rows.len(), 3);
-    assert_eq!(rows.style(Style::Ascii).row_lines(false).to_string(), "\
+    assert_eq!(
+        rows.style(Style::Ascii).row_lines(false).to_string(),
+        "\
 +--------+------+
 | name   | 2024 |
 +===============+
@@ -136,7 +156,8 @@ fn rows_of_many_forms() {
 | rye    | 12   |
 | barley |  7   |
 +--------+------+
-");
+"
+    );
     let collected: Rows = [(1, "a"), (2, "b")].into_iter().collect();
     assert_eq!(collected.style(Style::Plain).to_string(), " 1  a \n 2  b \n");
     assert!(Rows::new(["a"]).is_empty());
@@ -154,6 +175,8 @@ fn painted_cells() {
     });
     let wanted = "+----+---+\n|  a | 1 |\n+========+\n| \x1b[49;38;5;9;4:2m-1\x1b[0m | \u{fffd} |\n+----+---+\n";
     assert_eq!(painted.to_string(), wanted);
+    let markdown = painted.style(Style::Markdown).columns(["1", "a"]).unwrap().to_string();
+    assert_eq!(markdown, "| 1 |  a |\n|---|---:|\n| \u{fffd} | -1 |\n");
 }
 
 #[test]
@@ -180,8 +203,38 @@ fn a_drawing_that_is_much_longer_than_its_text() {
 }
 
 const PIECES: [&str; 32] = [
-    "word", "two words", "Ångström", "Ελένη", "Анна", "רות", "กมล", "王小明", "김철수", "👨‍👩‍👧", "🇩🇪", "e\u{301}", ",", ";", "|", "\"", "'",
-    "\t", "\n", "\r", "\r\n", "\x1b[31m", "\0", "\u{9b}", "\u{feff}", "\u{202e}", "sep=;", "-", "=", "12", "-3.5", "1,150.00",
+    "word",
+    "two words",
+    "Ångström",
+    "Ελένη",
+    "Анна",
+    "רות",
+    "กมล",
+    "王小明",
+    "김철수",
+    "👨‍👩‍👧",
+    "🇩🇪",
+    "e\u{301}",
+    ",",
+    ";",
+    "|",
+    "\"",
+    "'",
+    "\t",
+    "\n",
+    "\r",
+    "\r\n",
+    "\x1b[31m",
+    "\0",
+    "\u{9b}",
+    "\u{feff}",
+    "\u{202e}",
+    "sep=;",
+    "-",
+    "=",
+    "12",
+    "-3.5",
+    "1,150.00",
 ];
 
 // Numbers from a seed.

@@ -16,13 +16,16 @@ fn cells_and_columns_have_their_settings() {
         .add_row(["b"]);
     table.column_mut(0).unwrap().set_padding((0, 2)).set_constraint(ColumnConstraint::LowerBoundary(Width::Fixed(7)));
     table.column_mut(2).unwrap().set_constraint(ColumnConstraint::Hidden);
-    assert_eq!(table.to_string(), "\
+    assert_eq!(
+        table.to_string(),
+        "\
 +-------+-------+
 |key    | value |
 +===============+
 |a      |     1 |
 |b      |       |
-+-------+-------+");
++-------+-------+"
+    );
 }
 
 #[test]
@@ -193,9 +196,23 @@ mod terminal {
     #[test]
     fn each_colour_has_its_number() {
         let named = [
-            Color::Black, Color::DarkRed, Color::DarkGreen, Color::DarkYellow, Color::DarkBlue, Color::DarkMagenta,
-            Color::DarkCyan, Color::Grey, Color::DarkGrey, Color::Red, Color::Green, Color::Yellow, Color::Blue,
-            Color::Magenta, Color::Cyan, Color::White, Color::AnsiValue(16),
+            Color::Black,
+            Color::DarkRed,
+            Color::DarkGreen,
+            Color::DarkYellow,
+            Color::DarkBlue,
+            Color::DarkMagenta,
+            Color::DarkCyan,
+            Color::Grey,
+            Color::DarkGrey,
+            Color::Red,
+            Color::Green,
+            Color::Yellow,
+            Color::Blue,
+            Color::Magenta,
+            Color::Cyan,
+            Color::White,
+            Color::AnsiValue(16),
         ];
         for (number, color) in named.into_iter().enumerate() {
             assert_eq!(styled(Cell::new("a").fg(color), false), format!("\x1b[38;5;{number}m a \x1b[39m"));

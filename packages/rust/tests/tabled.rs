@@ -18,7 +18,9 @@ const LANGUAGES: [Language; 3] = [
 fn a_list_of_structs() {
     let mut table = Rows::new(["name", "designed_by", "invented_year"]);
     table.extend(LANGUAGES.iter().map(|it| (it.name, it.designed_by, it.invented_year)));
-    assert_eq!(table.to_string(), "\
+    assert_eq!(
+        table.to_string(),
+        "\
 ╭──────┬────────────────┬───────────────╮
 │ name ┆ designed_by    ┆ invented_year │
 ╞══════╪════════════════╪═══════════════╡
@@ -26,7 +28,8 @@ fn a_list_of_structs() {
 │ Go   ┆ Rob Pike       ┆          2009 │
 │ Rust ┆ Graydon Hoare  ┆          2010 │
 ╰──────┴────────────────┴───────────────╯
-");
+"
+    );
 }
 
 // builder.push_record(..)
@@ -36,45 +39,56 @@ fn records_of_different_lengths() {
     for i in 0..3 {
         table.push((0..=i).map(|j| i * j).collect::<Vec<i32>>());
     }
-    assert_eq!(table.to_string(), "\
+    assert_eq!(
+        table.to_string(),
+        "\
 ╭───┬───┬───╮
 │ 0 ┆   ┆   │
 │ 0 ┆ 1 ┆   │
 │ 0 ┆ 2 ┆ 4 │
 ╰───┴───┴───╯
-");
+"
+    );
 }
 
 // table.with(Style::markdown())
 #[test]
 fn markdown() {
     let table = Rows::new(["version", "size"]).row(("0.1", "20 MB")).row(("0.2", "9 MB"));
-    assert_eq!(table.style(Style::Markdown).to_string(), "\
+    assert_eq!(
+        table.style(Style::Markdown).to_string(),
+        "\
 | version |  size |
 |--------:|------:|
 |     0.1 | 20 MB |
 |     0.2 |  9 MB |
-");
+"
+    );
 }
 
 // table.with(Style::ascii())
 #[test]
 fn characters_of_ascii() {
     let table = Rows::new(["from", "to"]).row(["Brest", "Cork"]);
-    assert_eq!(table.style(Style::Ascii).to_string(), "\
+    assert_eq!(
+        table.style(Style::Ascii).to_string(),
+        "\
 +-------+------+
 | from  | to   |
 +==============+
 | Brest | Cork |
 +-------+------+
-");
+"
+    );
 }
 
 // table.with(Width::wrap(16))
 #[test]
 fn wrapped() {
     let table = Rows::new(["text"]).row(["the quick brown fox jumps"]);
-    assert_eq!(table.width(16).to_string(), "\
+    assert_eq!(
+        table.width(16).to_string(),
+        "\
 ╭───────────╮
 │ text      │
 ╞═══════════╡
@@ -82,33 +96,40 @@ fn wrapped() {
 │ brown fox │
 │ jumps     │
 ╰───────────╯
-");
+"
+    );
 }
 
 // table.with(Width::increase(20))
 #[test]
 fn as_wide_as_asked() {
     let table = Rows::new(["a", "b"]).row(["x", "y"]);
-    assert_eq!(table.width(20).full(true).to_string(), "\
+    assert_eq!(
+        table.width(20).full(true).to_string(),
+        "\
 ╭─────────┬────────╮
 │ a       ┆ b      │
 ╞═════════╪════════╡
 │ x       ┆ y      │
 ╰─────────┴────────╯
-");
+"
+    );
 }
 
 // table.modify(Columns::single(1), Alignment::right())
 #[test]
 fn a_column_at_the_right() {
     let table = Rows::new(["item", "state"]).row(["oats", "ok"]);
-    assert_eq!(table.right(["state"]).unwrap().to_string(), "\
+    assert_eq!(
+        table.right(["state"]).unwrap().to_string(),
+        "\
 ╭──────┬───────╮
 │ item ┆ state │
 ╞══════╪═══════╡
 │ oats ┆    ok │
 ╰──────┴───────╯
-");
+"
+    );
 }
 
 // table.with(Disable::column(ByColumnName::new("designed_by")))
@@ -116,27 +137,33 @@ fn a_column_at_the_right() {
 fn without_a_column() {
     let mut table = Rows::new(["name", "designed_by", "invented_year"]);
     table.extend(LANGUAGES[..1].iter().map(|it| (it.name, it.designed_by, it.invented_year)));
-    assert_eq!(table.columns(["name", "invented_year"]).unwrap().to_string(), "\
+    assert_eq!(
+        table.columns(["name", "invented_year"]).unwrap().to_string(),
+        "\
 ╭──────┬───────────────╮
 │ name ┆ invented_year │
 ╞══════╪═══════════════╡
 │ C    ┆          1972 │
 ╰──────┴───────────────╯
-");
+"
+    );
 }
 
 // builder.index()
 #[test]
 fn an_index() {
     let table = Rows::new(["name"]).row(["oats"]).row(["rye"]);
-    assert_eq!(table.number(true).to_string(), "\
+    assert_eq!(
+        table.number(true).to_string(),
+        "\
 ╭───┬──────╮
 │ # ┆ name │
 ╞═══╪══════╡
 │ 1 ┆ oats │
 │ 2 ┆ rye  │
 ╰───┴──────╯
-");
+"
+    );
 }
 
 // #[tabled(display_with = "..")] on an Option
@@ -146,14 +173,17 @@ fn options() {
     let rows = stock.map(|(name, count)| (name, count.map_or("-".to_string(), |it| it.to_string())));
     let mut table = Rows::new(["name", "count"]);
     table.extend(rows);
-    assert_eq!(table.to_string(), "\
+    assert_eq!(
+        table.to_string(),
+        "\
 ╭──────┬───────╮
 │ name ┆ count │
 ╞══════╪═══════╡
 │ oats ┆     3 │
 │ rye  ┆     - │
 ╰──────┴───────╯
-");
+"
+    );
 }
 
 // table.modify(Rows::single(1), Color::FG_RED)
@@ -164,24 +194,30 @@ fn a_row_in_red() {
 
     let table = Rows::new(["name"]).row(["oats"]).row(["rye"]);
     let painted = table.paint(|row, _, cell| if row == 1 { cell.fg(Color::DarkRed) } else { cell });
-    assert_eq!(painted.to_string(), "\
+    assert_eq!(
+        painted.to_string(),
+        "\
 ╭──────╮
 │ name │
 ╞══════╡
 │ oats │
 │ \u{1b}[38;5;1mrye\u{1b}[0m  │
 ╰──────╯
-");
+"
+    );
 }
 
 // collecting an iterator
 #[test]
 fn collected() {
     let table: Rows = ["a b", "c d"].iter().map(|line| line.split(' ').collect::<Vec<&str>>()).collect();
-    assert_eq!(table.style(Style::Box).to_string(), "\
+    assert_eq!(
+        table.style(Style::Box).to_string(),
+        "\
 ┌───┬───┐
 │ a ┆ b │
 │ c ┆ d │
 └───┴───┘
-");
+"
+    );
 }

@@ -143,6 +143,30 @@ impl Described {
         self.rows[row].cells.len() + self.late_cells.iter().filter(|(at, _)| *at == row).count()
     }
 
+    /// A table of one cell, whose colours and attributes are written as in this one.
+    pub fn with_cell_alone(&self, cell: DescribedCell) -> Described {
+        let style = DescribedStyle { preset: Some(0), characters: [None; 22], is_rounded: false, is_solid: false };
+        Described {
+            headers: Vec::new(),
+            rows: vec![DescribedRow { cells: vec![cell], max_height: None }],
+            late_cells: Vec::new(),
+            discovers_columns: false,
+            columns: Vec::new(),
+            style,
+            arrangement: 0,
+            width: None,
+            delimiter: None,
+            indicator: None,
+            enforces_styling: self.enforces_styling,
+            styles_text_only: self.styles_text_only,
+        }
+    }
+
+    pub fn cells(&self) -> impl Iterator<Item = &DescribedCell> {
+        let cells = self.headers.iter().chain(&self.rows).flat_map(|row| &row.cells);
+        cells.chain(self.late_cells.iter().map(|(_, cell)| cell))
+    }
+
     pub fn cells_mut(&mut self) -> impl Iterator<Item = &mut DescribedCell> {
         let cells = self.headers.iter_mut().chain(&mut self.rows).flat_map(|row| &mut row.cells);
         cells.chain(self.late_cells.iter_mut().map(|(_, cell)| cell))

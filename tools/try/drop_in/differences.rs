@@ -1,6 +1,7 @@
 //! The rows of docs/DIFFERENCES.md that can explain why two drawings differ.
 
-use crate::described::{Described, UNDISPUTED};
+use crate::described::{Described, DescribedCell, UNDISPUTED};
+use crate::shown::{Shown, Style, may_be_shown, shown_from, visible};
 use crate::{Drawing, original, proved};
 use std::panic::catch_unwind;
 
@@ -19,8 +20,10 @@ enum Changes {
     Both,
     /// The drawing of the original is changed, as `without_junctions` does.
     Lines,
-    /// As `Original`, and SGR sequences of both drawings aren't compared.
+    /// The characters of both drawings are compared, and the styles of all that aren't white space, instead of the sequences.
     Sequences,
+    /// As `Original`, of which the characters alone are compared. The package's have to be in styles that a cell's text has.
+    Breaks,
 }
 
 const CLAIMS_NOTHING: &str =
@@ -80,16 +83,16 @@ const ROWS: [Row; 9] = [
         changes: Changes::Both,
     },
     Row {
-        name: "with `custom_styling`, a line's sequences end with its last visible character, and a cut line has none",
+        name: "with `custom_styling`, a line's sequences end with its last visible character",
         speaks_of: has_sequences,
         remedy: |_| (),
         changes: Changes::Sequences,
     },
     Row {
-        name: "with `custom_styling`, what is visible decides where lines break",
+        name: "with `custom_styling`, what is visible decides where lines break, and a cut line loses its sequences",
         speaks_of: has_sequences,
         remedy: |it| it.texts_mut().for_each(|text| *text = visible(text)),
-        changes: Changes::Sequences,
+        changes: Changes::Breaks,
     },
 ];
 
@@ -160,11 +163,39 @@ fn are_explained(described: &Described, rows: &[&Row]) -> bool {
     if rows.iter().any(|row| row.changes == Changes::Lines) {
         original = without_junctions(original, &drawing);
     }
-    if rows.iter().any(|row| row.changes == Changes::Sequences) {
+    let mut are_styled = true;
+    if rows.iter().any(|row| row.changes == Changes::Breaks) {
+        are_styled = are_styled_as(&ours, &drawing);
+        drawing = drawing.without_sequences();
+        original = original.without_sequences();
+    } else if rows.iter().any(|row| row.changes == Changes::Sequences) {
+        are_styled = drawing.shown() == original.shown();
         drawing = drawing.without_sequences();
         original = original.without_sequences();
     }
-    drawing == original && widths_are_explained(described, rows)
+    are_styled && drawing == original && widths_are_explained(described, rows)
+}
+
+// Whether each character of a drawing has a style that a cell's text gives it, or is one of the frame or an indicator.
+fn are_styled_as(described: &Described, drawing: &Drawing) -> bool {
+    let is_cut = described.headers.iter().chain(&described.rows).any(|row| row.max_height.is_some());
+    let cells: Vec<&DescribedCell> = described.cells().collect();
+    let styles: Vec<Style> = cells.iter().map(|cell| own_style(described, cell)).collect();
+    let allowed: Vec<Shown> = cells.iter().zip(&styles).flat_map(|(cell, own)| may_be_shown(own, &cell.text, is_cut)).collect();
+    let plain = Style::default();
+    drawing.shown().iter().all(|it| {
+        let (character, style) = it;
+        let is_of_frame = !character.is_alphanumeric() && *style == plain;
+        let is_of_indicator = described.indicator.unwrap_or("…").contains(*character) && (styles.contains(style) || *style == plain);
+        is_of_frame || is_of_indicator || allowed.contains(it)
+    })
+}
+
+// The style that the original gives a cell's text without sequences.
+fn own_style(described: &Described, cell: &DescribedCell) -> Style {
+    let cell = DescribedCell { text: "x".into(), alignment: usize::MAX, delimiter: None, ..cell.clone() };
+    let shown = original::drawing(&described.with_cell_alone(cell)).shown();
+    shown.into_iter().find(|(character, _)| *character == 'x').expect("an x is drawn").1
 }
 
 // An empty cell has a width where no cell has none, so widths aren't compared with those of a table with more cells.
@@ -187,21 +218,16 @@ fn widths_are_explained(described: &Described, rows: &[&Row]) -> bool {
 }
 
 impl Drawing {
+    fn shown(&self) -> Vec<Shown> {
+        let texts = [&self.text, &self.trimmed, &self.lines.join("\n")];
+        texts.into_iter().flat_map(|text| shown_from(&Style::default(), text)).collect()
+    }
+
     // Trimmed lines are compared by their texts, since a space may stand before a sequence.
     fn without_sequences(self) -> Drawing {
         let trimmed: Vec<String> = self.trimmed.split('\n').map(|line| visible(line).trim_end().into()).collect();
         Drawing { text: visible(&self.text), trimmed: trimmed.join("\n"), lines: self.lines.iter().map(|it| visible(it)).collect() }
     }
-}
-
-// A text without its SGR sequences.
-fn visible(text: &str) -> String {
-    let mut parts = text.split("\u{1b}[");
-    let first = parts.next().unwrap_or_default().to_owned();
-    parts.fold(first, |text, part| {
-        let behind = part.trim_start_matches(|it: char| it.is_ascii_digit() || it == ';' || it == ':');
-        text + behind.strip_prefix('m').unwrap_or(part)
-    })
 }
 
 // The original's drawing with its first and last line as the package has them, where these only lack spaces.

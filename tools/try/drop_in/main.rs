@@ -3,6 +3,7 @@
 //! ends the run.
 mod described;
 mod differences;
+mod shown;
 
 use described::{Chance, Described};
 use std::collections::BTreeMap;

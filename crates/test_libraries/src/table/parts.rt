@@ -1,7 +1,7 @@
 //! Tables drawn in parts: all at the widths of the whole table, each with header and borders.
 
 use crate::support::{assert_given, table_of};
-use comfy_table::for_records::RowCell;
+use comfy_table::for_records::{LinesCell, RowCell, TextCell};
 use comfy_table::{ColumnConstraint, ContentArrangement, PartEnds, Row, RowWriter, Table};
 use std::alloc::{Alloc, Global};
 use std::process::Abort;
@@ -244,4 +244,37 @@ fn rows_one_after_another_make_the_whole(rt: HostRuntime) {
         drawn_one_by_one(&rt, &table, rows.as_slice()),
         whole.as_str(),
     );
+}
+
+// A row of texts that are lent, below others.
+fn lent_row(rt: &impl Alloc<A = Global>, table: &Table) -> comfy_table::Result<String> {
+    let mut cells = Vec::new(rt.alloc());
+    if let Some(day) = TextCell::of_line("4 May", None, None) {
+        cells.push(RowCell::Lent(day))?;
+    }
+    if let Some(counts) = LinesCell::of_lines("one\nthirteen\ntwo", None, None) {
+        cells.push(RowCell::Several(counts))?;
+    }
+    let extent = PartEnds {
+        is_first: false,
+        is_last: true,
+    };
+    let mut text = String::new(rt.alloc());
+    let arranged = table.arranged()?;
+    let mut writer = arranged.row_writer()?;
+    writer.push_cells(&mut text, cells.as_slice(), None, extent)?;
+    Ok(text)
+}
+
+#[test]
+fn texts_that_are_lent_are_drawn_as_cells_are(rt: HostRuntime) {
+    let wanted = "\
+|-------+-------|
+| 4 May | one   |
+|       | thirt |
+|       | een   |
+|       | two   |
++-------+-------+
+";
+    assert_given(&rt, lent_row(&rt, &days(&rt)), wanted);
 }

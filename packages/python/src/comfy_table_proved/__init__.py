@@ -1,4 +1,6 @@
-"""Tables drawn as text, by the library comfy_table, which is proved to draw by written rules.
+"""Tables drawn as text by a proved library.
+
+The library comfy_table is proved to draw by written rules; the code of this package isn't proved, but tested.
 
     >>> from comfy_table_proved import tabulate
     >>> print(tabulate([["oats", 3], ["rye", -12.5]], headers=["name", "price"]))

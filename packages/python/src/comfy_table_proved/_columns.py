@@ -42,9 +42,11 @@ class Layout:
         columns = zip(self._paddings(padding), sides, self._limits(*widths))
         return [ColumnNumbers(*pair, side, *limits) for pair, side, limits in columns]
 
-    def sides(self, left: Columns, right: Columns, center: Columns, colalign: Optional[Sequence[Optional[str]]]) -> list[int]:
-        """At which side each column is asked to stand."""
-        sides = self._aligned(colalign)
+    def sides(
+        self, left: Columns, right: Columns, center: Columns, colalign: Optional[Sequence[Optional[str]]], otherwise: int
+    ) -> list[int]:
+        """The side that is asked for each column, or else one that all others have."""
+        sides = [side or otherwise for side in self._aligned(colalign)]
         asked: dict[int, int] = {}
         for side, columns in (LEFT, left), (RIGHT, right), (CENTER, center):
             for position in self.positions_of(columns):
@@ -57,13 +59,13 @@ class Layout:
     def _limits(self, colwidths: Widths, mincolwidths: Widths, maxcolwidths: Widths) -> list[tuple[int, int]]:
         """The least and the greatest width of each column's texts, in terminal columns; 0 sets none. A fixed width is both."""
         fixed, least = self._widths(colwidths, "colwidths"), self._widths(mincolwidths, "mincolwidths")
-        limits = []
-        for position, (width, *between) in enumerate(zip(fixed, least, self._widths(maxcolwidths, "maxcolwidths"))):
-            if width and any(between):
+        limits: list[tuple[int, int]] = []
+        for position, (width, low, high) in enumerate(zip(fixed, least, self._widths(maxcolwidths, "maxcolwidths"))):
+            if width and (low or high):
                 raise ValueError(f"the column at position {position} has a width, and so no least or greatest one")
-            if all(between) and between[0] > between[1]:
+            if low and high and low > high:
                 raise ValueError(f"the column at position {position} has a least width above its greatest")
-            limits.append((width, width) if width else tuple(between))
+            limits.append((width, width) if width else (low, high))
         return limits
 
     def _widths(self, setting: Widths, name: str) -> list[int]:

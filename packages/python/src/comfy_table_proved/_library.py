@@ -148,7 +148,7 @@ def draw_rows(
     lengths, counts, limits = (it.buffer_info() for it in numbers)
     # A struct for each look would take most of the time.
     joined_looks = b"".join(map(_bytes_of, looks))
-    column_numbers = (_Column * len(columns))(*columns)
+    column_numbers = (_Column * len(columns))(*(_Column(*column) for column in columns))
     arguments = [joined, len(joined), *lengths, *counts, joined_looks, len(looks), *limits, column_numbers, len(columns)]
     status, text = _written(_ROWS_DRAW, len(joined) + 8 * len(texts), *arguments, ctypes.byref(settings))
     if status:

@@ -3,7 +3,9 @@
 from __future__ import annotations
 
 import functools
+import os
 import re
+import sys
 from typing import Any, Optional
 
 from ._library import Look
@@ -56,11 +58,26 @@ def value_of(value: Any) -> Any:
     return value.value if isinstance(value, Cell) else value
 
 
-def look_of(value: object, has_styles: bool) -> Look:
+def writes_colors(asked: str) -> bool:
+    """Whether colours are written: if the standard output is a terminal and NO_COLOR isn't set, always, or never."""
+    if asked not in ("auto", "always", "never"):
+        raise ValueError(f'color is "auto", "always" or "never", not {asked!r}')
+    return asked == "always" or asked == "auto" and not os.environ.get("NO_COLOR") and _is_terminal(sys.stdout)
+
+
+def _is_terminal(output: Any) -> bool:
+    """Whether an output is a terminal; one that is closed or isn't there is none."""
+    try:
+        return bool(output.isatty())
+    except (AttributeError, ValueError):
+        return False
+
+
+def look_of(value: object, has_colors: bool) -> Look:
     """How a value looks, which only a cell says, with its colours or without."""
     if not isinstance(value, Cell):
         return PLAIN
-    paint = paint_of(value.colors) if has_styles else PLAIN
+    paint = paint_of(value.colors) if has_colors else PLAIN
     return paint._replace(alignment=_SIDES[value.align])
 
 

@@ -6,6 +6,8 @@ import dataclasses
 from collections.abc import Mapping
 from typing import Any, Iterable, NamedTuple, Optional, Union
 
+from ._paints import value_of
+
 Headers = Union[str, Mapping[Any, object], Iterable[object], None]
 ShowIndex = Union[bool, str, Iterable[object]]
 
@@ -24,6 +26,8 @@ class _Read(NamedTuple):
     keys: Optional[list[Any]]
     labels: Optional[list[Any]] = None
     labels_name: object = None
+    # Whether the values of a row have no order but that of their keys.
+    are_dicts: bool = False
 
 
 class _Fetched(list):  # type: ignore[type-arg]
@@ -45,10 +49,16 @@ def values_of(data: Any, headers: Headers, showindex: ShowIndex) -> Values:
     """The header that is asked for, and the rows, with an index in front where that is asked for."""
     read = _read(data)
     if isinstance(headers, str) and headers == "firstrow":
-        header, rows = (read.rows[0] if read.rows else None), read.rows[1:]
-        read = read._replace(labels=None if read.labels is None else read.labels[1:])
+        header = read.rows[0] if read.rows else None
+        read = read._replace(rows=read.rows[1:], labels=None if read.labels is None else read.labels[1:])
     else:
-        header, rows = _header_of(headers, read), read.rows
+        header = _header_of(headers, read)
+        if not isinstance(headers, (str, Mapping)):
+            read = _chosen_by(header, read)
+    rows = read.rows
+    if header and rows:
+        # As tabulate has it, the first columns are those without a name.
+        header = [""] * (len(rows[0]) - len(header)) + header
     index = _index_of(showindex, read, len(rows))
     if index is None:
         return Values(header, rows)
@@ -90,7 +100,7 @@ def _rows_of(data: list[Any]) -> _Read:
     found = list(dict.fromkeys(key for record in records if isinstance(record, dict) for key in record))
     rows = [[record.get(key) for key in found] if isinstance(record, dict) else record for record in records]
     have_keys = bool(records) and all(isinstance(record, dict) for record in records)
-    return _Read(rows, found if have_keys else None)
+    return _Read(rows, found if have_keys else None, are_dicts=have_keys and all(isinstance(row, Mapping) for row in data))
 
 
 def _record(row: Any) -> dict[Any, Any] | list[Any]:
@@ -131,6 +141,20 @@ def _header_of(headers: Headers, read: _Read) -> Optional[list[Any]]:
             raise ValueError("a dict of headers asks for rows with keys")
         return [headers.get(key, key) for key in read.keys or []] or None
     return list(headers) or None
+
+
+def _chosen_by(header: Optional[list[Any]], read: _Read) -> _Read:
+    """The columns that a header chooses, if each of its names is a key. Otherwise it names columns that have an order."""
+    names = [value_of(name) for name in header or []]
+    if read.keys is None or names == read.keys or not names:
+        return read
+    unknown = [name for name in names if name not in read.keys]
+    if unknown and read.are_dicts:
+        raise ValueError(f"no row has the key {unknown[0]!r}; a dict of headers, as {{key: name}}, names keys anew")
+    if unknown:
+        return read
+    positions = [read.keys.index(name) for name in names]
+    return read._replace(rows=[[row[position] for position in positions] for row in read.rows], keys=names)
 
 
 def _index_of(asked: ShowIndex, read: _Read, count: int) -> Optional[list[Any]]:

@@ -2,6 +2,7 @@
 
 from __future__ import annotations
 
+import re
 from typing import NamedTuple, Optional, Sequence, Union
 
 Style = Union[str, Sequence[str], None]
@@ -31,50 +32,120 @@ _PRESETS = {
 _NUMBERS = {name: number for number, name in enumerate(_PRESETS)}
 
 
+# The character between columns of a frame with gaps, until the drawing is made. No text of such a table has it.
+GAP = "\ue000"
+
+
 class Frame(NamedTuple):
     """The characters of a frame, the number that the library has for them, if any, and where lines between rows are drawn."""
 
     lines: tuple[str, ...]
-    number: Optional[int]
+    number: Optional[int] = None
     row_lines: int = EVERYWHERE
+    # The lines of a table without a header, if they are others.
+    headless: Optional[tuple[str, ...]] = None
+    is_markdown: bool = False
+    # In Markdown, columns at the left have a colon too.
+    has_colons: bool = False
+    # Two spaces are between columns, and none beside texts.
+    has_gaps: bool = False
+    # Lines end with their last visible character.
+    is_trimmed: bool = False
+    # Columns are in the middle unless a setting says otherwise.
+    is_centered: bool = False
+    # An empty text of the first column is written as two points, because a reader would take the row as a continuation.
+    marks_empty: bool = False
 
     def numbers(self) -> tuple[tuple[int, ...], ...]:
         """The characters as comfy_table.h has them: nothing fills a line of texts, and 0 means none."""
-        lines = [tuple(0 if it == " " else ord(it) for it in line) for line in self.lines]
+        lines = [tuple(0 if it == " " else ord(it) for it in line or "    ") for line in self.lines]
         return tuple(line if at not in (1, 3) else (line[0], *line[2:]) for at, line in enumerate(lines))
+
+    def for_table(self, has_header: bool, texts: Sequence[Sequence[str]]) -> Frame:
+        """The frame of a table with a header or without, and with a character for gaps that no text of the table has."""
+        lines = self.lines if has_header or self.headless is None else self.headless
+        if not self.has_gaps:
+            return self._replace(lines=lines)
+        used = {character for row in texts for text in row for character in text}
+        gap = next(it for it in map(chr, range(ord(GAP), 0xF900)) if it not in used)
+        return self._replace(lines=tuple(line.replace(GAP, gap) for line in lines))
+
+    def finished(self, drawing: str) -> str:
+        """A drawing with gaps in place of their character, and without spaces at the ends of lines."""
+        if self.has_gaps:
+            drawing = drawing.replace(self.lines[1][2], "  ")
+        return re.sub(" +$", "", drawing, flags=re.MULTILINE) if self.is_trimmed else drawing
 
 
 def _preset(name: str, row_lines: int = EVERYWHERE) -> Frame:
     return Frame(_PRESETS[name], _NUMBERS[name], row_lines)
 
 
+MARKDOWN = Frame(_PRESETS["ASCII_MARKDOWN"], _NUMBERS["ASCII_MARKDOWN"], is_markdown=True)
 _STYLES = {
     "rounded": _preset("", WHERE_NEEDED),
     "box": _preset("UTF8_FULL", WHERE_NEEDED),
     "grid": _preset(""),
     "ascii": _preset("ASCII_FULL"),
     "plain": _preset("NOTHING"),
+    "markdown": MARKDOWN,
 }
 _STYLES.update({name.lower(): _preset(name) for name in _PRESETS if name})
 
-# Frames of tabulate beside those that draw the same lines, some in other characters.
-_TABLEFMTS = {
-    "plain": _STYLES["plain"],
-    "grid": _STYLES["ascii"],
-    "outline": _preset("ASCII_FULL", NOWHERE),
-    "psql": _preset("ASCII_FULL", NOWHERE),
-    "simple_grid": _preset("UTF8_FULL"),
-    "simple_outline": _preset("UTF8_FULL", NOWHERE),
-    "fancy_grid": _preset("UTF8_FULL"),
-    "fancy_outline": _preset("UTF8_FULL", NOWHERE),
-    "rounded_grid": _preset(""),
-    "rounded_outline": _preset("", NOWHERE),
+
+def _grid(above: str, texts: str, below_header: str, between: str, below: str) -> Frame:
+    return Frame((above, texts, below_header, texts, between, below))
+
+
+def _outline(frame: Frame) -> Frame:
+    """A frame without lines between rows."""
+    return frame._replace(row_lines=NOWHERE)
+
+
+def _gaps(above: str, below_header: str, below: str, headless: tuple[str, str] = ("", "")) -> Frame:
+    """A frame with gaps between columns, of these lines; below a table without a header, and above it, are others."""
+
+    def lines(above: str, below: str) -> tuple[str, ...]:
+        return tuple(f" {fill}{GAP} " if fill else "" for fill in (above, " ", below_header, " ", "", below))
+
+    return Frame(lines(above, below), row_lines=NOWHERE, headless=lines(*headless), has_gaps=True, is_trimmed=True)
+
+
+# Frames of tabulate by their names there, with its very characters.
+_GRIDS = {
+    "grid": _grid("+-++", "| ||", "+=++", "+-++", "+-++"),
+    "simple_grid": _grid("┌─┬┐", "│ ││", "├─┼┤", "├─┼┤", "└─┴┘"),
+    "rounded_grid": _grid("╭─┬╮", "│ ││", "├─┼┤", "├─┼┤", "╰─┴╯"),
+    "heavy_grid": _grid("┏━┳┓", "┃ ┃┃", "┣━╋┫", "┣━╋┫", "┗━┻┛"),
+    "mixed_grid": _grid("┍━┯┑", "│ ││", "┝━┿┥", "├─┼┤", "┕━┷┙"),
+    "double_grid": _grid("╔═╦╗", "║ ║║", "╠═╬╣", "╠═╬╣", "╚═╩╝"),
+    "fancy_grid": _grid("╒═╤╕", "│ ││", "╞═╪╡", "├─┼┤", "╘═╧╛"),
 }
-_MARKDOWN_TABLEFMTS = ("github", "pipe")
+_TABLEFMTS = {
+    **_GRIDS,
+    "outline": _outline(_GRIDS["grid"]),
+    **{name.replace("_grid", "_outline"): _outline(frame) for name, frame in _GRIDS.items() if name != "grid"},
+    "psql": _outline(_grid("+-++", "| ||", "|-+|", "    ", "+-++")),
+    "pretty": _outline(_grid("+-++", "| ||", "+-++", "    ", "+-++"))._replace(is_centered=True),
+    "presto": _outline(_grid("    ", "  | ", " -+ ", "    ", "    "))._replace(is_trimmed=True),
+    "orgtbl": _outline(_grid("    ", "| ||", "|-+|", "    ", "    ")),
+    "plain": _gaps("", "", ""),
+    "simple": _gaps("", "-", "", headless=("-", "-")),
+    "rst": _gaps("=", "=", "=", headless=("=", "="))._replace(marks_empty=True),
+    "github": MARKDOWN,
+    "pipe": MARKDOWN._replace(has_colons=True),
+}
+# Programs for the other formats of tabulate.
+_CONVERTED = "html unsafehtml latex latex_raw latex_booktabs latex_longtable mediawiki jira textile asciidoc"
+_INSTEAD = {
+    **{name: 'pandoc, which reads tablefmt="grid"' for name in _CONVERTED.split()},
+    "tsv": "the module csv of Python",
+    "colon_grid": 'tablefmt="pipe", which has colons too',
+}
 
 
-def frame_of(style: Style, tablefmt: object) -> Optional[Frame]:
-    """The frame of a name or of lines; None for a table for Markdown."""
+def frame_of(style: Style, tablefmt: object) -> Frame:
+    """The frame of a name or of lines."""
     if tablefmt is not None:
         if style is not None:
             raise ValueError("style and tablefmt both name a frame")
@@ -82,12 +153,9 @@ def frame_of(style: Style, tablefmt: object) -> Optional[Frame]:
     name = "rounded" if style is None else style
     if isinstance(name, (list, tuple)):
         return _frame_of_lines(name)
-    if isinstance(name, str):
-        if name.lower() == "markdown":
-            return None
-        if name.lower() in _STYLES:
-            return _STYLES[name.lower()]
-    hint = f"; tablefmt={name!r} is one" if name in _TABLEFMTS or name in _MARKDOWN_TABLEFMTS else ""
+    if isinstance(name, str) and name.lower() in _STYLES:
+        return _STYLES[name.lower()]
+    hint = f"; tablefmt={name!r} is one" if name in _TABLEFMTS else ""
     raise ValueError(
         f'style is one of rounded, box, grid, ascii, plain, markdown or a preset such as "UTF8_FULL", not {name!r}{hint}'
     )
@@ -100,13 +168,12 @@ def _frame_of_lines(given: Sequence[object]) -> Frame:
     for at in 1, 3:
         if str(lines[at])[1] != " ":
             raise ValueError(f"nothing but a space fills a line of texts, so the second character of {lines[at]!r} is one")
-    return Frame(tuple(map(str, lines)), None)
+    return Frame(tuple(map(str, lines)))
 
 
-def _frame_of_tablefmt(name: object) -> Optional[Frame]:
-    if name in _MARKDOWN_TABLEFMTS:
-        return None
+def _frame_of_tablefmt(name: object) -> Frame:
     if isinstance(name, str) and name in _TABLEFMTS:
         return _TABLEFMTS[name]
-    known = ", ".join([*_TABLEFMTS, *_MARKDOWN_TABLEFMTS])
-    raise ValueError(f"tablefmt is one of {known}, not {name!r}; style has the other frames")
+    if isinstance(name, str) and name in _INSTEAD:
+        raise ValueError(f"tablefmt {name!r} isn't there; in its place there is {_INSTEAD[name]}")
+    raise ValueError(f"tablefmt is one of {', '.join(_TABLEFMTS)}, not {name!r}; style has the other frames")

@@ -4,12 +4,14 @@ from __future__ import annotations
 
 import dataclasses
 import html
+import inspect
+import re
 import shutil
-from typing import Any, Iterable, NoReturn, Optional, Sequence, TypeVar, Union
+from typing import Any, Iterable, NamedTuple, NoReturn, Optional, Sequence, TypeVar, Union
 
-from ._columns import Columns, Layout, Padding, Widths, is_whole
-from ._library import NO_LIMIT, NO_WIDTH, OWN_STYLE, Look, RowsSettings, draw_rows
-from ._paints import PLAIN, Cell, look_of, value_of
+from ._columns import BY_CONTENTS, CENTER, LEFT, Columns, Layout, Padding, Widths, is_whole
+from ._library import NO_LIMIT, NO_WIDTH, OWN_STYLE, ColumnNumbers, Look, RowsSettings, draw_rows
+from ._paints import PLAIN, Cell, look_of, value_of, writes_colors
 from ._rows import Headers, ShowIndex, Values, kept, values_of
 from ._styles import EVERYWHERE, NOWHERE, Frame, Style, frame_of
 from ._texts import Colors, Texts, Writer
@@ -17,6 +19,11 @@ from ._texts import Colors, Texts, Writer
 _Item = TypeVar("_Item")
 Width = Union[int, str, None]
 Heights = Union[int, Sequence[Optional[int]], None]
+
+# When the library draws a row as a table of its own: never, if a width has no room for all columns, always.
+NEVER, AUTO, ALWAYS = range(3)
+# A sequence of colours or attributes, as the library keeps it.
+_SEQUENCE = "\x1b\\[[0-9;:]*m"
 
 # What other settings of tabulate are beside those that are here.
 _INSTEAD = {
@@ -62,56 +69,67 @@ def tabulate(
     markdown: bool = False,
     bold_header: bool = False,
     colors: Optional[Colors] = None,
+    color: str = "auto",
+    ansi: bool = False,
     **others: NoReturn,
 ) -> str:
     """The drawing of rows as a table, without a line feed at its end.
 
     rows: a list of rows. A row is a list or whatever else can be iterated, or has keys: a dict, a dataclass, a named tuple, a
-        sqlite3.Row. Or a dict of columns, a cursor, a DataFrame, a Series or an array. Rows may have different lengths.
-        `None` is an empty cell, and other values are drawn by `str`. A `Cell` is a value with colours and a side of its own, in
-        `headers` too.
+        sqlite3.Row. Or a dict of columns, a cursor, a DataFrame, a Series or an array. Rows may have different lengths. `None` is
+        an empty cell, and other values are drawn by `str`. A `Cell` is a value with colours and a side of its own, in `headers`
+        too.
 
-    headers: "keys" of the rows, the "firstrow", a list, a dict that names keys anew, or None for no header.
-    tablefmt: a frame by the name that the package tabulate has for it: "grid", "outline", "psql", "simple_grid",
-        "simple_outline", "fancy_grid", "fancy_outline", "rounded_grid", "rounded_outline", "plain", "github", "pipe". Lines are
-        drawn at the same places, some of other characters.
+    headers: "keys" of the rows, the "firstrow", a list, a dict that names keys anew, or None for no header. A list of keys
+        chooses columns by their keys. Another list names columns in order, but dicts, which have none, refuse it. If a list has
+        fewer names than the first row has columns, the first columns have no name.
+    tablefmt: a frame by the name that the package tabulate has for it, in its characters: "plain", "simple", "grid", "outline",
+        "simple_grid", "rounded_grid", "heavy_grid", "mixed_grid", "double_grid", "fancy_grid", each of these with "_outline" in
+        place of "_grid", "psql", "pretty", "presto", "orgtbl", "rst", "github" and "pipe". Columns of "pretty" are in the middle.
     style: a frame by name: "rounded" (without it), "box", "grid", "ascii", "plain" or a preset, as "UTF8_FULL"; "markdown" is as
         `markdown=True`. Or a frame of your own, by six lines of four characters: ("╭─┬╮", "│ ┆│", "╞═╪╡", "│ ┆│", "├╌┼┤", "╰─┴╯")
-        are the lines above the table, of the header, below it, of a row, between rows and below the table. The characters stand
-        at the left, all along, between columns and at the right; a space stands for none, and "" for no line.
-    floatfmt, intfmt, missingval: how floats and ints are written, as ".2f" and ",", and what stands for `None`: one text for all
-        columns, or a list with one for each column. Beside "", "-", "n/a", "na", "null", "nan" and "inf" a column of numbers stays
-        one; another `missingval` makes it a column of texts.
+        are the lines above the table, of the header, below it, of a row, between rows and below the table. The characters are
+        at the left, all along, between columns and at the right; a space is no character, and "" no line.
+    floatfmt, intfmt, missingval: how floats and ints are written, as ".2f" and ",", and the text for `None`: one for all
+        columns, or a list with one for each column. Decimals are written as floats are, and so are ints of a column that has
+        floats. Beside "", "-", "n/a", "na", "null", "nan" and "inf" a column of numbers stays one; another `missingval` makes it
+        a column of texts.
     showindex: True puts a column with the number of each row in front, counted from 0, or the index of a DataFrame; a list puts
-        its values there; "default" does so where rows have an index.
+        its values there; "default" does so if rows have an index.
 
     left, right, center, columns, hidden: a column, or a list of them, by name or position. Names are those of the header.
         Positions count from 0, and from -1 at the end. `columns` chooses which are drawn, in which order, and `hidden` which
-        aren't. A column in none of the first three stands at the right where its values are numbers, negative ones and amounts
-        of money too.
+        aren't. A column in none of the first three is at the right if its values are numbers, negative ones and amounts of money
+        too.
     colalign: the sides of the first columns, as ("left", "right", "center").
-    align_decimals: decimal points of a column of numbers stand below each other; False leaves them where they are.
-    width: so many terminal columns are kept to; "terminal" is the width of the terminal; with None no width is kept.
-        `full=True` fills it, and makes columns with widths of their own wider where no other is there.
-    colwidths, mincolwidths, maxcolwidths: how many terminal columns a column's texts take, take at least, or at most: a number for
-        all columns, a list with a number or None for each column, or a dict of columns by name or position.
+    align_decimals: decimal points of a column of numbers are below each other; False leaves them as they are.
+    width: the greatest width in terminal columns; "terminal" is the width of the terminal, and None is no width. `full=True`
+        fills it, and makes columns with widths of their own wider if no other is there.
+    colwidths, mincolwidths, maxcolwidths: how many terminal columns a column's texts take, take at least, or at most: a number
+        for all columns, a list with a number or None for each column, or a dict of columns by name or position.
     padding: how many terminal columns stay free beside texts, at the left and at the right: a number, a pair for left and right,
         or a dict of such by columns.
     max_height: how many lines a row below the header has at most, or a list with a number or None for each row.
-    limit: how many rows are drawn; where there are more, a line below says so.
+    limit: how many rows are drawn; if there are more, a line below says so.
     row_lines: True has lines between rows in each style that has them, False in none.
-    expanded: True draws each row as a table of its own, of names and values; "auto" does so where the width is too small.
-    markdown: True draws a table for Markdown, which keeps to no width.
+    expanded: True draws each row as a table of its own, of names and values; "auto" does so if the width is too small.
+    markdown: True draws a table for Markdown, which keeps to no width. A column in the middle has two colons there.
     bold_header: True writes the header in bold.
-    colors: a function of a row's position, a column's name (its position where it has none) and a value, which returns None or
+    colors: a function of a row's position, a column's name (its position if it has none) and a value, which returns None or
         words such as "red", "bold bright_green" or "black on_#ffcc00". Words are the colours of terminals, those after "bright_",
         colours as "#ffcc00", each also after "on_" for the background, "bold", "dim", "italic", "underline", "blink", "reverse",
         "crossed_out" and "overline".
+    color: "auto" writes colours, those of `Cell` and `bold_header` too, if the standard output is a terminal and the variable
+        NO_COLOR isn't set; "always" and "never" do as they say. If you write a drawing to another place, say which of them you
+        want.
+    ansi: True keeps sequences of colours and attributes (SGR) in values, wherever they are written. They take no columns.
 
-    A table for Markdown and expanded rows have no side in the middle, no widths of columns, no other padding, no frame of your
-    own, no heights by row and no `Cell`.
+    A table for Markdown has no colours. It and expanded rows have no widths of columns, no other padding, no heights by row and no
+    `Cell`. A table for Markdown has no frame of your own, and expanded rows have no side in the middle. With "auto", expanded rows show a `Cell`
+    by its value alone, and a column in the middle as its values ask for.
 
-    No text in a cell is taken for anything else: control characters become U+FFFD, TABs spaces, and line breaks stay.
+    Without `ansi`, no text in a cell is taken for anything else: control characters become U+FFFD, TABs spaces, and line breaks
+    stay. Bytes are texts if they are UTF-8.
 
     ValueError says what isn't there or can't be drawn: a column that is missing or whose name the header has twice, a value that
     a setting doesn't have, a lone surrogate, which is no text. TypeError says what is no row or no setting. MemoryError says that
@@ -150,8 +168,21 @@ def tabulate(
             markdown=markdown,
             bold_header=bold_header,
             colors=colors,
+            color=color,
+            ansi=ansi,
         )
     )
+
+
+def _shorten_help() -> None:
+    """Has `help` begin with a line that fits a terminal, in place of all settings. Type checkers read the definitions."""
+    names = {"headers": None, "tablefmt": None, "floatfmt": None}
+    kind = inspect.Parameter.POSITIONAL_OR_KEYWORD
+    parameters = [inspect.Parameter(name, kind, default=value) for name, value in names.items()]
+    settings = inspect.Parameter("settings", inspect.Parameter.VAR_KEYWORD)
+    rows = inspect.Parameter("rows", kind)
+    setattr(tabulate, "__signature__", inspect.Signature([rows, *parameters, settings], return_annotation=str))
+    setattr(Table, "__signature__", inspect.Signature([rows.replace(default=()), *parameters, settings]))
 
 
 @dataclasses.dataclass(repr=False, eq=False)
@@ -197,6 +228,8 @@ class Table:
     colwidths: Widths = None
     mincolwidths: Widths = None
     padding: Padding = 1
+    color: str = "auto"
+    ansi: bool = False
 
     def __post_init__(self) -> None:
         self.rows = kept(self.rows)
@@ -216,65 +249,137 @@ class Table:
     __repr__ = __str__
 
     def _repr_html_(self) -> str:
-        plain = dataclasses.replace(self, colors=None, bold_header=False)
+        plain = dataclasses.replace(self, color="never")
         # A browser drops a line feed at the beginning.
-        return f"<pre>\n{html.escape(_drawing(plain, has_styles=False))}</pre>"
+        return f"<pre>\n{html.escape(re.sub(_SEQUENCE, '', str(plain)))}</pre>"
 
 
-def _drawing(table: Table, has_styles: bool = True) -> str:
+_shorten_help()
+
+
+class _Contents(NamedTuple):
+    """The texts of the header and of each row, a look for each text or none, and the columns."""
+
+    records: list[list[str]]
+    looks: list[list[Look]]
+    columns: list[ColumnNumbers]
+
+    def chosen(self, positions: list[int]) -> _Contents:
+        records = [_chosen(record, positions, "") for record in self.records]
+        looks = [_chosen(row, positions, PLAIN) for row in self.looks]
+        return _Contents(records, looks, [self.columns[position] for position in positions])
+
+    def without_sequences(self) -> _Contents:
+        return self._replace(records=[[re.sub(_SEQUENCE, "", text) for text in record] for record in self.records])
+
+
+def _drawing(table: Table) -> str:
     values = values_of(table.rows, table.headers, table.showindex)
     if values.header is None and not values.rows:
         return ""
     frame = frame_of(table.style, table.tablefmt)
-    _refuse_settings(table, values, frame)
-    looks = _looks_of(values, has_styles)
+    is_markdown = frame.is_markdown or bool(table.markdown)
+    _refuse_settings(table, values, is_markdown)
+    has_colors = writes_colors(table.color) and not is_markdown
+    contents = _contents_of(table, values, frame, has_colors)
+    if is_markdown and table.ansi:
+        contents = contents.without_sequences()
+    headers = 0 if values.header is None else 1
+    frame = frame.for_table(headers == 1, contents.records)
+    settings = _settings_of(table, has_colors, headers == 1, is_markdown, frame, len(contents.columns))
+    drawing = _drawn(contents, _heights_of(table.max_height, headers, len(values.rows)), settings)[:-1]
+    if is_markdown:
+        drawing = _with_colons(drawing, [column.side for column in contents.columns], frame.has_colons)
+    # The library's line on rows that aren't drawn speaks of records.
+    return frame.finished(f"{drawing[:-len('records')]}rows" if settings.limit < len(values.rows) else drawing)
+
+
+def _contents_of(table: Table, values: Values, frame: Frame, has_colors: bool) -> _Contents:
+    looks = _looks_of(values, has_colors)
     if looks:
         values = _without_cells(values)
-    writer = Writer(table.floatfmt, table.intfmt, table.missingval, table.colors)
+    writer = Writer(table.floatfmt, table.intfmt, table.missingval, table.colors, has_colors, bool(table.ansi))
     # An empty row has one empty cell, so that there is a column.
     names = [] if values.header is None else writer.header_of(values.header) or [""]
-    layout = Layout(names, max(len(names), max(map(len, values.rows), default=0), 1))
-    header = [] if values.header is None else [names]
-    records = header + [writer.texts_of(position, row, names) or [""] for position, row in enumerate(values.rows)]
-    sides = layout.sides(table.left, table.right, table.center, table.colalign)
-    columns = layout.numbers(sides, table.padding, (table.colwidths, table.mincolwidths, table.maxcolwidths))
+    records = ([] if values.header is None else [names]) + writer.rows_of(values.rows, names)
+    layout = Layout(names, max(map(len, records)))
+    sides = layout.sides(table.left, table.right, table.center, table.colalign, CENTER if frame.is_centered else BY_CONTENTS)
+    padding = 0 if frame.has_gaps and table.padding == 1 else table.padding
+    columns = layout.numbers(sides, padding, (table.colwidths, table.mincolwidths, table.maxcolwidths))
+    contents = _Contents(records, looks, columns)
     if table.columns is not None or table.hidden is not None:
-        chosen = layout.chosen(table.columns, table.hidden)
-        records = [_chosen(record, chosen, "") for record in records]
-        looks = [_chosen(row, chosen, PLAIN) for row in looks]
-        columns = [columns[position] for position in chosen]
-    settings = _settings_of(table, values.header is not None, frame)
-    heights = _heights_of(table.max_height, len(header), len(values.rows))
-    drawing = draw_rows(records, [look for row in looks for look in row], heights, columns, settings)[:-1]
-    # The library's line on rows that aren't drawn speaks of records.
-    return f"{drawing[:-len('records')]}rows" if settings.limit < len(values.rows) else drawing
+        contents = contents.chosen(layout.chosen(table.columns, table.hidden))
+    if frame.marks_empty and not table.expanded:
+        marked = [[record[0] if record[0].strip() else "..", *record[1:]] for record in contents.records]
+        return contents._replace(records=marked)
+    return contents
 
 
-def _refuse_settings(table: Table, values: Values, frame: Optional[Frame]) -> None:
-    """Refuses settings that a table for Markdown and expanded rows don't have."""
-    if frame is not None and not table.markdown and not table.expanded:
+def _drawn(contents: _Contents, heights: list[int], settings: RowsSettings) -> str:
+    """The drawing of contents. Those for Markdown and expanded ones have sides of columns alone, at the left or at the right."""
+    records, looks, columns = contents
+    if settings.is_markdown:
+        return draw_rows(records, [], [], [_plain(column.side, LEFT) for column in columns], settings)
+    plain = [_plain(column.side, BY_CONTENTS) for column in columns]
+    if settings.expansion == ALWAYS:
+        return draw_rows(records, [], [], plain, settings)
+    if settings.expansion == AUTO and (looks or columns != plain):
+        # The library refuses these if rows may be expanded, so it is asked without them whether they are.
+        expanded = draw_rows(records, [], [], plain, settings)
+        settings.expansion = NEVER
+        if expanded != draw_rows(records, [], [], plain, settings):
+            return expanded
+    return draw_rows(records, [look for row in looks for look in row], heights, columns, settings)
+
+
+def _plain(side: int, centered: int) -> ColumnNumbers:
+    """A column with a side alone, which is another one in place of the middle."""
+    return ColumnNumbers(1, 1, centered if side == CENTER else side, 0, 0)
+
+
+def _with_colons(drawing: str, sides: list[int], has_all: bool) -> str:
+    """A table for Markdown, in which columns in the middle have two colons, and columns at the left one if all have some."""
+    header, line, *rows = drawing.split("\n")
+    cells = zip(line[1:-1].split("|"), sides)
+    return "\n".join([header, f"|{'|'.join(_colons(cell, side, has_all) for cell, side in cells)}|", *rows])
+
+
+def _colons(cell: str, side: int, has_all: bool) -> str:
+    if side == CENTER:
+        return f":{cell[1:-1]}:"
+    return f":{cell[1:]}" if has_all and not cell.endswith(":") else cell
+
+
+def _refuse_settings(table: Table, values: Values, is_markdown: bool) -> None:
+    """Refuses settings that a table for Markdown or expanded rows don't have."""
+    if not is_markdown and not table.expanded:
         return
+    is_expanded = not is_markdown and table.expanded != "auto"
     asked = {
-        "side in the middle": table.center is not None or "center" in (table.colalign or ()),
+        "side in the middle": is_expanded and (table.center is not None or "center" in (table.colalign or ())),
         "colwidths": table.colwidths is not None,
         "mincolwidths": table.mincolwidths is not None,
         "maxcolwidths": table.maxcolwidths is not None,
         "padding": table.padding != 1,
-        "frame of your own": not isinstance(table.style, (str, type(None))),
+        "frame of your own": is_markdown and not isinstance(table.style, (str, type(None))),
         "heights by row": isinstance(table.max_height, (list, tuple)),
-        "Cell": any(isinstance(value, Cell) for row in [values.header or [], *values.rows] for value in row),
+        "Cell": (is_markdown or is_expanded) and _has_cells(values),
     }
     for name, is_asked in asked.items():
         if is_asked:
-            raise ValueError(f"a table for Markdown and expanded rows have no {name}")
+            raise ValueError(f"{'a table for Markdown has' if is_markdown else 'expanded rows have'} no {name}")
 
 
-def _looks_of(values: Values, has_styles: bool) -> list[list[Look]]:
+def _looks_of(values: Values, has_colors: bool) -> list[list[Look]]:
     """How the values of the header and of each row look, with colours or without; nothing if none is a cell."""
     rows = [*([] if values.header is None else [values.header]), *values.rows]
-    if not any(isinstance(value, Cell) for row in rows for value in row):
+    if not _has_cells(values):
         return []
-    return [[look_of(value, has_styles) for value in row or [None]] for row in rows]
+    return [[look_of(value, has_colors) for value in row or [None]] for row in rows]
+
+
+def _has_cells(values: Values) -> bool:
+    return any(isinstance(value, Cell) for row in [values.header or [], *values.rows] for value in row)
 
 
 def _without_cells(values: Values) -> Values:
@@ -287,27 +392,31 @@ def _chosen(items: list[_Item], positions: Iterable[int], otherwise: _Item) -> l
     return [items[position] if position < len(items) else otherwise for position in positions]
 
 
-def _settings_of(table: Table, has_header: bool, frame: Optional[Frame]) -> RowsSettings:
-    is_markdown = frame is None or bool(table.markdown)
-    shown = frame or frame_of(None, None)
-    assert shown is not None
+def _settings_of(
+    table: Table, has_colors: bool, has_header: bool, is_markdown: bool, frame: Frame, columns: int
+) -> RowsSettings:
     height = None if isinstance(table.max_height, (list, tuple)) else _whole(table.max_height, "max_height")
     limit = _limit_of(table, has_header)
+    expansion = _expansion_of(table.expanded)
+    width = _width_of(table.width)
+    if width != NO_WIDTH and frame.has_gaps:
+        # Of the two columns of each gap the library knows one. An expanded row has two columns.
+        width = max(1, width - (2 if expansion == ALWAYS else columns) + 1)
     return RowsSettings(
         max_height=NO_LIMIT if height is None else height,
         limit=NO_LIMIT if limit is None else limit,
-        style=OWN_STYLE if shown.number is None else shown.number,
-        width=_width_of(table.width),
+        style=OWN_STYLE if frame.number is None else frame.number,
+        width=width,
         fills_width=bool(table.full),
-        row_lines=_row_lines_of(table, shown),
-        expansion=_expansion_of(table.expanded),
+        row_lines=_row_lines_of(table, frame),
+        expansion=NEVER if expansion == AUTO and width == NO_WIDTH else expansion,
         has_header=has_header,
-        has_bold_header=bool(table.bold_header),
+        has_bold_header=bool(table.bold_header) and has_colors,
         is_numbered=False,
         aligns_decimals=bool(table.align_decimals),
-        has_sequences=table.colors is not None,
+        has_sequences=bool(table.ansi) or table.colors is not None and has_colors,
         is_markdown=is_markdown,
-        frame=shown.numbers(),
+        frame=frame.numbers(),
     )
 
 
@@ -350,9 +459,9 @@ def _width_of(width: Width) -> int:
 
 def _expansion_of(asked: bool | str) -> int:
     if asked is False or asked is None:
-        return 0
+        return NEVER
     if asked == "auto":
-        return 1
+        return AUTO
     if asked is True:
-        return 2
+        return ALWAYS
     raise ValueError(f'expanded is True, False or "auto", not {asked!r}')

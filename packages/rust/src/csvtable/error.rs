@@ -25,7 +25,9 @@ impl fmt::Display for Error {
             Error::Input(message) | Error::Arguments(message) => formatter.write_str(message.trim_end()),
             Error::NoColumn(column) => write!(formatter, "no column {column}"),
             Error::AmbiguousColumn(name) => write!(formatter, "the header has {name} twice; give the column's position"),
-            Error::TwoSides(position) => write!(formatter, "the column at position {position} can't stand at the right and at the left"),
+            Error::TwoSides(position) => {
+                write!(formatter, "the column at position {position} can't stand at the right and at the left")
+            }
             Error::OutOfMemory => formatter.write_str("out of memory"),
         }
     }

@@ -10,6 +10,7 @@ use crate::library::numbers::{Frame, RowsColumn, RowsSettings};
 use crate::library::{Texts, draw_rows};
 #[cfg(feature = "tty")]
 use crate::terminal;
+use std::borrow::Cow;
 #[cfg(feature = "tty")]
 use std::env;
 use std::fmt::{self, Display, Write};
@@ -220,7 +221,7 @@ impl Rows {
 
     /// Colours the cells of the rows that are there. The function is given a row's position, a column's, and the cell, and
     /// returns the cell that stands in its place, of which text, colours and attributes count. They are written wherever the
-    /// table goes.
+    /// table goes, except in a table for Markdown.
     ///
     /// ```
     /// use comfy_table_proved::Color;
@@ -254,12 +255,14 @@ impl Rows {
     /// The drawing, which ends with a line feed. It is empty where there are neither header nor rows. Memory alone can be refused.
     pub fn draw(&self) -> Result<String, Error> {
         let settings = self.settings();
+        let is_plain = self.style == Style::Markdown && self.settings.has_sequences;
+        let drawn = if is_plain { Cow::Owned(self.texts.without_sequences()) } else { Cow::Borrowed(&self.texts) };
         if self.chosen.is_empty() {
             let columns: Vec<RowsColumn> = self.sides.iter().copied().map(RowsColumn::at).collect();
-            return Ok(self.counted_as_rows(draw_rows(&self.texts, &columns, &settings)?));
+            return Ok(self.counted_as_rows(draw_rows(&drawn, &columns, &settings)?));
         }
         let mut texts = Texts::default();
-        for row in self.texts.rows() {
+        for row in drawn.rows() {
             for position in &self.chosen {
                 texts.push_cell(row.get(*position).unwrap_or(&""));
             }
@@ -298,7 +301,18 @@ impl Rows {
 
     // The settings as numbers of comfy_table.h.
     fn settings(&self) -> RowsSettings {
-        let Settings { is_numbered, leaves_decimals, has_header, width, is_full, max_height, limit, expanded, has_bold_header, has_sequences } = self.settings;
+        let Settings {
+            is_numbered,
+            leaves_decimals,
+            has_header,
+            width,
+            is_full,
+            max_height,
+            limit,
+            expanded,
+            has_bold_header,
+            has_sequences,
+        } = self.settings;
         RowsSettings {
             max_height: max_height.unwrap_or(usize::MAX),
             limit: limit.unwrap_or(usize::MAX),
@@ -332,11 +346,34 @@ fn plain(text: &str) -> String {
     text.replace('\x1b', "\u{fffd}")
 }
 
+// A text without its sequences of colours and attributes.
+fn visible(text: &str) -> String {
+    let mut parts = text.split("\x1b[");
+    let first = parts.next().unwrap_or_default().to_owned();
+    parts.fold(first, |text, part| {
+        let rest = part.trim_start_matches(|it: char| it.is_ascii_digit() || it == ';' || it == ':');
+        match rest.strip_prefix('m') {
+            Some(rest) => text + rest,
+            None => text + "\x1b[" + part,
+        }
+    })
+}
+
 impl Texts {
     fn push_cell(&mut self, value: &dyn Display) {
         let start = self.joined.len();
         write!(self.joined, "{value}").expect("a string takes every text");
         self.lengths.push(self.joined.len() - start);
+    }
+
+    // The texts without the sequences that `paint` put into them, which a table for Markdown can't have.
+    fn without_sequences(&self) -> Texts {
+        let mut plain = Texts::default();
+        for row in self.rows() {
+            row.iter().for_each(|text| plain.push_cell(&visible(text)));
+            plain.counts.push(row.len());
+        }
+        plain
     }
 
     fn rows(&self) -> impl Iterator<Item = Vec<&str>> {

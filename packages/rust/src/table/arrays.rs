@@ -2,8 +2,8 @@
 
 use crate::cell::Cell;
 use crate::column::Column;
-use crate::library::numbers::{self, of_character};
 use crate::library::CellTable;
+use crate::library::numbers::{self, of_character};
 use crate::row::Row;
 #[cfg(feature = "tty")]
 use crate::style::Color;
@@ -174,9 +174,5 @@ fn of_line(line: &LineStyle) -> numbers::Line {
 }
 
 fn of_content_line(line: &ContentLineStyle) -> numbers::ContentLine {
-    numbers::ContentLine {
-        left: of_character(line.left),
-        junction: of_character(line.junction),
-        right: of_character(line.right),
-    }
+    numbers::ContentLine { left: of_character(line.left), junction: of_character(line.junction), right: of_character(line.right) }
 }

@@ -9,8 +9,8 @@ ghost use Rattle.comfy_table.specs.RowCells.{cell_of};
 ghost use Rattle.comfy_table.specs.TableValue.{measured_cell};
 
 use crate::table::Table;
-use crate::utils::formatting::row_cell::{RowCell, TextCell};
-use comfy_parts::content_split::{ColumnDisplayInfo, wrapped_lines};
+use crate::utils::formatting::row_cell::{LinesCell, RowCell, TextCell};
+use comfy_parts::content_split::{ColumnDisplayInfo, measure_text_width, wrapped_lines};
 use comfy_parts::{Cell, Result};
 
 /// The terminal columns that the widest line of a table's column takes, over header and rows, where
@@ -82,6 +82,7 @@ impl<'a> RowCell<'a> {
     {
         match self {
             RowCell::Lent(cell) => cell_text_longest_line(cell, table, info),
+            RowCell::Several(cell) => Ok(cell_lines_longest_line(cell, table, info)),
             RowCell::Made(cell) => Ok(table.cell_longest_line(cell, info)),
         }
     }
@@ -108,6 +109,19 @@ fn cell_text_longest_line(
     }
     let spaced = cell.spaced(*table.columns.allocator())?;
     Ok(text_longest_line(spaced.as_str(), columns, info, delimiter))
+}
+
+// The longest line of the cell of a text of several lines.
+fn cell_lines_longest_line(cell: &LinesCell<'_>, table: &Table, info: &ColumnDisplayInfo) -> usize
+    ensures { result ≡ cell_longest_line table.now info.now (measured_cell table.now cell.now) }
+{
+    let delimiter = table.delimiter_in(info.delimiter);
+    let mut longest = 0;
+    for line in cell.text().split('\n') {
+        let of_line = text_longest_line(line, measure_text_width(line), info, delimiter);
+        longest = of_line.max(longest);
+    }
+    longest
 }
 
 // The longest line of a text line that takes so many columns.

@@ -15,7 +15,7 @@ ghost use Rattle.comfy_table.specs.TableValue.{TableValue, measured_cell};
 
 use crate::table::Table;
 use crate::utils::formatting::gap::few_spaces;
-use crate::utils::formatting::row_cell::{CellSource, TextCell};
+use crate::utils::formatting::row_cell::{CellSource, LinesCell, TextCell};
 use crate::utils::formatting::styling::push_reset;
 use comfy_parts::content_split::{
     ColumnDisplayInfo, adds_one_column, leaves_sequence_open, measure_text_width, split_long_word,
@@ -61,6 +61,17 @@ impl<'a> Line<'a> {
         }
     }
 
+    /// Its terminal columns, and the two parts of the text that is written for it.
+    #[inline(always)]
+    pub fn parts(&self) -> (usize, &str, &str)
+        ensures { record {
+          columns = result.0;
+          written = result.1.now ++ result.2.now;
+        } ≡ self.now }
+    {
+        (self.columns, self.text.as_str(), self.end)
+    }
+
     // The same line, with a text of its own.
     fn copied<'b>(&self, alloc: Global) -> Result<Line<'b>>
         ensures { IfOk result (λ line. line ≡ self.now) }
@@ -83,8 +94,8 @@ impl<'a> Line<'a> {
 /// The lines of a cell of a row, from the top.
 #[derive(Drop)]
 pub enum CellLines<'a> {
-    // the columns and the two parts of the text of one line that fits
-    Single(usize, &'a str, &'a str),
+    // one line that fits
+    Single(Line<'a>),
     Multiple(Vec<Line<'a>>),
 }
 
@@ -94,27 +105,20 @@ impl<'a> CellLines<'a> {
         ensures { result ≡ length (lines_of self.now) }
     {
         match self {
-            CellLines::Single(_, _, _) => 1,
+            CellLines::Single(_) => 1,
             CellLines::Multiple(lines) => lines.len(),
         }
     }
 
-    /// A line by its position, counted from 0: its terminal columns, and the two parts of the text
-    /// that is written for it.
-    pub fn get(&self, position: usize) -> Option<(usize, &str, &str)>
-        ensures { option_map (λ line. record {
-          columns = line.0;
-          written = line.1.now ++ line.2.now;
-        }) result ≡ slice_get (lines_of self.now) position }
+    /// A line by its position, counted from 0.
+    #[inline(always)]
+    pub fn get(&self, position: usize) -> Option<&Line<'a>>
+        ensures { option_map (λ line. line.now) result
+            ≡ slice_get (lines_of self.now) position }
     {
         match self {
-            CellLines::Single(columns, text, end) => {
-                (position == 0).then_some((*columns, *text, *end))
-            }
-            CellLines::Multiple(lines) => {
-                let line = lines.get(position)?;
-                Some((line.columns, line.text.as_str(), line.end))
-            }
+            CellLines::Single(line) => (position == 0).then_some(line),
+            CellLines::Multiple(lines) => lines.get(position),
         }
     }
 }
@@ -133,7 +137,11 @@ pub fn row_cell_lines<'a>(
         ≡ map drawn_line (lines_within table.now limit info.now (cell_in cell.entry))) }
 {
     if let Some((columns, text, end)) = only_line(table, cell, info) {
-        return Ok(CellLines::Single(columns, text, end));
+        return Ok(CellLines::Single(Line {
+            columns,
+            text: CowStr::Borrowed(text),
+            end,
+        }));
     }
     let lines = listed_lines(table, limit, cell, info, empty_list(spare))?;
     Ok(CellLines::Multiple(lines))
@@ -164,6 +172,7 @@ pub fn only_line<'a>(
 {
     match cell {
         CellSource::Line(cell) => fitting_text(cell, info),
+        CellSource::Lines(_) => None,
         CellSource::Own(cell) => {
             let (columns, text) = fitting_line(table, cell, info)?;
             Some((columns, text, ""))
@@ -266,6 +275,7 @@ fn measured_lines<'a>(
 {
     match cell {
         CellSource::Line(cell) => text_lines(table, cell, info, list),
+        CellSource::Lines(cell) => several_lines(table, cell, info, list),
         CellSource::Own(cell) => cell_lines(table, cell, info, list),
     }
 }
@@ -313,6 +323,26 @@ fn push_spaced<'a>(
         lines.push(line.copied(alloc)?)?;
     }
     Ok(())
+}
+
+// The lines of a text of several lines in a column, in an empty list.
+fn several_lines<'a>(
+    table: &Table,
+    cell: &LinesCell<'a>,
+    info: &ColumnDisplayInfo,
+    mut lines: Vec<Line<'a>>,
+) -> Result<Vec<Line<'a>>>
+    requires { lines.items ≡ [] }
+    ensures { IfOk result (λ lines. lines.items
+        ≡ map drawn_text (cell_lines info.now.content_width
+        (cell_delimiter table.now info.now.delimiter cell.now)
+        (measured_cell table.now cell.now))) }
+{
+    let delimiter = table.delimiter_in(info.delimiter);
+    for line in cell.text().split('\n') {
+        push_lines(&mut lines, line, measure_text_width(line), info, delimiter)?;
+    }
+    Ok(lines)
 }
 
 // The lines of a cell that is made, in an empty list.
@@ -395,6 +425,11 @@ fn uncut_lines<'a>(
         CellSource::Line(cell) => {
             // its clause says that there is no ESC, so each line is written as it is measured
             let _ = cell.line();
+            Ok(measured)
+        }
+        CellSource::Lines(cell) => {
+            // so does that of a text of several lines
+            let _ = cell.text();
             Ok(measured)
         }
         CellSource::Own(cell) => written_cell_lines(table, cell, info, measured),

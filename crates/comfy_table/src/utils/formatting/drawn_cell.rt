@@ -59,22 +59,27 @@ impl<'a, 'r> DrawnCell<'a, 'r> {
         let Some((cell, lines)) = &self.cell else {
             return Piece::blank(self.info);
         };
-        match lines.get(line) {
-            Some((columns, text, end)) => {
-                Piece::new(self.styles, *cell, self.info, columns, text, end)
-            }
-            None => Piece::blank(self.info),
-        }
+        let Some(line) = lines.get(line) else {
+            return Piece::blank(self.info);
+        };
+        let (columns, text, end) = line.parts();
+        Piece::new(self.styles, *cell, self.info, columns, text, end)
     }
 }
 
 /// Takes a cell that isn't drawn any more. The list of its lines is kept, unless it is long.
 #[inline(always)]
 pub fn take_list<'r>(cell: DrawnCell<'_, 'r>, spare: &mut Vec<Vec<Line<'r>>>) -> Result<()> {
-    if let Some((_, CellLines::Multiple(lines))) = cell.cell
-        && lines.capacity() <= KEPT_LINES
-    {
-        spare.push(lines)?;
+    let Some((_, lines)) = cell.cell else {
+        return Ok(());
+    };
+    match lines {
+        CellLines::Multiple(lines) => {
+            if lines.capacity() <= KEPT_LINES {
+                spare.push(lines)?;
+            }
+        }
+        CellLines::Single(_line) => {}
     }
     Ok(())
 }

@@ -75,6 +75,7 @@ impl<'a> Model for Piece<'a> {
 impl<'a> Piece<'a> {
     /// The piece of a line: the text that is written for it, in two parts, aligned by the line's
     /// columns.
+    #[inline(always)]
     pub fn new(
         styles: Styles,
         cell: CellSource<'a>,

@@ -2,7 +2,8 @@
 
 ghost use Rattle.std.specs.Prelude.{◌≡◌, ◌≤◌, ◌++◌, ◌∷◌, [], IfOk, IfSome, None, false, map, option_map, slice_get, string_bytes, true};
 ghost use Rattle.std.specs.List.{list_any};
-ghost use Rattle.comfy_parts.specs.Text.{is_printable_ascii, measure, spaces};
+ghost use Rattle.comfy_parts.specs.CellValue.{plain_cell};
+ghost use Rattle.comfy_parts.specs.Text.{greatest, is_printable_ascii, measure, spaces};
 ghost use Rattle.comfy_parts.specs.VisibleText.{has_escape};
 ghost use Rattle.comfy_table.specs.RowCells.{cell_in, cell_of, row_in};
 ghost use Rattle.comfy_table.specs.TableValue.{cell_content_width, measured_cell};
@@ -145,13 +146,111 @@ impl<'a> TextCell<'a> {
     }
 }
 
+/// A text of several lines that is drawn as a cell. It has no escape sequence, and takes no memory.
+#[derive(Drop)]
+pub struct LinesCell<'a> {
+    text: &'a str,
+    // the terminal columns of the widest line
+    columns: usize,
+    alignment: Option<CellAlignment>,
+    style: Option<&'a TextStyle<'a>>,
+}
+
+impl<'a> Model for LinesCell<'a> {
+    ghost use Rattle.std.specs.Prelude.{◌≡◌, false, map, option_map};
+    ghost use Rattle.std.specs.List.{list_any};
+    ghost use Rattle.comfy_parts.specs.CellValue.{CellValue, plain_cell};
+    ghost use Rattle.comfy_parts.specs.Text.{greatest, measure};
+    ghost use Rattle.comfy_parts.specs.VisibleText.{has_escape};
+    ghost use Rattle.comfy_table.specs.TextStyles.{text_cell};
+
+    ghost Value = { CellValue };
+
+    ghost invariant = { λ c. (list_any has_escape (plain_cell c.text.now).text_lines ≡ false)
+        × (c.columns ≡ greatest (map measure (plain_cell c.text.now).text_lines)) };
+
+    ghost view = { λ c. text_cell c.alignment (option_map (λ style. style.now) c.style)
+        c.text.now };
+}
+
+impl<'a> LinesCell<'a> {
+    /// The cell of a text, each line of which is a text line; none for a text with ESC.
+    pub fn of_lines(
+        text: &'a str,
+        alignment: Option<CellAlignment>,
+        style: Option<&'a TextStyle<'a>>,
+    ) -> Option<LinesCell<'a>>
+        ensures { IfSome result (λ cell. cell ≡ text_cell alignment
+            (option_map (λ style. style.now) style.entry) text.now) }
+    {
+        if text.as_bytes().contains(&0x1B) {
+            return None;
+        }
+        Some(LinesCell {
+            text,
+            columns: widest_line(text),
+            alignment,
+            style,
+        })
+    }
+
+    /// The text, whose lines are the text lines.
+    #[inline(always)]
+    pub fn text(&self) -> &'a str
+        ensures lines { self.now.text_lines ≡ (plain_cell result.now).text_lines }
+        ensures delimiter { self.now.delimiter ≡ None }
+        ensures clear { list_any has_escape self.now.text_lines ≡ false }
+    {
+        self.text
+    }
+
+    // The terminal columns of the widest line.
+    #[inline(always)]
+    fn columns(&self) -> usize
+        ensures columns { result ≡ greatest (map measure self.now.text_lines) }
+        ensures clear { list_any has_escape self.now.text_lines ≡ false }
+    {
+        self.columns
+    }
+
+    // The alignment, if it has one.
+    #[inline(always)]
+    fn alignment(&self) -> Option<CellAlignment>
+        ensures { result ≡ self.now.alignment }
+    {
+        self.alignment
+    }
+
+    // The colours and the attributes.
+    fn style(&self) -> TextStyle<'a>
+        ensures { styling result ≡ style_alone self.now }
+    {
+        match self.style {
+            Some(style) => *style,
+            None => TextStyle::none(),
+        }
+    }
+}
+
+// The terminal columns of the widest line of a text.
+fn widest_line(text: &str) -> usize
+    ensures { result ≡ greatest (map measure (plain_cell text.now).text_lines) }
+{
+    let mut widest = 0;
+    for line in text.split('\n') {
+        widest = measure_text_width(line).max(widest);
+    }
+    widest
+}
+
 /// A cell of a row that is drawn without a `Row` (`RowWriter::push_cells`).
 #[derive(Drop)]
 pub enum RowCell<'a> {
-    /// A text that is lent.
+    /// A text of one line that is lent.
     Lent(TextCell<'a>),
-    /// A cell that had to be made: of a text that isn't there yet, of several lines, or with escape
-    /// sequences.
+    /// A text of several lines that is lent.
+    Several(LinesCell<'a>),
+    /// A cell that had to be made: of a text that isn't there yet, or with escape sequences.
     Made(Box<Cell>),
 }
 
@@ -164,6 +263,7 @@ impl<'a> RowCell<'a> {
     {
         match self {
             RowCell::Lent(cell) => cell.columns().clamp(1, 65535) as u16,
+            RowCell::Several(cell) => cell.columns().clamp(1, 65535) as u16,
             RowCell::Made(cell) => table.cell_content_width(cell),
         }
     }
@@ -173,6 +273,7 @@ impl<'a> RowCell<'a> {
 #[derive(Clone, Copy)]
 pub(crate) enum CellSource<'r> {
     Line(&'r TextCell<'r>),
+    Lines(&'r LinesCell<'r>),
     Own(&'r Cell),
 }
 
@@ -184,6 +285,7 @@ impl<'r> CellSource<'r> {
     {
         match self {
             CellSource::Line(cell) => cell.alignment(),
+            CellSource::Lines(cell) => cell.alignment(),
             CellSource::Own(cell) => cell.cell_alignment(),
         }
     }
@@ -194,6 +296,7 @@ impl<'r> CellSource<'r> {
     {
         match self {
             CellSource::Line(cell) => cell.style(),
+            CellSource::Lines(cell) => cell.style(),
             CellSource::Own(cell) => TextStyle::of(cell),
         }
     }
@@ -226,6 +329,7 @@ impl<'r> RowSource<'r> {
             RowSource::Whole(row) => Some(CellSource::Own(cell_at(row, position)?)),
             RowSource::Listed(cells, _) => Some(match cells.get(position)? {
                 RowCell::Lent(cell) => CellSource::Line(cell),
+                RowCell::Several(cell) => CellSource::Lines(cell),
                 RowCell::Made(cell) => CellSource::Own(cell),
             }),
         }

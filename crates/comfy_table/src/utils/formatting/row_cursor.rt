@@ -1,7 +1,7 @@
 //! A row that is drawn line by line.
 
 ghost use Rattle.std.specs.Prelude.{◌≡◌, ◌++◌, ◌<◌, ◌≤◌, [], IfOk, OnOk, length, map, string_bytes};
-ghost use Rattle.comfy_table.specs.DrawnCells.{AreFurther, drawn_cell, filled, greatest_height, piece_at, with_further};
+ghost use Rattle.comfy_table.specs.DrawnCells.{AreFurther, drawn_cell, filled, greatest_height, piece_at};
 ghost use Rattle.comfy_table.specs.Gaps.{gap_line};
 ghost use Rattle.comfy_table.specs.RowCells.{row_in};
 
@@ -16,14 +16,14 @@ use comfy_parts::Result;
 use std::alloc::Global;
 use std::marker::Model;
 
-/// The row that is drawn now. Its first line is drawn while its cells are found, and only those for
-/// further lines are kept: most rows have none. One row after another is drawn by it, in the memory
-/// of those before.
+/// The row that is drawn now. Its first line is drawn while its cells are found, and only cells
+/// that may have further lines are kept: most rows have none. One row after another is drawn by it,
+/// in the memory of those before.
 #[derive(Drop)]
 pub struct RowCursor<'a, 'r> {
-    // the cells from the first one on that has more than one line
+    // the cells from the first one on that may have more than one line
     further: Vec<DrawnCell<'a, 'r>>,
-    // lists in which the lines of earlier rows stood
+    // lists that had the lines of earlier rows
     spare: Vec<Vec<Line<'r>>>,
 }
 
@@ -49,6 +49,7 @@ impl<'a, 'r> RowCursor<'a, 'r> {
 
     /// Goes on to a row, appends its first line, and returns its height. In no columns it has no
     /// line.
+    #[inline(always)]
     pub fn push_first_line(
         &mut self,
         text: &mut String,
@@ -78,9 +79,11 @@ impl<'a, 'r> RowCursor<'a, 'r> {
                 height = height.max(1);
             } else {
                 let cell = drawn_cell(row, column, table, styles, &mut self.spare)?;
-                free = cell.piece_at(0).push(text, gap, free)?;
                 height = cell.height().max(height);
-                self.keep(cell)?;
+                self.further.push(cell)?;
+                free = self.further[self.further.len() - 1]
+                    .piece_at(0)
+                    .push(text, gap, free)?;
             }
             gap = gaps.junction();
         }
@@ -98,19 +101,7 @@ impl<'a, 'r> RowCursor<'a, 'r> {
         Ok(())
     }
 
-    // Keeps a cell for further lines, if it has any, or stands behind one that has.
-    #[inline(always)]
-    fn keep(&mut self, cell: DrawnCell<'a, 'r>) -> Result<()>
-        ensures { OnOk result (self.new ≡ with_further self.old cell.entry) }
-    {
-        if self.further.is_empty() && cell.height() <= 1 {
-            return take_list(cell, &mut self.spare);
-        }
-        self.further.push(cell)?;
-        Ok(())
-    }
-
-    /// Appends a line behind the first, in the columns of that one. Lines are counted from 0.
+    /// Appends a line after the first, in the columns of that one. Lines are counted from 0.
     #[inline(never)]
     pub fn push_further_line(
         &self,

@@ -13,3 +13,10 @@ returns-in-Line c =
     let cell = cell_in c.args.cell in
     let clear : list_any has_escape cell.text_lines ≡ false = ap (λ source. list_any has_escape (cell_in source).text_lines) c.in-Line.is ∙ c.line.ensures.clear in
     c.requires ∙ drawn-measured table (row_within None) c.args.info.now cell (unescaped table.custom_styling cell clear)
+
+pub returns-in-Lines : goal.returns-in-Lines
+returns-in-Lines c =
+    let table = c.args.table.now in
+    let cell = cell_in c.args.cell in
+    let clear : list_any has_escape cell.text_lines ≡ false = ap (λ source. list_any has_escape (cell_in source).text_lines) c.in-Lines.is ∙ c.text.ensures.clear in
+    c.requires ∙ drawn-measured table (row_within None) c.args.info.now cell (unescaped table.custom_styling cell clear)

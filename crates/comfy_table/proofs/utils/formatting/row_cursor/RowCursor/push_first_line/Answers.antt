@@ -1,15 +1,14 @@
-use Rattle.std.proofs.Common.{ap₂, refl, nat_lt, ◌≡◌, ◌<◌, ◌+◌, ◌++◌, ◌∷◌, [], ℕ, List, length, map, max, take, drop, string_bytes, sym, subst, ap, ◌∙◌, arith, append_assoc, slice_index_or}
+use Rattle.std.proofs.Common.{ap₂, refl, ◌≡◌, ◌<◌, ◌+◌, ◌-◌, ◌++◌, ◌∷◌, [], ℕ, List, length, map, max, take, drop, string_bytes, sym, subst, ap, ◌∙◌, arith, append_assoc, slice_index_or}
 use Rattle.std.proofs.lemmas.Bool.Decides.{nat_tests}
 use Rattle.std.proofs.lemmas.List.{at_drop_more, get_or-map, length-map, map_more, nil_from_length}
-use Rattle.std.specs.Prelude.{if◌then◌else◌}
 use Rattle.comfy_parts.specs.CellValue.{ColumnInfo}
 use Rattle.comfy_parts.specs.Text.{Text, spaces}
-use Rattle.comfy_table.proofs.FurtherLineLemmas.{further-more}
+use Rattle.comfy_table.proofs.FurtherLineLemmas.{further-more, further-none, kept-last}
 use Rattle.comfy_table.proofs.RowGapLemmas.{gap_more, joined_all, joined_to}
-use Rattle.comfy_table.specs.DrawnCells.{AreFurther, DrawnCell, drawn_cell, greatest_height, piece_at, with_further}
+use Rattle.comfy_table.specs.DrawnCells.{AreFurther, DrawnCell, drawn_cell, greatest_height, piece_at}
 use Rattle.comfy_table.specs.Pieces.{blank_piece}
 use Rattle.comfy_table.specs.RowCells.{row_in}
-use Rattle.comfy_table.proofs.utils.formatting.row_cursor.RowCursor.push_first_line.Goals.{then-is_empty+in-Some+in_ok-free, else-is_empty+in_ok-cell+in_ok-free-2+in_ok-keep}
+use Rattle.comfy_table.proofs.utils.formatting.row_cursor.RowCursor.push_first_line.Goals.{then-is_empty+in-Some+in_ok-free, else-is_empty+in_ok-cell+in_ok-push+in_ok-free-2}
 use Rattle.comfy_table.proofs.utils.formatting.row_cursor.RowCursor.push_first_line.Goals as goal
 
 pub loop-column-preserved : goal.loop-column-preserved
@@ -35,38 +34,48 @@ loop-column-preserved c =
           ap₂ (λ text free. string_bytes text ++ spaces free) w.text-is w.free-is
           ∙ w.in_ok-free.ensures
           ∙ ap (λ (t : Text). string_bytes c.loop-column.text ++ (spaces c.loop-column.free ++ (c.loop-column.gap.now ++ t))) (only w.in-Some.piece w.in-Some.ensures)
-      | else-is_empty+in_ok-cell+in_ok-free-2+in_ok-keep w ↦
+      | else-is_empty+in_ok-cell+in_ok-push+in_ok-free-2 w ↦
           ap₂ (λ text free. string_bytes text ++ spaces free) w.text-is w.free-is
           ∙ w.in_ok-free-2.ensures
-          ∙ ap (λ (t : Text). string_bytes c.loop-column.text ++ (spaces c.loop-column.free ++ (c.loop-column.gap.now ++ t))) (w.piece_at.ensures ∙ ap (piece_at 0) w.in_ok-cell.ensures)
+          ∙ ap (λ (t : Text). string_bytes c.loop-column.text ++ (spaces c.loop-column.free ++ (c.loop-column.gap.now ++ t)))
+          (let cell = w.in_ok-cell.cell in
+          let further = c.loop-column.self-inside.further.items in
+          let pushed : w.push-else-is_empty.new.self.items ≡ further ++ cell ∷ [] = w.in_ok-push.ensures.items in
+          let size : length w.push-else-is_empty.new.self.items ≡ length (further ++ cell ∷ []) = ap length pushed in
+          let long : w.len.result ≡ length w.push-else-is_empty.new.self.items = grind (arith, w.len.ensures) in
+          let count : w.len.result - 1 ≡ length (further ++ cell ∷ []) - 1 = ap (λ n. n - 1) (long ∙ size) in
+          let last : w.index.result.now ≡ cell = w.index.ensures ∙ ap (λ (ds : List DrawnCell). slice_index_or ds (w.len.result - 1) w.index.result.now) pushed ∙ kept-last further cell w.index.result.now (w.len.result - 1) count in
+          w.piece_at.ensures ∙ ap (piece_at 0) (last ∙ w.in_ok-cell.ensures))
     ] in
     let height : c.if-is_empty.height ≡ max (length drawn.pieces) c.loop-column.height =
     elim c.if-is_empty.branch [
       | then-is_empty+in-Some+in_ok-free w ↦ let one : length drawn.pieces ≡ 1 = sym (ap length w.in-Some.ensures) in grind (arith, nat_tests, w.height-is, w.max-height.ensures, one)
-      | else-is_empty+in_ok-cell+in_ok-free-2+in_ok-keep w ↦
+      | else-is_empty+in_ok-cell+in_ok-push+in_ok-free-2 w ↦
           let high : w.height.result ≡ length drawn.pieces = w.height.ensures ∙ ap (λ (d : DrawnCell). length d.pieces) w.in_ok-cell.ensures in
           omega (arith, w.height-is, w.max-height-else-is_empty.ensures, high)
     ] in
-    let kept : c.if-is_empty.self ≡ with_further c.loop-column.self drawn =
+    let before = map f (take i columns) in
+    let kept : AreFurther c.if-is_empty.self-inside.further.items (before ++ drawn ∷ []) =
     elim c.if-is_empty.branch [
       | then-is_empty+in-Some+in_ok-free w ↦
-          let few : length c.self.inside.further.items ≡ 0 = grind arith in
-          let none : c.loop-column.self ≡ [] = sym c.self.view_is ∙ nil_from_length c.self.inside.further.items few in
-          let one : with_further [] drawn ≡ [] = ap (λ n. if nat_lt 1 n then drawn ∷ [] else []) (sym (ap length w.in-Some.ensures)) in
-          w.self-is ∙ none ∙ sym (ap (λ (ds : List DrawnCell). with_further ds drawn) none ∙ one)
-      | else-is_empty+in_ok-cell+in_ok-free-2+in_ok-keep w ↦
-          w.self-is
-          ∙ w.in_ok-keep.ensures
-          ∙ ap (λ (ds : List DrawnCell). with_further ds w.in_ok-cell.cell) c.self.view_is
-          ∙ ap (with_further c.loop-column.self) w.in_ok-cell.ensures
+          let few : length c.loop-column.self-inside.further.items ≡ 0 = grind arith in
+          let none : c.loop-column.self-inside.further.items ≡ [] = nil_from_length c.loop-column.self-inside.further.items few in
+          let size : length drawn.pieces ≡ 1 = sym (ap length w.in-Some.ensures) in
+          subst (λ (fs : List DrawnCell). AreFurther fs (before ++ drawn ∷ [])) (sym (ap (λ inside. inside.further.items) w.self-inside-is ∙ none))
+          (further-none before drawn (omega (arith, size)) (subst (λ (fs : List DrawnCell). AreFurther fs before) none c.loop-column.invariant.3))
+      | else-is_empty+in_ok-cell+in_ok-push+in_ok-free-2 w ↦
+          subst (λ (fs : List DrawnCell). AreFurther fs (before ++ drawn ∷ []))
+          (sym (ap (λ inside. inside.further.items) w.self-inside-is
+          ∙ w.in_ok-push.ensures.items
+          ∙ ap (λ (d : DrawnCell). c.loop-column.self-inside.further.items ++ d ∷ []) w.in_ok-cell.ensures))
+          (further-more c.loop-column.self-inside.further.items before drawn c.loop-column.invariant.3)
     ] in (
       grind (arith, nat_tests, c.junction-gap.ensures),
       text
           ∙ gap_more c.args.gaps.now (piece_at 0) cells i drawn (string_bytes c.args.text.now) (string_bytes c.loop-column.text) c.loop-column.gap.now (spaces c.loop-column.free) (piece_at 0 drawn)
           within at c.loop-column.invariant.1 c.loop-column.invariant.0 refl,
       omega (arith, tall, height, c.loop-column.invariant.2),
-      subst (λ (ds : List DrawnCell). AreFurther c.if-is_empty.self ds) (sym taken)
-          (subst (λ (fs : List DrawnCell). AreFurther fs (map f (take i columns) ++ drawn ∷ [])) (sym kept) (further-more c.loop-column.self (map f (take i columns)) drawn c.loop-column.invariant.3)),
+      subst (λ (ds : List DrawnCell). AreFurther c.if-is_empty.self-inside.further.items ds) (sym taken) kept,
     )
 
 pub returns-clause-line : goal.returns-clause-line

@@ -10,4 +10,4 @@ invariant-loop-column l =
     (l.gap ≡ gap_before l.column-index l.gaps)
     × (string_bytes l.text ++ spaces l.free ≡ string_bytes l.initial.text ++ joined_to l.gaps (piece_at 0) (map (drawn_cell l.table (row_in l.row)) l.columns) l.column-index)
     × (max l.height (greatest_height (map (drawn_cell l.table (row_in l.row)) (drop l.column-index l.columns))) ≡ greatest_height (map (drawn_cell l.table (row_in l.row)) l.columns))
-    × AreFurther l.self (map (drawn_cell l.table (row_in l.row)) (take l.column-index l.columns))
+    × AreFurther l.self-inside.further.items (map (drawn_cell l.table (row_in l.row)) (take l.column-index l.columns))
