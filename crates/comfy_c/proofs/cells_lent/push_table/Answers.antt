@@ -1,6 +1,6 @@
 use Rattle.std.proofs.Common.{◌≡◌, ◌++◌, ◌∙◌, List, ap, string_bytes, sym, true}
 use Rattle.std.proofs.lemmas.Result.{on_ok_weaker}
-use Rattle.comfy_parts.specs.CellValue.{ColumnInfo, RowValue}
+use Rattle.comfy_parts.specs.CellValue.{ColumnInfo}
 use Rattle.comfy_parts.specs.Text.{Text}
 use Rattle.comfy_table.proofs.OtherRowLemmas.{part-whole, part_same}
 use Rattle.comfy_table.specs.Drawing.{drawing_of_infos, part_of_drawing, terminated_text_of}

@@ -1,4 +1,4 @@
-use Rattle.std.proofs.Common.{◌≡◌, ◌<◌, ◌+◌, ◌∷◌, ◌∙◌, [], ℕ, List, ap, arith, drop, get_or, length, map, max, refl, rules, take}
+use Rattle.std.proofs.Common.{◌≡◌, ◌<◌, ◌+◌, ◌∙◌, [], ℕ, List, ap, arith, drop, get_or, length, map, max, rules, take}
 use Rattle.std.proofs.lemmas.List.{drop_all}
 use Rattle.std.specs.List.{slice_get, slice_index_or}
 use Rattle.comfy_parts.specs.CellValue.{CellValue, RowValue}
@@ -9,7 +9,6 @@ use Rattle.csv_tables.specs.Contents.{greatest_at, measured_at}
 use Rattle.comfy_c.proofs.CellLemmas.{counts_more, no_row}
 use Rattle.comfy_c.proofs.LentLemmas.{cells_in, next_row}
 use Rattle.comfy_c.specs.CellCalls.{rows_with}
-use Rattle.comfy_c.specs.Numbers.{row_with}
 use Rattle.comfy_c.specs.declared.cells_rows.RowNumbers.{RowNumbers}
 use Rattle.comfy_c.proofs.cells_lent.widen_rows.Goals as goal
 

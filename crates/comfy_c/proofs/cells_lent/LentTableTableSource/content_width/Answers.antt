@@ -1,4 +1,4 @@
-use Rattle.std.proofs.Common.{◌≡◌, ◌∙◌, ap, arith, map, max, rules}
+use Rattle.std.proofs.Common.{◌≡◌, ◌∙◌, ap, arith, map, rules}
 use Rattle.std.specs.List.{slice_index_or}
 use Rattle.comfy_table.specs.RowCells.{cell_of}
 use Rattle.comfy_table.specs.TableValue.{TableValue, column_content_width}

@@ -1,4 +1,4 @@
-use Rattle.std.proofs.Common.{◌≡◌, ◌∙◌, [], ap, rules}
+use Rattle.std.proofs.Common.{◌≡◌, ◌∙◌, []}
 use Rattle.comfy_parts.specs.CellValue.{plain_cell}
 use Rattle.comfy_table.specs.Styling.{all_attributes}
 use Rattle.comfy_c.specs.Numbers.{attributes_by, color_of}
