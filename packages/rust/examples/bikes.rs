@@ -1,4 +1,4 @@
-//! Prints bikes, in the width and the colours of the terminal where there is one.
+//! Prints bikes. In a terminal the table has at most its width, and has colours.
 use comfy_table_proved::presets::UTF8_FULL;
 use comfy_table_proved::{Attribute, Cell, CellAlignment, Color, ContentArrangement, Table};
 
