@@ -263,7 +263,7 @@ struct comfy_rows_settings {
     uint32_t is_numbered;     /* a flag: a first column has the numbers of the rows */
     uint32_t aligns_decimals; /* a flag: decimal points of a column of numbers are below each other */
     uint32_t has_sequences;   /* a flag: SGR sequences in texts are kept, and take no columns */
-    uint32_t is_markdown;     /* a flag: the table is in Markdown, whatever else is set here */
+    uint32_t is_markdown;     /* a flag: the table is for Markdown, whatever else is set here */
     struct comfy_frame frame; /* the lines of COMFY_OWN_STYLE, which no other style reads */
 };
 
@@ -283,7 +283,7 @@ struct comfy_rows_settings {
  * of a bold header. heights is empty, or has the most lines of each row. It replaces max_height, unless it is 0 or COMFY_NO_LIMIT.
  * The header has no limit.
  *
- * A table in Markdown, and rows that are or may be expanded, can't have looks or heights. Their columns can only have
+ * A table for Markdown, and rows that are or may be expanded, can't have looks or heights. Their columns can only have
  * COMFY_COLUMN_LEFT, COMFY_COLUMN_RIGHT and COMFY_COLUMN_HIDDEN.
  *
  * The first of these results whose reason holds is returned:

@@ -171,7 +171,7 @@ class Refused(unittest.TestCase):
             ({"right": "a"}, "the header has 'a' twice; give the column's position"),
             ({"columns": [3]}, "no column 3"),
             ({"columns": -4}, "no column -4"),
-            ({"left": [0], "right": ["b", -3]}, "the column at position 0 can't stand at the right and at the left"),
+            ({"left": [0], "right": ["b", -3]}, "the column at position 0 is in both left and right"),
         ]:
             with self.assertRaises(ValueError) as caught:
                 tabulate([["x", "y", "z"]], headers=["a", "b", "a"], **settings)
@@ -370,9 +370,9 @@ class Snippets(unittest.TestCase):
         self.assertEqual(tabulate(rows, names, tablefmt="pipe", left=1).split("\n")[1], "|:----|:----|")
 
     def test_formats_that_other_programs_make(self):
-        with self.assertRaisesRegex(ValueError, "^tablefmt 'html' isn't there; in its place there is pandoc"):
+        with self.assertRaisesRegex(ValueError, "^no tablefmt 'html'; use pandoc"):
             tabulate([["a"]], tablefmt="html")
-        with self.assertRaisesRegex(ValueError, "^tablefmt is one of grid, simple_grid, .*, not 'grids'"):
+        with self.assertRaisesRegex(ValueError, "^tablefmt takes grid, simple_grid, .*, not 'grids'"):
             tabulate([["a"]], tablefmt="grids")
 
     def test_an_index(self):
@@ -443,7 +443,7 @@ class Snippets(unittest.TestCase):
         self.assertEqual(tabulate({"name": ["oats"], "price": [3]}, ["Name", "EUR"], tablefmt="plain"), "Name  EUR\noats    3")
         with self.assertRaises(ValueError) as caught:
             tabulate([{"name": "oats", "price": 3}], headers=["name", "EUR"])
-        self.assertEqual(str(caught.exception), "no row has the key 'EUR'; a dict of headers, as {key: name}, names keys anew")
+        self.assertEqual(str(caught.exception), "no row has the key 'EUR'; a dict of headers, {key: name}, renames keys")
 
     def test_sides_of_columns(self):
         self.expect(tabulate([["one", 1], ["three", 3]], colalign=("right", "left"), style="box"), """
@@ -694,20 +694,20 @@ record 1 of 1
 ╚═══╩═══╝
 """)
 
-    def test_what_stands_for_nothing_is_refused(self):
+    def test_settings_without_meaning_are_refused(self):
         for settings, message in [
             ({"center": "c"}, "no column 'c'"),
-            ({"center": 0, "right": 0}, "the column at position 0 can't stand in the middle and at the right"),
-            ({"colwidths": 0}, "colwidths has whole numbers from 1 to 65533, not 0"),
-            ({"mincolwidths": {1: "2"}}, "mincolwidths has whole numbers from 1 to 65533, not '2'"),
-            ({"colwidths": 2, "maxcolwidths": 3}, "the column at position 0 has a width, and so no least or greatest one"),
-            ({"mincolwidths": 4, "maxcolwidths": 3}, "the column at position 0 has a least width above its greatest"),
-            ({"padding": -1}, "padding is a whole number from 0 to 65535, a pair of them for left and right, or a dict, not -1"),
+            ({"center": 0, "right": 0}, "the column at position 0 is in both right and center"),
+            ({"colwidths": 0}, "colwidths takes whole numbers from 1 to 65533, not 0"),
+            ({"mincolwidths": {1: "2"}}, "mincolwidths takes whole numbers from 1 to 65533, not '2'"),
+            ({"colwidths": 2, "maxcolwidths": 3}, "the column at position 0 has an exact width, so it can't have another"),
+            ({"mincolwidths": 4, "maxcolwidths": 3}, "the column at position 0 has a least width above its greatest width"),
+            ({"padding": -1}, "padding takes a whole number from 0 to 65535, a pair of them for left and right, or a dict, not -1"),
             ({"hidden": [0, 1]}, "no column is left that isn't hidden"),
-            ({"max_height": [1, -2]}, "max_height is a whole number from 0 on or None, not -2"),
+            ({"max_height": [1, -2]}, "max_height takes a whole number from 0 on or None, not -2"),
             ({"style": ["+-++"]}, "a frame has six lines, each of four printable characters or none, not ['+-++']"),
-            ({"style": ["+-++"] * 6}, "nothing but a space fills a line of texts, so the second character of '+-++' is one"),
-            ({"center": 0, "expanded": True}, "expanded rows have no side in the middle"),
+            ({"style": ["+-++"] * 6}, "a line of texts has no fill, so the second character of '+-++' must be a space"),
+            ({"center": 0, "expanded": True}, "expanded rows have no center"),
             ({"padding": 0, "expanded": "auto"}, "expanded rows have no padding"),
             ({"maxcolwidths": 9, "tablefmt": "github"}, "a table for Markdown has no maxcolwidths"),
         ]:
@@ -722,7 +722,7 @@ record 1 of 1
 
 
 class Frame:
-    """As much of a DataFrame as is used of it."""
+    """The part of a DataFrame that the package uses."""
 
     def __init__(self, columns, rows, index):
         self.columns, self._rows, self.index = columns, rows, Index(index)
@@ -759,7 +759,7 @@ class Records(list):
 
 
 class Messages(unittest.TestCase):
-    """Of Python's parameters, with what there is in their place."""
+    """The messages for wrong parameters."""
 
     def expect(self, kind, message, rows=((1, 2),), **settings):
         with self.assertRaises(kind) as caught:
@@ -767,27 +767,27 @@ class Messages(unittest.TestCase):
         self.assertEqual(str(caught.exception), message)
 
     def test_settings_of_tabulate_that_are_not_here(self):
-        self.expect(TypeError, "tabulate has no setting 'numalign'; in its place there is left, right and align_decimals", numalign="left")
+        self.expect(TypeError, "tabulate has no setting 'numalign'; use left, right and align_decimals", numalign="left")
         self.expect(TypeError, "tabulate has no setting 'witdh'", witdh=3)
 
     def test_values(self):
         self.expect(
             ValueError,
-            "style is one of rounded, box, grid, ascii, plain, markdown or a preset such as \"UTF8_FULL\", not 'github'; "
+            "style takes rounded, box, grid, ascii, plain, markdown or a preset such as \"UTF8_FULL\", not 'github'; "
             "tablefmt='github' is one",
             style="github",
         )
-        self.expect(ValueError, "width is a whole number from 0 to 65535, \"terminal\" or None, not 10.5", width=10.5)
-        self.expect(ValueError, "width is a whole number from 0 to 65535, \"terminal\" or None, not 65536", width=65536)
-        self.expect(ValueError, "limit is a whole number from 0 on or None, not -1", limit=-1)
-        self.expect(ValueError, "expanded is True, False or \"auto\", not 'yes'", expanded="yes")
-        self.expect(ValueError, "style and tablefmt both name a frame", style="box", tablefmt="grid")
+        self.expect(ValueError, "width takes a whole number from 0 to 65535, \"terminal\" or None, not 10.5", width=10.5)
+        self.expect(ValueError, "width takes a whole number from 0 to 65535, \"terminal\" or None, not 65536", width=65536)
+        self.expect(ValueError, "limit takes a whole number from 0 on or None, not -1", limit=-1)
+        self.expect(ValueError, "expanded takes True, False or \"auto\", not 'yes'", expanded="yes")
+        self.expect(ValueError, "style and tablefmt both set the frame; pass one of them", style="box", tablefmt="grid")
         self.expect(ValueError, "showindex has 1 values for 2 rows", rows=[[1], [2]], showindex=["a"])
-        self.expect(ValueError, "colalign has \"left\", \"right\", \"center\", \"decimal\" or None for each column, not 'middle'", colalign=["middle"])
+        self.expect(ValueError, "colalign takes \"left\", \"right\", \"center\", \"decimal\" or None for each column, not 'middle'", colalign=["middle"])
 
     def test_rows(self):
-        self.expect(TypeError, "a row is a list of cells, not 1; for one column pass [[value], ..]", rows=[1, 2])
-        self.expect(TypeError, "rows are a list of rows, not 'text'", rows="text")
+        self.expect(TypeError, "a row must be a list of cells, not 1; for one column pass [[value], ..]", rows=[1, 2])
+        self.expect(TypeError, "rows must be a list of rows, not 'text'", rows="text")
 
 
 class Interface(unittest.TestCase):

@@ -537,7 +537,7 @@ impl Texts {
         self.lengths.push(self.joined.len() - start);
     }
 
-    // The texts without the sequences of `paint`, because a table in Markdown can't have them.
+    // The texts without the sequences of `paint`, because a table for Markdown can't have them.
     fn without_sequences(&self) -> Texts {
         let mut plain = Texts::default();
         for row in self.rows() {

@@ -26,7 +26,7 @@ pub enum Style {
     Ascii,
     /// Only spaces.
     Plain,
-    /// A table in Markdown. Its texts are escaped and never wrapped, whatever the width is.
+    /// A table for Markdown. Its texts are escaped and never wrapped, whatever the width is.
     Markdown,
     /// A preset, made by [`Style::of_preset`].
     Preset(Preset),

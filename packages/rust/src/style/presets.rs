@@ -175,7 +175,7 @@ pub const ASCII_HORIZONTAL_ONLY: TableStyle = TableStyle {
     bottom_border: line([' ', '-', '-', ' ']),
 };
 
-/// The lines of a table in Markdown. Texts aren't escaped, and line breaks in them break the table.
+/// The lines of a table for Markdown. Texts aren't escaped, and line breaks in them break the table.
 ///
 /// ```text
 /// | Hello | there |
