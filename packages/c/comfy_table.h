@@ -67,8 +67,8 @@ extern "C" {
  *   COMFY_SETTINGS_REFUSED  settings or arguments describe no table
  *   COMFY_LENGTHS_REFUSED   lengths don't add up
  *
- * With COMFY_DRAWN, the bytes of output after the drawing are unchanged. With any other result, all bytes of output are unchanged,
- * and with any but the first two, *needed is too. comfy_csv_draw writes more with two of the results, as its comment says.
+ * With COMFY_DRAWN, the bytes of output after the drawing are unchanged. With any other result, all bytes of output are
+ * unchanged. *needed is only changed with the first two. comfy_csv_draw writes more with two results, as its comment says.
  */
 enum {
     COMFY_DRAWN,
@@ -123,8 +123,8 @@ struct comfy_content_line {
  * A frame of your own. A border line or a separator is drawn if it has a character. A border at the left or right, or a line
  * between columns, is drawn if one of the six lines has a character for it. A space is drawn for a missing character.
  *
- * The promises on the lines of rows hold for such a frame if each of its characters takes one terminal column, and none is a
- * control character or changes the direction of text.
+ * The promises on the lines of rows hold for such a frame on two conditions: each of its characters takes one terminal column,
+ * and none is a control character or changes the direction of text.
  */
 struct comfy_frame {
     struct comfy_line top_border;
@@ -339,8 +339,8 @@ struct comfy_row {
 };
 
 /*
- * The constraint on a column's width, which includes the paddings: none, not drawn, as wide as the widest text, exactly a width, at
- * least a width, at most a width, or at least one width and at most another. Any other number means none.
+ * The constraint on a column's width. The width includes the paddings. The constraints are: none, not drawn, as wide as the widest
+ * text, exactly a width, at least a width, at most a width, and both a least and a greatest width. Any other number means none.
  */
 enum {
     COMFY_CONSTRAINT_NONE,
@@ -370,8 +370,9 @@ struct comfy_column {
 /* A new column of comfy-table, with paddings of 1. */
 #define COMFY_COLUMN {1, 1, 0, COMFY_ALIGNED_BY_COLUMN, COMFY_CONSTRAINT_NONE, {0, 0}, {0, 0}}
 
-/* The form of the output: the lines; the lines without white space at their ends and without the last line feed; or the width of
- * each column's widest text, as a decimal number and a line feed. */
+/* The form of the output: the lines, the trimmed lines, or the widths of contents. Trimmed lines have no white space at their
+ * ends, and no line feed after the last one. The widths are those of each column's widest text, in decimal, each with a line
+ * feed after it. */
 enum { COMFY_FORM_LINES, COMFY_FORM_TRIMMED, COMFY_FORM_CONTENT_WIDTHS };
 
 /* The rule for the widths of columns: only by their texts, within the table's width, or filling the table's width. */
@@ -422,12 +423,12 @@ uint32_t comfy_cells_refused(const struct comfy_cells_settings *settings);
 /* ---- CSV */
 
 /*
- * Draws a table of CSV into the caller's buffer, as the program csvtable does with these arguments and --count, if its output
- * isn't a terminal and neither COLUMNS nor NO_COLOR is set. `csvtable --help` lists the arguments.
+ * Draws a table of CSV into the caller's buffer, as the program csvtable does with these arguments and --count. The output is that
+ * into a pipe, if neither COLUMNS nor NO_COLOR is set. `csvtable --help` lists the arguments.
  *
- * arguments is UTF-8, and a zero byte ends each argument. It may be missing after the last one, so a string of C ends it: with
- * "-r\0price\0-w\0" "60" and its size, the column price is right-aligned, and the table has at most 60 terminal columns. No bytes
- * mean no arguments.
+ * arguments is UTF-8, and a zero byte ends each argument. It may be missing after the last one, so the end of a string in C
+ * serves. With "-r\0price\0-w\0" "60" and its size, the column price is right-aligned, and the greatest width is 60 terminal
+ * columns. No bytes mean no arguments.
  *
  * No file is opened. A file name among the arguments names the input in messages. If it ends with .tsv or .tab, TABs may separate
  * fields.

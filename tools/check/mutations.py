@@ -12,19 +12,26 @@ A file is named FUNCTION__WHAT_IS_WRONG.edit, and has the form that `rt must-fai
 The old text, a line or a part of one, must be in the file exactly once. The new text replaces it. More pairs can follow, each
 with a line `file:` of its own if it is in another file.
 
-Without CRATE, all crates are tried. --must-fail also tries the mutations of must-fail/. --only tries those whose label, that is
-the source file and the name, contains TEXT. --list tries none, and prints the mutations that can't be applied, and those whose
-name is in both folders of the crate.
+Without CRATE, all crates are tried. The options are:
+
+    --must-fail    also try the mutations of must-fail/
+    --only TEXT    try only those whose label, that is the source file and the name, contains TEXT
+    --list         try none, and print those that can't be applied, and those whose name is in both folders of the crate
 
 Checks run on a copy of the crate and of the crates below it. The copy has the kept results of earlier checks, so `rt check` in the
 crate's folder beforehand saves time. A check tries mutations of different functions together, because it prints for each function
 if it is proved. A function that calls a mutated one is tried again in a later check. If a check prints no result for a mutation,
 the mutation is tried alone.
 
-The result of each mutation is printed: refused, SURVIVED (the crate is proved with it), STALE (no goal is unproved, and the check
-fails only because a written answer names a thing that the mutation removes, so no clause was tried), CANNOT BE APPLIED (an old text
-is missing, or is there more than once), or CANNOT BE READ (the changed source doesn't compile). The status is 1 unless every
-mutation is refused, or with --list, unless each can be applied and has a name of its own.
+The result of each mutation is printed:
+
+    refused              a goal isn't proved
+    SURVIVED             the crate is proved with it
+    STALE                no goal is unproved; a written answer names a thing that the mutation removes, so no clause was tried
+    CANNOT BE APPLIED    an old text is missing, or is there more than once
+    CANNOT BE READ       the changed source doesn't compile
+
+The status is 1 unless every mutation is refused, or with --list, unless each can be applied and has a name of its own.
 """
 import argparse
 import glob

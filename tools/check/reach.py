@@ -4,9 +4,9 @@ file and line.
 
     tools/check/reach.py
 
-A definition is used if its name is in code, in the proof files of a function (Answers, Invariants, Proof), in a trial, in the
-head of a module, or in a definition that is used. A name means the definition that its file declares or imports by this name. A
-function is called if its name is in its crate before a parenthesis, or among the arguments of a call.
+A definition is used if its name is in code, in a trial, in the head of a module, or in a definition that is used. The proof files
+of functions (Answers, Invariants, Proof) count as code. A name means the definition that its file declares or imports by this
+name. A function is called if its name is in its crate before a parenthesis, or among the arguments of a call.
 """
 import glob
 import re

@@ -1,7 +1,7 @@
 #!/bin/sh
-# Counts the instructions of one call of the original, and of one call of each way to draw by the package for Rust, in one program
-# in Rust, on the inputs below. It also prints the best time of 20 calls of each, which take turns in one process. All drawings of
-# an input have to be the same. It needs cargo and valgrind.
+# Compares the original and each way to draw by the package for Rust, in one program in Rust, on the inputs below. It counts the
+# instructions of one call of each, and prints the best time of 20 calls of each, which take turns in one process. All drawings
+# of an input have to be the same. It needs cargo and valgrind.
 #
 # usage: tools/measure/calls.sh ORIGINAL
 # ORIGINAL is a folder with the sources of comfy-table and its Cargo.toml, in which cargo can build it. COMFY_C can name a folder

@@ -5,9 +5,9 @@
                                                 numbers and dates aren't broken at any width from 20 to 200. Runs each example of the
                                                 man page, among them the recipes of docs/CSVTABLE.md, if the other programs in it are
                                                 installed
-    tools/try/real_files.py --compare PROGRAM   prints a table of the results of PROGRAM, csvlook, mlr and column on each file: without
-                                                an option, and with an option that suits the file, if there is one. Below it are the
-                                                numbers of files that each draws correctly
+    tools/try/real_files.py --compare PROGRAM   prints a table of the results of PROGRAM, csvlook, mlr and column on each file. If an
+                                                option suits a file, the results with and without it are printed. Below the table are
+                                                the numbers of files that each draws correctly
 
 The expected results are beside each file or example, and follow from the rules in docs/CSVTABLE.md. The first form prints a line for
 each run, and ends with status 1 if one differs.

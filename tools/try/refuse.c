@@ -1,8 +1,8 @@
 /*
  * Refuses each request for memory of a program in turn: refuse INPUT PROGRAM [WORD]..
  *
- * It runs PROGRAM with these words on the file INPUT and refuses its first request, then its second one in the next run, and so
- * on until a run makes no more requests. If a run ends in another way than the run before it, it prints `request N: status S,
+ * It runs PROGRAM with these words on the file INPUT, and refuses its first request. The next run has its second request refused,
+ * and so on until a run makes no more requests. If a run ends in another way than the run before it, it prints `request N: status S,
  * B bytes, ERRORS`. S is the exit status, or 128 plus the signal that ended the run. A run is ended after a minute. B is the
  * number of bytes on standard output, and ERRORS the beginning of standard error. The last line is `refused in turn: N;` and
  * then, for each way, the number C of runs that ended in it: ` C status S, B bytes, ERRORS;`.

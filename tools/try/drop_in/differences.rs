@@ -127,8 +127,8 @@ fn is_disputed(character: char) -> bool {
     !(' '..='~').contains(&character) && character != '\n' && !is_of_sequence && !UNDISPUTED.contains(character)
 }
 
-/// Returns the name of the row that explains the difference between both libraries for a table, a few words if there is no
-/// difference or several rows explain it together, or `None` if no rows explain it.
+/// Returns the name of the row that explains the difference between both libraries for a table. If there is no difference, or
+/// several rows explain it together, it returns words that say so, and `None` if no rows explain it.
 pub fn between(described: &Described) -> Option<&'static str> {
     // With `custom_styling` the original closes and resumes sequences in the text of a cell.
     let text = if cfg!(feature = "custom_styling") { visible } else { str::to_owned };

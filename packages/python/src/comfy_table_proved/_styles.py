@@ -10,9 +10,9 @@ Style = Union[str, Sequence[str], None]
 # The places of lines between rows in comfy_table.h: all, those beside a row of several lines, or none.
 EVERYWHERE, WHERE_NEEDED, NOWHERE = range(3)
 
-# The presets in the order of their numbers, and after them the rounded frame. The lines of each are the one above the table, that
-# of the header, the one below the header, that of a row, the one between rows, and the one below the table. The characters of a
-# line are the left one, the fill, the one between columns, and the right one. A space means no character.
+# The presets in the order of their numbers, and after them the rounded frame. The lines of each are above the table, in the
+# header, below the header, in a row, between rows, and below the table. The characters of a line are the left one, the fill, the
+# one between columns, and the right one. A space means no character.
 _PRESETS = {
     "ASCII_FULL": ("+-++", "| ||", "+==+", "| ||", "|-+|", "+-++"),
     "ASCII_FULL_CONDENSED": ("+-++", "| ||", "+==+", "| ||", "    ", "+-++"),

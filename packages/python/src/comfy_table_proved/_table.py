@@ -87,14 +87,14 @@ def tabulate(
         "simple_grid", "rounded_grid", "heavy_grid", "mixed_grid", "double_grid", "fancy_grid", each of these with "_outline" in
         place of "_grid", "psql", "pretty", "presto", "orgtbl", "rst", "github" and "pipe". "pretty" centres its columns.
     style: a frame by name: "rounded", which is the default, "box", "grid", "ascii", "plain" or a preset such as "UTF8_FULL".
-        "markdown" is the same as `markdown=True`. Or a frame of your own, of six lines with four characters each: the lines of
-        ("╭─┬╮", "│ ┆│", "╞═╪╡", "│ ┆│", "├╌┼┤", "╰─┴╯") are above the table, in the header, below the header, in a row, between
-        rows and below the table. The characters are the left one, the fill, the one between columns and the right one. A space
-        means no character, and "" no line.
-    floatfmt, intfmt, missingval: the formats of floats and ints, such as ".2f" and ",", and the text for `None`: one for all
-        columns, or a list with one for each column. `floatfmt` also applies to Decimals, and to ints of a column that has floats.
-        A column of numbers stays one if `missingval` is "", "-", "n/a", "na", "null", "nan" or "inf". With another text it
-        becomes a column of texts.
+        "markdown" is the same as `markdown=True`. Or a frame of your own, of six lines with four characters each, for example
+        ("╭─┬╮", "│ ┆│", "╞═╪╡", "│ ┆│", "├╌┼┤", "╰─┴╯"). The lines are above the table, in the header, below the header, in a
+        row, between rows and below the table. The characters are the left one, the fill, the one between columns and the right
+        one. A space means no character, and "" no line.
+    floatfmt, intfmt, missingval: the formats of floats and ints, such as ".2f" and ",", and the text for `None`. Each is one for
+        all columns, or a list with one for each column. `floatfmt` also applies to Decimals, and to ints of a column that has
+        floats. A column of numbers stays one if `missingval` is "", "-", "n/a", "na", "null", "nan" or "inf". With another text
+        it becomes a column of texts.
     showindex: True adds a first column with the index of a DataFrame, or with the number of each row, counted from 0. A list adds a
         column with its values. "default" adds the index if rows have one.
 
@@ -105,10 +105,10 @@ def tabulate(
     align_decimals: True puts the decimal points of a column of numbers below each other.
     width: the greatest width in terminal columns, "terminal" for the width of the terminal, or None for no limit. `full=True` makes
         the table exactly that wide. Columns with their own widths then grow only if all columns have such widths.
-    colwidths, mincolwidths, maxcolwidths: the exact, least and greatest widths of a column's texts, in terminal columns: a number
-        for all columns, a list with a number or None for each column, or a dict by name or position.
-    padding: the free terminal columns beside texts: a number for both sides, a pair for left and right, or a dict of these by name
-        or position.
+    colwidths, mincolwidths, maxcolwidths: the exact, least and greatest widths of a column's texts, in terminal columns. Each is a
+        number for all columns, a list with a number or None for each column, or a dict by name or position.
+    padding: the number of free terminal columns beside texts. It is a number for both sides, a pair for left and right, or a dict
+        of these by name or position.
     max_height: the greatest number of lines of a row below the header, or a list with a number or None for each row.
     limit: the greatest number of rows to draw. If there are more, a line below the table says so.
     row_lines: True draws lines between rows in each style that has them, and False in none.

@@ -266,8 +266,8 @@ impl Rows {
         self
     }
 
-    /// Sets the width of the terminal as the greatest width: the value of the variable `COLUMNS` if it is a number from 1 to
-    /// 65535, or else the width of the terminal, or else 80.
+    /// Sets the terminal's width as the greatest width. This is the value of the variable `COLUMNS`, if it is a number from 1 to
+    /// 65535. Otherwise the terminal is asked, and without a terminal the width is 80.
     #[cfg(feature = "tty")]
     pub fn terminal_width(self) -> Rows {
         let set = env::var("COLUMNS").ok().and_then(|text| text.parse().ok()).filter(|columns| *columns > 0);
