@@ -1,7 +1,7 @@
 """Tests of the installed package: python -m unittest discover -s tests.
 
-Expected drawings are typed by hand. CSVTABLE, where it is set, is the program csvtable: random rows, written as CSV by
-Python's csv module, have to be drawn as it draws them.
+Expected drawings are typed by hand. If CSVTABLE is set, it is the program csvtable. Random rows have to be drawn as that program
+draws them. Python's csv module writes them for it.
 """
 
 import csv
@@ -143,7 +143,7 @@ record 1 of 1
 
 
 class Form(unittest.TestCase):
-    """Nothing in a cell is taken for the form of a file."""
+    """Texts that have a meaning in files, but none in cells."""
 
     def test_marks_quotes_and_delimiters(self):
         self.assertEqual(
@@ -281,7 +281,7 @@ class Tables(unittest.TestCase):
 
 
 class Snippets(unittest.TestCase):
-    """What people write for tabulate."""
+    """Calls that people write for tabulate."""
 
     maxDiff = None
 
@@ -547,7 +547,7 @@ class Snippets(unittest.TestCase):
 └───┴─────┘
 """)
 
-    def test_what_pandas_and_numpy_have(self):
+    def test_pandas_and_numpy(self):
         try:
             import numpy
             import pandas
@@ -567,7 +567,7 @@ class Snippets(unittest.TestCase):
 
 
 class Settings(unittest.TestCase):
-    """Of columns, rows and cells, and frames of one's own."""
+    """Settings of columns, rows and cells, and frames of one's own."""
 
     maxDiff = None
 
@@ -736,7 +736,7 @@ class Index(list):
 
 
 class Series:
-    """As much of a Series."""
+    """The part of a Series that the package uses."""
 
     dtype = object()
 
@@ -751,7 +751,7 @@ class Series:
 
 
 class Records(list):
-    """As much of a structured array."""
+    """The part of a structured array that the package uses."""
 
     def __init__(self, names, rows):
         super().__init__(rows)
@@ -829,7 +829,7 @@ class Interface(unittest.TestCase):
         self.assertIn(b"No such file", refused.stderr)
 
 
-# Pieces of texts: many scripts, what CSV and options are made of, and what terminals obey.
+# Pieces of texts: of many scripts, of CSV, of options, and control sequences of terminals.
 PIECES = [
     "word", "two words", "Ångström", "Ελένη", "Анна", "רות", "ليلى", "กมล", "王小明", "김철수", "नमस्ते", "👨‍👩‍👧", "🇩🇪", "e\u0301",
     ",", ";", "|", '"', '""', "'", "\t", "\n", "\r", "\r\n", "\x1b", "\x1b[31m", "\0", "\x07", "\x9b", "\ufeff", "\u202e",
@@ -837,7 +837,7 @@ PIECES = [
 ]
 VALUES = [None, 0, -7, 12345678901234567890, 2.5, -0.125, 1e300, float("nan"), True, "", "12", "-12.80"]
 
-# Settings beside the words that ask csvtable for the same: of each line one is taken.
+# Settings and the same options of csvtable. One of each line is chosen.
 CHOICES = [
     [({}, []), ({"width": 30}, ["-w", "30"]), ({"width": 80}, ["-w", "80"]), ({"width": 60, "full": True}, ["-w", "60", "--full"])],
     [({}, ["--expanded", "never"]), ({}, ["--expanded", "never"]), ({"expanded": True}, ["-x"]), ({"expanded": "auto"}, [])],
@@ -859,7 +859,7 @@ def random_rows(chance):
 
 
 def random_settings(chance):
-    """Settings, and the words that ask for them."""
+    """Random settings, and the same options of csvtable."""
     chosen = [MARKDOWN] if chance.random() < 0.1 else [chance.choice(line) for line in CHOICES]
     settings = {name: value for asked, _ in chosen for name, value in asked.items()}
     return settings, [word for _, words in chosen for word in words]
@@ -881,7 +881,7 @@ def csv_of(rows):
 def by_csvtable(text, words):
     surroundings = {name: value for name, value in os.environ.items() if name not in ("COLUMNS", "NO_COLOR")}
     ran = subprocess.run([CSVTABLE, "-d", ",", "-e", "utf-8", *words], input=text.encode(), capture_output=True, env=surroundings)
-    # Records with more fields than the header are told behind a drawing.
+    # csvtable prints a note after a drawing if records have more fields than the header.
     said = re.sub(r"^csvtable: standard input: line \d+ has \d+ fields, the header has \d+.*\n", "", ran.stderr.decode())
     return ran.stdout.decode() + said
 
@@ -891,7 +891,7 @@ FRAMES += ["ASCII_BORDERS_ONLY_CONDENSED", "ASCII_HORIZONTAL_ONLY", "UTF8_FULL_C
 
 
 class RandomCells(unittest.TestCase):
-    """Settings of cells and rows that ask for what is there without them."""
+    """Settings of cells and rows that change nothing."""
 
     maxDiff = None
 
@@ -925,7 +925,7 @@ class RandomRows(unittest.TestCase):
             rows, (settings, words) = random_rows(chance), random_settings(chance)
             if chance.random() < 0.5 and rows:
                 drawing = tabulate(rows, headers="firstrow", **settings)
-                # The first columns are those without a name, if the second row has more columns.
+                # If the second row has more columns, the first columns have no name.
                 rows[0] = [""] * (len(rows[1]) - len(rows[0]) if len(rows) > 1 and rows[0] else 0) + rows[0]
             else:
                 drawing, words = tabulate(rows, **settings), [*words, "-n"]
@@ -945,7 +945,7 @@ class RandomRows(unittest.TestCase):
 
 
 class Examples(unittest.TestCase):
-    def test_they_draw_what_they_say(self):
+    def test_they_draw_the_tables_of_their_comments(self):
         for name in "boats.py", "report.py":
             program = EXAMPLES / name
             ran = subprocess.run([sys.executable, program], capture_output=True, check=True, env={**os.environ, "PYTHONIOENCODING": "utf-8"})

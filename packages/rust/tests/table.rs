@@ -1,4 +1,4 @@
-//! Tables by the calls of comfy-table. Expected drawings are typed by hand.
+//! Tests of `Table`. Expected drawings are typed by hand.
 use comfy_table_proved::csvtable::{Rows, Style};
 use comfy_table_proved::presets::{ASCII_FULL_CONDENSED, UTF8_FULL};
 use comfy_table_proved::{
@@ -153,7 +153,7 @@ fn a_shorter_header_keeps_the_columns() {
 }
 
 #[test]
-fn rows_are_added_where_a_predicate_holds() {
+fn rows_are_added_if_a_predicate_is_true() {
     let mut table = Table::new();
     table.add_row_if(|count, row| count == 0 && row.len() == 1, ["a"]).add_row_if(|count, _| count == 0, ["b"]);
     table.add_rows_if(|count, rows: &Vec<[u8; 2]>| count == rows.len(), vec![[1, 2]]).add_rows([vec![-1], vec![2, 3]]);
