@@ -223,7 +223,7 @@ struct comfy_look {
 /* No limit. In settings of rows a limit of 0 draws no row, and a height of 0 counts as 1. */
 #define COMFY_NO_LIMIT SIZE_MAX
 
-/* The places of the style's lines between rows: all, those beside a row of several lines, or none. */
+/* The condition for the style's lines between rows: always, if a drawn row has more than one line, or never. */
 enum { COMFY_LINES_EVERYWHERE, COMFY_LINES_WHERE_NEEDED, COMFY_LINES_NOWHERE };
 
 /* The condition for drawing each row as a table of its own, of names and texts: never, if the width has no room for all columns,
@@ -252,7 +252,7 @@ struct comfy_rows_column {
 /* The settings of a table of rows. A flag is set if it isn't 0. COMFY_ROWS_SETTINGS are those of csvtable without arguments. */
 struct comfy_rows_settings {
     size_t max_height;        /* the most lines of a row below the header, 0 counts as 1; or COMFY_NO_LIMIT */
-    size_t limit;             /* the most rows to draw, 0 draws none; or COMFY_NO_LIMIT. A line below counts further rows */
+    size_t limit;             /* the most rows to draw, 0 draws none; or COMFY_NO_LIMIT. A line below says if there are more */
     uint32_t style;           /* a preset, 0 is COMFY_ASCII_FULL; COMFY_ROUNDED; or COMFY_OWN_STYLE */
     uint32_t width;           /* in terminal columns, 0 is the narrowest; or COMFY_NO_WIDTH */
     uint32_t fills_width;     /* a flag: the table is as wide as the width */
@@ -267,7 +267,7 @@ struct comfy_rows_settings {
     struct comfy_frame frame; /* the lines of COMFY_OWN_STYLE, which no other style reads */
 };
 
-/* All rows, no width, round corners, lines beside rows of several lines, and a header. */
+/* All rows, no width, round corners, lines between rows if one of them has several lines, and a header. */
 #define COMFY_ROWS_SETTINGS \
     {COMFY_NO_LIMIT, COMFY_NO_LIMIT, COMFY_ROUNDED, COMFY_NO_WIDTH, 0, COMFY_LINES_WHERE_NEEDED, COMFY_EXPANDED_AUTO, \
      1, 0, 0, 1, 0, 0, COMFY_NO_FRAME}

@@ -23,8 +23,8 @@
 //!
 //! # What tables can do
 //!
-//! - **Width**: [`Table::set_width`] sets a width, which otherwise is the terminal's. By the [`ContentArrangement`], a table is at
-//!   most or exactly that wide, and its long texts are wrapped.
+//! - **Width**: [`Table::set_width`] sets a width, which otherwise is the terminal's. With a dynamic [`ContentArrangement`], a table is
+//!   at most or exactly that wide, and its long texts are wrapped.
 //! - **Columns**: a [`ColumnConstraint`] fixes or limits the width of a [`Column`], or hides it. Each column has its own padding.
 //! - **Alignment** of texts, for a column or for one [`Cell`]: [`CellAlignment`].
 //! - **Wrapping** at spaces, or at another character: [`Table::set_delimiter`]. [`Row::max_height`] limits the lines of a row.

@@ -7,7 +7,7 @@ from typing import NamedTuple, Optional, Sequence, Union
 
 Style = Union[str, Sequence[str], None]
 
-# The places of lines between rows in comfy_table.h: all, those beside a row of several lines, or none.
+# The condition for lines between rows in comfy_table.h: always, if a drawn row has several lines, or never.
 EVERYWHERE, WHERE_NEEDED, NOWHERE = range(3)
 
 # The presets in the order of their numbers, and after them the rounded frame. The lines of each are above the table, in the
@@ -37,7 +37,7 @@ GAP = "\ue000"
 
 
 class Frame(NamedTuple):
-    """The characters of a frame, its number in comfy_table.h, or None, and the places of lines between rows."""
+    """The characters of a frame, its number in comfy_table.h, or None, and the condition for lines between rows."""
 
     lines: tuple[str, ...]
     number: Optional[int] = None

@@ -120,8 +120,8 @@ def tabulate(
         "magenta", "cyan" and "white", each also after "bright_", and colours such as "#ffcc00". After "on_" each of them is for
         the background. Others are "bold", "dim", "italic", "underline", "blink", "reverse", "crossed_out" and "overline".
     color: "auto" writes all colours, and `bold_header`, if standard output is a terminal and the variable NO_COLOR isn't set.
-        "always" and "never" don't ask for these. Set one of them if you write the drawing to another place.
-    ansi: True keeps sequences of colours and attributes (SGR) in values, wherever they are written. They take no columns.
+        "always" and "never" don't depend on these. Set one of them if you write the drawing to another place.
+    ansi: True keeps sequences of colours and attributes (SGR) in values, wherever the drawing goes. They take no columns.
 
     A table for Markdown and expanded rows can't have `Cell`, `colwidths`, `mincolwidths`, `maxcolwidths`, `padding` or a list as
     `max_height`. A table for Markdown also has no colours and no frame of your own, and expanded rows have no `center`. With

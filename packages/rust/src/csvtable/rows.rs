@@ -339,7 +339,7 @@ impl Rows {
         self
     }
 
-    /// Writes the header in bold if true, wherever the table goes.
+    /// Writes the header, or the names of expanded rows, in bold if true. This is done wherever the table goes, except in Markdown.
     pub fn bold_header(mut self, is_bold: bool) -> Rows {
         self.settings.has_bold_header = is_bold;
         self

@@ -15,7 +15,7 @@ use crate::style::{TableStyle, presets};
 #[derive(Clone, Copy, Debug, Default, PartialEq, Eq)]
 #[non_exhaustive]
 pub enum Style {
-    /// Round corners, and a line between two rows only if one of them has several lines.
+    /// Round corners, and lines between rows only if a drawn row has several lines.
     #[default]
     Rounded,
     /// As `Rounded`, with square corners.
@@ -26,7 +26,7 @@ pub enum Style {
     Ascii,
     /// Only spaces.
     Plain,
-    /// A table for Markdown. Its texts are escaped and never wrapped, whatever the width is.
+    /// A table for Markdown. Its texts are escaped and never wrapped, and its rows are never expanded, whatever the width is.
     Markdown,
     /// A preset, made by [`Style::of_preset`].
     Preset(Preset),
@@ -65,7 +65,7 @@ impl Style {
         }
     }
 
-    /// True if a line is drawn between two rows only if one of them has several lines.
+    /// True if lines between rows are drawn only if a drawn row has several lines.
     pub(crate) fn is_compact(self) -> bool {
         matches!(self, Style::Rounded | Style::Box)
     }
