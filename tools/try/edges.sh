@@ -1,8 +1,8 @@
 #!/bin/sh
-# Runs a built ctable or csvtable until its memory, its input or its output ends, and with arguments that aren't text. It
-# compares the status and standard error. In these runs standard output must be empty. For csvtable it also compares the
-# outputs for a file and for standard input. It prints a line for each run, and ends with status 1 if one differs from the
-# values below.
+# Runs a built ctable or csvtable with too little memory, with inputs and outputs that end or are closed, and with arguments that
+# aren't text. It compares the status and standard error. In these runs standard output must be empty. For csvtable it also
+# compares the outputs for a file and for standard input. It prints a line for each run, and ends with status 1 if one differs
+# from the values below.
 #
 # usage: tools/try/edges.sh PROGRAM, for example tools/try/edges.sh crates/ctable/out/ctable
 set -u

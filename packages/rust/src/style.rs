@@ -29,7 +29,8 @@ pub enum CellAlignment {
 /// A constraint on the width of a column. Widths include the column's paddings.
 ///
 /// [`Table::set_constraints`](crate::Table::set_constraints) sets those of several columns, and
-/// [`Column::set_constraint`](crate::Column::set_constraint) that of one. They hold under each [`ContentArrangement`].
+/// [`Column::set_constraint`](crate::Column::set_constraint) that of one. [`ContentArrangement::DynamicFullWidth`] widens all
+/// columns, also those with a constraint, if the table would be narrower than its width otherwise.
 #[derive(Clone, Copy, Debug, PartialEq, Eq)]
 pub enum ColumnConstraint {
     /// The column isn't drawn.
