@@ -21,8 +21,8 @@ use crate::terminal;
 
 /// A table: a header, rows of cells below it, columns, and settings.
 ///
-/// `Display`, [`lines`](Table::lines) and [`trim_fmt`](Table::trim_fmt) draw it. The columns are made from the cells: a table has
-/// as many as its longest row. Rows may have different lengths, and a missing cell is drawn as an empty one.
+/// `Display`, [`lines`](Table::lines) and [`trim_fmt`](Table::trim_fmt) draw it. A new header or row makes the columns that its
+/// cells need. Rows may have different lengths, and a missing cell is drawn as an empty one.
 ///
 /// If memory runs out, the process ends, as it does for a `Vec`.
 ///
