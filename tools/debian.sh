@@ -1,6 +1,6 @@
-# For tools/package.sh, which reads this file: a Debian package of csvtable.
+# Functions that make a Debian package of csvtable, for tools/package.sh, which reads this file.
 
-# What Debian's tools ask of a package that is installed, of a folder with its files in usr/ and of a version.
+# Prints the control file of a package: debian_control FOLDER VERSION. FOLDER has the package's files in usr/.
 debian_control() {
   libc=$(objdump -T "$1/usr/libexec/csvtable" | grep -o 'GLIBC_[0-9.]*' | sort -uV | tail -n 1)
   size=$(cd "$1" && find usr -printf '%y %s\n' | awk '{ size += $1 == "f" ? int(($2 + 1023) / 1024) : 1 } END { print size }')
@@ -14,13 +14,15 @@ Depends: libc6 (>= ${libc#GLIBC_})
 Section: utils
 Priority: optional
 Description: draws the records of a CSV file as a table
- It finds what stands between fields, right-aligns numbers, and keeps to the
- width of a terminal that has room. A machine-checked proof says that it draws
- by its rules, and that no file tells a terminal anything but text and colours.
+ It finds the character that separates fields, right-aligns numbers, and keeps
+ within the width of a terminal that has room. It is proved that it draws by
+ written rules, and that no file can send a terminal anything but text and
+ colours.
 END
 }
 
-# Puts the files of csvtable where Debian has them into an empty folder, with their sums and what describes the package.
+# Puts the files of csvtable into an empty folder, at their places in Debian, with their checksums and the control file:
+# put_debian FOLDER VERSION.
 put_debian() {
   root=$1 prefix=$1/usr
   maintainer='The authors of comfy_table <authors@comfy-table.invalid>'
@@ -43,7 +45,7 @@ END
   find "$root" -exec touch -d "@$SOURCE_DATE_EPOCH" {} +
 }
 
-# Writes the package of such a folder to a file: by dpkg-deb, or where that isn't there by tar and ar.
+# Writes the package of such a folder to a file, by dpkg-deb if it is installed, or else by tar and ar: write_debian FOLDER FILE.
 write_debian() {
   if command -v "${DPKG_DEB-dpkg-deb}" > /dev/null; then
     "${DPKG_DEB-dpkg-deb}" --root-owner-group -Zxz --build "$1" "$2" > /dev/null

@@ -1,10 +1,10 @@
 #!/bin/sh
 # Installs the programs ctable and csvtable, csvtable's man page and its completions for bash and zsh, and the library for C
-# with its header and its file for pkg-config. What isn't built yet is built first, which proves it. To take all away again,
-# remove the files whose names are printed.
+# with its header and its file for pkg-config. Programs that aren't built yet are proved and built first. To uninstall, remove
+# the files whose names are printed.
 #
-# usage: tools/install.sh PREFIX, as tools/install.sh /usr/local
-# DESTDIR, where it is set, stands before PREFIX.
+# usage: tools/install.sh PREFIX, for example tools/install.sh /usr/local
+# If DESTDIR is set, it comes before PREFIX.
 set -eu
 if [ $# -ne 1 ]; then
   echo "usage: $0 PREFIX" >&2

@@ -1,24 +1,23 @@
 #!/usr/bin/env python3
-"""Compares the pages with the code. It prints what doesn't agree, and ends with 1 where anything doesn't.
+"""Compares the pages with the code. It prints each difference, or "all agree", and ends with status 1 if there is one.
 
     tools/check/check_proved.py
 
-- docs/PROVED.md: its counts are what tools/check/what_is_believed.py writes. It names each law and each promise, and no other.
-- The laws of comfy_table pass on all those of comfy_parts.
-- Each law, and each promise, has a trial that shows a value of which its conclusion is false, below a line
-  `-- false: CRATE::laws::NAME` of a file of trials.
-- README.md: what it prints is the output of the stored run. Its figures, and one of docs/DECISIONS.md, are those of
-  docs/PERFORMANCE.md.
-- CALLING.md: each clause and signature that it quotes stands in the source of the library, of one that it tells of too, or
-  of a caller. Each name in backquotes is one of the sources.
-- docs/DIFFERENCES.md: each name that only one of the original and this library has is there (tools/check/new_items.py).
+- docs/PROVED.md has the counts that tools/check/what_is_believed.py computes. It names all laws and promises, and nothing else.
+- comfy_table re-exports all laws of comfy_parts.
+- Each law and each promise has a trial with a value for which its conclusion is false. The line before the trial is
+  `-- false: CRATE::laws::NAME`.
+- README.md shows the output of a stored run. Its figures, and one of docs/DECISIONS.md, are those of docs/PERFORMANCE.md.
+- Each clause and signature that a CALLING.md quotes is in the source of its library, of another library on that page, or of a
+  caller. Each name in backquotes is in the sources.
+- docs/DIFFERENCES.md has each name that only the original or only this library has (tools/check/new_items.py).
 - Each mutation changes a function that exists.
-- Each definition of specs/ and proofs/ is reached, and each function that isn't public is called (tools/check/reach.py).
-- The head comment of each file of specs/ of a library ends with a line that says where its rules come from.
-- No line of src/ and specs/ has more than 100 characters, but `use` lines and `#[tactic(..)]`, which `rt fmt` doesn't break.
-- The crate of documented examples is what the doc comments say.
-- csvtable's man page and completions are what tools/make/manual.py makes of its table of words.
-- The pictures are what tools/make/pictures.py makes of stored outputs, and each link of a page leads to a file or a heading.
+- Each definition of specs/ and proofs/ is used, and each private function is called (tools/check/reach.py).
+- The first comment of each file in specs/ of a library ends with the source of its rules.
+- No line of src/ and specs/ has more than 100 characters, except `use` lines and `#[tactic(..)]`, which `rt fmt` doesn't break.
+- The crate of documented examples agrees with the doc comments (tools/make/doc_examples.py).
+- csvtable's man page and completions agree with its options (tools/make/manual.py).
+- The pictures agree with the stored outputs (tools/make/pictures.py). Each link of a page leads to a file or a heading.
 """
 import glob
 import os
@@ -31,34 +30,34 @@ from new_items import unlisted
 from reach import uncalled, unreached
 from what_is_believed import updated
 
-sys.path.append(f"{TOP}/tools/make")  # its tools make what is compared here
+sys.path.append(f"{TOP}/tools/make")
 from doc_examples import wrong_examples
 from manual import wrong_files
 from pictures import wrong_pictures
 
 LAWS_ALONE = ["cluster_width"]  # libraries without code
-LAWS_ELSEWHERE = {("comfy_parts", "presets_are_as_tabled")}  # not in `laws`, and without a trial
-LAWS_IN_PROSE = ["cluster_width", "promises"]  # PROVED names some of theirs outside of its tables
+LAWS_ELSEWHERE = {("comfy_parts", "presets_are_as_tabled")}  # laws outside of `laws`, which need no trial
+LAWS_IN_PROSE = ["cluster_width", "promises"]  # crates with laws that PROVED names outside of its tables
 COUNTS = "no one two three four five six seven eight nine ten eleven twelve".split()
 CALLERS = ["test_callers", "csv_promises"]
-PAGE_WITH = {"comfy_run": ["devices"], "csv_tables": ["csv_records", "csv_command"]}  # by one CALLING.md
+PAGE_WITH = {"comfy_run": ["devices"], "csv_tables": ["csv_records", "csv_command"]}  # further crates on a CALLING.md
 STORED = ["csvtable/stdout"]
 LINKED = ["README.md", "CONTRIBUTING.md", "docs/*.md", "crates/*/CALLING.md", "crates/case_files/FORMAT.md", "packages/*/README.md"]
 # Names in backquotes of a CALLING.md that the sources don't have, each with the reason.
 NOT_OURS = {
     "yours": "a crate of the reader's",
-    "try_": "how the names of some calls begin",
+    "try_": "the beginning of some names",
 }
 
 
 def mutated_in(crate):
-    """The functions that a crate's mutations are named after."""
+    """The functions that a crate's mutations change, by the names of their files."""
     found = mutations_of(f"{TOP}/crates/{crate}") + mutations_of(f"{TOP}/crates/{crate}", "must-fail")
     return {it.name.split("__")[0] for it in found}
 
 
 def laws():
-    """The laws, and the promises, as a line `-- false:` names them."""
+    """The names of the laws and promises, in the form of a line `-- false:`."""
     for crate in LIBRARIES:
         for name, (one, *_) in functions_of(crate).items():
             in_laws = f"crates/{crate}/src/laws.rt" == one.signature.path
@@ -67,24 +66,24 @@ def laws():
 
 
 def wrong_trials():
-    """The laws that no trial shows to be false of a value, and what is named as one and is none."""
+    """The laws without a trial in which they are false, and the names in trials that aren't laws."""
     named, false = set(), r"^-- false: (.*)\n(?=(?:--.*\n)*(?:pub )?\w+ :)"
     for path in files_of("*", "proofs/*Trials.antt"):
         for labels in re.findall(false, text_of(path), re.M):
             named |= set(labels.split(", "))
-    wrong = [f"no trial shows a value of which {it} is false" for it in laws() if it not in named]
-    return wrong + [f"a trial names {it}, which is no law" for it in sorted(named - set(laws()))]
+    wrong = [f"no trial has a value for which {it} is false" for it in laws() if it not in named]
+    return wrong + [f"a trial names {it}, which isn't a law" for it in sorted(named - set(laws()))]
 
 
 def on_one_line(text):
-    """A clause, a signature or a source, whatever its line breaks and lifetimes."""
+    """A clause, a signature or a source on one line, without lifetimes, so that layouts can be compared."""
     line = " ".join(text.split()).replace("; }", " }").replace("( ", "(").replace(", )", ")")
     return re.sub(r"'\w+ (?=mut |\[|&|\w)|<'\w+>|\bmut (?=self\b)|\b(?:std::result|clap)::", "", line)
 
 
 def quoted_in(page):
-    """The clauses and signatures that a page quotes, each in the forms that its source may have: in a text block `S` and
-    `S'` are what `self` points to."""
+    """The clauses and signatures that a page quotes, each with the forms that it can have in the source. In a text block, `S` and
+    `S'` are the values before and after the call that `self` points to."""
     for block in re.findall(r"```rust\n(.*?)```", page, re.S):
         yield from ([it] for it in re.findall(r"^\s*((?:ensures|requires)\b.*?);?$", block, re.M))
     for block in re.findall(r"```text\n(.*?)```", page, re.S):
@@ -95,20 +94,20 @@ def quoted_in(page):
 
 
 def wrong_in_calling(crate):
-    """The clauses and signatures that a CALLING.md quotes and its library doesn't have."""
+    """The quoted clauses and signatures of a CALLING.md that its library doesn't have."""
     sources = [it for name in (crate, *PAGE_WITH.get(crate, []), *CALLERS) for it in sources_of(name)]
     source = on_one_line(" ".join(text_of(it) for it in sources))
     quoted = quoted_in(text_of(f"crates/{crate}/CALLING.md"))
     return [
-        f"{crate}/CALLING.md quotes what isn't there: {forms[0]}"
+        f"{crate}/CALLING.md quotes this, which no source has: {forms[0]}"
         for forms in quoted
         if not any(on_one_line(it) in source for it in forms)
     ]
 
 
 def names_in(page):
-    """The names in backquotes of a page, outside of its blocks: a word, or words joined by `::`, that are all that is there, and
-    in longer code those that are written `FooBar`, `foo_bar` or `foo::bar`."""
+    """The names in backquotes of a page, outside of its blocks. Code of one word, or of words joined by `::`, is a name. In longer
+    code, the words of the forms `FooBar`, `foo_bar` and `foo::bar` are names."""
     for code in re.findall(r"`([^`\n]+)`", re.sub(r"```.*?```", "", page, flags=re.S)):
         if re.fullmatch(r"[A-Za-z]\w*(?:::\w+)*", code):
             yield from code.split("::")
@@ -119,7 +118,7 @@ def names_in(page):
 
 
 def wrong_names():
-    """The names in backquotes of the pages CALLING.md that no source has outside of its comments."""
+    """The names in backquotes of the pages CALLING.md that no source has, except in comments."""
     pages = glob.glob("crates/*/CALLING.md", root_dir=TOP)
     paths = [path for kind in ("src/**/*.rt", "specs/**/*.antt", "proofs/**/*.antt") for path in files_of("*", kind)]
     sources = [re.sub(r"^\s*(?://|--).*$", "", text_of(path), flags=re.M) for path in paths]
@@ -129,8 +128,8 @@ def wrong_names():
 
 
 def named_laws(page):
-    """The crates and names of the laws and promises that the tables of a page have after their conditions. If a name has no crate,
-    the head of its table says it."""
+    """The crates and names of the laws and promises in the tables of a page, from the column after the conditions. A name without a
+    crate has the crate in the head of its table."""
     place = ""
     for line in re.findall(r"^\| .*$", page, re.M):
         place = (re.findall(r"Function of `(\w+)", line) or [place])[0] if " | Condition | " in line else place
@@ -140,31 +139,31 @@ def named_laws(page):
 
 
 def wrong_laws():
-    """The laws and promises that PROVED doesn't name, and what its tables name that is none."""
+    """The laws and promises that PROVED doesn't name, and the names in its tables that aren't any."""
     page = text_of("docs/PROVED.md")
     named, wanted = set(named_laws(page)), {(it.split("::")[0], it.split("::")[-1]) for it in laws()}
     in_prose = {it for it in wanted if it[0] in LAWS_IN_PROSE and f"`{it[1]}`" in page}
     missing = [f"docs/PROVED.md doesn't name {'::'.join(it)}" for it in sorted(wanted - named - in_prose)]
-    return missing + [f"docs/PROVED.md names {'::'.join(it)}, which is no law" for it in sorted(named - wanted - LAWS_ELSEWHERE)]
+    return missing + [f"docs/PROVED.md names {'::'.join(it)}, which isn't a law" for it in sorted(named - wanted - LAWS_ELSEWHERE)]
 
 
 def table_below(heading, page):
-    """The figures of each line of the first block below a heading of a page, of which each has a point."""
+    """The figures with a decimal point in each line of the first block below a heading of a page."""
     block = re.search(rf"^#+ {re.escape(heading)}\n.*?^```text\n.*?\n(.*?)^```", page, re.M | re.S)[1]
     return [[float(it.replace(",", "")) for it in re.findall(r"(?<=\s)[\d,]*\d\.\d+(?=[\s;])", line + "\n")] for line in block.splitlines()]
 
 
 def percent_of(ratios):
-    """The least and the greatest of some ratios, as a page writes them."""
+    """The least and the greatest ratio in percent, as a page writes them."""
     return f"{round(100 * min(ratios))} to {round(100 * max(ratios))} %"
 
 
 def wrong_figures():
-    """The figures of README, and one of DECISIONS, that aren't those of PERFORMANCE; and its ratios that its figures don't give."""
+    """The figures of README, and one of DECISIONS, that differ from PERFORMANCE, and the wrong ratios of PERFORMANCE."""
     page = text_of("docs/PERFORMANCE.md")
     ours = table_below("`ctable`, and the original", page)
     calls = table_below("Calls from Rust and Python", page)
-    # its figures, those of the original, and as many ratios: of each line those of `Table`
+    # A line has some figures of the package, that of the original, and ratios. The first of each are those of `Table`.
     tables = [(it[0], it[len(it) // 2], it[len(it) // 2 + 1]) for it in calls]
     wrong = [f"docs/PERFORMANCE.md: {it} of {original} isn't {ratio}" for it, original, ratio in ours + tables if abs(it / original - ratio) > 0.0105]
     block = re.search(r"^100,000 records .*?\n(.*?)^```", page, re.M | re.S)[1]
@@ -175,11 +174,11 @@ def wrong_figures():
         ("README.md", "processor time, memory | " + " | ".join(seen.get(it, "") for it in ("csvtable", "csvlook", "column", "mlr")) + " |"),
         ("docs/DECISIONS.md", f"CSV and arguments take {calls[0][2] - calls[0][1]:.2f} million instructions more"),
     ]
-    return wrong + [f"{path} doesn't say, as docs/PERFORMANCE.md does: {it}" for path, it in wanted if it not in text_of(path)]
+    return wrong + [f"{path} doesn't have this, which follows from docs/PERFORMANCE.md: {it}" for path, it in wanted if it not in text_of(path)]
 
 
 def wrong_lines():
-    """The lines of src/ and specs/ that are too long to be read beside others."""
+    """The lines of src/ and specs/ with more than 100 characters."""
     kept_on_one_line = r"\s*(?:(?:pub|ghost|unfoldable) )*use |\s*#!?\[tactic\("
     wrong = []
     for path in (it for kind in ("src/**/*.rt", "specs/**/*.antt") for it in files_of("*", kind)):
@@ -190,19 +189,19 @@ def wrong_lines():
 
 
 def without_source():
-    """The files of specs/ whose head comment doesn't end with the source of their rules."""
+    """The files of specs/ whose first comment doesn't end with the source of their rules."""
     paths = (path for crate in LIBRARIES for path in files_of(crate, "specs/**/*.antt"))
     source = r"(?:-- .*\n)+-- Source: .*\.\n(?!--)"
     return [it for it in paths if not it.endswith("/Lib.antt") and not re.match(source, text_of(it))]
 
 
 def anchor_of(heading):
-    """What a link names a heading by."""
+    """The name of a heading in a link."""
     return re.sub(r"[^\w\- ]", "", heading.lower()).replace(" ", "-")
 
 
 def wrong_links():
-    """The links of the pages that lead to no file of the repository, or to no heading of it."""
+    """The links of the pages to files or headings that don't exist."""
     wrong = []
     for page in (it for pattern in LINKED for it in glob.glob(pattern, root_dir=TOP)):
         for link in re.findall(r"\]\(([^)\s]+)\)", text_of(page)):
@@ -211,7 +210,7 @@ def wrong_links():
             path, _, anchor = link.partition("#")
             target = os.path.normpath(os.path.join(os.path.dirname(page), path)) if path else page
             if not os.path.exists(f"{TOP}/{target}"):
-                wrong.append(f"{page} links to {link}, which isn't there")
+                wrong.append(f"{page} links to {link}, which doesn't exist")
             elif anchor and anchor not in map(anchor_of, re.findall(r"^#+ (.*)$", text_of(target), re.M)):
                 wrong.append(f"{page} links to {link}, which isn't a heading")
     return wrong
@@ -224,7 +223,7 @@ def main():
     wrong += [f"README.md doesn't print crates/{path}" for path in STORED if text_of(f"crates/{path}") not in readme]
     for language, path in (("rust", "crates/example_first/src/main.rt"), ("python", "packages/python/examples/boats.py")):
         code = re.search(rf"^```{language}\n(.*?)^```", readme, re.M | re.S)[1]
-        wrong += [f"{path} hasn't the line of README.md: {line}" for line in code.splitlines() if line not in text_of(path)]
+        wrong += [f"{path} doesn't have this line of README.md: {line}" for line in code.splitlines() if line not in text_of(path)]
     for path in glob.glob("crates/*/CALLING.md", root_dir=TOP):
         wrong += wrong_in_calling(path.split("/")[1])
     wrong += wrong_names()
@@ -232,17 +231,17 @@ def main():
     wrong += wrong_figures()
     wrong += wrong_trials()
     wrong += wrong_examples()
-    wrong += [f"{path} isn't what tools/make/manual.py makes" for path in wrong_files()]
-    wrong += [f"{path} isn't what tools/make/pictures.py makes" for path in wrong_pictures()]
+    wrong += [f"{path} differs from the output of tools/make/manual.py" for path in wrong_files()]
+    wrong += [f"{path} differs from the output of tools/make/pictures.py" for path in wrong_pictures()]
     wrong += wrong_links()
-    wrong += [f"docs/PROVED.md hasn't this line: {it}" for it in updated(page).splitlines() if it not in page.splitlines()]
+    wrong += [f"docs/PROVED.md doesn't have this line: {it}" for it in updated(page).splitlines() if it not in page.splitlines()]
     passed_on = re.search(r"^pub use comfy_parts::laws::\{(.*?)\};", text_of("crates/comfy_table/src/laws.rt"), re.M | re.S)[1]
     of_parts = re.findall(r"^pub fn (\w+)", text_of("crates/comfy_parts/src/laws.rt"), re.M)
-    wrong += [f"comfy_table::laws doesn't pass on {it}" for it in set(of_parts) ^ set(re.findall(r"\w+", passed_on))]
+    wrong += [f"comfy_table::laws doesn't re-export {it}" for it in set(of_parts) ^ set(re.findall(r"\w+", passed_on))]
     wrong += unlisted()
     wrong += [*unreached(), *uncalled()]
     wrong += wrong_lines()
-    wrong += [f"{path} doesn't say where its rules come from" for path in without_source()]
+    wrong += [f"{path} has no source of its rules" for path in without_source()]
     print("\n".join(wrong) or "all agree")
     return 1 if wrong else 0
 

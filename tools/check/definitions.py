@@ -1,4 +1,4 @@
-"""Reads the sources: definitions of specs/, and types, ghost members and functions of src/."""
+"""Reads definitions from specs/, and types, ghost members and functions from src/."""
 import functools
 import glob
 import os
@@ -11,11 +11,11 @@ LIBRARIES = [
     *("cluster_width", "comfy_parts", "comfy_table", "devices", "comfy_run"),
     *("csv_records", "csv_tables", "csv_command", "comfy_c", "promises", "csv_promises"),
 ]
-# where promises stand; no crate can stand on comfy_c, so that its own stands in it
+# the files with promises; those of comfy_c are in it, because no crate can depend on it
 PROMISES = ("crates/promises/src/", "crates/csv_promises/src/", "crates/comfy_c/src/promised.rt")
 BRACES = r"\{(?:[^{}]|\{(?:[^{}]|\{[^{}]*\})*\})*\}"
 PUBLIC = r"(?:pub(?:\(\w+\))? )?"
-MODEL = {"Value", "view"}  # an invariant is proved of each value
+MODEL = {"Value", "view"}  # the members that define a type's model; an invariant is proved, so it isn't one
 
 
 @dataclass(frozen=True)
@@ -25,19 +25,19 @@ class Definition:
     path: str
     line: int
     text: str = field(compare=False)
-    head: str = field(compare=False, default="")  # the line of the module or block it stands in
+    head: str = field(compare=False, default="")  # the line of its module or block
 
     def lines(self):
         return self.text.count("\n") + 1
 
     def is_a(self, word):
-        """Whether it is declared by a word of Rust, such as `fn` or `enum`."""
+        """True if a word of Rust, such as `fn` or `enum`, declares it."""
         return re.search(rf'^ *{PUBLIC}(?:extern "C" )?{word} ', self.text, re.M) is not None
 
 
 @dataclass(frozen=True)
 class Function:
-    """A function: the words by which a page may call its place, and its clauses by name."""
+    """A function: the words with which a page can name its place, its clauses by name, and its signature."""
 
     places: set
     clauses: list
@@ -69,14 +69,14 @@ def crate_of(path):
 
 @functools.cache
 def kit():
-    """The folder of the libraries that aren't ours."""
+    """The folder of the toolchain's libraries."""
     page = subprocess.run(["rt", "doc"], stdout=subprocess.PIPE, text=True, check=True).stdout
     return os.path.dirname(page.strip()) + "/rattle"
 
 
 @functools.cache
 def path_of(module):
-    """The file of a module Rattle.CRATE.specs.A.B, or of a type Rattle.CRATE.specs.declared.A.T."""
+    """The file of a module `Rattle.CRATE.specs.A.B`, or of a type `Rattle.CRATE.specs.declared.A.T`."""
     crate, _, *words = module.removesuffix(".TheVariants").split(".")[1:]
     folder = f"crates/{crate}" if crate in LIBRARIES else f"{kit()}/{crate}"
     if words[:1] == ["declared"]:
@@ -86,7 +86,7 @@ def path_of(module):
 
 @functools.cache
 def imports_of(path):
-    """For each word that a file imports, its module and its name there, "" for a whole module."""
+    """The module and the name in it of each word that a file imports. The name is "" for a whole module."""
     found, text = {}, text_of(path)
     use = r"^\s*(?:(?:pub|ghost|unfoldable) )*use (Rattle\.[\w.-]+)"
     for module, words in re.findall(use + r"\.\{([^}]*)\}", text, re.M):
@@ -100,12 +100,12 @@ def imports_of(path):
 
 @functools.cache
 def definitions_in(path):
-    """The definitions of a file: for each name, those that it stands for."""
+    """The definitions of a file, by name."""
     return types_in(path) if path.endswith(".rt") else specs_in(path)
 
 
 def specs_in(path):
-    """The definitions of a file of specs/."""
+    """The definitions of a file in specs/, by name."""
     found, head, comment, name = {}, "", [], None
     words = r"(?:(?:abbrev|unfoldable|pub|record|data) )+"
     for number, line in enumerate(text_of(path).split("\n")):
@@ -144,7 +144,7 @@ def members_of(path, block):
 
 
 def types_in(path):
-    """The types that a file of src/ declares: each by its model, where it has one."""
+    """The types that a file of src/ declares, by name: the model of each, or its declaration if it has none."""
     found, text = {}, text_of(path)
     declared = rf"(^{PUBLIC}(?:struct|enum) (\w+)(?:.*;$|.*\{{$(?:\n .*)*\n\}}))"
     for it in re.finditer(rf"((?:^//.*\n)*)(?:^#\[.*\n)*{declared}", text, re.M):
@@ -158,7 +158,7 @@ def types_in(path):
 
 
 def by_name(pairs):
-    """For each name of the pairs, the list of what stands beside it."""
+    """The second parts of pairs, in a list for each first part."""
     found = {}
     for name, one in pairs:
         found.setdefault(name, []).append(one)
@@ -171,7 +171,7 @@ def all_sources():
 
 @functools.cache
 def types():
-    """For each type that src/ declares, the files that do."""
+    """The files that declare each type of src/."""
     return by_name((name, path) for path in all_sources() for name in types_in(path))
 
 
@@ -189,7 +189,7 @@ def functions_of(crate):
 
 
 def functions_in(path):
-    """The functions of a file, each beside its name."""
+    """The functions of a file, each with its name."""
     text = text_of(path)
     begins = rf'^[ \t]*{PUBLIC}(?:extern "C" )?(?:fn|ghost) (\w+)'
     starts = list(re.finditer(begins, text, re.M))
@@ -199,7 +199,7 @@ def functions_in(path):
 
 
 def function_in(path, start, text, inside):
-    """The function that a text begins with, in a block or in none."""
+    """The function at the beginning of a text, with the impl or trait around it, if any."""
     head = inside[0][0].split("\n")[0] if inside else ""
     signature = re.match(r".*?(?=\n *(?:ensures|requires)\b| \{|;\n|$)", text, re.S)[0]
     clauses = re.findall(rf"^ *(ensures\*?(?: (\w+))? {BRACES})", text, re.M)

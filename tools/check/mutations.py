@@ -1,30 +1,37 @@
 #!/usr/bin/env python3
-"""Tries the mutations crates/CRATE/mutations/*.edit, many in one check, and says which of them the prover refuses.
+"""Tries the mutations crates/CRATE/mutations/*.edit, many in one check, and prints which of them the prover refuses.
 
     tools/check/mutations.py [--must-fail] [--jobs N] [--list] [--only TEXT] [CRATE]..
 
-A file is named FUNCTION__WHAT_IS_WRONG.edit. Its form is that of `rt must-fail`:
+A file is named FUNCTION__WHAT_IS_WRONG.edit, and has the form that `rt must-fail` reads:
 
     file: src/PATH.rt
     old: TEXT
     new: TEXT
 
-The old text, a line or a part of one, is exactly once in the file; the new one takes its place. More such pairs may
-follow, each with a line `file:` of its own if it is of another file.
+The old text, a line or a part of one, must be in the file exactly once. The new text replaces it. More pairs can follow, each
+with a line `file:` of its own if it is in another file.
 
-With no CRATE it tries those of every crate; with --must-fail those of must-fail/ too. With --only it tries those whose
-label, the source file and the name as they are printed, has TEXT in it. With --list it tries none, and prints those that
-can't be applied and those whose name is in both folders of the crate.
+Without CRATE, all crates are tried. The options are:
 
-It works on a copy of the crate and of the crates below it, with what earlier checks kept in their out/, so `rt check` in
-the crate's folder beforehand saves time. A check tries mutations of different functions together: each function's line
-says whether it is proved. A function that only calls a mutated one is tried again in a later check. A mutation of
-which no line says that is tried by itself.
+    --must-fail    also try the mutations of must-fail/
+    --only TEXT    try only those whose label, that is the source file and the name, contains TEXT
+    --list         try none, and print those that can't be applied, and those whose name is in both folders of the crate
 
-It prints a line for each mutation: refused, SURVIVED (the crate is proved with it), STALE (no goal is left unproved: it
-fails only because an answer that was written by hand names what it takes away, so it shows nothing of a clause), CANNOT
-BE APPLIED (a text of it is missing, or is there more than once), or CANNOT BE READ (what it makes doesn't compile). It
-ends with 1 unless every mutation is refused, or, with --list, can be applied and has a name of its own.
+Checks run on a copy of the crate and of the crates below it. The copy has the kept results of earlier checks, so `rt check` in the
+crate's folder beforehand saves time. A check tries mutations of different functions together, because it prints for each function
+if it is proved. A function that calls a mutated one is tried again in a later check. If a check prints no result for a mutation,
+the mutation is tried alone.
+
+The result of each mutation is printed:
+
+    refused              a goal isn't proved
+    SURVIVED             the crate is proved with it
+    STALE                no goal is unproved; a written answer names a thing that the mutation removes, so no clause was tried
+    CANNOT BE APPLIED    an old text is missing, or is there more than once
+    CANNOT BE READ       the changed source doesn't compile
+
+The status is 1 unless every mutation is refused, or with --list, unless each can be applied and has a name of its own.
 """
 import argparse
 import glob
@@ -37,15 +44,15 @@ import tempfile
 
 from definitions import TOP
 
-TRIES = 5  # checks that a function may be hidden in by those it calls, before its mutation is tried by itself
-# what a check says of an answer that names what a mutation takes away
+TRIES = 5  # checks in which mutations of called functions can hide a function, before its mutation is tried alone
+# the messages about an answer that names a removed thing
 STALE = r"has no field|has no `|is not in scope|is not a field|was not admitted"
 FUNCTION = r"^[ \t]*(?:pub(?:\(\w+\))? )?(?:const )?fn (\w+)"
 FORM = r"file: \S+\n(?:(?:file: \S+\n)?old: .+\nnew:.*\n)+"  # of an edit
 
 
 class Mutation:
-    """Pairs of texts: the old one is once in a file of the crate, and the new one takes its place."""
+    """Pairs of texts. The old one is in a file of the crate exactly once, and the new one replaces it."""
 
     def __init__(self, name, lines, crate):
         self.name, self.pairs, self.tries, self.is_alone = name, [], 0, False
@@ -82,18 +89,18 @@ def text_of(path):
 
 
 def mutations_of(crate, folder="mutations"):
-    """The mutations of a crate's folder, a file each."""
+    """The mutations in a crate's folder, one for each file."""
     found = []
     for path in sorted(glob.glob(f"{crate}/{folder}/*.edit")):
         text, name = text_of(path), os.path.basename(path).removesuffix(".edit")
         if not re.fullmatch(FORM, text) or not re.fullmatch(r"\w+__\w+", name):
-            sys.exit(f"{path}: not of the form that the head of tools/check/mutations.py gives")
+            sys.exit(f"{path}: not in the form that tools/check/mutations.py describes at its beginning")
         found.append(Mutation(name, text, crate))
     return found
 
 
 def function_at(crate, file, old):
-    """How the name of the function that has a text ends in the lines of a check, or None where no function has it."""
+    """The end of the name by which a check prints the function with a text, or None if no function has the text."""
     text = text_of(f"{crate}/{file}")
     above = text[: text.find(old) + len(old)]
     starts = [(it.start(), it[1]) for it in re.finditer(FUNCTION, above, re.M)]
@@ -110,7 +117,7 @@ def function_at(crate, file, old):
 
 
 def lines_at(crate, file, old):
-    """The numbers of the lines from the function that has a text to the next one."""
+    """The numbers of the lines from the function with a text to the next function."""
     text = text_of(f"{crate}/{file}")
     starts = [it.start() for it in re.finditer(FUNCTION, text, re.M)]
     at = text.find(old) + len(old)
@@ -120,7 +127,7 @@ def lines_at(crate, file, old):
 
 
 def copied(crate, room):
-    """Copies a crate and those below it to another folder, and returns the copy's path."""
+    """Copies a crate and the crates below it to a folder, and returns the path of the copy."""
     lines = [it.split("#")[0] for it in text_of(f"{TOP}/crates.txt").split("\n")]
     below = {it.split(":")[0].split()[0]: it.split(":")[1].split() for it in lines if ":" in it}
     wanted = [crate]
@@ -137,7 +144,8 @@ def copied(crate, room):
 
 
 def checked(copy, crate, texts, jobs):
-    """Checks the copy with these texts in place of the crate's own. Returns its lines, or what stopped it from being read."""
+    """Checks the copy of a crate with changed texts of files, and restores these files. Returns the printed lines, those of them
+    that are errors of a source that can't be read, and True if the crate is proved."""
     for file, text in texts.items():
         with open(f"{copy}/{file}", "w", encoding="utf-8") as it:
             it.write(text)
@@ -153,7 +161,7 @@ def checked(copy, crate, texts, jobs):
 
 
 def states_of(lines, calls):
-    """What the lines of a check say of each function. Calls gets the unproved ones that each of them calls."""
+    """The state of each function in the lines of a check. Adds the unproved functions that each calls to `calls`."""
     states = {it[1]: it[2] for it in (re.match(r"fn (\S+): (.*)", line) for line in lines) if it}
     for function, state in states.items():
         if "it calls" in state:
@@ -162,12 +170,12 @@ def states_of(lines, calls):
 
 
 def state_of(mutation, states):
-    """What a check says of the function that a mutation changes."""
+    """The state in a check of the function that a mutation changes, or ""."""
     return next((state for it, state in states.items() if mutation.function and it.endswith(mutation.function)), "")
 
 
 def is_over(caller, callee, calls):
-    """Whether it is known that a mutated function is, or in turn calls, another one."""
+    """True if a mutated function is another one, or is known to call it, directly or through others."""
     reached = [it for it in calls if it.endswith(caller)]
     for function in reached:
         reached += [it for it in calls.get(function, ()) if it not in reached]
@@ -175,7 +183,7 @@ def is_over(caller, callee, calls):
 
 
 def batch_of(waiting, crate, calls):
-    """Mutations that one check can try, none in a function that another one's calls, and the texts that they make."""
+    """Mutations for one check, and the changed texts. No mutated function calls another mutated one."""
     batch, texts = [], {}
     for it in sorted(waiting, key=lambda it: (it.is_alone, -it.tries)):
         alone = it.is_alone or not it.function or it.tries >= TRIES
@@ -191,7 +199,7 @@ def batch_of(waiting, crate, calls):
 
 
 def is_in(mutation, place):
-    """Whether a place that a check names is in a mutation's function, or in its answers."""
+    """True if a place in a message of a check is in a mutation's function, or in its answers."""
     file = mutation.pairs[0][0]
     if place.startswith("src/"):
         path, line = place.split(":")[:2]
@@ -202,9 +210,9 @@ def is_in(mutation, place):
 
 
 def is_stale(mutation, lines, is_alone):
-    """Whether no goal is left unproved, and written answers fail only for names that they use."""
+    """True if no goal is unproved, and written answers fail only for names that the mutation removed."""
     messages = r"^(?:note: )?(?:\./)?((?:src|proofs)/[^: ]+:\d+:\d+): (.*(?:\n  .*)?)"
-    messages = re.finditer(messages, "\n".join(lines), re.M)  # a long message goes on in the next line
+    messages = re.finditer(messages, "\n".join(lines), re.M)  # a long message continues in the next line
     messages = [it for it in messages if is_alone or is_in(mutation, it[1])]
     if any("it is not proved that" in it[2] for it in messages):
         return False
@@ -213,7 +221,7 @@ def is_stale(mutation, lines, is_alone):
 
 
 def said_of(mutation, state, check, is_alone):
-    """What a check shows of a mutation, or None where another check has to."""
+    """The result of a mutation, or None if another check has to try it."""
     lines, unread, is_proved = check
     if unread:
         return f"CANNOT BE READ: {unread[0][:200]}" if is_alone else None
@@ -226,7 +234,7 @@ def said_of(mutation, state, check, is_alone):
 
 
 def tried(crate, waiting, jobs):
-    """Tries a crate's mutations, and prints what comes of each: how many are refused, and stale."""
+    """Tries a crate's mutations, and prints their results. Returns the numbers of refused and of stale ones."""
     missing = [it for it in waiting if it.applied(crate, {}) is None]
     for it in missing:
         print(f"{it.label}: CANNOT BE APPLIED", flush=True)
@@ -252,10 +260,10 @@ def tried(crate, waiting, jobs):
 
 
 def listed(crate, found):
-    """Prints the mutations of a crate that can't be applied or have no name of their own, and returns how many."""
+    """Prints the mutations of a crate that can't be applied or whose name is used twice, and returns their number."""
     names = [it.name for it in found]
     wrong = [f"{it.label}: CANNOT BE APPLIED" for it in found if it.applied(crate, {}) is None]
-    wrong += [f"{it.label}: ITS NAME IS THERE TWICE" for it in found if names.count(it.name) > 1]
+    wrong += [f"{it.label}: ITS NAME IS USED TWICE" for it in found if names.count(it.name) > 1]
     for line in wrong:
         print(line)
     return len(wrong)
@@ -263,11 +271,11 @@ def listed(crate, found):
 
 def main():
     parser = argparse.ArgumentParser(description="Tries the mutations crates/CRATE/mutations/*.edit, many in one check.")
-    parser.add_argument("--must-fail", action="store_true", help="try those of must-fail/ too")
-    parser.add_argument("--jobs", type=int, help="how many functions a check may prove side by side")
-    parser.add_argument("--list", action="store_true", help="try none, and print those that can't be applied")
-    parser.add_argument("--only", default="", metavar="TEXT", help="only those whose label has TEXT in it")
-    parser.add_argument("crate", nargs="*", help="a crate's name (all crates, if none is given)")
+    parser.add_argument("--must-fail", action="store_true", help="also try the mutations of must-fail/")
+    parser.add_argument("--jobs", type=int, help="the number of functions that a check proves at the same time")
+    parser.add_argument("--list", action="store_true", help="try none, and print the mutations that can't be applied")
+    parser.add_argument("--only", default="", metavar="TEXT", help="only mutations whose label contains TEXT")
+    parser.add_argument("crate", nargs="*", help="the name of a crate (all crates if none is given)")
     options = parser.parse_args()
     count = refused = stale = faults = 0
     for name in options.crate or sorted(os.listdir(f"{TOP}/crates")):

@@ -1,12 +1,12 @@
 #!/usr/bin/env python3
-"""Names what only one of comfy-table 8.0.1 and this library has, and docs/DIFFERENCES.md doesn't name.
+"""Prints the items that only comfy-table 8.0.1 or only this library has, and that docs/DIFFERENCES.md doesn't name.
 
     tools/check/new_items.py
 
-What the original has stands in original_names.txt. An item is what a caller of comfy_table or comfy_parts can name: a
-module of comfy_table, a type, a function, a constant, and each method, field and variant of such a type. The page names it
-in its sections Otherwise or New, by itself or by a module or a type that is new too. A member whose name the original has
-elsewhere is named with its type, as `Column::padding`.
+An item has a name that callers of comfy_table or comfy_parts can use. It is a module of comfy_table, a type, a function, a
+constant, or a method, field or variant of such a type. original_names.txt has those of the original. The page names an item in
+its sections Otherwise or New, either itself, or by a module or a type that is new too. If the original has the name of a member
+elsewhere, the page names the member with its type, for example `Column::padding`.
 """
 import os
 import re
@@ -20,14 +20,14 @@ USED = r"^ *pub use (?:\w+::)*(?:\{([^}]*)\}|(\w+));"
 
 
 def original():
-    """The original's names, and those of its members behind their types."""
+    """The original's names, each in a tuple. That of a member comes after its type."""
     for line in text_of("tools/check/original_names.txt").splitlines():
         of_type, _, names = line.rpartition(": ") if not line.startswith("#") else ("", "", "")
         yield from ((of_type, name) if of_type else (name,) for name in names.split())
 
 
 def items_in(path, place=()):
-    """What a file, and the public modules in it, let a caller name: paths of modules and a name."""
+    """The public names in a file and in its public modules, each as a tuple of modules and a name."""
     text = text_of(path)
     names = re.findall(DECLARED, text, re.M)
     names += [it for used in re.findall(USED, text, re.M) for it in re.findall(r"\w+", " ".join(used))]
@@ -40,7 +40,7 @@ def items_in(path, place=()):
 
 
 def members_in(path):
-    """The public methods, fields and variants in a file, each behind its type."""
+    """The public methods, fields and variants in a file, each after its type."""
     block = r"^(?:pub (struct|enum|trait)|(impl)(?:<[^>]*>)?) (\w+)(?:<[^>]*>)?(?:: [^{]*)? \{\n(.*?)^\}"
     kinds = {"struct": r"pub (\w+):", "enum": r"(\w+)", "trait": r"(?:ghost )?fn (\w+)", "impl": r"pub fn (\w+)"}
     for declared, impl, of_type, body in re.findall(block, text_of(path), re.M | re.S):
@@ -49,7 +49,7 @@ def members_in(path):
 
 
 def items():
-    """All items: what can be named, each as a path, and the members of such types."""
+    """All items of this library, as tuples."""
     named = {it for crate in CRATES for it in items_in(f"crates/{crate}/src/lib.rt")}
     paths = [it for crate in CRATES for it in files_of(crate, "src/**/*.rt")]
     types = {it[-1] for it in named}
@@ -57,12 +57,12 @@ def items():
 
 
 def own_name(it):
-    """A member with its type, anything else without its modules."""
+    """The name of an item in original_names.txt: a member's with its type, and any other without its modules."""
     return it if it[0][0].isupper() else it[-1:]
 
 
 def unlisted():
-    """What one of the two has, the other hasn't, and the page doesn't name, as lines."""
+    """A line for each item that only one of the two has, and that the page doesn't name."""
     names, here = set(original()), items()
     known = {it[-1] for it in names}
     page = re.search(r"^## Otherwise$.*?\Z", text_of("docs/DIFFERENCES.md"), re.M | re.S)[0]
@@ -76,13 +76,13 @@ def unlisted():
     gone = [it for it in names - {own_name(it) for it in here} if it[-1] not in listed]
     return [
         *(f"docs/DIFFERENCES.md doesn't name {'::'.join(it)}, which is new" for it in sorted(new)),
-        *(f"docs/DIFFERENCES.md doesn't name {'::'.join(it)}, which isn't here" for it in sorted(gone)),
+        *(f"docs/DIFFERENCES.md doesn't name {'::'.join(it)}, which this library doesn't have" for it in sorted(gone)),
     ]
 
 
 def main():
     found = unlisted()
-    print("\n".join(found) or "each difference in names is listed")
+    print("\n".join(found) or "the page has each difference in names")
     return 1 if found else 0
 
 

@@ -1,12 +1,12 @@
 #!/usr/bin/env python3
-"""Names the definitions of specs/ and proofs/ that nothing reaches, and the functions that aren't public and that nothing
-calls, each with its file and line.
+"""Prints the definitions of specs/ and proofs/ that nothing uses, and the private functions that nothing calls, each with its
+file and line.
 
     tools/check/reach.py
 
-These reach what they name: code, the proof files of a function (Answers, Invariants, Proof), trials, the heads of modules,
-and each definition that is reached. A name stands for what its file defines or imports by it. A function is called if its
-name is in its crate before a parenthesis, or between those of a call.
+A definition is used if its name is in code, in a trial, in the head of a module, or in a definition that is used. The proof files
+of functions (Answers, Invariants, Proof) count as code. A name means the definition that its file declares or imports by this
+name. A function is called if its name is in its crate before a parenthesis, or among the arguments of a call.
 """
 import glob
 import re
@@ -17,9 +17,9 @@ from definitions import TOP, imports_of, text_of
 WORD = r"[^\s(){}\[\],;.:λ→×⊎∷]+"
 ROUND = r"\((?:[^()]|\((?:[^()]|\([^()]*\))*\))*\)"
 DECLARING = r"(?:(?:pub|abbrev|unfoldable|opaque|private|instance|record|data|enum|syntax) )*"
-# a definition's first line: its name, and what it takes, up to a colon or the line's end
+# the first line of a definition: its name and its parameters, up to a colon or the end of the line
 BEGINS = re.compile(rf" *{DECLARING}([^\s:(){{}}\[\]]+)(?: (?:{ROUND}|\{{[^}}]*\}}|_))*(?: :(?= |$)|$)")
-# in code, the name of a function that is called, or that is handed to another one
+# in code, the name of a function that is called, or that is an argument of another one
 CALLS = (r"\b(\w+)(?=\(|::<)", r"(?:(?<=[(:])|(?<=[,:=] ))(\w+)(?=[,;)])")
 NO_NAMES = {"use", "module", "mod", "unfolding", "in", "let", "where"}
 ANSWERS = ("Answers.antt", "Invariants.antt", "Proof.antt", "Trials.antt")
@@ -34,7 +34,7 @@ def words_in(lines):
 
 
 def code_of(path):
-    """A file without its comments and its `use` lines, of which empty lines are left."""
+    """A file without its comments, and with an empty line for each `use` line."""
     comment = r"//.*" if path.endswith(".rt") else r"(?<!\S)--(?!\S).*"
     text = re.sub(comment, "", text_of(path))
     use = r"^ *(?:(?:pub|ghost|unfoldable) )*use [^\n{]*(?:\{[^}]*\})?"
@@ -42,7 +42,7 @@ def code_of(path):
 
 
 def parts_of(path):
-    """For each definition of a file its first line's number and its lines; and the lines outside of them."""
+    """The definitions of a file by name, each with the number of its first line and its lines; and the other lines."""
     found, outside, modules = {}, [], []
     own = outside
     for number, line in enumerate(code_of(path).split("\n"), 1):
@@ -65,7 +65,7 @@ def file_of(module):
 
 
 def origin(word, path, parts):
-    """The file and the name of the definition that a word of a file stands for, where it is one of ours."""
+    """The file and the name of the definition that a word of a file means, or None if it isn't one of this project."""
     while word not in parts.get(path, ({},))[0]:
         module, word = imports_of(path).get(word, ("", ""))
         if not word:
@@ -75,14 +75,14 @@ def origin(word, path, parts):
 
 
 def cited(path):
-    """The lemmas that attributes of the code name by their paths."""
+    """The lemmas that attributes in the code name by their paths."""
     for crate, words, name in re.findall(r"\b(\w+)::proofs::([\w:]+)::([^\s,()\]:]+)", text_of(path)):
         crate = path.split("/")[1] if crate == "crate" else crate
         yield f"crates/{crate}/proofs/{words.replace('::', '/')}.antt", name
 
 
 def unreached():
-    """The definitions that nothing reaches, as lines."""
+    """A line for each definition that nothing uses."""
     sources = glob.glob("crates/*/src/**/*.rt", root_dir=TOP, recursive=True)
     proofs = sorted(it for kind in ("specs", "proofs") for it in glob.glob(f"crates/*/{kind}/**/*.antt", root_dir=TOP, recursive=True))
     parts = {path: parts_of(path) for path in proofs}
@@ -97,7 +97,7 @@ def unreached():
             reached.add(one)
             waiting += [origin(word, one[0], parts) for word in words_in(parts[one[0]][0][one[1]][1])]
     return [
-        f"{path}:{number}: nothing reaches {name}"
+        f"{path}:{number}: nothing uses {name}"
         for path, (found, _) in parts.items()
         for name, (number, _) in found.items()
         if not is_root(path) and (path, name) not in reached
@@ -105,8 +105,8 @@ def unreached():
 
 
 def own_functions(path):
-    """The functions of a file that aren't public, each with its line's number. Tests, methods of traits and `main` are left
-    out, which others call."""
+    """The private functions of a file, each with the number of its line. Tests, methods of traits and `main` are left out,
+    because callers outside of the crate call them."""
     in_trait, is_test = False, False
     for number, line in enumerate(code_of(path).split("\n"), 1):
         if re.match(r"(?:pub )?(?:unsafe )?(?:impl|trait)\b", line):
@@ -121,7 +121,7 @@ def own_functions(path):
 
 
 def uncalled():
-    """The functions that aren't public and that nothing calls, as lines."""
+    """A line for each private function that nothing calls."""
     for folder in glob.glob("crates/*/src", root_dir=TOP):
         sources = sorted(glob.glob(f"{folder}/**/*.rt", root_dir=TOP, recursive=True))
         code = re.sub(r"\bfn \w+", "", "\n".join(code_of(it) for it in sources))
@@ -131,7 +131,7 @@ def uncalled():
 
 def main():
     found = [*unreached(), *uncalled()]
-    print("\n".join(found) or "each definition is reached, and each function called")
+    print("\n".join(found) or "each definition is used, and each function called")
     return 1 if found else 0
 
 

@@ -1,5 +1,5 @@
 #!/usr/bin/env python3
-"""Prints what a reader must believe for a promise: its clauses, and each definition below them.
+"""Prints the text that a reader has to believe for a promise: its clauses, and each definition that they use.
 
     tools/check/what_is_believed.py promises::straight_lines
     tools/check/what_is_believed.py comfy_table::lines
@@ -7,23 +7,23 @@
     tools/check/what_is_believed.py --functions
     tools/check/what_is_believed.py --update
 
-A promise is a function of `promises`, of `csv_promises`, or of `promised.rt` of `comfy_c`; any other
-function of a library is taken too. With no word it lists the promises, each with its lines, and with
---functions all public functions that have clauses, with their files. With --update it writes
-docs/PROVED.md anew: the lines of a promise at the end of a table's row that names it, and those of
-all in a sentence.
+A promise is a function of `promises`, of `csv_promises`, or of `promised.rt` of `comfy_c`. The name of any
+other function of a library works too. Without a name, the promises are listed, each with its number
+of lines. --functions lists all public functions that have clauses, with their files. --update writes
+the counts into docs/PROVED.md: those of a promise at the end of its row in a table, and that of all
+definitions in a sentence.
 
-A clause stands on the words in it, on the types in the function's signature, and on the ghost
-members of its block. A type of src/ stands for its model, where it has one, else for its
-declaration. What a model's fields hold is said by the clauses of calls, so their types aren't
-followed; and an invariant is proved of each value.
+A clause uses the definitions of its words, of the types in the function's signature, and of the ghost
+members of its block. The definition of a type of src/ is its model, or its declaration if it has no
+model. The types of a model's fields aren't followed, because the clauses of calls say what the fields
+hold. Invariants aren't followed either, because they are proved for each value.
 
-The promise's own file comes first. A promise is printed with its body, since what it returns is
-part of it, and so are the functions of its crate that this body calls, if other crates can't call
-them. Their lines are counted apart. Comments count as lines; clauses, bodies and headings don't.
-Public types that are declared and have no model, which callers know, are counted apart too, with the
-first paragraph of their doc comments. Other libraries are counted in a line for each, with the names
-in them. All of their code is believed besides, as README says of the toolchain.
+The promise's own file comes first. A promise is printed with its body, because the promise is about
+the value that the body returns. The private functions that the body calls are printed too, and their
+lines are counted separately. Comments count as lines, but clauses, bodies and headings don't. Public
+types without a model, which callers know, are counted separately too, with the first paragraph of
+their doc comments. Each other library has a line with its count and its names. Their code has to be
+believed too, as README says of the toolchain.
 """
 import re
 import sys
@@ -38,7 +38,7 @@ WORD = r"(?<![\w.'-])[A-Za-z_][\w']*(?![\w'-])"
 
 
 def named(word, path):
-    """The file where a word of another is defined, its name there, and whether it is a variant."""
+    """The file that defines a word of a file, the name there, and True if it is a variant. None if no file does."""
     name, module = word, ""
     while name not in definitions_in(path):
         if name in imports_of(path):
@@ -59,7 +59,7 @@ def read(text):
 
 
 def below(one):
-    """The files and names on which a definition stands; on an enum where it names a variant."""
+    """The files and names of the definitions that a definition uses. An enum is used if one of its variants is named."""
     text = read(f"{one.head}\n{one.text}")
     found = [named(word, one.path) for word in dict.fromkeys(re.findall(WORD, text))]
     for local, (module, name) in imports_of(one.path).items():
@@ -73,15 +73,15 @@ def below(one):
 
 
 def members_below(one):
-    """The ghost members of traits that a function or a member names, with those of all impls."""
+    """The ghost members of traits that a function or a member names, and those of all impls with these names."""
     for name in re.findall(rf"\b[A-Z]\w*\.(\w+)|({WORD})", read(one.text)):
         ones = members().get("".join(name), [])
         if any(" trait " in f" {it.head}" for it in ones):
             yield from ones
 
 
-def standing_below(starts, is_followed):
-    """The definitions below others, in the order of a reading; and the names of those left out."""
+def all_below(starts, is_followed):
+    """The definitions that others use, directly or through others, in reading order; and the names that weren't followed."""
     found, others, waiting = {}, {}, starts[::-1]
     while waiting:
         one = waiting.pop()
@@ -97,7 +97,7 @@ def standing_below(starts, is_followed):
 
 
 def start_of(function):
-    """What a promise begins with: a function with its clauses, and its block's members."""
+    """The beginning of a promise: a function with its clauses, and the ghost members of its block."""
     one = function.signature
     indent = re.match(" *", one.text)[0] + "    "
     text = "\n".join([one.text, *(indent + clause for _, clause in function.clauses)])
@@ -105,7 +105,7 @@ def start_of(function):
 
 
 def all_starts(paths=PROMISES):
-    """What each public function of files of these paths begins with, by its label."""
+    """The beginnings of the public functions in files whose paths begin like these, by label."""
     return {
         f"{crate}::{name}": start_of(one)
         for crate in LIBRARIES for name, found in functions_of(crate).items() for one in found
@@ -126,8 +126,8 @@ def listed_functions():
 
 
 def believed(starts):
-    """The definitions of ours below a promise, its functions too; and names of other libraries."""
-    return standing_below(starts, lambda path: crate_of(path) in LIBRARIES)
+    """The definitions of this project that a promise uses, with its functions; and the names of other libraries."""
+    return all_below(starts, lambda path: crate_of(path) in LIBRARIES)
 
 
 def is_function(one):
@@ -135,12 +135,12 @@ def is_function(one):
 
 
 def is_declared(one):
-    """Whether it is a declaration of a type, and no definition."""
+    """True for the declaration of a type, which isn't counted as a definition."""
     return one.is_a("struct") or one.is_a("enum")
 
 
 def count_of(found):
-    """How many lines definitions take, with those of the modules and blocks they stand in."""
+    """The number of lines of definitions, with one for each module or block around them."""
     counted = [it for it in found if not is_function(it) and not is_declared(it)]
     heads = {(it.path, it.head) for it in counted if it.head}
     return sum(it.lines() for it in counted) + len(heads)
@@ -160,7 +160,7 @@ def updated(page):
 
 
 def body_of(one):
-    """The body of a function that is a promise, on lines of its own; nothing for any other."""
+    """The body of a promise, on its own lines, or "" for any other function."""
     if not is_function(one) or not one.path.startswith(PROMISES):
         return ""
     below = text_of(one.path).split("\n")[one.line :]
@@ -168,7 +168,7 @@ def body_of(one):
 
 
 def called_by(promises):
-    """The functions of the crate that the bodies of promises call, and those that these call, but no public ones."""
+    """The private functions of the crate that the bodies of promises call, directly or through others."""
     found, waiting = {}, list(promises)
     while waiting:
         one = waiting.pop(0)
@@ -181,7 +181,7 @@ def called_by(promises):
 
 
 def shown(starts):
-    """What a reader must believe for a promise."""
+    """The lines of text that a reader has to believe for a promise."""
     found, others = believed(starts)
     for path in dict.fromkeys(it.path for it in [*filter(is_function, starts), *found]):
         yield f"-- {path.removeprefix('crates/')}"
@@ -198,15 +198,15 @@ def shown(starts):
     yield f"{count_of(found)} lines of definitions, and {declared} that declare public types."
     if lines:
         yield f"{lines} lines of functions that the body calls."
-    yield "Of other libraries, below these:"
+    yield "Of other libraries, used by these:"
     yield from lines_of_others(others)
-    yield "Besides: what README.md says that you have to trust."
+    yield "Besides, README.md lists what you have to trust."
 
 
 def lines_of_others(others):
-    """A line for each other library: how many of its lines are below some names, and its own."""
+    """A line for each other library: the number of lines that some names use, and these names."""
     starts = [one for path, name in others for one in definitions_in(path)[name]]
-    found, _ = standing_below(starts, lambda path: True)
+    found, _ = all_below(starts, lambda path: True)
     for crate in dict.fromkeys(crate_of(it.path) for it in found):
         names = ", ".join(name for path, name in others if crate_of(path) == crate)
         count = count_of([it for it in found if crate_of(it.path) == crate])

@@ -1,10 +1,10 @@
 #!/usr/bin/env python3
-"""Makes the library for C, crates/comfy_c/out/libcomfy_c.a, over the libraries that `rt ci` has proved and left in crates/*/out.
+"""Makes the library for C, crates/comfy_c/out/libcomfy_c.a, from the libraries that `rt ci` has proved and kept in crates/*/out.
 
     tools/make/c_library.py
 
-Then only the crate comfy_c is proved again. If a library isn't there, or a source is newer than its library, a line says which,
-and `rt lib` makes the file. It takes nothing of what `rt ci` proved, so it proves all crates again.
+Only the crate comfy_c is proved again then. If a library is missing, or older than one of its sources, a line says so, and
+`rt lib` makes the file. It uses no result of `rt ci`, so it proves all crates again.
 """
 import os
 import subprocess
@@ -30,12 +30,12 @@ def folder_of(crate):
 
 
 def is_ours(crate):
-    """Whether a crate is one of this project, and not of the toolchain."""
+    """True for a crate of this project, and False for one of the toolchain."""
     return folder_of(crate).is_dir()
 
 
 def all_below(crate):
-    """The libraries of this project that a crate uses, and those that they use."""
+    """The libraries of this project that a crate uses, directly or through others."""
     found = set()
     for library in filter(is_ours, libraries_of(crate)):
         found |= {library} | all_below(library)
@@ -43,15 +43,15 @@ def all_below(crate):
 
 
 def library_at(crate):
-    """The folder of a built library: that of the project, or that of the toolchain."""
+    """The folder of a built library, in the project or in the toolchain."""
     return (folder_of(crate) / "out/rlib" if is_ours(crate) else KIT / "rlibs") / f"{crate}.rlib"
 
 
 def missing(crate):
-    """The reason why a library is of no use here, if there is one: it has to be newer than all that it was built of."""
+    """The reason why a built library can't be used, or None. It must be newer than its sources and the libraries below it."""
     built = library_at(crate) / "format"
     if not built.exists():
-        return f"{built.parent} isn't there"
+        return f"{built.parent} is missing"
     parts = [folder_of(crate) / part for part in ("src", "specs", "proofs")]
     sources = [it for part in parts for it in part.rglob("*") if it.is_file()]
     used = [library_at(it) / "format" for it in filter(is_ours, libraries_of(crate))]
@@ -60,7 +60,7 @@ def missing(crate):
 
 
 def words_for(below):
-    """The words of a build that links these libraries."""
+    """The arguments of a build that links these libraries."""
     words = ["--crate-name", CRATE, "src/lib.rt", "--crate-type", "staticlib", "--links", f"{CRATE}="]
     for library in ["std", *libraries_of(CRATE)]:
         words += ["--extern", f"{library}={library_at(library)}"]

@@ -1,14 +1,14 @@
 #!/usr/bin/env python3
-"""Gathers the examples of doc comments into the crate `example_docs`, which the gate proves and runs.
+"""Collects the examples of doc comments in the crate `example_docs`, which the gate proves and runs.
 
-    tools/make/doc_examples.py            writes the crate's source and its stored output
-    tools/make/doc_examples.py --check    prints which file isn't what the comments say, and ends with 1 where one isn't
+    tools/make/doc_examples.py            writes the source of the crate and its stored output
+    tools/make/doc_examples.py --check    prints the files that differ from the comments, and ends with status 1 if one does
 
-An example is a fenced block without a language in a doc comment of comfy_parts or comfy_table. It becomes a function named
-for the item that it stands at. What it uses without making it, such as `table`, is a parameter, and so is a new table: a
-function that owns a table takes long to prove. The examples that print nothing are called before those that do, from
-functions of their own, whose errors need no conversion. Lines that begin with `//` are what it prints, or the value of its
-last `let`: a `text`, or `is_so`. So the stored output is what the comments say; `\\u{1b}` in them stands for ESC.
+An example is a fenced block without a language in a doc comment of comfy_parts or comfy_table. It becomes a function with the
+name of the item that has the comment. Each variable that an example uses without making it, such as `table`, becomes a parameter.
+A new table becomes one too, because a function that owns a table takes long to prove. Examples that print nothing are called
+first, from functions of their own, whose errors need no conversion. Lines that begin with `//` are the output of an example, or the
+value of its last `let`, a `text` or `is_so`. They make the stored output. `\\u{1b}` in them means ESC.
 """
 import glob
 import os
@@ -35,8 +35,8 @@ PATHS |= {it: "comfy_table::presets" for it in ("by_name", "by_position")}
 PATHS |= {it: "super" for it in ("renew", "show")}
 VALUES = {None: "()", "text": "String", "is_so": "bool"}
 NEW_TABLE = "let mut table = Table::new(alloc);\n"
-PARTS = {"row_writer"}  # these go on with what others made, so they stand for themselves alone
-AT_ONCE = 10  # so many calls stand in one function, since a long one takes long to prove
+PARTS = {"row_writer"}  # left out, because these examples continue others
+AT_ONCE = 10  # calls in one function, because a long function takes long to prove
 TRAITS = {f"into_{it}": f"Into{it.capitalize()}" for it in ("cell", "cells", "row")}
 
 
@@ -45,7 +45,7 @@ def snake(word):
 
 
 def name_of(path, before, after):
-    """The name of the item that a doc comment stands at, after the type that it belongs to."""
+    """The name of the item that has a doc comment, after the name of its type. The module's own comment has the file's name."""
     if after is None:
         return os.path.basename(path)[: -len(".rt")]
     indent, kind, item = re.match(r"(?:\s*#\[.*\n)*( *)(?:pub (?:const )?(\w+)|macro_rules!) (\w+)", after).groups()
@@ -91,7 +91,7 @@ class Example:
         return f"fn {self.name}_example({parameters}){' -> ' * bool(result)}{result} {{\n{body}\n}}\n"
 
     def is_silent(self):
-        """Whether it prints nothing, and so needs no runtime."""
+        """True if the example prints nothing, so that it needs no runtime."""
         return not self.value and "rt" not in self.parameters
 
     def call(self):
@@ -154,7 +154,7 @@ MAKE_ALLOC = "    let alloc = rt.alloc();"
 
 
 def body(lines):
-    """The body of a function from its lines. A call that gives what the function does stands at its end as it is."""
+    """The body of a function with these lines. If the last one is a call with the function's result, its `?` is removed."""
     text = "\n".join(lines)
     if text.endswith("?;") and "println!" not in lines[-1]:
         return f" {{\n{text[:-2]}\n}}\n"
@@ -162,7 +162,7 @@ def body(lines):
 
 
 def drivers(name, result, examples):
-    """The calls of the functions that call some examples, a few each, and these functions."""
+    """The calls of functions that call a few examples each, and the code of these functions."""
     called, code = [], ""
     for at in range(0, len(examples), AT_ONCE):
         lines = [it.call() for it in examples[at : at + AT_ONCE]]
@@ -233,7 +233,7 @@ fn show(rt: &HostRuntime, text: Result<String>) -> anyhow::Result<()> {
 
 
 def laid_out(texts):
-    """These files in the layout of `rt fmt`, which their comments needn't have."""
+    """The files in the layout of `rt fmt`, which examples in comments may not have."""
     with tempfile.TemporaryDirectory() as room:
         shutil.copy(f"{TOP}/crates.txt", room)
         for path, text in texts.items():
@@ -248,7 +248,7 @@ def laid_out(texts):
 
 
 def files():
-    """Each file of the crate that follows from the comments, and its text."""
+    """The text of each file of the crate that is made from the comments."""
     found = {"src/main.rt": MAIN}
     printed = []
     for crate, name in MODULES.items():
@@ -260,14 +260,14 @@ def files():
 
 
 def wrong_examples():
-    """What isn't as the comments say."""
-    return [f"{path} isn't what tools/make/doc_examples.py writes" for path, text in files().items() if text_of(path) != text]
+    """A line for each file that differs from the comments."""
+    return [f"{path} differs from the output of tools/make/doc_examples.py" for path, text in files().items() if text_of(path) != text]
 
 
 def main():
     if sys.argv[1:] == ["--check"]:
         wrong = wrong_examples()
-        print("\n".join(wrong) or "the examples are those of the comments")
+        print("\n".join(wrong) or "the examples agree with the comments")
         return 1 if wrong else 0
     for path, text in files().items():
         os.makedirs(os.path.dirname(f"{TOP}/{path}"), exist_ok=True)

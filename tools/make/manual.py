@@ -1,9 +1,9 @@
 #!/usr/bin/env python3
-"""Makes the man page of csvtable, its completions for bash and zsh, and the list on its page, from the table of its options.
+"""Makes csvtable's man page, its completions for bash and zsh, and the list of options in docs/CSVTABLE.md, from its options.
 
     tools/make/manual.py
 
-tools/check/check_proved.py says where those that are there are others.
+tools/check/check_proved.py names the files that differ from the output.
 """
 import os
 import re
@@ -22,7 +22,7 @@ class Option:
         self.help = re.sub(r"\\\n *", "", help).replace("\\n", " ")
 
     def forms(self):
-        """How it is given, as `-w` and `--width`."""
+        """The forms of the option, for example `-w` and `--width`."""
         return ([f"-{self.letter}"] if self.letter else []) + ([f"--{self.name}"] if self.name else [])
 
 
@@ -49,19 +49,19 @@ VALUES = {"When": names_in("WHENS"), "Encoding": names_in("ENCODINGS"), "Style":
 
 
 def escaped(text):
-    """A text for man: hyphens are those of a terminal, and code stands in bold."""
+    """A text for man, with the hyphens of terminals, and with code in bold."""
     text = text.replace("\\", "\\e").replace("-", "\\-").replace("'", "\\(aq").replace("…", "\\[u2026]")
     text = re.sub(r"`(.+?)`", r"\\fB\1\\fR", text)
     return "\n".join(textwrap.wrap(text, 78, break_long_words=False, break_on_hyphens=False))
 
 
 def command(text):
-    """A command for man, on one line. A quote there parts what a macro is given."""
+    """A command for man, on one line. Quotes are escaped, because they would end the argument of a macro."""
     return "\\fB" + text.replace("\\", "\\e").replace("-", "\\-").replace("'", "\\(aq").replace('"', "\\(dq") + "\\fR"
 
 
 def examples():
-    """Commands with what they are for: those of the program's help, and the recipes of its page."""
+    """Commands and their purposes: those of the program's help, and the recipes of docs/CSVTABLE.md."""
     recipes = re.search(r"```sh\n(.*?)```", text_of(PAGE), re.S)[1]
     return re.findall(r"^  (csvtable .+?)  +(.+)$", SOURCE, re.M) + re.findall(r"^(.+?)  +# (.+)$", recipes, re.M)
 
@@ -71,7 +71,7 @@ def man_page():
     lines += [".SH NAME", f"csvtable \\- {ABOUT[0].lower()}{ABOUT[1:]}"]
     lines += [".SH SYNOPSIS", ".B csvtable", "[\\fIoptions\\fR]", "[\\fIFILE\\fR]"]
     lines += [".SH DESCRIPTION", "Each record is a row.", "Columns of numbers are right-aligned."]
-    lines += [escaped("In a terminal the table keeps to its width. If columns would be too narrow, each record is drawn as names and fields.")]
+    lines += [escaped("In a terminal the table is at most as wide as the terminal. If columns would be too narrow, each record is drawn as names and fields.")]
     lines += [escaped("Without FILE, or with `-`, it reads standard input. If that is a terminal, a line on standard error says so.")]
     lines += [escaped("No control character of a file is sent to the terminal, except in the colours that `--ansi` keeps.")]
     lines += [".SH OPTIONS"]
@@ -85,11 +85,11 @@ def man_page():
     lines += [escaped("The input or the output failed, the input isn't text, isn't in its encoding or has a quote that is never closed, a column doesn't exist, or memory ran out.")]
     lines += [".TP", "2", escaped("The arguments are unknown.")]
     lines += [".SH ENVIRONMENT", ".TP", ".B COLUMNS"]
-    lines += ["The width of a terminal.", escaped("If it isn't set, csvtable asks the terminal by stty. If that tells nothing either, the width is 80.")]
+    lines += ["The width of a terminal.", escaped("If it isn't set, csvtable asks the terminal by stty. If stty has no answer, the width is 80.")]
     lines += [".TP", ".B NO_COLOR", escaped("If it is set and isn't empty, the header isn't bold unless `--color always` is given.")]
     lines += [".SH EXAMPLES"]
-    for example, what in examples():
-        lines += [".TP", command(example), escaped(what[0].upper() + what[1:])]
+    for example, purpose in examples():
+        lines += [".TP", command(example), escaped(purpose[0].upper() + purpose[1:])]
     return "\n".join(lines) + "\n"
 
 
@@ -138,7 +138,7 @@ def zsh():
 
 
 def page():
-    """The page of csvtable, with its list of options."""
+    """The text of docs/CSVTABLE.md, with its list of options."""
     lines = [f"- `{', '.join(it.forms())}{' ' + it.value if it.value else ''}`: {it.help}" for it in OPTIONS]
     before, after = "<!-- options -->\n", "<!-- end of options -->"
     return re.sub(f"{before}.*?{after}", lambda _: before + "\n".join(lines) + "\n" + after, text_of(PAGE), flags=re.S)
@@ -148,7 +148,7 @@ MADE = {"share/csvtable.1": man_page, "share/csvtable.bash": bash, "share/_csvta
 
 
 def wrong_files():
-    """Those that aren't what this makes."""
+    """The paths of the files that differ from the output."""
     return [path for path, made in MADE.items() if not os.path.isfile(os.path.join(TOP, path)) or text_of(path) != made()]
 
 

@@ -1,11 +1,11 @@
 #!/usr/bin/env python3
-"""Writes crates/comfy_parts/src/content_split/own_width/table.rt: the columns of each character that joins no other.
+"""Writes crates/comfy_parts/src/content_split/own_width/table.rt: the columns of each character that doesn't join others.
 
 usage: tools/make/own_widths.py UNICODE_WIDTH
 
-UNICODE_WIDTH is the folder of the crate unicode_width with its sources, from whose table of kinds the columns come. The
-characters that join others are the `joining_characters` of specs/Columns.antt. The check refuses a table with a wrong value,
-so this is called where it does: after another version of Unicode, or another character that joins.
+UNICODE_WIDTH is the folder with the sources of the crate unicode_width. The columns come from its table of kinds. The characters
+that join others are the `joining_characters` of specs/Columns.antt. `rt check` refuses a table with a wrong value. So run this
+after a change of Unicode's version or of these characters.
 """
 import re
 import sys
@@ -16,21 +16,21 @@ from project import TOP
 BITS, WORDS_OF_BLOCK = 2, 4
 SLOTS = 64 // BITS
 SPAN = WORDS_OF_BLOCK * SLOTS
-# so many runs at the end of Unicode are no part of the blocks
+# the number of runs at the end of Unicode that aren't in the blocks
 RUNS = 8
 JOINS = 3
-# the columns by the numbers of kinds: zero, narrow, wide, ambiguous and emoji
+# the columns of each kind, by its number: zero, narrow, wide, ambiguous and emoji
 COLUMNS = {0: 0, 1: 1, 2: 2, 3: 1, 10: 2}
 
 
 def numbers(source, name):
-    """The numbers of a table in a source."""
+    """The numbers of the table with this name in a source."""
     found = re.search(rf"{name}: \[\w+; \d+\] = \[(.*?)\];", source, re.S)
     return [int(number, 16) for number in re.findall(r"0x(\w+)", found[1])]
 
 
 def kinds(source):
-    """The number of each character's kind: from blocks of 64, with 16 in a word, and from runs after those."""
+    """The number of each character's kind, from blocks of 64 characters with 16 in a word, and from the runs after these."""
     index, words, tail = (numbers(source, f"KIND_{part}") for part in ("INDEX", "WORDS", "TAIL"))
     for block in index:
         for word in words[block * 4 : block * 4 + 4]:
@@ -42,7 +42,7 @@ def kinds(source):
 
 
 def own_widths(kinds_of, joining):
-    """What the table has for each character."""
+    """The value of each character in the table: its columns, or JOINS."""
     joins = {code for first, last in joining for code in range(int(first, 16), int(last, 16) + 1)}
     for code, kind in enumerate(kinds_of):
         if 0x20 <= code <= 0x7E:
@@ -54,7 +54,7 @@ def own_widths(kinds_of, joining):
 
 
 def packed(values):
-    """The index, the words that it leads to, and the runs after them."""
+    """The index, the words of its blocks, and the runs after these."""
     ends = [end for end in range(1, len(values)) if values[end] != values[end - 1]] + [len(values)]
     blocks, index = {}, []
     for start in range(0, ends[-RUNS - 1], SPAN):
@@ -70,7 +70,7 @@ def packed(values):
 
 
 def table(name, element, digits, in_line, values):
-    """The lines of a table."""
+    """The source of a table."""
     lines = [f"#[rattlefmt::skip]\npub(super) static {name}: [{element}; {len(values)}] = ["]
     for start in range(0, len(values), in_line):
         lines.append("    " + " ".join(f"0x{value:0{digits}X}," for value in values[start : start + in_line]))

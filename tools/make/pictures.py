@@ -1,10 +1,10 @@
 #!/usr/bin/env python3
-"""Makes the pictures in docs/images of stored outputs, as a terminal shows them.
+"""Makes the pictures in docs/images, which show stored outputs in a terminal.
 
     tools/make/pictures.py
 
-Each character stands at its column, and a wide one takes two. Frames are drawn as lines, so that they meet in every font.
-tools/check/check_proved.py compares the pictures with what this makes.
+Each character is drawn at its column, and a wide one takes two. Frames are drawn as lines, so that they meet in every font.
+tools/check/check_proved.py names the pictures that differ from the output.
 """
 import os
 import re
@@ -13,10 +13,10 @@ from xml.sax.saxutils import escape
 
 from project import TOP, text_of
 
-WIDTH, HEIGHT, MARGIN = 9, 20, 12  # of a column, of a line, around all: in pixels
+WIDTH, HEIGHT, MARGIN = 9, 20, 12  # the width of a column, the height of a line, and the margin, in pixels
 BACKGROUND, FOREGROUND, FRAME = "#1e1e2e", "#e6e6ef", "#8a8fa8"
 COLORS = {"9": "#ff6b6b", "10": "#7ddc8a", "11": "#f2c94c"}
-# To which sides a frame character reaches: left, right, up, down; 2 is a double line.
+# The sides that a frame character reaches: left, right, up, down. 0 is no line, 1 a single one, and 2 a double one.
 SIDES = {
     "─": "1100", "│": "0011", "╌": "1100", "┆": "0011", "═": "2200",
     "┌": "0101", "┐": "1001", "└": "0110", "┘": "1010", "╭": "0101", "╮": "1001", "╰": "0110", "╯": "1010",
@@ -51,13 +51,13 @@ def columns_of(character):
 
 
 def runs_of(text):
-    """A text in pieces that are drawn together: frame characters, blanks, and words, each with its columns."""
+    """The pieces of a text that are drawn together, each with its columns: a frame character, spaces, or a word."""
     for piece in re.findall(f"[{''.join(SIDES)}]| +|[^ {''.join(SIDES)}]+", text):
         yield piece, sum(map(columns_of, piece))
 
 
 def frame(character, left, top):
-    """The lines of a frame character whose cell begins at this place."""
+    """The lines of a frame character, in the form of a path. `left` and `top` are the corner of its cell, in pixels."""
     middle, center = left + WIDTH / 2, top + HEIGHT / 2
     ends = [(left, center), (left + WIDTH, center), (middle, top), (middle, top + HEIGHT)]
     for side, (x, y) in zip(SIDES[character], ends):
@@ -66,7 +66,7 @@ def frame(character, left, top):
 
 
 def style_of(codes, style):
-    """The style after an SGR sequence: colour and weight."""
+    """The colour and the weight after an SGR sequence with these codes."""
     color, weight = style
     if codes in ("", "0"):
         return "", ""
@@ -78,7 +78,7 @@ def style_of(codes, style):
 
 
 def draw_line(line, top, lines, texts):
-    """Adds what one line shows: to the lines of its frame, plain and dashed, and to the texts."""
+    """Adds the frame characters of a line to `lines`, which are solid and dashed ones, and its words to `texts`."""
     style, left = ("", ""), MARGIN
     for part in re.split("(\x1b\\[[0-9;]*m)", line):
         sequence = SGR.fullmatch(part)
@@ -122,7 +122,7 @@ def pictures():
 
 
 def wrong_pictures():
-    """The pictures that aren't what is made here."""
+    """The paths of the pictures that differ from the output."""
     return [path for path, made in pictures().items() if not os.path.exists(f"{TOP}/{path}") or text_of(path) != made]
 
 

@@ -1,4 +1,4 @@
-"""The top of the project, for the scripts of this folder, and its files."""
+"""The top folder of the project, and the texts of its files."""
 import os
 
 TOP = os.path.dirname(os.path.dirname(os.path.dirname(os.path.realpath(__file__))))

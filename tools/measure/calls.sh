@@ -1,12 +1,11 @@
 #!/bin/sh
-# Counts the instructions of one call of each way to draw by the package for Rust, in a program in Rust, and of the original in
-# the same program, on the inputs below. It takes the best time of 20 calls of each, made by turns in one process, where all
-# have to give the same drawing.
-# It needs cargo and valgrind.
+# Compares the original and each way to draw by the package for Rust, in one program in Rust, on the inputs below. It counts the
+# instructions of one call of each, and prints the best time of 20 calls of each, which take turns in one process. All drawings
+# of an input have to be the same. It needs cargo and valgrind.
 #
 # usage: tools/measure/calls.sh ORIGINAL
-# ORIGINAL is a folder with the sources of comfy-table and its Cargo.toml, which cargo can build when it is run there. COMFY_C may
-# name a folder with libcomfy_c.a and liblibc_c.a.
+# ORIGINAL is a folder with the sources of comfy-table and its Cargo.toml, in which cargo can build it. COMFY_C can name a folder
+# with libcomfy_c.a and liblibc_c.a; without it, they are built.
 set -eu
 if [ $# -ne 1 ]; then
   echo "usage: $0 ORIGINAL" >&2
@@ -42,12 +41,12 @@ END
 (cd "$original" && CARGO_TARGET_DIR="$work/calls/target" cargo build -q --release --manifest-path "$work/calls/Cargo.toml")
 calls=$work/calls/target/release/calls
 
-# The instructions of the first call of a way to draw, with all that it calls, on an input of the folder.
+# Prints the instructions of the first call of a way to draw, including those of called functions: count WAY INPUT WORDS.
 count() {
   ONLY=$1 valgrind --tool=callgrind --callgrind-out-file=/dev/null --toggle-collect="by_$1" "$calls" $3 < "$work/$2" 2>&1 > /dev/null | sed -n 's/.*Collected : //p'
 }
 
-# Counts on an input, by the words of the program. Further arguments are the ways to draw.
+# Counts on an input, with arguments for the program, in these ways to draw: measure INPUT WORDS WAY..
 measure() {
   input=$1 words=$2
   shift 2

@@ -1,7 +1,7 @@
-# How the instructions of programs are counted, for the scripts that read this file. They set `work`, a folder of theirs.
+# A function that counts the instructions of programs, for the scripts that read this file. They set `work` to a folder.
 
 # compare INPUT WORDS SHARES PROGRAM..
-# Counts the instructions of each program on a file, called with these words, and prints so many of its costliest
+# Counts the instructions of each program with the arguments WORDS on the file INPUT, and prints its SHARES costliest
 # functions. All programs have to write the same.
 compare() {
   input=$1

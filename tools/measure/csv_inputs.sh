@@ -1,6 +1,7 @@
-# Inputs of CSV, for the scripts that read this file: so many records below a header, the same ones at each run.
+# Inputs of CSV, for the scripts that read this file. Each run makes the same ones.
 
-# Draws numbers from a seed, and prints fields of each kind.
+# Prints a header and RECORDS random records of a kind: csv_of KIND RECORDS. The seed is fixed. The kinds are ledger, benchmark,
+# listing, names and messages.
 csv_of() {
   awk -v kind="$1" -v records="$2" '
     function drawn(count) { state = state * 16807 % 2147483647; return state % count }

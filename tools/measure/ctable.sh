@@ -1,10 +1,10 @@
 #!/bin/sh
-# Counts the instructions of programs on the inputs below, in millions. It needs valgrind, and takes some five minutes.
+# Counts the instructions of programs on the inputs below, in millions. It needs valgrind, and takes about five minutes.
 #
 # usage: tools/measure/ctable.sh PROGRAM..
-# A PROGRAM is called as ctable is, with a width and an arrangement, and reads and writes as it does. All have to write
-# the same. A ratio is the first program's instructions divided by those of the program that it stands at. The folder
-# tools/measure/original has a program over the original.
+# A PROGRAM has the arguments of ctable, a width and an arrangement, and reads and writes as ctable does. All have to write
+# the same. The ratio of a program is the first program's instructions divided by its own. The folder tools/measure/original
+# has such a program that uses the original.
 set -eu
 if [ $# -eq 0 ]; then
   sed -n 's/^# usage: //p' "$0" >&2
@@ -15,8 +15,9 @@ fi
 work=$(mktemp -d)
 trap 'rm -rf "$work"' EXIT
 
-# A header and so many rows of so many cells of five words. All words of a column have one length: the average room at
-# the column's turn, less 3. So each column shrinks where the table is 23 * columns + 1 wide.
+# Prints a header and ROWS rows of COLUMNS cells with five words: shrinking ROWS COLUMNS. All words of a column have the same
+# length: the average room when the column gets its width, minus 3. So each column shrinks if the width of the table is
+# 23 * COLUMNS + 1.
 shrinking() {
   awk -v rows="$1" -v columns="$2" '
     function drawn(count) { state = state * 16807 % 2147483647; return state % count }
@@ -41,7 +42,7 @@ shrinking() {
     }'
 }
 
-# Counts for the programs on a file, with these arguments.
+# Counts the instructions of programs on a file, with these arguments: count NAME ARGUMENTS PROGRAM..
 count() {
   name=$1
   arguments=$2
@@ -61,7 +62,7 @@ sentences 6 6 '年 快 乐 新 春 节 日 本 語 漢 字 仮 名 交 文 表 �
 texts '36 年 快 乐 新 あ い う え 한 글 ✅ 🚀/5 é ê ó ô n/19 a b c d e f g h i j k l m n o p q r s t u v w x y z' > "$work/mixed"
 texts '1 ก ข ค ง จ ด ต น บ ป ม ย ร ล ว ส ห อ า ำ เ แ ไ กี นุ ม่ ร้ ล็' > "$work/Thai"
 texts '1 क ख ग च ज त द न प म य र ल स का कि की कु के को क्ष त्र ज्ञ स्त' > "$work/Devanagari"
-# Without lam, which the original doesn't join with an alef after it.
+# Without the letter lam, because the original doesn't join it with an alef after it.
 texts '1 ا م ن ب ت ي و ر س د ع ه ك ف ق ح ج ش' > "$work/Arabic"
 texts '1 א ב ג ד ה ו ז ח ט י כ ל מ נ ס ע פ צ ק ר ש ת' > "$work/Hebrew"
 texts '1 a ă â b c d đ e ê g h i n o ô ơ t u ư ạ ấ ề ộ ữ' > "$work/Vietnamese"

@@ -1,6 +1,6 @@
 # Inputs of the measurements, for the scripts that read this file.
 
-# A header and so many rows of so many cells, each a word and a number below 1,000.
+# Prints a header and ROWS rows of CELLS cells, each with WORD and a number below 1,000: short_cells ROWS CELLS WORD.
 short_cells() {
   awk -v rows="$1" -v cells="$2" -v word="$3" 'BEGIN {
     for (row = -1; row < rows; row++) {
@@ -14,7 +14,8 @@ short_cells() {
   }'
 }
 
-# A header and 2,000 rows of 6 sentences: so many words, each of 2 letters up to so many, out of these letters.
+# Prints a header and 2,000 rows of 6 sentences of WORDS words, each of 2 to LONGEST of these letters: sentences WORDS LONGEST
+# LETTERS.
 sentences() {
   awk -v words="$1" -v longest="$2" -v alphabet="$3" '
     function drawn(count) { state = state * 16807 % 2147483647; return state % count }
@@ -31,8 +32,8 @@ sentences() {
     }'
 }
 
-# A header and 2,000 rows of 6 cells of 10 to 60 letters, in words of 1 to 8. The letters of a word are those of one alphabet.
-# Alphabets are parted by slashes, and each begins with a number: how often it is taken among all.
+# Prints a header and 2,000 rows of 6 cells of 10 to 60 letters, in words of 1 to 8 letters from one alphabet: texts ALPHABETS.
+# Slashes separate the alphabets, and each begins with its weight in the choice of one.
 texts() {
   awk -v alphabets="$1" '
     function drawn(count) { state = state * 16807 % 2147483647; return state % count }
@@ -62,7 +63,7 @@ texts() {
     }'
 }
 
-# A header and 10,000 rows of 6 sentences of six words. In every second cell one word stands between two sequences.
+# Prints a header and 10,000 rows of 6 sentences of six words. In every second cell, one word is between two escape sequences.
 sentences_with_sequences() {
   awk '
     function drawn(count) { state = state * 16807 % 2147483647; return state % count }

@@ -1,5 +1,5 @@
-/* Draws a CSV file as a grid of ASCII, for docs/PERFORMANCE.md: what a drawing takes at least. It counts bytes, makes a
- * space of a line break in a field, and checks nothing. It takes a file, of at most 64 columns. */
+/* Draws a CSV file of at most 64 columns as a grid of ASCII. It shows in docs/PERFORMANCE.md the least time that a drawing
+ * takes. It counts bytes as columns, replaces a line break in a field by a space, and checks nothing. */
 #include <stdio.h>
 #include <stdlib.h>
 #include <string.h>
@@ -8,7 +8,7 @@ static size_t widths[64];
 static int columns;
 static const char *end;
 
-/* Copies the field at p without its quotes. Returns what follows its delimiter. */
+/* Copies the field at p without its quotes. Returns the place after the field's delimiter. */
 static const char *read_field(const char *p, char *field, size_t *length, int *is_last) {
   int quoted = p < end && *p == '"';
   size_t n = 0;

@@ -1,10 +1,10 @@
 #!/usr/bin/env python3
-"""Measures one drawing of 10,000 rows of 6 short cells by comfy_table_proved, and by tabulate and rich where they are there.
+"""Measures a drawing of 10,000 rows of 6 short cells by comfy_table_proved, and by tabulate and rich if they are installed.
 
     python3 tools/measure/python.py [RUNS]
 
-Each is called RUNS times, by turns, 5 where that isn't said. The best processor time of each is printed, with the number of
-lines that it draws. The package comfy_table_proved of tools/package.sh has to be installed.
+Each is called RUNS times, or 5 times without RUNS, and they take turns. The best processor time of each is printed, with the
+number of lines that it draws. The package comfy_table_proved, which tools/package.sh makes, has to be installed.
 """
 import io
 import sys

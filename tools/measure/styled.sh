@@ -1,15 +1,15 @@
 #!/bin/sh
-# Counts the instructions of programs that draw 10,000 rows of 6 cells with styles, and prints the eight costliest
+# Counts the instructions of programs that draw 10,000 rows of 6 cells with styles, and prints their eight costliest
 # functions. It needs valgrind, and takes about a minute.
 #
 # usage: tools/measure/styled.sh colours|sequences PROGRAM..
-# With `colours`, every second cell has a colour and an attribute. With `sequences`, every second cell holds sequences
-# that count nothing, and columns are as wide as their contents, or 12, 20 and 40 wide, paddings included.
+# With `colours`, every second cell has a colour and an attribute. With `sequences`, every second cell has escape sequences,
+# which take no columns, and columns are as wide as their contents, or 12, 20 and 40 wide including paddings.
 #
-# A PROGRAM does what tools/measure/styled/main.rt.txt does. To build that, copy it to crates/styled/src/main.rt, add the line
-# `styled: comfy_table anyhow simdutf8` to crates.txt, and call `rt run` in crates/styled. tools/measure/original has the same program over
-# the original, which is built by `cargo build --release --features tty`, or custom_styling for sequences. All programs
-# have to write the same. A ratio is the first program's instructions divided by those of the program that it stands at.
+# A PROGRAM draws as tools/measure/styled/main.rt.txt does. To build that, copy it to crates/styled/src/main.rt, add the line
+# `styled: comfy_table anyhow simdutf8` to crates.txt, and call `rt run` in crates/styled. tools/measure/original has such a
+# program that uses the original. Build it by `cargo build --release --features tty`, or custom_styling for sequences. All
+# programs have to write the same. The ratio of a program is the first program's instructions divided by its own.
 set -eu
 if [ $# -lt 2 ]; then
   sed -n 's/^# usage: //p' "$0" >&2

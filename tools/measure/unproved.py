@@ -1,14 +1,14 @@
 #!/usr/bin/env python3
-"""Builds a program without proving it, in a minute, so that two versions can be compared before either is proved.
+"""Builds a program in a minute, without proving it, so that two versions can be compared before either is proved.
 
     tools/measure/unproved.py CRATE OUT
 
-CRATE is the folder of a program, as crates/ctable, and OUT the file to write. `rt try` compiles a program with tests between
-its instructions. This takes the LLVM module that it compiles, takes these tests out, gives each function the hint on inlining
-of its source, and compiles it with -O3.
+CRATE is the folder of a program, for example crates/ctable, and OUT the file to write. `rt try` compiles a program with checks
+between its instructions. This tool takes the LLVM module of `rt try`, removes these checks, gives each function the hint on
+inlining in its source, and compiles the module with -O3.
 
 Compare the instructions of such a program only with those of another one. On ASCII they are within 4 % of those of the program
-that `rt ci` builds; on other texts they are up to 28 % more.
+that `rt ci` builds. On other texts they are up to 28 % more.
 """
 import os
 import re
@@ -20,7 +20,7 @@ import tempfile
 KIT = os.path.dirname(subprocess.check_output(["rt", "doc"], text=True).strip())
 CLANG = f"{KIT}/toolchain/bin/clang"
 
-# What takes the place of clang: it keeps the module and the words that it is called with, and calls clang.
+# The program that replaces clang. It keeps the module and its own arguments, and then calls clang.
 KEEPER = """#!/usr/bin/env python3
 import os, shutil, sys
 if "module.bc" in sys.argv:
@@ -31,13 +31,13 @@ os.execv({clang!r}, [{clang!r}, *sys.argv[1:]])
 
 
 def copied_kit(at):
-    """A folder with all that the kit has, but the keeper in place of clang."""
+    """A folder with everything of the kit, and with the keeper in place of clang."""
     kit = f"{at}/kit"
     os.makedirs(f"{kit}/toolchain/bin")
     for name in os.listdir(KIT):
         if name not in ("bin", "toolchain"):
             os.symlink(f"{KIT}/{name}", f"{kit}/{name}")
-    # `rt` finds its kit by where its own file is, so links don't do.
+    # `rt` finds its kit from the place of its own file, so a link doesn't work.
     shutil.copytree(f"{KIT}/bin", f"{kit}/bin")
     os.symlink(f"{KIT}/toolchain/lib", f"{kit}/toolchain/lib")
     for name in os.listdir(f"{KIT}/toolchain/bin"):
@@ -50,7 +50,7 @@ def copied_kit(at):
 
 
 def hints_in(folder, crate):
-    """The functions of a crate's sources that have a hint on inlining, by the names that they have in the module."""
+    """The hints on inlining in a crate's sources, by the names of their functions in the module."""
     hints = {}
     for root, _, files in os.walk(folder):
         for file in files:
@@ -79,19 +79,19 @@ def hints_of(file, modules):
     return hints
 
 
-def is_test(line):
-    """Whether a line of the module only serves the tests of `rt try`."""
+def is_check(line):
+    """True if a line of the module belongs to the checks of `rt try`."""
     if "call void @llvm.trap()" in line or 'call void @"rattle-llvm-checks::' in line:
         return True
     filled = re.search(r"call void @llvm\.memset\.p0\.i64\(ptr %[^,]*, i8 (-86|0), i64 (\d+),", line)
-    # Larger zeros are those of the program.
+    # Larger blocks of zeros belong to the program.
     return bool(filled) and (filled[1] == "-86" or int(filled[2]) <= 32)
 
 
-def without_tests(text, hints):
+def without_checks(text, hints):
     lines = []
     for line in text:
-        if is_test(line):
+        if is_check(line):
             continue
         if line.startswith("attributes #"):
             line = line.replace(" sanitize_address", "").replace(' "frame-pointer"="all"', "")
@@ -123,7 +123,7 @@ def main():
             for name in os.listdir(folder):
                 hints.update(hints_in(f"{folder}/{name}/src", name))
         with open(f"{at}/module.ll", encoding="utf-8") as text, open(f"{at}/plain.ll", "w", encoding="utf-8") as plain:
-            plain.write(without_tests(text, hints))
+            plain.write(without_checks(text, hints))
         words = open(f"{at}/words").read().split("\n")
         flags = words[: words.index("module.bc")]
         flags = [it for it in flags if not it.startswith(("-O", "-fsanitize", "-Werror"))]

@@ -1,12 +1,12 @@
 #!/bin/sh
-# Builds the static library of comfy_c and the program csvtable, which proves them, and looks at what callers get:
-#  - programs in C with bad and extreme arguments, with each request for memory refused in turn, and with random bytes
-#    and arguments must end as packages/c/comfy_table.h says; valgrind, where it is there, must find nothing in any but the last,
-#    nor clang's AddressSanitizer in that
-#  - the packages for C, Rust and Python must draw as csvtable does (tools/try/package_test.sh)
+# Proves and builds the static library of comfy_c and the program csvtable, and tests the library:
+#  - Programs in C call it with bad and extreme arguments, with each request for memory refused in turn, and with random bytes
+#    and arguments. Each call must return what packages/c/comfy_table.h says. If valgrind is installed, it must find no error in
+#    these programs except the last one, in which clang's AddressSanitizer must find none.
+#  - The packages for C, Rust and Python must draw as csvtable does (tools/try/package_test.sh).
 #
 # usage: tools/try/c_library.sh
-# CC is the compiler for C, cc where it isn't set. The Rattle toolchain, whose `rt` is on the PATH, has liblibc_c.a.
+# CC is the compiler for C, or cc if it isn't set. liblibc_c.a comes from the Rattle toolchain, whose `rt` is on the PATH.
 set -eu
 cd "$(dirname "$0")/../.."
 top=$PWD
@@ -19,7 +19,7 @@ tools/make/c_library.py > "$work/log" || { cat "$work/log"; exit 1; }
 (cd "$top/crates/csvtable" && rt run -- --version > /dev/null 2> "$work/log") || { cat "$work/log"; exit 1; }
 cp "$crate/out/libcomfy_c.a" "$libc" "$work"
 
-# Compiles a C file of the crate with the library behind it. Further arguments are for the linker.
+# Compiles a C file of the crate, and links the library: compile NAME [WORD].. The words are for the linker.
 compile() {
   name=$1
   shift

@@ -1,13 +1,15 @@
 #!/bin/sh
-# Puts the package for Rust in the place of comfy-table 8.0.1, and looks at what a program gets:
-#  - random tables, built by the same code over both, must be drawn and read alike, but for the rows of docs/DIFFERENCES.md,
-#    which are counted. If sequences differ, each character that isn't white space still has to be in the same style
-#  - the examples of the original's README and doc comments must compile and run over the package, and so must its own tests,
-#    where the folder has them
+# Tests programs for comfy-table 8.0.1 with the package for Rust in its place:
+#  - Random tables, made by the same code with both, must be drawn and read alike, except for the differences in the rows of
+#    docs/DIFFERENCES.md, which are counted. If escape sequences differ, each character except white space must still have the
+#    same style.
+#  - The examples in the original's README and doc comments must compile and run with the package. So must the original's own
+#    tests, if the folder has them.
 #
 # usage: tools/try/drop_in.sh ORIGINAL [COUNT [SEED]]
-# ORIGINAL is a folder with the sources of comfy-table and its Cargo.toml, which cargo can build when it is run there. COUNT is
-# the number of random tables, 100,000 where it isn't given. COMFY_C may name a folder with libcomfy_c.a and liblibc_c.a.
+# ORIGINAL is a folder with the sources of comfy-table and its Cargo.toml, in which cargo can build it. COUNT is the number of
+# random tables, or 100,000 if it isn't given. COMFY_C can name a folder with libcomfy_c.a and liblibc_c.a; without it, they are
+# built.
 set -eu
 if [ $# -lt 1 ]; then
   echo "usage: $0 ORIGINAL [COUNT [SEED]]" >&2
@@ -28,7 +30,7 @@ if [ -z "${COMFY_C-}" ]; then
 fi
 export CARGO_TARGET_DIR="$work/target" RUST_BACKTRACE=0
 
-# Runs cargo on the package in a folder, where the original's settings of cargo are found.
+# Runs cargo on the package in a folder, with the original's settings for cargo: cargo_of FOLDER WORD..
 cargo_of() {
   folder=$1
   shift
@@ -57,11 +59,11 @@ overflow-checks = true
 TOML
 for feature in tty custom_styling; do
   cargo_of "$work/tables" build --release --features "$feature"
-  echo "$count random tables of seed $seed with the feature $feature, by how they differ:"
+  echo "$count random tables of seed $seed with the feature $feature, by difference:"
   "$work/target/release/tables" "$count" "$seed"
 done
 
-# The examples, each file of them as a module of a crate that has the package under the original's name.
+# The examples. Those of each file are a module of a crate that has the package under the original's name.
 mkdir -p "$work/programs/src"
 if [ -e "$original/README.md" ]; then
   cp "$original/README.md" "$work/programs/src"

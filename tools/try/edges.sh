@@ -1,10 +1,10 @@
 #!/bin/sh
-# Runs a built ctable or csvtable where its memory, its input or its output ends, and with arguments that aren't text. It
-# compares its status and what it says on standard error. In each of these runs nothing may stand on standard output. Of
-# csvtable it also compares what is written of a file and of standard input. It prints a line for each run, and ends with
-# status 1 where one is otherwise than written here.
+# Runs a built ctable or csvtable with too little memory, with inputs and outputs that end or are closed, and with arguments that
+# aren't text. It compares the status and standard error. In these runs standard output must be empty. For csvtable it also
+# compares the outputs for a file and for standard input. It prints a line for each run, and ends with status 1 if one differs
+# from the values below.
 #
-# usage: tools/try/edges.sh PROGRAM, as tools/try/edges.sh crates/ctable/out/ctable
+# usage: tools/try/edges.sh PROGRAM, for example tools/try/edges.sh crates/ctable/out/ctable
 set -u
 if [ $# -ne 1 ] || [ ! -x "$1" ]; then
   echo "usage: $0 PROGRAM" >&2
@@ -16,7 +16,7 @@ work=$(mktemp -d) || exit 2
 trap 'rm -rf "$work"' EXIT
 ended=0
 
-# What each program says of arguments that aren't text, and of a pipe that has no reader any more.
+# The messages of each program about arguments that aren't text, and about a pipe that has no reader any more.
 case $name in
   csvtable)
     misused="csvtable: an argument isn't UTF-8"
@@ -39,10 +39,10 @@ printf "$line\n" > "$work/small"
 yes "$(printf "$line")" | head -c 1000000 > "$work/large"
 yes "$(printf "$line")" | head -c 50000000 > "$work/huge"
 
-# Compares a run: its name, its status, the status that is wanted, and the line that is wanted on standard error, if any.
+# Compares a run with the expected status and line on standard error: compare NAME STATUS EXPECTED LINE. An empty line means none.
 compare() {
   if [ "$2" -eq "$3" ] && [ "$(cat "$work/err")" = "$4" ] && [ ! -s "$work/out" ]; then
-    echo "$1: status $2, ${4:-nothing is said}"
+    echo "$1: status $2, ${4:-no message}"
   else
     echo "$1: BROKEN: status $2, $(wc -c < "$work/out") bytes on standard output, and on standard error:"
     cat "$work/err"
@@ -50,7 +50,7 @@ compare() {
   fi
 }
 
-# Runs the program with so many kilobytes of memory at the most.
+# Runs the program with a limit of memory in kilobytes, on a file: run_limited LIMIT FILE.
 run_limited() {
   (ulimit -v "$1" && exec "$program" < "$2" > "$work/out" 2> "$work/err")
 }
@@ -67,7 +67,7 @@ for limit in 5000 20000 50000 75000 100000 200000; do
 done
 : > "$work/out"
 
-# The status stands in a file: a pipe has that of its last command.
+# The status is written to a file, because the status of a pipe is that of its last command.
 {
   "$program" < "$work/large" 2> "$work/err"
   echo $? > "$work/status"
@@ -91,10 +91,10 @@ status=$?
 : > "$work/err"
 compare 'a folder as input, and a closed standard error' $status 1 ''
 
-# Arguments that aren't UTF-8: a byte that no text has, one behind letters, and a character that ends too early. Reading the
-# folder would end with another line: the arguments alone decide.
+# Arguments that aren't UTF-8: a byte that no text has, such a byte after letters, and a character that ends too early. The input
+# is a folder, whose message would be another one, so the arguments are checked before the input is read.
 byte=$(printf '\377')
-behind=$(printf 'dynamic\377')
+after=$(printf 'dynamic\377')
 early=$(printf 'UTF8_FULL\342\202')
 misuse() {
   run=$1
@@ -103,13 +103,13 @@ misuse() {
   compare "$run" $? $misused_status "$misused"
 }
 misuse 'a width that is no text' "$byte"
-misuse 'an arrangement that is no text' 40 "$behind"
+misuse 'an arrangement that is no text' 40 "$after"
 misuse 'a style that is no text' 40 dynamic "$early"
 misuse 'a fourth argument that is no text' 40 dynamic UTF8_FULL "$byte"
 
 [ "$name" = csvtable ] || exit $ended
 
-# The rest is said of csvtable alone: its files, and inputs that it refuses.
+# The rest is for csvtable only: its files, and inputs that it refuses.
 refused() {
   run=$1
   line=$2
@@ -122,7 +122,7 @@ refused 'a file that is not there' "$work/none: no such file" "$work/none"
 refused 'a folder as a file' "$work: is a directory" "$work"
 : > "$work/closed"
 chmod 000 "$work/closed"
-# the superuser reads it all the same
+# The superuser can read it.
 [ -r "$work/closed" ] || refused 'a file that may not be read' "$work/closed: permission denied" "$work/closed"
 refused 'a column that is not there' "standard input: no column '09'; there are a and b" -c 09
 refused 'all columns left out' 'standard input: no column is left' --drop 1-
@@ -134,12 +134,12 @@ refused 'such a line with an encoding' "standard input: line 2 isn't UTF-8" -e u
 printf 'a,b\nx,"\n' > "$work/input"
 refused 'a quote that is never closed' 'standard input: a quote that opens in line 2 is never closed; try --no-quotes'
 
-# Compares two runs that have to write the same, and not nothing.
+# Compares two outputs, which have to be equal and not empty: same NAME.
 same() {
   if [ -s "$work/first" ] && cmp -s "$work/first" "$work/second"; then
-    echo "$1: the same is written"
+    echo "$1: equal outputs"
   else
-    echo "$1: BROKEN: not the same is written"
+    echo "$1: BROKEN: the outputs differ"
     ended=1
   fi
 }
@@ -150,7 +150,7 @@ same 'a file, and standard input'
 "$program" - < "$work/input" > "$work/second"
 same 'a hyphen, and no file'
 COLUMNS=5 "$program" < "$work/input" > "$work/second"
-same 'COLUMNS where standard output is no terminal'
+same 'COLUMNS if standard output is no terminal'
 "$program" -h > "$work/first"
 "$program" --help > "$work/second"
 same '-h and --help'
@@ -158,7 +158,7 @@ same '-h and --help'
 echo 'csvtable 0.1.0' > "$work/second"
 same '-V'
 
-# With a limit the input is read no further than it needs.
+# With --limit the input is only read as far as needed.
 yes 1,2,3 | timeout 20 "$program" --limit 3 > "$work/first" 2> "$work/err"
 printf '╭───┬───┬───╮\n│ 1 ┆ 2 ┆ 3 │\n╞═══╪═══╪═══╡\n' > "$work/second"
 printf '│ 1 ┆ 2 ┆ 3 │\n│ 1 ┆ 2 ┆ 3 │\n│ 1 ┆ 2 ┆ 3 │\n╰───┴───┴───╯\nfirst 3 records; there are more\n' >> "$work/second"
@@ -173,14 +173,14 @@ same 'all records counted'
 { echo a,b; yes 1,2 | head -n 20; echo '3,"'; yes long | head -n 50000; echo '"'; yes 1,2 | head -n 50000; } > "$work/input"
 "$program" --limit 2 "$work/input" | tail -n 1 > "$work/first"
 echo 'first 2 records; there are more' > "$work/second"
-same 'a quote that is closed behind the first 64 kB'
+same 'a quote that is closed after the first 64 kB'
 { yes 1,2 | head -n 50000; printf '\377\n'; } > "$work/input"
 "$program" --limit 2 "$work/input" | tail -n 1 > "$work/first"
-same 'a byte that is no text, behind what is read'
+same 'a byte that is no text, after the part that is read'
 "$program" --limit 2 --count "$work/input" > "$work/out" 2> "$work/err"
-compare 'such a byte where all records are counted' $? 1 "csvtable: $work/input: line 50001 isn't UTF-8; try -e cp1252"
+compare 'such a byte if all records are counted' $? 1 "csvtable: $work/input: line 50001 isn't UTF-8; try -e cp1252"
 
-# An output that takes no more for now: a pipe in nonblocking mode that nobody reads.
+# An output that accepts no more bytes for now: a pipe in nonblocking mode that nobody reads.
 if command -v python3 > /dev/null; then
   python3 - "$program" "$work/input" > "$work/status" 2> "$work/err" << 'END'
 import fcntl, os, subprocess, sys
@@ -194,7 +194,7 @@ END
     'csvtable: the output takes no more for now; is it nonblocking?'
 fi
 
-# Reads and writes that a signal interrupts.
+# Reads and writes that signals interrupt.
 if command -v strace > /dev/null; then
   "$program" "$work/input" -e cp1252 --limit 3 --count > "$work/first"
   strace -o "$work/trace" -P "$work/input" -e trace=read -e inject=read:error=EINTR:when=1+2 \
@@ -205,7 +205,7 @@ if command -v strace > /dev/null; then
   same 'the first write interrupted'
 fi
 
-# Missing fields take no memory: 4,000 commas and 2,000 records of one field, and 1 MB of such a file.
+# Missing fields take no memory: 4,000 commas and 2,000 records of one field, and 1 MB of such an input.
 ragged() {
   { head -c "$2" /dev/zero | tr '\0' ,; echo; yes a | head -n "$3"; } > "$work/input"
   (ulimit -v "$4" && exec timeout 20 "$program" -w 80 "$work/input" > "$work/first" 2> "$work/err")

@@ -1,13 +1,13 @@
 #!/usr/bin/env python3
-"""Reads what csvtable draws for Markdown as GitHub's reader does, and compares it with the file.
+"""Reads csvtable's tables for Markdown as GitHub does, and compares them with the CSV files.
 
     tools/try/markdown.py CSVTABLE [FILES] [SEED]
 
-It makes so many random CSV files (1,000 without a number) of texts that have what Markdown could take for markup, and of
-web addresses, draws each, and has `cmark-gfm` (a Debian package) read the drawing, once with tables alone and once with all
-that GitHub adds. Each field's text has to come back, less outer spaces, and each column has to stand at its side. A field
-that is an address alone has to be a link to it, where no backslash stands in it. It prints the first differences and how
-many addresses were links, and ends with 1 where there is a difference, or no link.
+It makes FILES random CSV files (1,000 without a number) with web addresses, and with texts that Markdown could take for markup.
+Each is drawn, and `cmark-gfm` (a Debian package) reads the drawing, once with tables only, and once with all that GitHub adds.
+Each field's text has to come back without outer spaces, and each column has to have its alignment. A field that is only an
+address has to be a link to it, if it has no backslash. The first differences and the number of links are printed. The status is
+1 if there is a difference, or no link.
 """
 import csv
 import html.parser
@@ -23,7 +23,7 @@ PARTS = (
     + ["a", "b c", "x_y", "_u_", "1", "42", "-7", "3.5", "é", "王小明", "\U0001f680", " ", "  ", "\n", "http://a.b", "a@b.c", ":", "---", ":-:", "'", '"', ",", "$", "^", "="]
     + ["http://", "HTTPS://", "ftp://a.b/", "www.", "www.a.b/", "://", "w.", "mailto:", "xmpp:", "&a", ";", "x;", "&#x2a;", "(", ")", "<script>"]
 )
-# what an address is made of; the last ones aren't right in every address, but are met with
+# the parts of addresses; not all of them are correct, but they occur
 SCHEMES = ["https://", "http://", "https://www.", "www."]
 HOSTS = ["example.org", "a.b-c.net", "en.wikipedia.org", "localhost.test:8080", "192.168.0.1", "show.com"]
 STEPS = ["/", "/a", "/~user", "/wiki/A_(b)", "/a_b/c", "/_next/x", "/%20b", "/a-b.html", "/@user", "/a+b", "/a,b", "/é", "/x!", "/$a", "/a:b", "/a;b", "/x=1'"]
@@ -32,7 +32,7 @@ ENDS = ["", "", "", "#top", "#a_b", "#_x_", "/", "#:~:text=a"]
 
 
 class Tables(html.parser.HTMLParser):
-    """The cells of a table, row by row, the side that each says it stands at, and the links of each."""
+    """The cells of a table by row, and the alignment and the links of each."""
 
     def __init__(self):
         super().__init__()
@@ -79,7 +79,7 @@ def text_of(given, addresses):
 
 
 def spaceless(text):
-    """A text as a page shows it: spaces at the two ends of a line are none."""
+    """A text as a page shows it, without spaces at the beginning and the end of each line."""
     return "\n".join(line.strip(" ") for line in text.split("\n")).strip(" ")
 
 
@@ -91,7 +91,7 @@ def read_by(drawn, extensions):
 
 
 def leads_to(link, field):
-    """Whether a link leads to an address: it may be written in percents, and have a scheme that the address lacks."""
+    """True if a link leads to an address. The link may have percent escapes, and a scheme that the address doesn't have."""
     return urllib.parse.unquote(link).removeprefix("http://") == urllib.parse.unquote(field).removeprefix("http://")
 
 
@@ -119,7 +119,7 @@ def differences(number, counts):
             return [drawn.decode(), " ".join(extensions), str(read), str(wanted)]
     for record, links in zip(wanted, tables.links):
         for field, own in zip(record, links):
-            # the reader leaves such a last character out of a link
+            # The reader leaves some last characters out of links.
             if field not in addresses or field not in drawn.decode() or field[-1] in "?!.,:*_~'\");":
                 continue
             counts["links"] += 1
@@ -135,7 +135,7 @@ def main():
         bad += bool(shown)
         if shown and bad <= 3:
             print(f"file {number} of seed {SEED}:", *shown, sep="\n")
-    print(f"{FILES} files, {bad} otherwise; {counts['links']} links")
+    print(f"{FILES} files, {bad} with differences; {counts['links']} links")
     return 1 if bad or not counts["links"] else 0
 
 

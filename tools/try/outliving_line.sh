@@ -1,6 +1,6 @@
 #!/bin/sh
-# A program in which a line of split_line_ref outlives its text doesn't compile; one in which the line ends first does, and
-# prints it. Nothing is proved.
+# Checks that a program in which a line of split_line_ref outlives its text doesn't compile. A program in which the line ends
+# first must compile and print the line. Nothing is proved.
 #
 # usage: tools/try/outliving_line.sh
 set -u
@@ -15,7 +15,7 @@ for name in cluster_width comfy_parts; do
 done
 echo 'line: comfy_parts' >> "$work/crates.txt"
 
-# Tries a program that drops the text of a line before the line is printed, or behind that.
+# Tries a program that drops a text before its lines are printed, or after that: try BEFORE AFTER.
 try() {
   cat > "$work/crates/line/src/main.rt" << END
 //! A line that is borrowed from its text.
@@ -44,13 +44,13 @@ END
 
 try '' 'drop(text);'
 if [ "$(grep '^line ' "$work/said" | tr '\n' ' ')" != 'line ab line cd ' ]; then
-  echo "$0: a line that ends before its text isn't printed" >&2
+  echo "$0: a line that ends before its text wasn't printed" >&2
   cat "$work/said" >&2
   exit 1
 fi
 try 'drop(text);' ''
 if ! grep -q 'error\[borrow-e0505\].*`text`' "$work/said"; then
-  echo "$0: a line that outlives its text isn't refused" >&2
+  echo "$0: a line that outlives its text wasn't refused" >&2
   cat "$work/said" >&2
   exit 1
 fi

@@ -1,15 +1,16 @@
 #!/usr/bin/env python3
-"""Makes 18 files as people have them, and some that are no text, and tries csvtable on them.
+"""Makes 18 realistic files, and some that aren't text, and tries csvtable on them.
 
-    tools/try/real_files.py PROGRAM             runs PROGRAM on each file: its status, what it writes and what it says; whether numbers
-                                                and dates stand whole at each width from 20 to 200; and each example of the man page,
-                                                which has the recipes of docs/CSVTABLE.md, where the other programs that it names are
-    tools/try/real_files.py --compare PROGRAM   prints a table of what PROGRAM, csvlook, mlr and column do, file by file: without an
-                                                option, and with the option that suits the file, if there is one; below it, how many
-                                                files each draws right
+    tools/try/real_files.py PROGRAM             runs PROGRAM on each file, and checks its status, output and messages. Checks that
+                                                numbers and dates aren't broken at any width from 20 to 200. Runs each example of the
+                                                man page, among them the recipes of docs/CSVTABLE.md, if the other programs in it are
+                                                installed
+    tools/try/real_files.py --compare PROGRAM   prints a table of the results of PROGRAM, csvlook, mlr and column on each file. If an
+                                                option suits a file, the results with and without it are printed. Below the table are
+                                                the numbers of files that each draws correctly
 
-What is wanted stands beside each file or example, and comes from the rules in docs/CSVTABLE.md. The first form prints a line for each
-run, and ends with status 1 where one is otherwise.
+The expected results are beside each file or example, and follow from the rules in docs/CSVTABLE.md. The first form prints a line for
+each run, and ends with status 1 if one differs.
 """
 import csv
 import gzip
@@ -47,12 +48,12 @@ TSV = 'name\tnote\nscrew 5"\t5" long\nbolt\tflat\n'
 PREAMBLE = "Bank of Nowhere\nAccount 12\n\ndate,amount\n2026-05-02,-84.50\n2026-05-13,2500.00\n"
 
 
-# a number, or what dates and times are written with
+# a number, or the characters of dates and times
 WHOLE = re.compile(r"\(?[-+]?[$€£]?\d[\d,.]*(e[-+]?\d+)?\s?[%€$]?\)?|[-/:.TZ+ \d]*")
 
 
 class Run:
-    """A file, the arguments with which it is drawn, and what is wanted: a status, a text in the output or in the message."""
+    """A file, the arguments for drawing it, and the expected status, texts in the output, and message."""
 
     def __init__(self, name, text, arguments="", status=0, drawn=(), said="", encoding="utf-8", delimiter=","):
         self.name, self.arguments, self.status, self.drawn, self.said = name, arguments.split(), status, drawn, said
@@ -89,7 +90,7 @@ RUNS = [
     Run("preamble.csv", PREAMBLE, "--skip 3 -r amount --drop nothing", 1, said="preamble.csv: no column 'nothing'; there are date and amount"),
 ]
 
-# Files that are no text as they stand, and what helps; no other program is tried on these.
+# Files that aren't text, or not in the expected encoding, and arguments that help. The comparison doesn't use them.
 ADVISED = [
     Run("bare.csv", BANK, "", 1, said="bare.csv: looks like UTF-16; try -e utf-16\n", encoding="utf-16-le", delimiter=";"),
     Run("bare.csv", BANK, "-e utf-16", drawn=["Bäckerei Müller"], encoding="utf-16-le", delimiter=";"),
@@ -103,7 +104,7 @@ ADVISED = [
     Run("junk.csv", b"\xff\n" + b"a,b\n\xe4\n", "--skip 1", 1, said="junk.csv: line 3 isn't UTF-8; try -e cp1252\n"),
 ]
 
-# The rest of what a message has to say: files that can't be read.
+# The messages for files that can't be read.
 OTHERS = [
     ("nofile.csv", "csvtable: nofile.csv: no such file\n"),
     ("folder", "csvtable: folder: is a directory\n"),
@@ -111,15 +112,15 @@ OTHERS = [
 
 with open(os.path.join(TOP, "crates/csvtable/data/ledger.csv"), encoding="utf-8") as file:
     LEDGER = file.read()
-# more than --limit reads at first, and then no UTF-8: nothing refuses what it needn't read
+# More than --limit reads at first, and then bytes that aren't UTF-8. They aren't refused, because they needn't be read.
 BIG = b"id,name,x,y,z,last\n" + b"".join(b"%d,n%d,1,2,3,4\n" % (it, it) for it in range(9000)) + b"\xff\n"
 GIT = "git init -q; git config user.name Ann; git config user.email ann@localhost; echo '*.csv diff=csv' > .gitattributes; git add .; git commit -qm one; sed -i s/1,150/1,175/ ledger.csv"
 FILES = '[{"name": "a, b.txt", "size": 12}, {"name": "c", "size": 3000}]'
 
 
 class Recipe:
-    """A command of the man page, commands before and after it, and the texts that all of them write in this order. What they write
-    goes into a pipe, or to a terminal of so many columns."""
+    """A command of the man page, commands before and after it, and texts that their output has in this order. It goes to a pipe, or
+    to a terminal if `columns` isn't 0."""
 
     def __init__(self, command, name, text, drawn, before="", after="", columns=0):
         self.command, self.name, self.drawn, self.columns = command, name, drawn, columns
@@ -160,7 +161,7 @@ RECIPES = [
 
 
 def width_of(line):
-    """So many terminal columns: what is joined to an emoji before it takes none, and a flag is two letters of one."""
+    """The terminal columns of a line. A character joined to an emoji takes none, and each of a flag's two letters one."""
     characters = [c for c, before in zip(line, " " + line) if before != "\u200d"]
     return sum(2 if unicodedata.east_asian_width(c) in "WF" else 1 for c in characters if unicodedata.category(c) not in ("Mn", "Me", "Cf"))
 
@@ -175,13 +176,13 @@ def write(run, folder):
 
 
 def fault_of(run, result):
-    """What is otherwise than wanted, or nothing."""
+    """The difference from the expected result, or ""."""
     out, err = result.stdout.decode(errors="replace"), result.stderr.decode(errors="replace")
     if result.returncode != run.status:
         return f"status {result.returncode}: {err.strip()}"
     message = "csvtable: " + run.said + ("" if run.said.endswith("\n") else "\n") if run.said else ""
     if err != message or (run.status and out):
-        return f"it says {err!r}"
+        return f"its message is {err!r}"
     if run.status:
         return ""
     missing = [it for it in run.drawn if it not in out]
@@ -189,7 +190,7 @@ def fault_of(run, result):
 
 
 def rows_of(run):
-    """The records of a file, its header the first."""
+    """The records of a file, with the header first."""
     skipped = 3 if "--skip" in run.arguments else 0
     text = run.bytes.decode(run.encoding).removeprefix("\ufeff").removeprefix("sep=;\n")
     quoting = csv.QUOTE_NONE if "--no-quotes" in run.arguments else csv.QUOTE_MINIMAL
@@ -197,7 +198,7 @@ def rows_of(run):
 
 
 def broken_in(run, width, out):
-    """The numbers and dates of columns of them that no line has whole; of a record those that leave four columns for names."""
+    """The broken fields in columns of numbers or dates. In expanded records, fields have to leave four columns for names."""
     columns = itertools.zip_longest(*rows_of(run)[1:], fillvalue="")
     fields = [it for column in columns if all(len(it) <= 25 and WHOLE.fullmatch(it) for it in column) for it in column]
     room = width - 7 - 4 if out.startswith("record ") else width
@@ -205,11 +206,11 @@ def broken_in(run, width, out):
 
 
 def tried_at_widths(program, run, folder):
-    """At how many widths a number or a date is broken."""
+    """True if a number or a date is broken at some width."""
     write(run, folder)
     outs = [(width, ran([program, "-w", str(width), run.name], folder).stdout.decode()) for width in range(20, 201)]
     broken = [(width, it[0]) for width, out in outs if (it := broken_in(run, width, out))]
-    print(f"{run.name} from 20 to 200 columns: {f'{broken[0][1]!r} is broken at {broken[0][0]}' if broken else 'as it should be'}")
+    print(f"{run.name} from 20 to 200 columns: {f'{broken[0][1]!r} is broken at {broken[0][0]}' if broken else 'as expected'}")
     return bool(broken)
 
 
@@ -219,14 +220,14 @@ def tried(program, folder):
         write(run, folder)
         arguments = run.arguments if "-w" in run.arguments else ["-w", "80", *run.arguments]
         fault = fault_of(run, ran([program, *arguments, run.name], folder))
-        print(f"{run.name} {' '.join(run.arguments)}: {fault or 'as it should be'}")
+        print(f"{run.name} {' '.join(run.arguments)}: {fault or 'as expected'}")
         faults += bool(fault)
     faults += sum(tried_at_widths(program, run, folder) for run in RUNS if not run.arguments and not run.status)
     os.mkdir(os.path.join(folder, "folder"))
     for name, message in OTHERS:
         result = ran([program, name], folder)
         good = result.returncode == 1 and not result.stdout and result.stderr.decode() == message
-        print(f"{name}: {'as it should be' if good else result.stderr}")
+        print(f"{name}: {'as expected' if good else result.stderr}")
         faults += not good
     return faults + tried_examples(program)
 
@@ -235,7 +236,7 @@ def tried(program, folder):
 
 
 def shown(script, folder, columns):
-    """What a script writes in a folder whose bin/ has csvtable: into a pipe, or to a terminal of so many columns."""
+    """The output of a script in a folder whose bin/ has csvtable. The output is a pipe, or a terminal if `columns` isn't 0."""
     ours, theirs = pty.openpty() if columns else os.pipe()
     if columns:
         termios.tcsetwinsize(theirs, (50, columns))
@@ -255,7 +256,7 @@ def shown(script, folder, columns):
 
 
 def recipe_fault(recipe, out):
-    """The first text that isn't there behind the one before it, or a line that is wider than the terminal; else nothing."""
+    """The first text that is missing after the one before it, or a line that is wider than the terminal, or ""."""
     place = 0
     for text in recipe.drawn:
         place = out.find(text, place)
@@ -266,7 +267,7 @@ def recipe_fault(recipe, out):
 
 
 def tried_recipe(program, recipe):
-    """Whether an example does otherwise than it should. One whose other programs aren't there is left out."""
+    """True if the output of an example differs. An example is left out if its other programs aren't installed."""
     others = [it for it in ("git", "jq", "less", "mlr") if it in recipe.script.split() and not shutil.which(it)]
     if others:
         print(f"{recipe.command}: left out, without {others[0]}")
@@ -276,19 +277,19 @@ def tried_recipe(program, recipe):
         os.symlink(program, os.path.join(folder, "bin", "csvtable"))
         write(recipe, folder)
         fault = recipe_fault(recipe, shown(recipe.script, folder, recipe.columns))
-    print(f"{recipe.command}: {fault or 'as it should be'}")
+    print(f"{recipe.command}: {fault or 'as expected'}")
     return bool(fault)
 
 
 def tried_examples(program):
-    """How many examples of the man page do otherwise than they should, or aren't tried here."""
+    """The number of examples of the man page whose output differs, or that are missing here."""
     untried = {command for command, _ in examples()} ^ {it.command for it in RECIPES}
     for command in sorted(untried):
-        print(f"{command}: stands in one of the man page and this file alone")
+        print(f"{command}: only the man page or only this file has it")
     return len(untried) + sum(tried_recipe(program, it) for it in RECIPES)
 
 
-# ---- beside other programs
+# ---- the comparison with other programs
 
 PROGRAMS = {
     "csvlook -I": ["csvlook", "-I"],
@@ -296,7 +297,7 @@ PROGRAMS = {
     "column -ts,": ["column", "-t", "-s", ","],
 }
 
-# The commands with an option that suits a file, by the programs above; those of csvtable are in RUNS.
+# The commands of these programs with an option that suits a file. Those of csvtable are in RUNS.
 SUITING = {
     "csvlook -I": {
         "bank.csv": ["csvlook", "-I", "-e", "cp1252"],
@@ -318,20 +319,21 @@ SUITING = {
 
 
 def said_in(result):
-    """A line of an error, of Python's its last one, without the program's name."""
+    """The first line of an error, or the last line of one of Python, without the program's name."""
     lines = result.stderr.decode(errors="replace").strip().split("\n")
     line = lines[-1] if "Python" in lines[0] or "python" in lines[0] else lines[0]
     return textwrap.shorten(re.sub(r"^(mlr: |csvtable: )+", "", line).strip(".:"), 64, placeholder=" ...").replace("|", "/").replace("`", "'")
 
 
 def lost_in(run, out):
-    """The fields that don't stand in a drawing as they are."""
+    """The lines of fields that a drawing doesn't have unchanged."""
     lines = [line.strip() for row in rows_of(run) for field in row for line in field.split("\n")]
     return [it for it in lines if it.isprintable() and it not in out]
 
 
 def seen_of(run, result, whole, has_frame=True):
-    """What a person sees of a drawing, the whole of which is this: how it fails, or its faults."""
+    """The faults that a person sees in a drawing, "right" if there are none, or the reason why there is no drawing. `whole` is the
+    drawing without a width."""
     if result.returncode:
         return "refused: " + said_in(result)
     out, whole = result.stdout.decode(errors="replace"), whole.stdout.decode(errors="replace")
@@ -346,20 +348,20 @@ def seen_of(run, result, whole, has_frame=True):
     if "\x1b" in out or "\x07" in out:
         faults.append("sends its escapes")
     if run.delimiter != "," and run.delimiter in whole:
-        faults.append("columns not parted")
+        faults.append("columns not separated")
     lost = lost_in(run, whole)
-    if lost and "columns not parted" not in faults:
+    if lost and "columns not separated" not in faults:
         faults.append(f"no `{lost[0][:20]}`")
     return ", ".join(faults) or "right"
 
 
 def options_of(command, plain):
-    """The words of a command that the plain one doesn't have."""
+    """The words of a command that the command without options doesn't have."""
     return " ".join("TAB" if it == "\t" else it for it in command if it not in plain)
 
 
 def seen_by_csvtable(program, run, folder):
-    """What csvtable draws of a file: without an option, and with the option that it is given here."""
+    """The results of csvtable on a file, without an option, and with the option of RUNS."""
     seen = {}
     if not run.arguments:
         seen[""] = seen_of(run, ran([program, "-w", "80", run.name], folder), ran([program, "-w", "0", run.name], folder))
@@ -372,7 +374,7 @@ def seen_by_csvtable(program, run, folder):
 
 
 def seen_by(label, run, folder):
-    """What another program draws of a file: without an option, and with the option that suits the file."""
+    """The results of another program on a file, without an option, and with the option of SUITING."""
     plain, suiting = PROGRAMS[label], SUITING[label].get(run.name)
     if not shutil.which(plain[0]):
         return {"": "not installed"}

@@ -1,13 +1,13 @@
 /*
- * Refuses the requests for memory of a program, one after another: refuse INPUT PROGRAM [WORD]..
+ * Refuses each request for memory of a program in turn: refuse INPUT PROGRAM [WORD]..
  *
- * It runs PROGRAM with the words on the file INPUT with its first request refused, then with its second, and so on until
- * PROGRAM makes no more. Wherever a run ends otherwise than the one before it prints `request N: status S, B bytes,
- * ERRORS`. S is the exit status, or 128 and the signal that ended the run, which has a minute. B is how much stands on
- * standard output, and ERRORS the beginning of standard error. The last line is `refused in turn: N;` and behind it, with a
- * semicolon after each, how many runs ended in which way: ` C status S, B bytes, ERRORS`.
+ * It runs PROGRAM with these words on the file INPUT, and refuses its first request. The next run has its second request refused,
+ * and so on until a run makes no more requests. If a run ends in another way than the run before it, it prints `request N: status S,
+ * B bytes, ERRORS`. S is the exit status, or 128 plus the signal that ended the run. A run is ended after a minute. B is the
+ * number of bytes on standard output, and ERRORS the beginning of standard error. The last line is `refused in turn: N;` and
+ * then, for each way, the number C of runs that ended in it: ` C status S, B bytes, ERRORS;`.
  *
- * The library of refusing.c does the refusing. It stands beside this program, by its name with `.so` behind.
+ * The library of refusing.c refuses the requests. It has to be beside this program, and has its name with `.so` added.
  */
 #include <fcntl.h>
 #include <stdio.h>
@@ -18,14 +18,14 @@
 
 enum { SHOWN = 200, LENGTH = SHOWN + 100, SECONDS = 60, OUTPUT = 0, ERRORS = 1, REFUSED = 2, FILES = 3 };
 
-/* A way in which runs ended. */
+/* One way in which runs ended. */
 struct way {
     struct way *next;
     long count;
     char text[LENGTH];
 };
 
-/* What a run writes, and the numbers that it has these files by. It writes to the last one where a request is refused. */
+/* The files that a run writes, and their numbers in the run. The last one gets a byte if a request was refused. */
 static int files[FILES];
 static const int numbers[FILES] = {1, 2, 9};
 
@@ -34,7 +34,7 @@ static void stop(const char *what) {
     exit(2);
 }
 
-/* Becomes a run of the program. */
+/* Turns this process into a run of the program, with one request refused. */
 static void become(char **words, long request) {
     char library[4096], number[24];
     int input = open(words[1], O_RDONLY);
@@ -49,12 +49,12 @@ static void become(char **words, long request) {
     stop(words[2]);
 }
 
-/* How many bytes a run has written to a file. */
+/* Returns the number of bytes that a run has written to a file. */
 static long length_of(int file) {
     return (long)lseek(files[file], 0, SEEK_END);
 }
 
-/* Describes how a run ended. */
+/* Writes a description of the way in which a run ended. */
 static void describe(int status, char text[LENGTH]) {
     char said[SHOWN + 1] = {0};
     int code = WIFEXITED(status) ? WEXITSTATUS(status) : 128 + WTERMSIG(status);
@@ -63,7 +63,7 @@ static void describe(int status, char text[LENGTH]) {
     snprintf(text, LENGTH, "status %d, %ld bytes, %s", code, length_of(OUTPUT), said);
 }
 
-/* Runs the program, and says whether it made the request that was to be refused. */
+/* Runs the program, and returns true if it made the request, which was refused then. */
 static int is_refused(char **words, long request, char text[LENGTH]) {
     int status = 0;
     for (int file = 0; file < FILES; file++)
@@ -75,7 +75,7 @@ static int is_refused(char **words, long request, char text[LENGTH]) {
     return length_of(REFUSED) > 0;
 }
 
-/* The way with a text, behind those that are there already. */
+/* Returns the way with a text, and adds it after the others if it is new. */
 static struct way *way_of(struct way **at, const char *text) {
     while (*at && strcmp((*at)->text, text)) at = &(*at)->next;
     if (!*at) {
@@ -86,7 +86,7 @@ static struct way *way_of(struct way **at, const char *text) {
     return *at;
 }
 
-/* Makes the files of the runs, which have no name. */
+/* Makes the files of the runs. They have no names. */
 static void make_files(void) {
     for (int file = 0; file < FILES; file++) {
         FILE *made = tmpfile();
@@ -95,7 +95,7 @@ static void make_files(void) {
     }
 }
 
-/* Refuses the requests in turn, and returns how many there are. */
+/* Refuses the requests in turn, and returns their number. */
 static long refuse(char **words, struct way **ways) {
     struct way *last = NULL;
     char text[LENGTH];

@@ -1,17 +1,18 @@
 #!/bin/sh
-# Refuses each request for memory of four built programs, one after another: those of ctable and csvtable on their stored
-# inputs, without arguments and with some, those of test_cases on two of its cases, and those of test_refused on each call by
-# itself. Each such run of the first three must end with status 1, print nothing, and say that there is no memory. Or it
-# prints as many bytes as with ample memory: `collect` asks for room for all values, and if that is refused, for one. One of
-# test_refused must say that the call was refused as promised, or end with status 3 and print nothing, where the request
-# wasn't the call's. Of a call that adds three rows it must also say how many are kept: 0 at first, then 1, then 2, as
-# later requests are refused. And format_row must make fewer than 250 requests for 100 pieces, also of wide texts, of styled
-# cells and of cut cells: two for each piece and its line or its cell, and few more. arrange_content must make as many for
-# 1,000 rows as for one.
+# Refuses each request for memory of four programs in turn, and checks how each run ends:
+#  - ctable and csvtable on their stored inputs, with and without arguments, and test_cases on two of its cases. A run must end
+#    with status 1, no output and a message that memory ran out. Or it must print as many bytes as with enough memory, because
+#    `collect` asks for room for all values, and if that is refused, for one.
+#  - test_refused on each of its calls. A run must print that the call was refused as promised, or end with status 3 and no output
+#    if the request isn't one of the call. After a call that adds three rows, it must also print the number of kept rows. That is
+#    0 at first, and 1 and 2 as later requests are refused.
+#
+# format_row must make fewer than 250 requests for 100 pieces, also of wide texts, of styled cells and of cut cells. That is two
+# for each piece and its line or its cell, and a few more. arrange_content must make the same number for 1,000 rows as for one.
 #
 # usage: tools/try/refused_requests.sh
-# It builds the programs where they aren't, which proves them. CC is the compiler of refuse.c, which refuses the requests
-# and says how runs end: cc where it isn't set. That takes the GNU C library, with which the programs are linked.
+# Programs that aren't built yet are proved and built first. CC is the compiler for C, or cc if it isn't set. It compiles refuse.c,
+# which runs the programs, with the GNU C library, with which they are linked.
 set -u
 tools=$(cd "$(dirname "$0")" && pwd) || exit 2
 crates=$(cd "$tools/../../crates" && pwd) || exit 2
@@ -20,7 +21,7 @@ trap 'rm -rf "$work"' EXIT
 ${CC:-cc} -O2 -Wall -Wextra -Werror "$tools/refuse.c" -o "$work/refuse" || exit 2
 ${CC:-cc} -O2 -Wall -Wextra -Werror -shared -fPIC "$tools/refusing.c" -o "$work/refuse.so" || exit 2
 
-# Builds a program. With ample memory it must print what is stored, on its stored input, or with the arguments behind its name.
+# Builds a program, and runs it on its stored input, or with arguments: build NAME [WORD].. It must print its stored output.
 build() {
   name=$1
   shift
@@ -30,12 +31,13 @@ build() {
   fi
   (cd "$crates/$name" && rt run ${1:+--} "$@" < "$input" > "$work/printed") || exit 2
   if ! cmp "$work/printed" "$crates/$name/stdout"; then
-    echo "$0: $name prints something else with ample memory" >&2
+    echo "$0: the output of $name differs even with enough memory" >&2
     exit 1
   fi
 }
 
-# Each refused request of a built program on an input must end with what is said. Behind it stand the program's arguments.
+# Refuses each request of a program on an input. A run must end with the message: refuse NAME INPUT MESSAGE [WORD].. The words
+# are arguments of the program.
 refuse() {
   name=$1
   input=$2
@@ -51,12 +53,12 @@ refuse() {
   fi
   if printf '%s\n' "$said" | grep '^request ' \
     | grep -v -e ": status 1, 0 bytes, $message *\$" -e ": status 0, $whole bytes, *\$"; then
-    echo "$0: a refused request of $called ended otherwise" >&2
+    echo "$0: a refused request of $called ended in another way" >&2
     exit 1
   fi
 }
 
-# Each refused request of a call must be answered as promised. A run with status 3 refused one outside of the call.
+# Refuses each request of a call, which must fail as promised: refuse_call CALL. Status 3 means a request outside of the call.
 refuse_call() {
   call=$1
   printf '%s\n' "$call" > "$work/call"
@@ -68,12 +70,12 @@ refuse_call() {
   esac
   if printf '%s\n' "$said" | grep '^request ' \
     | grep -v -e ": status 0, $bytes bytes, $words *\$" -e ': status 3, 0 bytes, *$'; then
-    echo "$0: a refused request of $call ended otherwise" >&2
+    echo "$0: a refused request of $call ended in another way" >&2
     exit 1
   fi
   kept=$(printf '%s\n' "$said" | sed -n 's/^request .* rows kept: \([0-9]*\) *$/\1/p' | uniq | tr '\n' ' ')
   if [ -n "$words" ] && [ "$kept" != '0 1 2 ' ]; then
-    echo "$0: of the rows of $call these were kept, request by request: $kept" >&2
+    echo "$0: the numbers of rows that $call kept, by request: $kept" >&2
     exit 1
   fi
   own=$(printf '%s\n' "$said" | sed -n 's/^refused in turn://p' | tr ';' '\n' \
@@ -107,6 +109,6 @@ while IFS= read -r call; do
   esac
 done < "$crates/test_refused/stdin"
 if [ "$formatted" -ge 250 ] || [ "$one" -ne "$thousand" ]; then
-  echo "$0: format_row or arrange_content makes other numbers of requests: $formatted, $one, $thousand" >&2
+  echo "$0: format_row or arrange_content makes wrong numbers of requests: $formatted, $one, $thousand" >&2
   exit 1
 fi

@@ -1,8 +1,8 @@
 /*
- * Refuses one request for memory of the program that loads this library before others, by LD_PRELOAD: the one with the
- * number in REFUSED_REQUEST, counted from 1. It writes a byte to the file 9 when it does.
+ * Refuses one request for memory of a program that loads this library by LD_PRELOAD: the one with the number in the variable
+ * REFUSED_REQUEST, counted from 1. It writes a byte to file 9 then.
  *
- * A request is a call of malloc, calloc or realloc after the program was loaded. The memory is that of the GNU C library.
+ * A request is a call of malloc, calloc or realloc after the program was loaded. The GNU C library answers all other requests.
  */
 #include <errno.h>
 #include <stdlib.h>
@@ -12,7 +12,7 @@ void *__libc_malloc(size_t size);
 void *__libc_calloc(size_t count, size_t size);
 void *__libc_realloc(void *block, size_t size);
 
-/* How many requests are left until one has been refused; 0 where none is to be refused any more. */
+/* The number of requests up to the one to refuse, or 0 if none will be refused any more. */
 static long left;
 
 __attribute__((constructor)) static void start(void) {

@@ -1,17 +1,17 @@
 #!/usr/bin/env python3
-"""Draws random inputs by two builds of csvtable or ctable, and says where they write something else.
+"""Draws random inputs by two builds of csvtable or ctable, and prints the inputs for which they differ.
 
     tools/try/same_bytes.py csvtable|ctable OLD NEW [FIRST] COUNT
 
-OLD and NEW are two builds of the program in files of the same name, since help names the file. An input is made from each of
-COUNT numbers from FIRST on; without FIRST they begin at 0. Outputs, messages and statuses are compared. The status is 1 after a
-difference, and the run ends after six. 1,000 inputs take some ten seconds.
+OLD and NEW are two builds of the program in files with the same name, because the help has the file's name. An input is made from
+each of COUNT numbers, from FIRST or 0 on. Outputs, messages and statuses are compared. The status is 1 after a difference. The
+run ends after six differences. 1,000 inputs take about ten seconds.
 """
 import random
 import subprocess
 import sys
 
-# Texts of many scripts, and what looks like numbers, dates, markup and control characters.
+# Texts of many scripts, numbers, dates, markup, control characters, and texts that look like these.
 TEXTS = [
     "a", "word", "two words", "Ünïcode", "日本語", "한글", "👨\u200d👩\u200d👧", "🇩🇪", "✅", "e\u0301", "ก็", "क्ष",
     "اب", "\u200d", "\ufe0f", "\u202e", "\ufeff", "", "  ", "x\ty", "line\nbreak", "a\r\nb", "\x07",
@@ -40,7 +40,7 @@ def text_of(draw):
 
 
 def field_of(draw, kind):
-    """A whole number, a number with digits after its point, a date or a text, as the column has them."""
+    """A field of a column's kind: a whole number, a number with a decimal point, a date or a text."""
     if kind == 0:
         return str(draw.randint(-999, 99999))
     if kind == 1:
@@ -57,7 +57,7 @@ def quoted(draw, field, delimiter):
 
 
 def csvtable_input(draw):
-    """Arguments for csvtable, and an input: some of it isn't UTF-8, and some records have more or fewer fields than others."""
+    """Arguments for csvtable, and an input. Some inputs aren't UTF-8, and some records have more or fewer fields than others."""
     delimiter = draw.choice(",,,,;\t|")
     kinds = [draw.randint(0, 4) for _ in range(draw.randint(1, 6))]
     lines = []
@@ -79,7 +79,7 @@ def cell_of(draw):
 
 
 def ctable_input(draw):
-    """Arguments for ctable, and lines of cells between TABs."""
+    """Arguments for ctable, and lines of cells that TABs separate."""
     columns = draw.randint(1, 8)
     lines = []
     for _ in range(draw.randint(1, 7)):

@@ -1,12 +1,12 @@
 #!/usr/bin/env python3
-"""Runs csvtable in terminals that it makes, and looks at what a person would see.
+"""Runs csvtable in terminals, and checks what a person would see there.
 
     tools/try/terminal.py PROGRAM
 
-PROGRAM is the command as tools/install.sh installs it, PREFIX/bin/csvtable; of a built program alone it tries all but the
-widths of terminals. Each try has arguments, an input and an environment, and standard input, output and error each are a
-terminal or not. It looks at the widths of lines, at bold headers, at statuses, at which stream a text stands on, and at
-characters that would speak to the terminal. It prints a line for each try, and ends with 1 where one shows something else.
+PROGRAM is the command that tools/install.sh installs, PREFIX/bin/csvtable. For a built program, the tries with widths of
+terminals are left out. Each try has arguments, an input and an environment. Standard input, output and error are terminals or
+not. Checked are the widths of lines, bold headers, statuses, the stream of each text, and characters that control the terminal.
+A line is printed for each try, and the status is 1 if one differs.
 """
 import os
 import pty
@@ -25,7 +25,7 @@ failed = 0
 
 
 def terminal(columns=0):
-    """The two ends of a new terminal that passes lines on as they are, and is so wide; where that is 0, it doesn't know."""
+    """The two ends of a new terminal that doesn't change lines. With 0 columns, it doesn't know its width."""
     ours, theirs = pty.openpty()
     termios.tcsetwinsize(theirs, (24, columns))
     settings = termios.tcgetattr(theirs)
@@ -35,7 +35,7 @@ def terminal(columns=0):
 
 
 def all_of(ends):
-    """What comes out of these ends until all are closed, by end."""
+    """The bytes that are read from each of these ends until it is closed."""
     said = {end: b"" for end in ends}
     waiting = set(ends)
     while waiting:
@@ -52,7 +52,7 @@ def all_of(ends):
 
 
 def run(*arguments, text=b"", out="terminal", err="pipe", columns=0, program="", **variables):
-    """A run's status, output and messages. Each stream is a terminal, a pipe, or a file that it is written to."""
+    """The status, output and messages of a run. Each of the two streams is a terminal, a pipe, or the path of a file."""
     environment = {name: it for name, it in os.environ.items() if name not in ("COLUMNS", "NO_COLOR")} | variables
     ends, theirs = {}, {}
     for name, kind in (("out", out), ("err", err)):
@@ -72,7 +72,7 @@ def run(*arguments, text=b"", out="terminal", err="pipe", columns=0, program="",
 
 
 def columns(line):
-    """How many terminal columns a line takes: of its characters, those that are wide count two and marks none."""
+    """The terminal columns of a line. Wide characters take two, and marks none."""
     count = 0
     for c in SGR.sub("", line):
         if unicodedata.category(c) not in ("Mn", "Me", "Cf"):
@@ -84,14 +84,14 @@ def widest(text):
     return max((columns(line) for line in text.split("\n")), default=0)
 
 
-def speaks(text):
-    """Whether a text has a control character but line feeds and those of SGR sequences, or one that turns the direction."""
+def controls(text):
+    """True if a text has control characters other than line feeds and SGR sequences, or changes the direction of text."""
     return any(unicodedata.category(c) == "Cc" and c != "\n" or c in "\u202a\u202b\u202c\u202d\u202e\u2066\u2067\u2068\u2069" for c in SGR.sub("", text))
 
 
 def see(name, is_so, shown=""):
     global failed
-    print(f"{name}: {'as it should be' if is_so else 'OTHERWISE'}")
+    print(f"{name}: {'as expected' if is_so else 'DIFFERS'}")
     if not is_so:
         failed = 1
         print(shown[:2000])
@@ -119,7 +119,7 @@ def widths():
 
 
 def sizes():
-    """The widths of terminals, which the installed command asks for: as it stands, by a link, and where its path has spaces."""
+    """The widths of terminals, which the installed command asks for: called directly, by a link, and by a path with spaces."""
     text = "name,text\n" + ("a,%s\n" % ("x" * 320)) * 3
     for columns, width in ((40, 40), (80, 80), (120, 120), (200, 200), (0, 80)):
         status, out, err = run(text=text, columns=columns)
@@ -151,7 +151,7 @@ def sizes():
 
 
 def resized():
-    """One terminal, of another size in each run."""
+    """One terminal, with another size in each run."""
     ours, theirs = terminal()
     environment = {name: it for name, it in os.environ.items() if name not in ("COLUMNS", "NO_COLOR")}
     for columns in (120, 60, 90):
@@ -169,7 +169,7 @@ def resized():
 
 
 def waits():
-    """A terminal gives the input, and gets a message about it."""
+    """The input comes from a terminal, which gets a message about it."""
     said = "csvtable: reading from the terminal; end with Ctrl-D\n"
     for arguments in ([], ["-"]):
         ours, theirs = terminal(80)
@@ -180,7 +180,7 @@ def waits():
         see(f"a terminal gets a message before it is read {' '.join(arguments)}", first == said and process.poll() is None, first)
         os.write(ours, b"a,b\nx,y\n\x04")
         out, err = process.communicate(timeout=10)
-        see("and what it gives is drawn", process.returncode == 0 and err == b"" and "│ x ┆ y │" in out.decode(), out.decode())
+        see("and its input is drawn", process.returncode == 0 and err == b"" and "│ x ┆ y │" in out.decode(), out.decode())
         os.close(ours)
         os.close(theirs)
     with tempfile.NamedTemporaryFile() as file:
@@ -188,7 +188,7 @@ def waits():
         file.flush()
         ours, theirs = terminal(80)
         it = subprocess.run([PROGRAM, file.name], stdin=theirs, capture_output=True)
-        see("a file is read, and nothing said", it.returncode == 0 and it.stderr == b"", it.stderr.decode())
+        see("a file is read, without a message", it.returncode == 0 and it.stderr == b"", it.stderr.decode())
         os.close(ours)
         os.close(theirs)
 
@@ -213,7 +213,7 @@ def endings():
     status, out, err = run("--bogus", text=text)
     see("an argument that isn't known", status == 2 and out == "" and "--bogus" in err, out + err)
     status, out, err = run("--bogus\x1b[2J", text=text)
-    see("an argument with a sequence", status == 2 and out == "" and not speaks(err), repr(err))
+    see("an argument with a sequence", status == 2 and out == "" and not controls(err), repr(err))
     see("an argument that isn't known, and a full disk", run("--bogus", text=text, err="/dev/full")[0] == 2)
     status, out, err = run("--help")
     see("help", status == 0 and "--columns" in out and err == "", out + err)
@@ -221,11 +221,11 @@ def endings():
     status, out, err = run("--version")
     see("the version", status == 0 and out == "csvtable 0.1.0\n" and err == "", out + err)
     status, out, err = run("-c", "01,zz", text=text)
-    see("a number that is no column's", status == 1 and out == "" and err.endswith(": no column 'zz'; there are a and b\n"), out + err)
+    see("a number of no column", status == 1 and out == "" and err.endswith(": no column 'zz'; there are a and b\n"), out + err)
     status, out, err = run("-c", "09", text=text)
     see("a number as it was typed", status == 1 and out == "" and err.endswith(": no column '09'; there are a and b\n"), out + err)
     status, out, err = run("-c", "z\x1b]0;x\x07", text=text)
-    see("a name with a sequence", status == 1 and out == "" and not speaks(err), repr(err))
+    see("a name with a sequence", status == 1 and out == "" and not controls(err), repr(err))
     status, out, err = run("-r", "b", "--left", "2", text=text)
     see("a column at two sides", status == 1 and out == "" and "'b'" in err, out + err)
     status, out, err = run(text=text, out="/dev/full")
@@ -241,11 +241,11 @@ def texts():
     status, out, _ = run("--expanded", "never", text=text)
     see("30 columns in rows", status == 0 and "record" not in out and widest(out) == 121, out)
     status, out, _ = run("--markdown", text="a,b\n" + "x,%s\n" % ("y" * 100) * 3, COLUMNS="20")
-    see("Markdown where COLUMNS is 20", status == 0 and out.count("\n") == 5, out)
+    see("Markdown with COLUMNS=20", status == 0 and out.count("\n") == 5, out)
     for arguments in ([], ["--ansi"]):
         text = "a,b\n\x1b]52;c;eA==\x07,\x1b[2J\n\u009b2J,\u202etxt\n\x1b[31mred\x1b[0m,\x1b[1A\n"
         status, out, _ = run(*arguments, text=text)
-        see(f"a file that would speak {' '.join(arguments)}", status == 0 and not speaks(out) and widest(out) <= 80, repr(out))
+        see(f"a file with control sequences {' '.join(arguments)}", status == 0 and not controls(out) and widest(out) <= 80, repr(out))
     script = "José,Ελένη,Анна,רות,ليلى,ნინო,王小明,김철수\n"
     status, out, _ = run("-n", text=script)
     see("eight scripts", status == 0 and len({columns(line) for line in out.split("\n") if line}) == 1, out)

@@ -1,5 +1,5 @@
 /*
- * Draws a report: names in bold, results in green and red, seconds at the right, and remarks in a column of at most 24:
+ * Draws a report: a bold header, results in green and red, right-aligned seconds, and remarks in a column of at most 24:
  *
  * +----------+---------+--------+------------------------+
  * | check    | seconds | result | remark                 |

@@ -1,10 +1,10 @@
-/* Draws CSV of standard input as a table, by the arguments of csvtable: csv [ARGUMENT].. */
+/* Draws CSV from standard input as a table, with the arguments of csvtable: csv [ARGUMENT].. */
 #include "comfy_table.h"
 #include "reading.h"
 
 #include <string.h>
 
-/* The arguments, each with the zero byte that ends it. */
+/* The arguments, each with its final zero byte, or no bytes if memory runs out. */
 static struct bytes joined(char **arguments) {
     struct bytes all = {NULL, 0};
     for (char **argument = arguments; *argument; argument++) all.length += strlen(*argument) + 1;
@@ -23,7 +23,7 @@ int main(int count, char **given) {
     if (!input.start || !arguments.start) return 1;
     size_t needed = 4096 + 4 * input.length;
     uint32_t status;
-    /* Again where the room was too small for the drawing or the message. */
+    /* Draws again if the room was too small for the drawing or the message. */
     do {
         free(output.start);
         output.length = needed;

@@ -1,4 +1,4 @@
-/* What the example programs read. */
+/* Reads the inputs of the example programs. */
 #ifndef READING_H
 #define READING_H
 
@@ -11,7 +11,7 @@ struct bytes {
     size_t length;
 };
 
-/* All of a stream, or no bytes where it can't be read or memory runs out. */
+/* Returns all bytes of a stream, or a null start if it can't be read or memory runs out. */
 static struct bytes read_all(FILE *stream) {
     size_t room = 1 << 16;
     struct bytes bytes = {malloc(room), 0};

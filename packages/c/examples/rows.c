@@ -1,5 +1,5 @@
 /*
- * Draws rows of texts, the prices at the right:
+ * Draws rows of texts, with right-aligned prices:
  *
  * +-----------+----------+
  * | name      |    price |

@@ -1,4 +1,4 @@
-"""Draws CSV of standard input as a table, by the arguments of csvtable: draw_csv.py [ARGUMENT].."""
+"""Draws CSV from standard input as a table, with the arguments of csvtable: draw_csv.py [ARGUMENT].."""
 
 import sys
 

@@ -1,4 +1,4 @@
-"""Draws a report: names in bold, results in green and red in the middle, and remarks wrapped at 22 terminal columns:
+"""Draws a report: a bold header, centred results in green and red, and remarks wrapped at 22 terminal columns:
 
 +----------+---------+--------+-----------------------+
 | check    | seconds | result | remark                |

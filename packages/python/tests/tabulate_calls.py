@@ -1,8 +1,8 @@
-"""Calls as programs have them for the package tabulate, by how their drawings differ from those of comfy_table_proved.
+"""Calls of the package tabulate, sorted by the difference to the drawings of comfy_table_proved.
 
     tabulate_calls.py
 
-prints the drawings of the installed tabulate, as tabulate_answers.json has them. The keys of CALLS are the rows of TABULATE.md.
+prints the drawings of the installed tabulate, in the form of tabulate_answers.json. The keys of CALLS are the rows of TABULATE.md.
 """
 
 import collections
@@ -141,7 +141,7 @@ CALLS = {
 
 
 def drawing(call, tabulate, ansi=False):
-    """The drawing of a call, or its refusal."""
+    """The drawing of a call, or the error that it raises."""
     try:
         return eval(call, {**globals(), "tabulate": tabulate, "ANSI": {"ansi": True} if ansi else {}})
     except Exception as error:

@@ -1,7 +1,7 @@
 """Tests of the installed package: python -m unittest discover -s tests.
 
-Expected drawings are typed by hand. CSVTABLE, where it is set, is the program csvtable: random rows, written as CSV by
-Python's csv module, have to be drawn as it draws them.
+Expected drawings are typed by hand. If CSVTABLE is set, it is the program csvtable. Random rows have to be drawn as that program
+draws them. Python's csv module writes them for it.
 """
 
 import csv
@@ -143,7 +143,7 @@ record 1 of 1
 
 
 class Form(unittest.TestCase):
-    """Nothing in a cell is taken for the form of a file."""
+    """Texts that have a meaning in files, but none in cells."""
 
     def test_marks_quotes_and_delimiters(self):
         self.assertEqual(
@@ -171,7 +171,7 @@ class Refused(unittest.TestCase):
             ({"right": "a"}, "the header has 'a' twice; give the column's position"),
             ({"columns": [3]}, "no column 3"),
             ({"columns": -4}, "no column -4"),
-            ({"left": [0], "right": ["b", -3]}, "the column at position 0 can't stand at the right and at the left"),
+            ({"left": [0], "right": ["b", -3]}, "the column at position 0 is in both left and right"),
         ]:
             with self.assertRaises(ValueError) as caught:
                 tabulate([["x", "y", "z"]], headers=["a", "b", "a"], **settings)
@@ -281,7 +281,7 @@ class Tables(unittest.TestCase):
 
 
 class Snippets(unittest.TestCase):
-    """What people write for tabulate."""
+    """Calls that people write for tabulate."""
 
     maxDiff = None
 
@@ -370,9 +370,9 @@ class Snippets(unittest.TestCase):
         self.assertEqual(tabulate(rows, names, tablefmt="pipe", left=1).split("\n")[1], "|:----|:----|")
 
     def test_formats_that_other_programs_make(self):
-        with self.assertRaisesRegex(ValueError, "^tablefmt 'html' isn't there; in its place there is pandoc"):
+        with self.assertRaisesRegex(ValueError, "^no tablefmt 'html'; use pandoc"):
             tabulate([["a"]], tablefmt="html")
-        with self.assertRaisesRegex(ValueError, "^tablefmt is one of grid, simple_grid, .*, not 'grids'"):
+        with self.assertRaisesRegex(ValueError, "^tablefmt takes grid, simple_grid, .*, not 'grids'"):
             tabulate([["a"]], tablefmt="grids")
 
     def test_an_index(self):
@@ -443,7 +443,7 @@ class Snippets(unittest.TestCase):
         self.assertEqual(tabulate({"name": ["oats"], "price": [3]}, ["Name", "EUR"], tablefmt="plain"), "Name  EUR\noats    3")
         with self.assertRaises(ValueError) as caught:
             tabulate([{"name": "oats", "price": 3}], headers=["name", "EUR"])
-        self.assertEqual(str(caught.exception), "no row has the key 'EUR'; a dict of headers, as {key: name}, names keys anew")
+        self.assertEqual(str(caught.exception), "no row has the key 'EUR'; a dict of headers, {key: name}, renames keys")
 
     def test_sides_of_columns(self):
         self.expect(tabulate([["one", 1], ["three", 3]], colalign=("right", "left"), style="box"), """
@@ -547,7 +547,7 @@ class Snippets(unittest.TestCase):
 └───┴─────┘
 """)
 
-    def test_what_pandas_and_numpy_have(self):
+    def test_pandas_and_numpy(self):
         try:
             import numpy
             import pandas
@@ -567,7 +567,7 @@ class Snippets(unittest.TestCase):
 
 
 class Settings(unittest.TestCase):
-    """Of columns, rows and cells, and frames of one's own."""
+    """Settings of columns, rows and cells, and frames of one's own."""
 
     maxDiff = None
 
@@ -694,20 +694,20 @@ record 1 of 1
 ╚═══╩═══╝
 """)
 
-    def test_what_stands_for_nothing_is_refused(self):
+    def test_settings_without_meaning_are_refused(self):
         for settings, message in [
             ({"center": "c"}, "no column 'c'"),
-            ({"center": 0, "right": 0}, "the column at position 0 can't stand in the middle and at the right"),
-            ({"colwidths": 0}, "colwidths has whole numbers from 1 to 65533, not 0"),
-            ({"mincolwidths": {1: "2"}}, "mincolwidths has whole numbers from 1 to 65533, not '2'"),
-            ({"colwidths": 2, "maxcolwidths": 3}, "the column at position 0 has a width, and so no least or greatest one"),
-            ({"mincolwidths": 4, "maxcolwidths": 3}, "the column at position 0 has a least width above its greatest"),
-            ({"padding": -1}, "padding is a whole number from 0 to 65535, a pair of them for left and right, or a dict, not -1"),
+            ({"center": 0, "right": 0}, "the column at position 0 is in both right and center"),
+            ({"colwidths": 0}, "colwidths takes whole numbers from 1 to 65533, not 0"),
+            ({"mincolwidths": {1: "2"}}, "mincolwidths takes whole numbers from 1 to 65533, not '2'"),
+            ({"colwidths": 2, "maxcolwidths": 3}, "the column at position 0 has an exact width, so it can't have another"),
+            ({"mincolwidths": 4, "maxcolwidths": 3}, "the column at position 0 has a least width above its greatest width"),
+            ({"padding": -1}, "padding takes a whole number from 0 to 65535, a pair of them for left and right, or a dict, not -1"),
             ({"hidden": [0, 1]}, "no column is left that isn't hidden"),
-            ({"max_height": [1, -2]}, "max_height is a whole number from 0 on or None, not -2"),
+            ({"max_height": [1, -2]}, "max_height takes a whole number from 0 on or None, not -2"),
             ({"style": ["+-++"]}, "a frame has six lines, each of four printable characters or none, not ['+-++']"),
-            ({"style": ["+-++"] * 6}, "nothing but a space fills a line of texts, so the second character of '+-++' is one"),
-            ({"center": 0, "expanded": True}, "expanded rows have no side in the middle"),
+            ({"style": ["+-++"] * 6}, "a line of texts has no fill, so the second character of '+-++' must be a space"),
+            ({"center": 0, "expanded": True}, "expanded rows have no center"),
             ({"padding": 0, "expanded": "auto"}, "expanded rows have no padding"),
             ({"maxcolwidths": 9, "tablefmt": "github"}, "a table for Markdown has no maxcolwidths"),
         ]:
@@ -722,7 +722,7 @@ record 1 of 1
 
 
 class Frame:
-    """As much of a DataFrame as is used of it."""
+    """The part of a DataFrame that the package uses."""
 
     def __init__(self, columns, rows, index):
         self.columns, self._rows, self.index = columns, rows, Index(index)
@@ -736,7 +736,7 @@ class Index(list):
 
 
 class Series:
-    """As much of a Series."""
+    """The part of a Series that the package uses."""
 
     dtype = object()
 
@@ -751,7 +751,7 @@ class Series:
 
 
 class Records(list):
-    """As much of a structured array."""
+    """The part of a structured array that the package uses."""
 
     def __init__(self, names, rows):
         super().__init__(rows)
@@ -759,7 +759,7 @@ class Records(list):
 
 
 class Messages(unittest.TestCase):
-    """Of Python's parameters, with what there is in their place."""
+    """The messages for wrong parameters."""
 
     def expect(self, kind, message, rows=((1, 2),), **settings):
         with self.assertRaises(kind) as caught:
@@ -767,27 +767,27 @@ class Messages(unittest.TestCase):
         self.assertEqual(str(caught.exception), message)
 
     def test_settings_of_tabulate_that_are_not_here(self):
-        self.expect(TypeError, "tabulate has no setting 'numalign'; in its place there is left, right and align_decimals", numalign="left")
+        self.expect(TypeError, "tabulate has no setting 'numalign'; use left, right and align_decimals", numalign="left")
         self.expect(TypeError, "tabulate has no setting 'witdh'", witdh=3)
 
     def test_values(self):
         self.expect(
             ValueError,
-            "style is one of rounded, box, grid, ascii, plain, markdown or a preset such as \"UTF8_FULL\", not 'github'; "
+            "style takes rounded, box, grid, ascii, plain, markdown or a preset such as \"UTF8_FULL\", not 'github'; "
             "tablefmt='github' is one",
             style="github",
         )
-        self.expect(ValueError, "width is a whole number from 0 to 65535, \"terminal\" or None, not 10.5", width=10.5)
-        self.expect(ValueError, "width is a whole number from 0 to 65535, \"terminal\" or None, not 65536", width=65536)
-        self.expect(ValueError, "limit is a whole number from 0 on or None, not -1", limit=-1)
-        self.expect(ValueError, "expanded is True, False or \"auto\", not 'yes'", expanded="yes")
-        self.expect(ValueError, "style and tablefmt both name a frame", style="box", tablefmt="grid")
+        self.expect(ValueError, "width takes a whole number from 0 to 65535, \"terminal\" or None, not 10.5", width=10.5)
+        self.expect(ValueError, "width takes a whole number from 0 to 65535, \"terminal\" or None, not 65536", width=65536)
+        self.expect(ValueError, "limit takes a whole number from 0 on or None, not -1", limit=-1)
+        self.expect(ValueError, "expanded takes True, False or \"auto\", not 'yes'", expanded="yes")
+        self.expect(ValueError, "style and tablefmt both set the frame; pass one of them", style="box", tablefmt="grid")
         self.expect(ValueError, "showindex has 1 values for 2 rows", rows=[[1], [2]], showindex=["a"])
-        self.expect(ValueError, "colalign has \"left\", \"right\", \"center\", \"decimal\" or None for each column, not 'middle'", colalign=["middle"])
+        self.expect(ValueError, "colalign takes \"left\", \"right\", \"center\", \"decimal\" or None for each column, not 'middle'", colalign=["middle"])
 
     def test_rows(self):
-        self.expect(TypeError, "a row is a list of cells, not 1; for one column pass [[value], ..]", rows=[1, 2])
-        self.expect(TypeError, "rows are a list of rows, not 'text'", rows="text")
+        self.expect(TypeError, "a row must be a list of cells, not 1; for one column pass [[value], ..]", rows=[1, 2])
+        self.expect(TypeError, "rows must be a list of rows, not 'text'", rows="text")
 
 
 class Interface(unittest.TestCase):
@@ -829,7 +829,7 @@ class Interface(unittest.TestCase):
         self.assertIn(b"No such file", refused.stderr)
 
 
-# Pieces of texts: many scripts, what CSV and options are made of, and what terminals obey.
+# Pieces of texts: of many scripts, of CSV, of options, and control sequences of terminals.
 PIECES = [
     "word", "two words", "Ångström", "Ελένη", "Анна", "רות", "ليلى", "กมล", "王小明", "김철수", "नमस्ते", "👨‍👩‍👧", "🇩🇪", "e\u0301",
     ",", ";", "|", '"', '""', "'", "\t", "\n", "\r", "\r\n", "\x1b", "\x1b[31m", "\0", "\x07", "\x9b", "\ufeff", "\u202e",
@@ -837,7 +837,7 @@ PIECES = [
 ]
 VALUES = [None, 0, -7, 12345678901234567890, 2.5, -0.125, 1e300, float("nan"), True, "", "12", "-12.80"]
 
-# Settings beside the words that ask csvtable for the same: of each line one is taken.
+# Settings and the same options of csvtable. One of each line is chosen.
 CHOICES = [
     [({}, []), ({"width": 30}, ["-w", "30"]), ({"width": 80}, ["-w", "80"]), ({"width": 60, "full": True}, ["-w", "60", "--full"])],
     [({}, ["--expanded", "never"]), ({}, ["--expanded", "never"]), ({"expanded": True}, ["-x"]), ({"expanded": "auto"}, [])],
@@ -859,7 +859,7 @@ def random_rows(chance):
 
 
 def random_settings(chance):
-    """Settings, and the words that ask for them."""
+    """Random settings, and the same options of csvtable."""
     chosen = [MARKDOWN] if chance.random() < 0.1 else [chance.choice(line) for line in CHOICES]
     settings = {name: value for asked, _ in chosen for name, value in asked.items()}
     return settings, [word for _, words in chosen for word in words]
@@ -881,7 +881,7 @@ def csv_of(rows):
 def by_csvtable(text, words):
     surroundings = {name: value for name, value in os.environ.items() if name not in ("COLUMNS", "NO_COLOR")}
     ran = subprocess.run([CSVTABLE, "-d", ",", "-e", "utf-8", *words], input=text.encode(), capture_output=True, env=surroundings)
-    # Records with more fields than the header are told behind a drawing.
+    # csvtable prints a note after a drawing if records have more fields than the header.
     said = re.sub(r"^csvtable: standard input: line \d+ has \d+ fields, the header has \d+.*\n", "", ran.stderr.decode())
     return ran.stdout.decode() + said
 
@@ -891,7 +891,7 @@ FRAMES += ["ASCII_BORDERS_ONLY_CONDENSED", "ASCII_HORIZONTAL_ONLY", "UTF8_FULL_C
 
 
 class RandomCells(unittest.TestCase):
-    """Settings of cells and rows that ask for what is there without them."""
+    """Settings of cells and rows that change nothing."""
 
     maxDiff = None
 
@@ -925,7 +925,7 @@ class RandomRows(unittest.TestCase):
             rows, (settings, words) = random_rows(chance), random_settings(chance)
             if chance.random() < 0.5 and rows:
                 drawing = tabulate(rows, headers="firstrow", **settings)
-                # The first columns are those without a name, if the second row has more columns.
+                # If the second row has more columns, the first columns have no name.
                 rows[0] = [""] * (len(rows[1]) - len(rows[0]) if len(rows) > 1 and rows[0] else 0) + rows[0]
             else:
                 drawing, words = tabulate(rows, **settings), [*words, "-n"]
@@ -945,7 +945,7 @@ class RandomRows(unittest.TestCase):
 
 
 class Examples(unittest.TestCase):
-    def test_they_draw_what_they_say(self):
+    def test_they_draw_the_tables_of_their_comments(self):
         for name in "boats.py", "report.py":
             program = EXAMPLES / name
             ran = subprocess.run([sys.executable, program], capture_output=True, check=True, env={**os.environ, "PYTHONIOENCODING": "utf-8"})

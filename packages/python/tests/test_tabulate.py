@@ -1,4 +1,4 @@
-"""Calls of the package tabulate, whose answers are stored with its version: each drawing is the same, or differs as TABULATE.md says."""
+"""Tests with calls of the package tabulate. Each drawing equals the stored one of tabulate, or differs as TABULATE.md says."""
 
 import json
 import random
@@ -47,7 +47,7 @@ KINDS = {
 
 
 def random_call(chance):
-    """A call of which no row of the page speaks. Each column has a value, and each row has one, too."""
+    """A random call to which no row of the page applies. Each column and each row has a value."""
     kinds = [chance.choice([*KINDS.values()]) for _ in range(chance.randint(1, 4))]
     rows = [[chance.choice(kind) for kind in kinds] for _ in range(chance.randint(1, 4))]
     has_lines = any("\n" in str(value) for row in rows for value in row)

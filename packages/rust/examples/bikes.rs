@@ -1,4 +1,4 @@
-//! Prints bikes, in the width and the colours of the terminal where there is one.
+//! Prints bikes. In a terminal the table has at most its width, and has colours.
 use comfy_table_proved::presets::UTF8_FULL;
 use comfy_table_proved::{Attribute, Cell, CellAlignment, Color, ContentArrangement, Table};
 
@@ -6,10 +6,10 @@ fn main() {
     let mut bikes = Table::new();
     bikes.load_style(UTF8_FULL.with_rounded_corners()).set_content_arrangement(ContentArrangement::Dynamic).set_header([
         Cell::new("Bike").add_attribute(Attribute::Bold),
-        Cell::new("Where it stands"),
+        Cell::new("Place"),
         Cell::new("Euros"),
     ]);
-    for (bike, place, euros) in [(17, "dock 3, behind the harbour museum, and not on Sundays", -12), (8, "京都", 84)] {
+    for (bike, place, euros) in [(17, "dock 3, beside the harbour museum, and not on Sundays", -12), (8, "京都", 84)] {
         let color = if euros < 0 { Color::Red } else { Color::Green };
         bikes.add_row([Cell::new(bike), Cell::new(place), Cell::new(euros).fg(color)]);
     }

@@ -1,4 +1,4 @@
-//! Draws CSV of standard input as a table, by the arguments of csvtable: csv [ARGUMENT]..
+//! Draws CSV from standard input as a table, with the arguments of csvtable: csv [ARGUMENT]..
 use comfy_table_proved::csvtable::draw_csv;
 use std::io::{Read, stdin};
 use std::process::ExitCode;

@@ -2,7 +2,7 @@ use crate::style::CellAlignment;
 #[cfg(feature = "tty")]
 use crate::style::{Attribute, Color};
 
-/// A text in a table, with its settings. Line feeds stand between its lines.
+/// A text in a table, with its settings. Line feeds separate the lines of the text.
 ///
 /// ```
 /// use comfy_table_proved::{Cell, CellAlignment};
@@ -24,12 +24,19 @@ pub struct Cell {
 }
 
 impl Cell {
-    /// A cell of the text that a value prints.
+    /// Makes a cell with the text that a value prints, and no settings.
+    ///
+    /// ```
+    /// use comfy_table_proved::Cell;
+    ///
+    /// assert_eq!(Cell::new(17).content(), "17");
+    /// assert_eq!(Cell::new("dock 3\nharbour").content(), "dock 3\nharbour");
+    /// ```
     pub fn new<T: ToString>(content: T) -> Cell {
         Cell::new_owned(content.to_string())
     }
 
-    /// A cell of a text.
+    /// Makes a cell with this text, which isn't copied, and no settings.
     pub fn new_owned(content: String) -> Cell {
         Cell {
             text: content,
@@ -44,24 +51,45 @@ impl Cell {
         }
     }
 
-    /// A copy of the text.
+    /// Returns a copy of the text.
     pub fn content(&self) -> String {
         self.text.clone()
     }
 
-    /// Sets the character at which lines may break, in place of the column's and the table's.
+    /// Sets the delimiter, the character at which long lines may break, in place of the column's or the table's.
+    ///
+    /// ```
+    /// use comfy_table_proved::{Cell, ContentArrangement, Table};
+    ///
+    /// let mut table = Table::new();
+    /// table.set_content_arrangement(ContentArrangement::Dynamic).set_width(9);
+    /// table.add_row([Cell::new("north,south").set_delimiter(',')]);
+    /// assert_eq!(table.to_string(), "\
+    /// +-------+
+    /// | north |
+    /// | south |
+    /// +-------+");
+    /// ```
     #[must_use]
     pub fn set_delimiter(self, delimiter: char) -> Cell {
         Cell { delimiter: Some(delimiter), ..self }
     }
 
-    /// Sets where the text stands, in place of what the column has.
+    /// Sets the alignment of the text, in place of the column's.
+    ///
+    /// ```
+    /// use comfy_table_proved::{Cell, CellAlignment, Table};
+    ///
+    /// let mut table = Table::new();
+    /// table.set_header(["Euros"]).add_row([Cell::new(5).set_alignment(CellAlignment::Right)]);
+    /// assert_eq!(table.lines().nth(3).as_deref(), Some("|     5 |"));
+    /// ```
     #[must_use]
     pub fn set_alignment(self, alignment: CellAlignment) -> Cell {
         Cell { alignment: Some(alignment), ..self }
     }
 
-    /// Sets the colour of the text, which is written where [`should_style`](crate::Table::should_style).
+    /// Sets the colour of the text. It is written if [`should_style`](crate::Table::should_style) is true, so not into a file.
     ///
     /// ```
     /// use comfy_table_proved::{Attribute, Cell, Color, Table};
@@ -76,14 +104,31 @@ impl Cell {
         Cell { foreground: Some(color), ..self }
     }
 
-    /// Sets the colour behind the text.
+    /// Sets the colour of the background.
+    ///
+    /// ```
+    /// use comfy_table_proved::{Cell, Color, Table};
+    ///
+    /// let mut table = Table::new();
+    /// table.enforce_styling().add_row([Cell::new("a").bg(Color::Rgb { r: 32, g: 64, b: 128 })]);
+    /// assert_eq!(table.lines().nth(1).as_deref(), Some("|\x1b[48;2;32;64;128m a \x1b[49m|"));
+    /// ```
     #[cfg(feature = "tty")]
     #[must_use]
     pub fn bg(self, color: Color) -> Cell {
         Cell { background: Some(color), ..self }
     }
 
-    /// Adds an attribute to those that the cell has.
+    /// Adds an attribute, such as bold, after those that the cell has.
+    ///
+    /// ```
+    /// use comfy_table_proved::{Attribute, Cell, Table};
+    ///
+    /// let cell = Cell::new("a").add_attribute(Attribute::Bold).add_attribute(Attribute::Underlined);
+    /// let mut table = Table::new();
+    /// table.enforce_styling().add_row([cell]);
+    /// assert_eq!(table.lines().nth(1).as_deref(), Some("|\x1b[1m\x1b[4m a \x1b[0m|"));
+    /// ```
     #[cfg(feature = "tty")]
     #[must_use]
     pub fn add_attribute(mut self, attribute: Attribute) -> Cell {
@@ -91,7 +136,7 @@ impl Cell {
         self
     }
 
-    /// Adds attributes to those that the cell has.
+    /// Adds attributes, in their order, after those that the cell has.
     #[cfg(feature = "tty")]
     #[must_use]
     pub fn add_attributes(mut self, attributes: Vec<Attribute>) -> Cell {
@@ -106,7 +151,14 @@ impl<T: ToString> From<T> for Cell {
     }
 }
 
-/// The cells of a row, of whatever iterates over values that print.
+/// The cells of a row. They are made from anything that iterates over cells, or over values with `Display`.
+///
+/// ```
+/// use comfy_table_proved::Cells;
+///
+/// assert_eq!(Cells::from([17, 8]).0.len(), 2);
+/// assert_eq!(Cells::from("17 8 21".split(' ')).0.len(), 3);
+/// ```
 pub struct Cells(pub Vec<Cell>);
 
 impl<T> From<T> for Cells

@@ -1,6 +1,6 @@
 use crate::style::{CellAlignment, ColumnConstraint};
 
-/// The settings of a column. A table makes its columns as rows are added.
+/// The settings of a column. A table makes its columns when a header or rows are added.
 ///
 /// ```
 /// use comfy_table_proved::{ColumnConstraint, Table, Width};
@@ -13,7 +13,7 @@ use crate::style::{CellAlignment, ColumnConstraint};
 /// ```
 #[derive(Clone, Debug)]
 pub struct Column {
-    /// A label. Which cells are the column's is up to its position in the table alone.
+    /// A number for the caller's use. The column's cells are found by its position in the table, and not by this number.
     pub index: usize,
     pub(crate) padding: (u16, u16),
     pub(crate) delimiter: Option<char>,
@@ -22,36 +22,62 @@ pub struct Column {
 }
 
 impl Column {
-    /// A column with one terminal column free on each side, and nothing else set.
+    /// Makes a column with a padding of one terminal column on each side, and no other setting.
     pub fn new(index: usize) -> Column {
         Column { index, padding: (1, 1), delimiter: None, cell_alignment: None, constraint: None }
     }
 
-    /// Sets how many terminal columns stay free at the left and at the right.
+    /// Sets the padding: the number of free terminal columns at the left and at the right of each text.
+    ///
+    /// ```
+    /// use comfy_table_proved::Table;
+    ///
+    /// let mut table = Table::new();
+    /// table.add_row(["17", "dock 3"]);
+    /// table.column_mut(1).expect("two columns").set_padding((4, 0));
+    /// assert_eq!(table.lines().nth(1).as_deref(), Some("| 17 |    dock 3|"));
+    /// ```
     pub fn set_padding(&mut self, padding: (u16, u16)) -> &mut Column {
         self.padding = padding;
         self
     }
 
-    /// How many stay free on both sides together, 65535 where they are more.
+    /// Returns the sum of the left and the right padding in terminal columns, or 65535 if the sum is greater.
+    ///
+    /// ```
+    /// use comfy_table_proved::Column;
+    ///
+    /// assert_eq!(Column::new(0).padding_width(), 2);
+    /// assert_eq!(Column::new(0).set_padding((4, 0)).padding_width(), 4);
+    /// ```
     pub fn padding_width(&self) -> u16 {
         let (left, right) = self.padding;
         left.saturating_add(right)
     }
 
-    /// Sets the character at which lines may break, in place of the table's.
+    /// Sets the delimiter, the character at which long lines may break, in place of the table's.
     pub fn set_delimiter(&mut self, delimiter: char) -> &mut Column {
         self.delimiter = Some(delimiter);
         self
     }
 
-    /// Sets the constraint on the width.
+    /// Sets the constraint on the width, in place of the one that the column has.
+    ///
+    /// ```
+    /// use comfy_table_proved::{ColumnConstraint, Table, Width};
+    ///
+    /// let mut table = Table::new();
+    /// table.add_row(["17", "dock 3"]);
+    /// let column = table.column_mut(0).expect("two columns");
+    /// column.set_constraint(ColumnConstraint::Absolute(Width::Fixed(8)));
+    /// assert_eq!(table.lines().nth(1).as_deref(), Some("| 17     | dock 3 |"));
+    /// ```
     pub fn set_constraint(&mut self, constraint: ColumnConstraint) -> &mut Column {
         self.constraint = Some(constraint);
         self
     }
 
-    /// The constraint on the width.
+    /// Returns the constraint on the width, or `None` if there is none.
     pub fn constraint(&self) -> Option<&ColumnConstraint> {
         self.constraint.as_ref()
     }
@@ -62,12 +88,28 @@ impl Column {
         self
     }
 
-    /// Whether the column isn't drawn.
+    /// Returns true if the constraint is [`ColumnConstraint::Hidden`], so that the column isn't drawn.
     pub fn is_hidden(&self) -> bool {
         self.constraint == Some(ColumnConstraint::Hidden)
     }
 
-    /// Sets where texts stand, but for cells that have an alignment of their own.
+    /// Sets the alignment of the texts. The alignment of a cell takes precedence.
+    ///
+    /// ```
+    /// use comfy_table_proved::{CellAlignment, Table};
+    ///
+    /// let mut table = Table::new();
+    /// table.set_header(["Euros"]).add_row([5]).add_row([-12]);
+    /// table.column_mut(0).expect("one column").set_cell_alignment(CellAlignment::Right);
+    /// assert_eq!(table.to_string(), "\
+    /// +-------+
+    /// | Euros |
+    /// +=======+
+    /// |     5 |
+    /// |-------|
+    /// |   -12 |
+    /// +-------+");
+    /// ```
     pub fn set_cell_alignment(&mut self, alignment: CellAlignment) {
         self.cell_alignment = Some(alignment);
     }

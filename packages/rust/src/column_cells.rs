@@ -3,7 +3,8 @@ use std::slice;
 use crate::cell::Cell;
 use crate::row::Row;
 
-/// What each row has in a column: a cell, or nothing. [`Table::column_cells_iter`](crate::Table::column_cells_iter) makes it.
+/// An iterator over the cells of a column, with `None` for a row that has no cell there.
+/// [`Table::column_cells_iter`](crate::Table::column_cells_iter) makes it.
 pub struct ColumnCellIter<'a> {
     rows: slice::Iter<'a, Row>,
     column: usize,
@@ -24,10 +25,10 @@ impl<'a> Iterator for ColumnCellIter<'a> {
     }
 }
 
-/// What the header, and then each row, has in a column; without a header there is nothing before the rows.
+/// An iterator over the cells of a column, with that of the header first, or `None` without a header.
 /// [`Table::column_cells_with_header_iter`](crate::Table::column_cells_with_header_iter) makes it.
 pub struct ColumnCellsWithHeaderIter<'a> {
-    // what comes before the rows, as long as it is to come
+    // the item of the header, until it was returned
     header: Option<Option<&'a Cell>>,
     rows: ColumnCellIter<'a>,
 }

@@ -1,6 +1,7 @@
-//! The tables of the program csvtable: of CSV by [`draw_csv`], and of rows of values by [`Rows`].
+//! The tables of the program csvtable: [`draw_csv`] draws CSV, and [`Rows`] draws rows of values.
 //!
-//! Columns of numbers stand at the right, with their decimal points below each other. Control characters of a text become U+FFFD.
+//! Columns of numbers are right-aligned, with their decimal points below each other. Control characters in texts are drawn as
+//! U+FFFD, so a text can't control the terminal.
 
 mod column;
 mod error;
@@ -18,10 +19,16 @@ pub use style::Style;
 
 use crate::library::{self, CsvAnswer};
 
-/// The drawing of CSV, by the arguments of the program csvtable, as `&["-r", "price", "-w", "60"]`.
+/// Draws CSV with the arguments of the program csvtable, for example `&["-r", "price", "-w", "60"]`.
 ///
-/// The input is UTF-8, or in another encoding, which csvtable finds, or `-e` names. An argument that names a file opens none:
-/// messages have the name. The drawing ends with a line feed, and there is no width but that of `-w`.
+/// The encoding of the input is UTF-8, another one that csvtable recognises, or the one that `-e` names. No file is opened: a file
+/// name among the arguments only appears in messages. The table has a width only if `-w` sets one. The drawing ends with a line
+/// feed.
+///
+/// # Errors
+///
+/// [`Error::Arguments`] if csvtable refuses the arguments, or if they ask for its help or version, which is the message then;
+/// [`Error::Input`] if it can't draw the input; [`Error::OutOfMemory`].
 ///
 /// ```
 /// let drawing = comfy_table_proved::csvtable::draw_csv("name,price\noats,3\n", &["-r", "name", "-s", "ascii"]).unwrap();

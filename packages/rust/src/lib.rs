@@ -1,35 +1,49 @@
-//! Tables drawn as text, by the calls of the crate comfy-table 8.0.1. What draws is a library whose drawing is proved; the code
-//! of this package isn't proved, but tested.
+//! Tables drawn as text, with the calls of the crate comfy-table 8.0.1.
+//!
+//! It is proved that the library of this package draws by written rules. The code of the package itself is tested, but not proved.
 //!
 //! ```
 //! use comfy_table_proved::{Table, presets::UTF8_FULL};
 //!
 //! let mut bikes = Table::new();
-//! bikes.load_style(UTF8_FULL).set_header(["Bike", "Where it stands"]).add_row(["17", "dock 3"]);
+//! bikes.load_style(UTF8_FULL).set_header(["Bike", "Place"]).add_row(["17", "dock 3"]);
 //! assert_eq!(bikes.to_string(), "\
-//! ┌──────┬─────────────────┐
-//! │ Bike ┆ Where it stands │
-//! ╞══════╪═════════════════╡
-//! │ 17   ┆ dock 3          │
-//! └──────┴─────────────────┘");
+//! ┌──────┬────────┐
+//! │ Bike ┆ Place  │
+//! ╞══════╪════════╡
+//! │ 17   ┆ dock 3 │
+//! └──────┴────────┘");
 //! ```
 //!
-//! A program that uses comfy-table takes this package in its place by one line of its Cargo.toml, and stays as it is:
+//! A program that uses comfy-table can use this package in its place. One line of its Cargo.toml changes, and none of its code:
 //!
 //! ```toml
 //! comfy-table = { package = "comfy_table_proved", path = "../comfy_table_proved-0.1.0" }
 //! ```
 //!
-//! # Features
+//! # What tables can do
 //!
-//! - `tty`, on by default: colours and attributes are written, and the output is asked whether it is a terminal, and how wide.
-//! - `custom_styling`: escape sequences for colours (SGR) in texts count no columns. It includes `tty`.
-//! - `_debug` and `_integration_test` do nothing, and `reexport_crossterm` is refused.
+//! - **Width**: [`Table::set_width`] sets a width, which otherwise is the terminal's. With a dynamic [`ContentArrangement`], a table is
+//!   at most or exactly that wide, and its long texts are wrapped.
+//! - **Columns**: a [`ColumnConstraint`] fixes or limits the width of a [`Column`], or hides it. Each column has its own padding.
+//! - **Alignment** of texts, for a column or for one [`Cell`]: [`CellAlignment`].
+//! - **Wrapping** at spaces, or at another character: [`Table::set_delimiter`]. [`Row::max_height`] limits the lines of a row.
+//! - **Frames**: thirteen [`presets`], or your own characters in a [`TableStyle`].
+#![cfg_attr(
+    feature = "tty",
+    doc = "- **Colours and attributes** of a cell: [`Cell::fg`], [`Cell::bg`] and [`Cell::add_attribute`]."
+)]
+//! - **Unicode**: a Chinese character or an emoji takes two terminal columns, and a combining character none. Lines are cut between
+//!   characters as readers see them.
+//! - **Values**: cells come from anything with [`Display`](std::fmt::Display), and rows from anything that iterates over such values.
+//! - **CSV and numbers**: the module [`csvtable`] draws CSV text, and rows whose columns of numbers are right-aligned, with their
+//!   decimal points below each other.
 //!
-//! # The tables of csvtable
+//! # Features of Cargo
 //!
-//! The module [`csvtable`] has the tables of the program csvtable, of CSV and of rows: columns of numbers stand at the right
-//! there, with their decimal points below each other.
+//! - `tty`, on by default: colours and attributes are written, and the terminal is asked for its width.
+//! - `custom_styling`: escape sequences for colours and attributes (SGR) in texts take no columns. It includes `tty`.
+//! - `_debug` and `_integration_test` do nothing. `reexport_crossterm` ends the build with a message.
 #![warn(missing_docs)]
 
 #[cfg(feature = "reexport_crossterm")]

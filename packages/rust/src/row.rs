@@ -2,7 +2,7 @@ use std::slice;
 
 use crate::cell::{Cell, Cells};
 
-/// The cells of a row, and how many lines it has at most.
+/// The cells of a row, and its greatest height.
 ///
 /// ```
 /// use comfy_table_proved::{Cell, Row};
@@ -14,35 +14,56 @@ use crate::cell::{Cell, Cells};
 #[derive(Clone, Debug, Default)]
 pub struct Row {
     pub(crate) cells: Vec<Cell>,
-    // at least 1, where it is set
+    // the greatest number of lines, at least 1
     pub(crate) max_height: Option<usize>,
 }
 
 impl Row {
-    /// A row without cells.
+    /// Makes a row without cells.
     pub fn new() -> Row {
         Row::default()
     }
 
-    /// Adds a cell behind the others. Where the row is one of a table, a cell behind the table's last column isn't drawn before
-    /// [`discover_columns`](crate::Table::discover_columns) has found it.
+    /// Adds a cell after the others. If the row already is in a table that has no column for the cell, the cell isn't drawn before
+    /// [`discover_columns`](crate::Table::discover_columns) was called.
     pub fn add_cell(&mut self, cell: Cell) -> &mut Row {
         self.cells.push(cell);
         self
     }
 
-    /// Sets how many lines the row has at most; 0 counts as 1.
+    /// Sets the greatest number of lines of the row. A longer text is cut, and ends with the table's
+    /// [truncation indicator](crate::Table::set_truncation_indicator). 0 counts as 1.
+    ///
+    /// ```
+    /// use comfy_table_proved::{Row, Table};
+    ///
+    /// let mut row = Row::from(["17", "dock 3\nharbour\nmuseum"]);
+    /// row.max_height(2);
+    /// let mut table = Table::new();
+    /// assert_eq!(table.add_row(row).to_string(), "\
+    /// +----+---------+
+    /// | 17 | dock 3  |
+    /// |    | harbou… |
+    /// +----+---------+");
+    /// ```
     pub fn max_height(&mut self, lines: usize) -> &mut Row {
         self.max_height = Some(lines.max(1));
         self
     }
 
-    /// How many cells there are.
+    /// Returns the number of cells.
     pub fn cell_count(&self) -> usize {
         self.cells.len()
     }
 
-    /// The cells in order.
+    /// Returns an iterator over the cells, from the left.
+    ///
+    /// ```
+    /// use comfy_table_proved::{Cell, Row};
+    ///
+    /// let texts: Vec<String> = Row::from([17, 8]).cell_iter().map(Cell::content).collect();
+    /// assert_eq!(texts, ["17", "8"]);
+    /// ```
     pub fn cell_iter(&self) -> slice::Iter<'_, Cell> {
         self.cells.iter()
     }

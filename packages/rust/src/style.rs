@@ -1,4 +1,4 @@
-//! How tables look.
+//! Styles, colours, alignments, and constraints on widths.
 
 pub mod presets;
 #[cfg(feature = "tty")]
@@ -9,7 +9,7 @@ mod table_style;
 pub use sequences::{Attribute, Color};
 pub use table_style::{ContentLineStyle, LineStyle, TableStyle};
 
-/// Where a text stands in its column.
+/// The position of a text in its column.
 ///
 /// ```text
 /// | Left           |
@@ -18,28 +18,106 @@ pub use table_style::{ContentLineStyle, LineStyle, TableStyle};
 /// ```
 #[derive(Clone, Copy, Debug, PartialEq, Eq, Hash)]
 pub enum CellAlignment {
-    /// At the left.
+    /// At the left, as without an alignment.
     Left,
     /// At the right.
     Right,
-    /// In the middle; where a terminal column is left over, it stands before the text.
+    /// In the middle. If the free space is odd, the greater part of it is before the text.
     Center,
 }
 
-/// A constraint on the width of a column.
+/// A constraint on the width of a column. Widths include the column's paddings.
+///
+/// [`Table::set_constraints`](crate::Table::set_constraints) sets those of several columns, and
+/// [`Column::set_constraint`](crate::Column::set_constraint) that of one. [`ContentArrangement::DynamicFullWidth`] widens all
+/// columns, also those with a constraint, if the table would be narrower than its width otherwise.
 #[derive(Clone, Copy, Debug, PartialEq, Eq)]
 pub enum ColumnConstraint {
     /// The column isn't drawn.
+    ///
+    /// ```
+    /// use comfy_table_proved::{ColumnConstraint::*, Table};
+    ///
+    /// let mut table = Table::new();
+    /// table.add_row(["17", "dock 3"]).set_constraints([Hidden]);
+    /// assert_eq!(table.to_string(), "\
+    /// +--------+
+    /// | dock 3 |
+    /// +--------+");
+    /// ```
     Hidden,
-    /// It is as wide as its widest line.
+    /// The column is as wide as its widest line, so none of its texts is wrapped.
+    ///
+    /// ```
+    /// use comfy_table_proved::{ColumnConstraint::*, ContentArrangement, Table};
+    ///
+    /// let mut table = Table::new();
+    /// table.set_content_arrangement(ContentArrangement::Dynamic).set_width(21);
+    /// table.add_row(["2026-11-30", "rain all day"]).set_constraints([ContentWidth]);
+    /// assert_eq!(table.to_string(), "\
+    /// +------------+------+
+    /// | 2026-11-30 | rain |
+    /// |            | all  |
+    /// |            | day  |
+    /// +------------+------+");
+    /// ```
     ContentWidth,
-    /// It has this width.
+    /// The column has this width.
+    ///
+    /// ```
+    /// use comfy_table_proved::{ColumnConstraint::*, Table, Width::*};
+    ///
+    /// let mut table = Table::new();
+    /// table.add_row(["17", "dock 3"]).set_constraints([Absolute(Fixed(8)), Absolute(Fixed(6))]);
+    /// assert_eq!(table.to_string(), "\
+    /// +--------+------+
+    /// | 17     | dock |
+    /// |        | 3    |
+    /// +--------+------+");
+    /// ```
     Absolute(Width),
-    /// It has at least this width.
+    /// The column has at least this width.
+    ///
+    /// ```
+    /// use comfy_table_proved::{ColumnConstraint::*, Table, Width::*};
+    ///
+    /// let mut table = Table::new();
+    /// table.add_row(["17", "dock 3"]).set_constraints([LowerBoundary(Fixed(6)); 2]);
+    /// assert_eq!(table.to_string(), "\
+    /// +------+--------+
+    /// | 17   | dock 3 |
+    /// +------+--------+");
+    /// ```
     LowerBoundary(Width),
-    /// It has at most this width.
+    /// The column has at most this width. Under `Disabled`, or if the table's width isn't known, the constraint is ignored unless
+    /// a text without paddings is wider than it.
+    ///
+    /// ```
+    /// use comfy_table_proved::{ColumnConstraint::*, Table, Width::*};
+    ///
+    /// let mut table = Table::new();
+    /// table.add_row(["17", "dock 3, at the harbour"]).set_constraints([UpperBoundary(Fixed(13)); 2]);
+    /// assert_eq!(table.to_string(), "\
+    /// +----+-------------+
+    /// | 17 | dock 3, at  |
+    /// |    | the harbour |
+    /// +----+-------------+");
+    /// ```
     UpperBoundary(Width),
-    /// It has at least the one width and at most the other.
+    /// The column has at least the width `lower`, as by `LowerBoundary`, and at most `upper`, as by `UpperBoundary`.
+    ///
+    /// ```
+    /// use comfy_table_proved::{ColumnConstraint::*, Table, Width::*};
+    ///
+    /// let mut table = Table::new();
+    /// table.add_row(["17", "dock 3, at the harbour"]);
+    /// table.set_constraints([Boundaries { lower: Fixed(6), upper: Fixed(13) }; 2]);
+    /// assert_eq!(table.to_string(), "\
+    /// +------+-------------+
+    /// | 17   | dock 3, at  |
+    /// |      | the harbour |
+    /// +------+-------------+");
+    /// ```
     Boundaries {
         /// The least width.
         lower: Width,
@@ -48,22 +126,73 @@ pub enum ColumnConstraint {
     },
 }
 
-/// The width of a column, with its paddings.
+/// The width of a column, including its paddings.
 #[derive(Clone, Copy, Debug, PartialEq, Eq)]
 pub enum Width {
-    /// In terminal columns.
+    /// A number of terminal columns.
     Fixed(u16),
-    /// In percent of the table's width without its borders; more than 100 count as 100. It is ignored where no width is known.
+    /// A percentage of the table's width without its borders. More than 100 counts as 100. If the table has no known
+    /// [width](crate::Table::width), the constraint is ignored.
+    ///
+    /// ```
+    /// use comfy_table_proved::{ColumnConstraint::*, ContentArrangement, Table, Width::*};
+    ///
+    /// let mut table = Table::new();
+    /// table.set_content_arrangement(ContentArrangement::Dynamic).set_width(23);
+    /// table.add_row(["17", "dock 3"]).set_constraints([Absolute(Percentage(50))]);
+    /// assert_eq!(table.to_string(), "\
+    /// +----------+--------+
+    /// | 17       | dock 3 |
+    /// +----------+--------+");
+    /// ```
     Percentage(u16),
 }
 
-/// How the widths of columns are found.
+/// The rule by which columns get their widths.
+///
+/// [`Table::set_content_arrangement`](crate::Table::set_content_arrangement) sets it. The table's width is the one of
+/// [`Table::set_width`](crate::Table::set_width), or else that of the terminal.
 #[derive(Clone, Debug)]
 pub enum ContentArrangement {
-    /// By their texts and constraints alone.
+    /// Each column is as wide as its widest text, unless it has a constraint. The table's width wraps no text. A new table has this.
+    ///
+    /// ```
+    /// use comfy_table_proved::Table;
+    ///
+    /// let mut table = Table::new();
+    /// table.set_width(20).add_row(["17", "dock 3, at the harbour"]);
+    /// assert_eq!(table.to_string(), "\
+    /// +----+------------------------+
+    /// | 17 | dock 3, at the harbour |
+    /// +----+------------------------+");
+    /// ```
     Disabled,
-    /// So that the table keeps to its width; where no width is known, as `Disabled`.
+    /// The table is at most as wide as its width, and texts are wrapped for it. Columns with short texts stay narrow. If no width is
+    /// known, this is as `Disabled`.
+    ///
+    /// ```
+    /// use comfy_table_proved::{ContentArrangement, Table};
+    ///
+    /// let mut table = Table::new();
+    /// table.set_content_arrangement(ContentArrangement::Dynamic).set_width(20).add_row(["17", "dock 3, at the harbour"]);
+    /// assert_eq!(table.to_string(), "\
+    /// +----+-------------+
+    /// | 17 | dock 3, at  |
+    /// |    | the harbour |
+    /// +----+-------------+");
+    /// ```
     Dynamic,
-    /// So that the table fills its width; where no width is known, as `Disabled`.
+    /// As `Dynamic`, but a narrower table is widened to the width. If no width is known, this is as `Disabled`.
+    ///
+    /// ```
+    /// use comfy_table_proved::{ContentArrangement, Table};
+    ///
+    /// let mut table = Table::new();
+    /// table.set_content_arrangement(ContentArrangement::DynamicFullWidth).set_width(23).add_row(["17", "dock 3"]);
+    /// assert_eq!(table.to_string(), "\
+    /// +--------+------------+
+    /// | 17     | dock 3     |
+    /// +--------+------------+");
+    /// ```
     DynamicFullWidth,
 }

@@ -19,25 +19,25 @@ use crate::style::{ColumnConstraint, ContentArrangement, TableStyle};
 #[cfg(feature = "tty")]
 use crate::terminal;
 
-/// A table: rows of cells below a header, columns, and how they are drawn.
+/// A table: a header, rows of cells below it, columns, and settings.
 ///
-/// `Display`, [`lines`](Table::lines) and [`trim_fmt`](Table::trim_fmt) draw it. Where memory runs out, the process ends, as it
-/// does for a `Vec`.
+/// `Display`, [`lines`](Table::lines) and [`trim_fmt`](Table::trim_fmt) draw it. A new header or row makes the columns that its
+/// cells need. Rows may have different lengths, and a missing cell is drawn as an empty one.
+///
+/// If memory runs out, the process ends, as it does for a `Vec`.
 ///
 /// ```
 /// use comfy_table_proved::{ContentArrangement, Table};
 ///
 /// let mut table = Table::new();
 /// table.set_content_arrangement(ContentArrangement::Dynamic).set_width(22);
-/// table.set_header(["Bike", "Where it stands"]).add_row(["17", "dock 3, behind the museum"]);
+/// table.set_header(["Bike", "Place"]).add_row(["17", "dock 3, at the harbour"]);
 /// assert_eq!(table.to_string(), "\
 /// +------+-------------+
-/// | Bike | Where it    |
-/// |      | stands      |
+/// | Bike | Place       |
 /// +====================+
-/// | 17   | dock 3,     |
-/// |      | behind the  |
-/// |      | museum      |
+/// | 17   | dock 3, at  |
+/// |      | the harbour |
 /// +------+-------------+");
 /// ```
 #[derive(Clone, Debug)]
@@ -54,31 +54,40 @@ pub struct Table {
     terminal: Terminal,
 }
 
-// What is said and known of the terminal.
+// The settings about the terminal, and the answer of the system.
 #[cfg(feature = "tty")]
 #[derive(Clone, Debug, Default)]
 struct Terminal {
     is_denied: bool,
     is_at_stderr: bool,
-    // the answer to the first question
+    // whether the output is a terminal, once the system was asked
     is_there: OnceLock<bool>,
     enforces_styling: bool,
     styles_text_only: bool,
 }
 
-/// In which form a table is drawn.
+/// The form of a drawing.
 #[derive(Clone, Copy)]
 enum Form {
-    /// Its lines, each with a line feed behind it.
+    /// The lines, each with a line feed after it.
     Lines,
-    /// Its lines without white space at their ends, with line feeds between them.
+    /// The lines without white space at their ends, with line feeds between them.
     Trimmed,
-    /// The width of each column's contents, with a line feed behind it.
+    /// The width of each column's contents, each with a line feed after it.
     ContentWidths,
 }
 
 impl Table {
-    /// A table without header and rows, in the style `ASCII_FULL`.
+    /// Makes a table without header and rows. It has the style [`ASCII_FULL`], and [`ContentArrangement::Disabled`].
+    ///
+    /// ```
+    /// use comfy_table_proved::Table;
+    ///
+    /// assert_eq!(Table::new().add_row(["17", "dock 3"]).to_string(), "\
+    /// +----+--------+
+    /// | 17 | dock 3 |
+    /// +----+--------+");
+    /// ```
     pub fn new() -> Table {
         Table {
             columns: Vec::new(),
@@ -97,12 +106,30 @@ impl Table {
 
 /// Drawings.
 impl Table {
-    /// The lines without white space at their ends, with line feeds between them.
+    /// Draws the table without white space at the ends of its lines. Styles without a right border have such white space.
+    ///
+    /// ```
+    /// use comfy_table_proved::{Table, presets::NOTHING};
+    ///
+    /// let mut table = Table::new();
+    /// table.load_style(NOTHING).add_row(["17", "dock 3"]).add_row(["8", "station"]);
+    /// assert_eq!(table.to_string(), " 17  dock 3  \n 8   station ");
+    /// assert_eq!(table.trim_fmt(), " 17  dock 3\n 8   station");
+    /// ```
     pub fn trim_fmt(&self) -> String {
         self.drawn(Form::Trimmed)
     }
 
-    /// The lines, from the top. The table is drawn at once.
+    /// Returns the lines of the drawing, from the top, without line feeds. The whole table is drawn by this call, before the first
+    /// line is read.
+    ///
+    /// ```
+    /// use comfy_table_proved::Table;
+    ///
+    /// let mut table = Table::new();
+    /// let lines: Vec<String> = table.add_row(["17", "dock 3"]).lines().collect();
+    /// assert_eq!(lines, ["+----+--------+", "| 17 | dock 3 |", "+----+--------+"]);
+    /// ```
     pub fn lines(&self) -> impl Iterator<Item = String> {
         let drawing = self.drawn(Form::Lines);
         let mut start = 0;
@@ -114,7 +141,16 @@ impl Table {
         })
     }
 
-    /// How many terminal columns the widest line of each column takes, 65535 where it is more; at least 1 where a cell is there.
+    /// Returns the width of the widest text line of each column, without paddings, in terminal columns. A width above 65535 counts
+    /// as 65535, and a column with a cell has at least 1.
+    ///
+    /// ```
+    /// use comfy_table_proved::Table;
+    ///
+    /// let mut table = Table::new();
+    /// table.set_header(["Bike", "Dock"]).add_row(["17", "harbour\nmuseum"]);
+    /// assert_eq!(table.column_max_content_widths(), [4, 7]);
+    /// ```
     pub fn column_max_content_widths(&self) -> Vec<u16> {
         self.drawn(Form::ContentWidths).lines().filter_map(|width| width.parse().ok()).collect()
     }
@@ -133,7 +169,20 @@ impl Table {
 
 /// Header, rows and columns.
 impl Table {
-    /// Replaces the header.
+    /// Sets the header, and makes missing columns for its cells. A new table has none.
+    ///
+    /// ```
+    /// use comfy_table_proved::Table;
+    ///
+    /// let mut table = Table::new();
+    /// table.set_header(["Bike", "Dock"]).add_row([17, 3]);
+    /// assert_eq!(table.to_string(), "\
+    /// +------+------+
+    /// | Bike | Dock |
+    /// +=============+
+    /// | 17   | 3    |
+    /// +------+------+");
+    /// ```
     pub fn set_header<T: Into<Row>>(&mut self, row: T) -> &mut Table {
         let header = row.into();
         self.grow_columns(header.cell_count());
@@ -141,12 +190,23 @@ impl Table {
         self
     }
 
-    /// The header.
+    /// Returns the header, or `None` if there is none.
     pub fn header(&self) -> Option<&Row> {
         self.header.as_ref()
     }
 
-    /// Adds a row below the others.
+    /// Adds a row below the others, and makes missing columns for its cells. A row is anything that iterates over values with
+    /// `Display`, or a [`Row`].
+    ///
+    /// ```
+    /// use comfy_table_proved::{Cell, CellAlignment, Row, Table};
+    ///
+    /// let mut table = Table::new();
+    /// table.add_row([1.5, 20.0]);
+    /// table.add_row(vec![Cell::new("a"), Cell::new("b").set_alignment(CellAlignment::Right)]);
+    /// table.add_row(Row::from("xyz".chars()));
+    /// assert_eq!(table.column_count(), 3);
+    /// ```
     pub fn add_row<T: Into<Row>>(&mut self, row: T) -> &mut Table {
         let row = row.into();
         self.grow_columns(row.cell_count());
@@ -154,7 +214,17 @@ impl Table {
         self
     }
 
-    /// Adds a row where the predicate, of how many rows there are and of the row, holds.
+    /// Adds a row if the predicate is true. The predicate gets the number of rows so far, and the row.
+    ///
+    /// ```
+    /// use comfy_table_proved::Table;
+    ///
+    /// let mut table = Table::new();
+    /// for bike in [[17, 3], [8, 0], [21, 5]] {
+    ///     table.add_row_if(|_, [_, dock]| *dock > 0, bike);
+    /// }
+    /// assert_eq!(table.row_count(), 2);
+    /// ```
     pub fn add_row_if<P, T>(&mut self, predicate: P, row: T) -> &mut Table
     where
         P: Fn(usize, &T) -> bool,
@@ -163,7 +233,20 @@ impl Table {
         if predicate(self.rows.len(), &row) { self.add_row(row) } else { self }
     }
 
-    /// Adds rows in their order.
+    /// Adds rows in their order, each as [`add_row`](Table::add_row) does.
+    ///
+    /// ```
+    /// use comfy_table_proved::Table;
+    ///
+    /// let mut table = Table::new();
+    /// table.add_rows([["17", "dock 3"], ["8", "station"]]);
+    /// assert_eq!(table.to_string(), "\
+    /// +----+---------+
+    /// | 17 | dock 3  |
+    /// |----+---------|
+    /// | 8  | station |
+    /// +----+---------+");
+    /// ```
     pub fn add_rows<I>(&mut self, rows: I) -> &mut Table
     where
         I: IntoIterator,
@@ -175,7 +258,17 @@ impl Table {
         self
     }
 
-    /// Adds rows where the predicate, of how many rows there are and of these rows, holds.
+    /// Adds all the given rows if the predicate is true, and none otherwise. The predicate gets the number of rows so far, and the
+    /// given rows.
+    ///
+    /// ```
+    /// use comfy_table_proved::Table;
+    ///
+    /// let mut table = Table::new();
+    /// table.add_rows_if(|count, rows| count + rows.len() <= 2, [[17, 3], [8, 0]]);
+    /// table.add_rows_if(|count, rows| count + rows.len() <= 2, [[21, 5]]);
+    /// assert_eq!(table.row_count(), 2);
+    /// ```
     pub fn add_rows_if<P, I>(&mut self, predicate: P, rows: I) -> &mut Table
     where
         P: Fn(usize, &I) -> bool,
@@ -185,63 +278,135 @@ impl Table {
         if predicate(self.rows.len(), &rows) { self.add_rows(rows) } else { self }
     }
 
-    /// How many rows there are below the header.
+    /// Returns the number of rows, without the header.
+    ///
+    /// ```
+    /// use comfy_table_proved::Table;
+    ///
+    /// let mut table = Table::new();
+    /// table.set_header(["Bike", "Dock"]);
+    /// assert_eq!(table.row_count(), 0);
+    /// assert!(table.is_empty());
+    /// assert_eq!(table.add_row([17, 3]).row_count(), 1);
+    /// ```
     pub fn row_count(&self) -> usize {
         self.rows.len()
     }
 
-    /// Whether there is no row below the header.
+    /// Returns true if the table has no rows. A header doesn't count.
     pub fn is_empty(&self) -> bool {
         self.rows.is_empty()
     }
 
-    /// The row at a position below the header.
+    /// Returns the row at a position, counted from 0 below the header, or `None` if there are fewer rows.
     pub fn row(&self, index: usize) -> Option<&Row> {
         self.rows.get(index)
     }
 
-    /// The row at a position below the header, to be changed.
+    /// Returns the row at a position, as [`row`](Table::row) does, to change it.
+    ///
+    /// ```
+    /// use comfy_table_proved::Table;
+    ///
+    /// let mut table = Table::new();
+    /// table.add_row(["17", "dock 3\nharbour"]);
+    /// if let Some(row) = table.row_mut(0) {
+    ///     row.max_height(1);
+    /// }
+    /// assert_eq!(table.lines().nth(1).as_deref(), Some("| 17 | dock 3… |"));
+    /// ```
     pub fn row_mut(&mut self, index: usize) -> Option<&mut Row> {
         self.rows.get_mut(index)
     }
 
-    /// The rows below the header.
+    /// Returns an iterator over the rows, without the header.
+    ///
+    /// ```
+    /// use comfy_table_proved::{Row, Table};
+    ///
+    /// let mut table = Table::new();
+    /// table.add_row(["17", "dock 3"]).add_row(["8"]);
+    /// let lengths: Vec<usize> = table.row_iter().map(Row::cell_count).collect();
+    /// assert_eq!(lengths, [2, 1]);
+    /// ```
     pub fn row_iter(&self) -> slice::Iter<'_, Row> {
         self.rows.iter()
     }
 
-    /// The rows below the header, to be changed.
+    /// Returns an iterator over the rows, without the header, to change them.
+    ///
+    /// ```
+    /// use comfy_table_proved::Table;
+    ///
+    /// let mut table = Table::new();
+    /// table.add_row(["17\ndock 3"]).add_row(["8\nstation"]);
+    /// for row in table.row_iter_mut() {
+    ///     row.max_height(1);
+    /// }
+    /// assert_eq!(table.lines().count(), 5);
+    /// ```
     pub fn row_iter_mut(&mut self) -> slice::IterMut<'_, Row> {
         self.rows.iter_mut()
     }
 
-    /// How many columns there are, once [`discover_columns`](Table::discover_columns) has been called, which this does.
+    /// Returns the number of columns, after a call of [`discover_columns`](Table::discover_columns).
+    ///
+    /// ```
+    /// use comfy_table_proved::Table;
+    ///
+    /// let mut table = Table::new();
+    /// table.set_header(["Bike", "Dock"]).add_row(["17", "3", "rented"]);
+    /// assert_eq!(table.column_count(), 3);
+    /// ```
     pub fn column_count(&mut self) -> usize {
         self.discover_columns();
         self.columns.len()
     }
 
-    /// The column at a position.
+    /// Returns the column at a position, counted from 0, or `None` if there are fewer columns.
     pub fn column(&self, index: usize) -> Option<&Column> {
         self.columns.get(index)
     }
 
-    /// The column at a position, to be changed.
+    /// Returns the column at a position, as [`column`](Table::column) does, to change it.
+    ///
+    /// ```
+    /// use comfy_table_proved::{CellAlignment, Table};
+    ///
+    /// let mut table = Table::new();
+    /// table.set_header(["Bike", "Euros"]).add_row([17, 5]);
+    /// if let Some(euros) = table.column_mut(1) {
+    ///     euros.set_cell_alignment(CellAlignment::Right);
+    /// }
+    /// assert_eq!(table.lines().nth(3).as_deref(), Some("| 17   |     5 |"));
+    /// ```
     pub fn column_mut(&mut self, index: usize) -> Option<&mut Column> {
         self.columns.get_mut(index)
     }
 
-    /// The columns in order.
+    /// Returns an iterator over the columns, from the left.
     pub fn column_iter(&self) -> slice::Iter<'_, Column> {
         self.columns.iter()
     }
 
-    /// The columns in order, to be changed.
+    /// Returns an iterator over the columns, from the left, to change them.
+    ///
+    /// ```
+    /// use comfy_table_proved::Table;
+    ///
+    /// let mut table = Table::new();
+    /// table.add_row(["17", "dock 3"]);
+    /// for column in table.column_iter_mut() {
+    ///     column.set_padding((0, 0));
+    /// }
+    /// assert_eq!(table.lines().nth(1).as_deref(), Some("|17|dock 3|"));
+    /// ```
     pub fn column_iter_mut(&mut self) -> slice::IterMut<'_, Column> {
         self.columns.iter_mut()
     }
 
-    /// What each row has in a column: a cell, or nothing.
+    /// Returns an iterator over the cells of a column, from the top, without the header. It gives one item for each row, which is
+    /// `None` if the row has no cell in this column.
     ///
     /// ```
     /// use comfy_table_proved::{Cell, Table};
@@ -255,12 +420,35 @@ impl Table {
         ColumnCellIter::new(&self.rows, column_index)
     }
 
-    /// What the header, and then each row, has in a column; without a header there is nothing before the rows.
+    /// Returns an iterator over the cells of a column, with that of the header first. The first item is `None` without a header.
+    ///
+    /// ```
+    /// use comfy_table_proved::{Cell, Table};
+    ///
+    /// let mut table = Table::new();
+    /// table.set_header(["Bike", "Place"]).add_row(["17", "dock 3"]).add_row(["8"]);
+    /// let places: Vec<Option<String>> = table.column_cells_with_header_iter(1).map(|cell| cell.map(Cell::content)).collect();
+    /// assert_eq!(places, [Some("Place".into()), Some("dock 3".into()), None]);
+    /// ```
     pub fn column_cells_with_header_iter(&self, column_index: usize) -> ColumnCellsWithHeaderIter<'_> {
         ColumnCellsWithHeaderIter::new(self.header.as_ref(), &self.rows, column_index)
     }
 
-    /// Makes columns until each cell of a row has one, as cells may be added to rows that are here already.
+    /// Makes missing columns, so that each cell of each row has one. Call it after adding cells to rows that are in the table
+    /// already. Cells without a column aren't drawn.
+    ///
+    /// ```
+    /// use comfy_table_proved::{Cell, Table};
+    ///
+    /// let mut table = Table::new();
+    /// table.add_row(["17"]);
+    /// if let Some(row) = table.row_mut(0) {
+    ///     row.add_cell(Cell::new("dock 3"));
+    /// }
+    /// assert_eq!(table.lines().nth(1).as_deref(), Some("| 17 |"));
+    /// table.discover_columns();
+    /// assert_eq!(table.lines().nth(1).as_deref(), Some("| 17 | dock 3 |"));
+    /// ```
     pub fn discover_columns(&mut self) {
         self.grow_columns(self.rows.iter().map(Row::cell_count).max().unwrap_or(0));
     }
@@ -272,54 +460,114 @@ impl Table {
 
 /// Settings.
 impl Table {
-    /// Replaces the style.
+    /// Sets the style: one of the [`presets`](crate::presets), or one of your own.
+    ///
+    /// ```
+    /// use comfy_table_proved::{Table, presets::UTF8_FULL};
+    ///
+    /// let mut table = Table::new();
+    /// table.load_style(UTF8_FULL.with_rounded_corners()).add_row(["17", "dock 3"]);
+    /// assert_eq!(table.to_string(), "\
+    /// ╭────┬────────╮
+    /// │ 17 ┆ dock 3 │
+    /// ╰────┴────────╯");
+    /// ```
     pub fn load_style(&mut self, style: TableStyle) -> &mut Table {
         self.style = style;
         self
     }
 
-    /// The style.
+    /// Returns the style.
+    ///
+    /// ```
+    /// use comfy_table_proved::{Table, presets::ASCII_FULL};
+    ///
+    /// assert_eq!(Table::new().style(), ASCII_FULL);
+    /// ```
     pub fn style(&self) -> TableStyle {
         self.style
     }
 
-    /// The style, to be changed.
+    /// Returns the style, to change it.
+    ///
+    /// ```
+    /// use comfy_table_proved::Table;
+    ///
+    /// let mut table = Table::new();
+    /// table.style_mut().content_lines.junction = Some('/');
+    /// assert_eq!(table.add_row(["17", "dock 3"]).lines().nth(1).as_deref(), Some("| 17 / dock 3 |"));
+    /// ```
     pub fn style_mut(&mut self) -> &mut TableStyle {
         &mut self.style
     }
 
-    /// Sets how the widths of columns are found.
+    /// Sets how the columns get their widths. A new table has [`ContentArrangement::Disabled`].
+    ///
+    /// ```
+    /// use comfy_table_proved::{ContentArrangement, Table};
+    ///
+    /// let mut table = Table::new();
+    /// table.set_content_arrangement(ContentArrangement::DynamicFullWidth).set_width(20).add_row(["17"]);
+    /// assert_eq!(table.lines().nth(1).as_deref(), Some("| 17               |"));
+    /// ```
     pub fn set_content_arrangement(&mut self, arrangement: ContentArrangement) -> &mut Table {
         self.arrangement = arrangement;
         self
     }
 
-    /// How the widths of columns are found.
+    /// Returns how the columns get their widths.
     pub fn content_arrangement(&self) -> ContentArrangement {
         self.arrangement.clone()
     }
 
-    /// Sets the width in terminal columns. [`ContentArrangement::Dynamic`] and [`ContentArrangement::DynamicFullWidth`] keep to it,
-    /// and widths in percent are parts of it. A new table is [`ContentArrangement::Disabled`], and as wide as its texts.
+    /// Sets the width of the table, in terminal columns, in place of the terminal's width.
+    ///
+    /// The [`ContentArrangement`] decides what the width does. [`Dynamic`](ContentArrangement::Dynamic) makes the table at most that
+    /// wide, and [`DynamicFullWidth`](ContentArrangement::DynamicFullWidth) exactly that wide. Under
+    /// [`Disabled`](ContentArrangement::Disabled), which a new table has, texts aren't wrapped to fit the table, so the width
+    /// doesn't change them. It is only what a [`Width::Percentage`](crate::Width::Percentage) refers to.
+    ///
+    /// ```
+    /// use comfy_table_proved::{ContentArrangement, Table};
+    ///
+    /// let mut table = Table::new();
+    /// table.add_row(["17", "dock 3, at the harbour"]).set_width(20);
+    /// assert_eq!(table.lines().nth(1).as_deref(), Some("| 17 | dock 3, at the harbour |"));
+    /// table.set_content_arrangement(ContentArrangement::Dynamic);
+    /// assert_eq!(table.to_string(), "\
+    /// +----+-------------+
+    /// | 17 | dock 3, at  |
+    /// |    | the harbour |
+    /// +----+-------------+");
+    /// ```
     pub fn set_width(&mut self, width: u16) -> &mut Table {
         self.width = Some(width);
         self
     }
 
-    /// The width in terminal columns: the one that was set, else that of the terminal, where [`is_tty`](Table::is_tty).
+    /// Returns the width of the table in terminal columns: the one that was set, or else that of the terminal. It is `None` if no
+    /// width was set and the output isn't a terminal ([`is_tty`](Table::is_tty)), or has no known width.
     #[cfg(feature = "tty")]
     pub fn width(&self) -> Option<u16> {
         self.width.or_else(|| if self.is_tty() { terminal::columns() } else { None })
     }
 
-    /// The width in terminal columns, where one was set.
+    /// Returns the width of the table in terminal columns, or `None` if none was set.
     #[cfg(not(feature = "tty"))]
     pub fn width(&self) -> Option<u16> {
         self.width
     }
 
-    /// Sets the constraints of the first columns. A column is there as soon as a header or a row has a cell for it; before, this does
-    /// nothing.
+    /// Sets the constraints of the first columns, one for each. Constraints without a column are ignored, so call this after a
+    /// header or a row was added.
+    ///
+    /// ```
+    /// use comfy_table_proved::{ColumnConstraint::*, Table, Width::*};
+    ///
+    /// let mut table = Table::new();
+    /// table.add_row(["17", "dock 3", "rented"]).set_constraints([LowerBoundary(Fixed(8)), Hidden]);
+    /// assert_eq!(table.lines().nth(1).as_deref(), Some("| 17     | rented |"));
+    /// ```
     pub fn set_constraints<T: IntoIterator<Item = ColumnConstraint>>(&mut self, constraints: T) -> &mut Table {
         for (column, constraint) in self.columns.iter_mut().zip(constraints) {
             column.set_constraint(constraint);
@@ -327,14 +575,37 @@ impl Table {
         self
     }
 
-    /// Sets the character at which lines may break, but for columns and cells that have one of their own. In a new table it is
-    /// a space.
+    /// Sets the delimiter: the character at which long lines may break. In a new table it is a space. The delimiter of a column or
+    /// a cell takes precedence.
+    ///
+    /// ```
+    /// use comfy_table_proved::{ContentArrangement, Table};
+    ///
+    /// let mut table = Table::new();
+    /// table.set_content_arrangement(ContentArrangement::Dynamic).set_width(9).set_delimiter('/').add_row(["home/bikes"]);
+    /// assert_eq!(table.to_string(), "\
+    /// +-------+
+    /// | home  |
+    /// | bikes |
+    /// +-------+");
+    /// ```
     pub fn set_delimiter(&mut self, delimiter: char) -> &mut Table {
         self.delimiter = Some(delimiter);
         self
     }
 
-    /// Sets what stands behind a line at which a row's height cuts a text. In a new table it is `…`.
+    /// Sets the truncation indicator. It ends the last drawn line of a cell that [`Row::max_height`] cuts, in place of characters
+    /// for which the column has no room. In a new table it is `…`.
+    ///
+    /// ```
+    /// use comfy_table_proved::{Row, Table};
+    ///
+    /// let mut row = Row::from(["dock 3\nthe harbour"]);
+    /// row.max_height(1);
+    /// let mut table = Table::new();
+    /// table.set_truncation_indicator("..").add_row(row);
+    /// assert_eq!(table.lines().nth(1).as_deref(), Some("| dock 3..    |"));
+    /// ```
     pub fn set_truncation_indicator(&mut self, indicator: &str) -> &mut Table {
         self.truncation_indicator = Cow::Owned(indicator.into());
         self
@@ -364,36 +635,67 @@ impl Table {
 /// The terminal.
 #[cfg(feature = "tty")]
 impl Table {
-    /// Has the table drawn as if it went to no terminal.
+    /// Draws the table as if the output were no terminal: without the terminal's width, and without colours and attributes unless
+    /// [`enforce_styling`](Table::enforce_styling) was called.
+    ///
+    /// ```
+    /// use comfy_table_proved::Table;
+    ///
+    /// let mut table = Table::new();
+    /// table.force_no_tty();
+    /// assert!(!table.is_tty());
+    /// assert_eq!(table.width(), None);
+    /// ```
     pub fn force_no_tty(&mut self) -> &mut Table {
         self.terminal.is_denied = true;
         self
     }
 
-    /// Has standard error asked for a terminal, in place of standard output.
+    /// Makes [`is_tty`](Table::is_tty) ask whether standard error is a terminal, in place of standard output. Call it before the
+    /// table is drawn, because the first answer is kept.
     pub fn use_stderr(&mut self) -> &mut Table {
         self.terminal.is_at_stderr = true;
         self
     }
 
-    /// Whether the table goes to a terminal. The first answer is kept.
+    /// Returns true if the output is a terminal: standard output, or standard error after [`use_stderr`](Table::use_stderr). It is
+    /// false after [`force_no_tty`](Table::force_no_tty). The first answer of the system is kept.
     pub fn is_tty(&self) -> bool {
         let ask = || if self.terminal.is_at_stderr { io::stderr().is_terminal() } else { io::stdout().is_terminal() };
         !self.terminal.is_denied && *self.terminal.is_there.get_or_init(ask)
     }
 
-    /// Has colours and attributes written, also where the table goes to no terminal.
+    /// Writes colours and attributes even if the output isn't a terminal.
+    ///
+    /// ```
+    /// use comfy_table_proved::{Attribute, Cell, Table};
+    ///
+    /// let mut table = Table::new();
+    /// table.force_no_tty().enforce_styling().add_row([Cell::new("17").add_attribute(Attribute::Bold)]);
+    /// assert_eq!(table.lines().nth(1).as_deref(), Some("|\x1b[1m 17 \x1b[0m|"));
+    /// ```
     pub fn enforce_styling(&mut self) -> &mut Table {
         self.terminal.enforces_styling = true;
         self
     }
 
-    /// Whether colours and attributes are written.
+    /// Returns true if colours and attributes are written: if the output is a terminal ([`is_tty`](Table::is_tty)), or after
+    /// [`enforce_styling`](Table::enforce_styling).
     pub fn should_style(&self) -> bool {
         self.terminal.enforces_styling || self.is_tty()
     }
 
-    /// Has colours and attributes written around texts alone, and not around the spaces beside them.
+    /// Writes colours and attributes around texts only. Otherwise they also cover the spaces beside a text, so a background fills
+    /// the whole cell.
+    ///
+    /// ```
+    /// use comfy_table_proved::{Attribute, Cell, Table};
+    ///
+    /// let mut table = Table::new();
+    /// table.enforce_styling().add_row([Cell::new("17").add_attribute(Attribute::Bold)]);
+    /// table.style_text_only();
+    /// assert_eq!(table.lines().nth(1).as_deref(), Some("| \x1b[1m17\x1b[0m |"));
+    /// ```
     pub fn style_text_only(&mut self) {
         self.terminal.styles_text_only = true;
     }

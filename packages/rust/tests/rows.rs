@@ -1,5 +1,5 @@
-//! Expected drawings are typed by hand. CSVTABLE, where it is set, is the program csvtable: random rows, written here as CSV
-//! with few quotes, have to be drawn as it draws them.
+//! Tests of `Rows`. Expected drawings are typed by hand. If CSVTABLE is set, it is the program csvtable. Random rows have to be
+//! drawn as that program draws them. They are written for it as CSV with few quotes.
 use comfy_table_proved::csvtable::{Error, Expanded, Rows, Style, draw_csv};
 use comfy_table_proved::presets;
 use std::io::Write;
@@ -237,7 +237,7 @@ const PIECES: [&str; 32] = [
     "1,150.00",
 ];
 
-// Numbers from a seed.
+// Random numbers from a seed.
 struct Chance(u64);
 
 impl Chance {
@@ -251,7 +251,7 @@ impl Chance {
     }
 }
 
-// A field as other writers of CSV have it, with quotes where it needs them. A first byte-order mark is dropped without quotes.
+// A field as other writers of CSV write it, with quotes if it needs them. A first byte-order mark without quotes is dropped.
 fn field(text: &str) -> String {
     let needs_quotes = text.is_empty() || text.starts_with('\u{feff}') || text.contains([',', '"', '\n', '\r']);
     if needs_quotes { format!("\"{}\"", text.replace('"', "\"\"")) } else { text.into() }

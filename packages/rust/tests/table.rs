@@ -1,4 +1,4 @@
-//! Tables by the calls of comfy-table. Expected drawings are typed by hand.
+//! Tests of `Table`. Expected drawings are typed by hand.
 use comfy_table_proved::csvtable::{Rows, Style};
 use comfy_table_proved::presets::{ASCII_FULL_CONDENSED, UTF8_FULL};
 use comfy_table_proved::{
@@ -91,6 +91,32 @@ fn a_style_of_ones_own() {
 }
 
 #[test]
+fn presets_draw_the_pictures_of_their_comments() {
+    const PRESETS: [(&str, TableStyle); 13] = [
+        ("ASCII_FULL", presets::ASCII_FULL),
+        ("ASCII_FULL_CONDENSED", presets::ASCII_FULL_CONDENSED),
+        ("ASCII_NO_BORDERS", presets::ASCII_NO_BORDERS),
+        ("ASCII_BORDERS_ONLY", presets::ASCII_BORDERS_ONLY),
+        ("ASCII_BORDERS_ONLY_CONDENSED", presets::ASCII_BORDERS_ONLY_CONDENSED),
+        ("ASCII_HORIZONTAL_ONLY", presets::ASCII_HORIZONTAL_ONLY),
+        ("ASCII_MARKDOWN", presets::ASCII_MARKDOWN),
+        ("UTF8_FULL", presets::UTF8_FULL),
+        ("UTF8_FULL_CONDENSED", presets::UTF8_FULL_CONDENSED),
+        ("UTF8_NO_BORDERS", presets::UTF8_NO_BORDERS),
+        ("UTF8_BORDERS_ONLY", presets::UTF8_BORDERS_ONLY),
+        ("UTF8_HORIZONTAL_ONLY", presets::UTF8_HORIZONTAL_ONLY),
+        ("NOTHING", presets::NOTHING),
+    ];
+    let source = include_str!("../src/style/presets.rs");
+    for (name, style) in PRESETS {
+        let mut table = Table::new();
+        table.load_style(style).set_header(["Hello", "there"]).add_rows([["a", "b"], ["c", "d"]]);
+        let picture: String = table.trim_fmt().lines().map(|line| format!("/// {line}\n")).collect();
+        assert!(source.contains(&format!("/// ```text\n{picture}/// ```\npub const {name}:")), "{name}: {picture}");
+    }
+}
+
+#[test]
 fn tables_without_rows() {
     let mut table = Table::default();
     assert!(table.is_empty());
@@ -127,7 +153,7 @@ fn a_shorter_header_keeps_the_columns() {
 }
 
 #[test]
-fn rows_are_added_where_a_predicate_holds() {
+fn rows_are_added_if_a_predicate_is_true() {
     let mut table = Table::new();
     table.add_row_if(|count, row| count == 0 && row.len() == 1, ["a"]).add_row_if(|count, _| count == 0, ["b"]);
     table.add_rows_if(|count, rows: &Vec<[u8; 2]>| count == rows.len(), vec![[1, 2]]).add_rows([vec![-1], vec![2, 3]]);
@@ -160,7 +186,7 @@ fn threads_draw_at_once() {
 }
 
 #[test]
-fn both_kinds_of_tables_stand_side_by_side() {
+fn both_kinds_of_tables_are_drawn_side_by_side() {
     let mut table = Table::new();
     table.set_header(["name", "price"]).add_row(["oats", "3"]);
     table.load_style(ASCII_FULL_CONDENSED).column_mut(1).unwrap().set_cell_alignment(CellAlignment::Right);
@@ -173,7 +199,7 @@ mod terminal {
     use super::*;
     use comfy_table_proved::{Attribute, Color};
 
-    // What stands in the only cell of a table.
+    // The lines of the only cell of a table.
     fn styled(cell: Cell, texts_only: bool) -> String {
         let mut table = Table::new();
         table.force_no_tty().enforce_styling().add_row([cell]);

@@ -1,4 +1,4 @@
-//! What people write for the crate tabled, as it is written here. Expected drawings are typed by hand.
+//! Examples of the crate tabled, written for this package. Expected drawings are typed by hand.
 use comfy_table_proved::csvtable::{Rows, Style};
 
 struct Language {

@@ -1,12 +1,12 @@
 //! calls [WIDTH|- [styled]]: draws standard input by the original and by `Table`, `Rows` and `draw_csv` of the proved package, in
-//! one process, and compares. It prints the best time of each out of as many calls as TIMES says, one where it isn't set. With
-//! ONLY=original, ONLY=table, ONLY=rows or ONLY=csv it makes one such call alone. `draw_csv` gets the same table as CSV. With
-//! `styled` a third of the cells are bold and green and stand at the right; only the first two draw them.
+//! one process, and compares the drawings. `draw_csv` gets the table as CSV. The best time of each is printed, of as many calls
+//! as the variable TIMES says, or of one. With ONLY=original, ONLY=table, ONLY=rows or ONLY=csv only one such call is made. With
+//! `styled`, a third of the cells are bold, green and right-aligned, and only the original and `Table` draw them.
 use comfy_table_proved::csvtable::{Rows, Style, draw_csv};
 use std::io::{Read, stdin};
 use std::time::Instant;
 
-/// What is drawn, and how.
+/// A table's texts and settings.
 struct Input {
     header: Vec<String>,
     rows: Vec<Vec<String>>,
@@ -15,12 +15,12 @@ struct Input {
     is_styled: bool,
 }
 
-// The cells of a line, between TABs. U+000B stands for a line feed.
+// The cells of a line, which TABs separate. U+000B means a line feed in a cell.
 fn cells(line: &str) -> Vec<String> {
     line.split('\t').map(|text| text.replace('\u{b}', "\n")).collect()
 }
 
-// The same calls of a library that has them.
+// The same calls of comfy-table and of the package.
 macro_rules! by_calls {
     ($name:ident, $library:ident) => {
         #[unsafe(no_mangle)]

@@ -1,17 +1,17 @@
-// What a library says of a described table. This file is read once for each library, by whose names it is written.
+// The drawings of a described table, and the results of reading from it. This file is included once for each library.
 
-/// A table's drawings.
+/// Draws a table in each way.
 pub fn drawing(described: &Described) -> Drawing {
     let table = table_of(described);
     Drawing { text: table.to_string(), trimmed: table.trim_fmt(), lines: table.lines().collect() }
 }
 
-/// The widths of a table's contents.
+/// Returns the widths of a table's contents.
 pub fn widths(described: &Described) -> Vec<u16> {
     table_of(described).column_max_content_widths()
 }
 
-/// What can be read from a table, with texts of cells as a function has them.
+/// Returns everything that can be read from a table, as lines of text. A function is applied to the texts of cells.
 pub fn readings(described: &Described, text: fn(&str) -> String) -> String {
     let mut table = table_of(described);
     let content = |cell: &Cell| text(&cell.content());

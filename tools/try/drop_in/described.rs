@@ -1,12 +1,12 @@
-//! Random tables as plain data, so that two libraries can build the same one.
+//! Random tables as plain data, so that both libraries can make the same ones.
 
-/// What a table is built of.
+/// The description of a table.
 #[derive(Clone, Debug)]
 pub struct Described {
-    /// The headers that are set one after another, and the rows that are added then.
+    /// The headers, which are set one after another. The rows are added after them.
     pub headers: Vec<DescribedRow>,
     pub rows: Vec<DescribedRow>,
-    /// Cells that are added to rows of the table, by their positions.
+    /// Cells that are added to rows of the table, with the positions of these rows.
     pub late_cells: Vec<(usize, DescribedCell)>,
     pub discovers_columns: bool,
     /// The settings of the first columns.
@@ -31,7 +31,7 @@ pub struct DescribedCell {
     pub text: String,
     pub delimiter: Option<char>,
     pub alignment: usize,
-    /// Numbers of colours and of attributes.
+    /// The number of a colour. `attributes` has numbers of attributes.
     pub foreground: Option<u8>,
     pub background: Option<u8>,
     pub attributes: Vec<usize>,
@@ -43,12 +43,12 @@ pub struct DescribedColumn {
     pub padding: Option<(u16, u16)>,
     pub delimiter: Option<char>,
     pub alignment: usize,
-    /// The number of a constraint, and its widths; those of an odd number are in percent.
+    /// The number of a constraint. Odd `widths` are in percent.
     pub constraint: usize,
     pub widths: (u16, u16),
 }
 
-/// A preset, or else a style of these characters, and what is changed of it.
+/// A preset, or a style of these characters if there is none, and changes of it.
 #[derive(Clone, Debug)]
 pub struct DescribedStyle {
     pub preset: Option<usize>,
@@ -57,7 +57,7 @@ pub struct DescribedStyle {
     pub is_solid: bool,
 }
 
-/// Numbers from a seed.
+/// Random numbers from a seed.
 pub struct Chance(pub u64);
 
 impl Chance {
@@ -74,13 +74,13 @@ impl Chance {
         values[self.below(values.len())]
     }
 
-    /// A value in one of so many cases, and else none.
+    /// Returns a value in one of `count` cases, and `None` in the others.
     fn sometimes<T>(&mut self, count: usize, value: impl FnOnce(&mut Chance) -> T) -> Option<T> {
         self.is_one_in(count).then(|| value(self))
     }
 }
 
-/// Characters that all versions of unicode-width and unicode-segmentation measure and cut in the same way, beside those of ASCII.
+/// Characters besides ASCII that all versions of unicode-width and unicode-segmentation measure and divide in the same way.
 pub const UNDISPUTED: &str = "äßéΩжאقกあ年快乐한🍰✅…═│";
 
 const PIECES: [&str; 30] = [
@@ -88,10 +88,10 @@ const PIECES: [&str; 30] = [
     "年", "年快乐", "한", "🍰", "✅✅", "a年b", "…", "", "=|=", "\n\n", "x y z", "xxxxxxxxxxxx yyyyyyyyyyyy", "aé年🍰", "end ",
 ];
 
-// What some versions measure or cut otherwise.
+// Texts that some versions measure or divide differently.
 const DISPUTED: [&str; 8] = ["\t", "\r", "👩\u{200d}🚀", "क\u{94d}क", "\u{1b}[31m", "\0", "\u{fe0f}✔", "🇩🇪🇫"];
 
-// Sequences, which stand in texts where these count no columns.
+// Escape sequences. They are only in texts with the feature custom_styling, with which they take no columns.
 const SEQUENCES: [&str; 5] = ["\u{1b}[31m", "\u{1b}[1m", "\u{1b}[0m", "\u{1b}[38;5;9m", "\u{1b}[4mlined\u{1b}[0m"];
 
 const DELIMITERS: [char; 6] = ['-', ' ', 'b', '年', ',', '\0'];
@@ -131,19 +131,19 @@ impl Described {
         }
     }
 
-    /// How many columns a table of it has.
+    /// Returns the number of columns of the table.
     pub fn column_count(&self) -> usize {
         let added = self.headers.iter().chain(&self.rows).map(|row| row.cells.len()).max().unwrap_or(0);
         let discovered = if self.discovers_columns { (0..self.rows.len()).map(|row| self.cells_in(row)).max() } else { None };
         added.max(discovered.unwrap_or(0))
     }
 
-    /// How many cells a row has in the end.
+    /// Returns the number of cells of a row, including late ones.
     pub fn cells_in(&self, row: usize) -> usize {
         self.rows[row].cells.len() + self.late_cells.iter().filter(|(at, _)| *at == row).count()
     }
 
-    /// A table of one cell, whose colours and attributes are written as in this one.
+    /// Returns a table of one cell, which writes colours and attributes as this one does.
     pub fn with_cell_alone(&self, cell: DescribedCell) -> Described {
         let style = DescribedStyle { preset: Some(0), characters: [None; 22], is_rounded: false, is_solid: false };
         Described {
@@ -234,7 +234,7 @@ impl DescribedColumn {
 }
 
 impl DescribedStyle {
-    /// Whether a line of it has a junction. Of the presets the last one has none.
+    /// Returns true if a line of the style has a junction. Of the presets, only the last one has none.
     pub fn has_junctions(&self) -> bool {
         let own = [2, 5, 9, 12, 16, 20].iter().any(|at| self.characters[*at].is_some());
         self.is_solid || self.preset.map_or(own, |number| number < 12)

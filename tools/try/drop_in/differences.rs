@@ -1,15 +1,15 @@
-//! The rows of docs/DIFFERENCES.md that can explain why two drawings differ.
+//! The rows of docs/DIFFERENCES.md that can explain a difference between two drawings.
 
 use crate::described::{Described, DescribedCell, UNDISPUTED};
 use crate::shown::{Shown, Style, may_be_shown, shown_from, visible};
 use crate::{Drawing, original, proved};
 use std::panic::catch_unwind;
 
-/// A row of the page: whether it speaks of a table, and a table of which it doesn't speak. The original has to draw the latter as
-/// the package draws the table itself, or, where the row is about both libraries, as the package draws the latter.
+/// A row of the page. `applies_to` is true for tables with the difference, and `remedy` changes such a table so that it has none.
+/// The original has to draw the changed table as the package draws the table itself, or the changed one if `changes` is `Both`.
 struct Row {
     name: &'static str,
-    speaks_of: fn(&Described) -> bool,
+    applies_to: fn(&Described) -> bool,
     remedy: fn(&mut Described),
     changes: Changes,
 }
@@ -18,11 +18,11 @@ struct Row {
 enum Changes {
     Original,
     Both,
-    /// The drawing of the original is changed, as `without_junctions` does.
+    /// `without_junctions` changes the drawing of the original.
     Lines,
-    /// The characters of both drawings are compared, and the styles of all that aren't white space, instead of the sequences.
+    /// The characters of both drawings are compared, and their styles except those of white space, instead of the sequences.
     Sequences,
-    /// As `Original`, of which the characters alone are compared. The package's have to be in styles that a cell's text has.
+    /// As `Original`, but only characters are compared. Each one of the package has to be in a style that a cell's text has.
     Breaks,
 }
 
@@ -32,7 +32,7 @@ const CLAIMS_NOTHING: &str =
 const ROWS: [Row; 9] = [
     Row {
         name: "a row with cells that no column knows indexes out of range",
-        speaks_of: |it| (0..it.rows.len()).any(|row| it.cells_in(row) > it.column_count()),
+        applies_to: |it| (0..it.rows.len()).any(|row| it.cells_in(row) > it.column_count()),
         remedy: |it| {
             let count = it.column_count();
             let mut cells: Vec<usize> = it.rows.iter().map(|row| row.cells.len()).collect();
@@ -45,13 +45,13 @@ const ROWS: [Row; 9] = [
     },
     Row {
         name: "a column's position is its public field `index`",
-        speaks_of: |it| it.columns.iter().any(|column| column.index.is_some()),
+        applies_to: |it| it.columns.iter().any(|column| column.index.is_some()),
         remedy: |it| it.columns.iter_mut().for_each(|column| column.index = None),
         changes: Changes::Original,
     },
     Row {
         name: CLAIMS_NOTHING,
-        speaks_of: |it| it.arrangement > 0 && it.headers.last().is_some_and(|header| header.cells.len() < it.column_count()),
+        applies_to: |it| it.arrangement > 0 && it.headers.last().is_some_and(|header| header.cells.len() < it.column_count()),
         remedy: |it| {
             let count = it.column_count();
             it.headers.last_mut().expect("a header").cells.resize_with(count, Default::default);
@@ -60,37 +60,37 @@ const ROWS: [Row; 9] = [
     },
     Row {
         name: CLAIMS_NOTHING,
-        speaks_of: |it| it.arrangement > 0 && has_delimiters_alone(it),
+        applies_to: |it| it.arrangement > 0 && has_delimiters_alone(it),
         remedy: without_delimiters_alone,
         changes: Changes::Both,
     },
     Row {
         name: "without vertical lines, top and bottom border still have junctions, and are wider than the rows",
-        speaks_of: |it| !it.style.has_junctions(),
+        applies_to: |it| !it.style.has_junctions(),
         remedy: |_| (),
         changes: Changes::Lines,
     },
     Row {
         name: "`ColumnDisplayInfo::width` stops at 65535, and sums in `u16` can overflow",
-        speaks_of: |it| it.columns.iter().any(has_more_than_65535),
+        applies_to: |it| it.columns.iter().any(has_more_than_65535),
         remedy: |it| it.columns.iter_mut().filter(|column| has_more_than_65535(column)).for_each(|column| column.padding = None),
         changes: Changes::Both,
     },
     Row {
         name: "texts are measured as by `unicode-width` 0.2.3 and divided as by Unicode 18",
-        speaks_of: |it| it.clone().texts_mut().any(|text| text.chars().any(is_disputed)),
+        applies_to: |it| it.clone().texts_mut().any(|text| text.chars().any(is_disputed)),
         remedy: |it| it.texts_mut().for_each(|text| *text = text.chars().map(|it| if is_disputed(it) { 'x' } else { it }).collect()),
         changes: Changes::Both,
     },
     Row {
         name: "with `custom_styling`, a line's sequences end with its last visible character",
-        speaks_of: has_sequences,
+        applies_to: has_sequences,
         remedy: |_| (),
         changes: Changes::Sequences,
     },
     Row {
         name: "with `custom_styling`, what is visible decides where lines break, and a cut line loses its sequences",
-        speaks_of: has_sequences,
+        applies_to: has_sequences,
         remedy: |it| it.texts_mut().for_each(|text| *text = visible(text)),
         changes: Changes::Breaks,
     },
@@ -100,7 +100,7 @@ fn has_more_than_65535(column: &crate::described::DescribedColumn) -> bool {
     column.padding.is_some_and(|(left, right)| left == u16::MAX || right == u16::MAX)
 }
 
-// Takes the delimiters out of each line of which nothing else is visible. Cells without one of their own have that of any column.
+// Removes the delimiters from each line in which nothing else is visible. Cells without a delimiter have that of any column.
 fn without_delimiters_alone(described: &mut Described) {
     let columns = described.columns.iter().map(|column| column.delimiter);
     let shared: Vec<char> = columns.chain([described.delimiter, Some(' ')]).flatten().collect();
@@ -127,22 +127,22 @@ fn is_disputed(character: char) -> bool {
     !(' '..='~').contains(&character) && character != '\n' && !is_of_sequence && !UNDISPUTED.contains(character)
 }
 
-/// The row that explains how what the libraries say of a table differs; a few words where it doesn't differ or several rows do
-/// together, and none where no rows do.
+/// Returns the name of the row that explains the difference between both libraries for a table. If there is no difference, or
+/// several rows explain it together, it returns words that say so, and `None` if no rows explain it.
 pub fn between(described: &Described) -> Option<&'static str> {
     // With `custom_styling` the original closes and resumes sequences in the text of a cell.
     let text = if cfg!(feature = "custom_styling") { visible } else { str::to_owned };
     if original::readings(described, text) != proved::readings(described, text) {
         return None;
     }
-    let rows: Vec<&Row> = ROWS.iter().filter(|row| (row.speaks_of)(described)).collect();
+    let rows: Vec<&Row> = ROWS.iter().filter(|row| (row.applies_to)(described)).collect();
     if are_explained(described, &[]) {
         return Some("the same");
     }
     if let Some(row) = rows.iter().find(|row| are_explained(described, &[row])) {
         return Some(row.name);
     }
-    // All that speak of the table first. One of them may speak of what another one prevents.
+    // Tries all rows first, and then fewer. A row may apply to a thing that another row's remedy removes.
     let some = |bits: usize| rows.iter().enumerate().filter(|(at, _)| bits >> at & 1 == 1).map(|(_, row)| *row).collect::<Vec<&Row>>();
     let are_several = (0..1 << rows.len()).rev().any(|bits| are_explained(described, &some(bits)));
     are_several.then_some("several of these rows")
@@ -176,7 +176,7 @@ fn are_explained(described: &Described, rows: &[&Row]) -> bool {
     are_styled && drawing == original && widths_are_explained(described, rows)
 }
 
-// Whether each character of a drawing has a style that a cell's text gives it, or is one of the frame or an indicator.
+// True if each character of a drawing has a style that a cell's text can give it, or is of the frame or an indicator.
 fn are_styled_as(described: &Described, drawing: &Drawing) -> bool {
     let is_cut = described.headers.iter().chain(&described.rows).any(|row| row.max_height.is_some());
     let cells: Vec<&DescribedCell> = described.cells().collect();
@@ -191,14 +191,15 @@ fn are_styled_as(described: &Described, drawing: &Drawing) -> bool {
     })
 }
 
-// The style that the original gives a cell's text without sequences.
+// Returns the style that the original gives a cell's text without sequences.
 fn own_style(described: &Described, cell: &DescribedCell) -> Style {
     let cell = DescribedCell { text: "x".into(), alignment: usize::MAX, delimiter: None, ..cell.clone() };
     let shown = original::drawing(&described.with_cell_alone(cell)).shown();
     shown.into_iter().find(|(character, _)| *character == 'x').expect("an x is drawn").1
 }
 
-// An empty cell has a width where no cell has none, so widths aren't compared with those of a table with more cells.
+// True if both libraries have the same widths. An empty cell has a width and a missing cell has none, so the tables aren't
+// changed by rows that add cells to the original's table only.
 fn widths_are_explained(described: &Described, rows: &[&Row]) -> bool {
     let (mut ours, mut theirs) = (described.clone(), described.clone());
     for row in rows {
@@ -223,14 +224,14 @@ impl Drawing {
         texts.into_iter().flat_map(|text| shown_from(&Style::default(), text)).collect()
     }
 
-    // Trimmed lines are compared by their texts, since a space may stand before a sequence.
+    // Trimmed lines are compared without sequences, because a space may come before a sequence.
     fn without_sequences(self) -> Drawing {
         let trimmed: Vec<String> = self.trimmed.split('\n').map(|line| visible(line).trim_end().into()).collect();
         Drawing { text: visible(&self.text), trimmed: trimmed.join("\n"), lines: self.lines.iter().map(|it| visible(it)).collect() }
     }
 }
 
-// The original's drawing with its first and last line as the package has them, where these only lack spaces.
+// Returns the original's drawing with the package's first and last line, if these only lack some of its spaces.
 fn without_junctions(mut original: Drawing, drawing: &Drawing) -> Drawing {
     if original.lines.len() != drawing.lines.len() {
         return original;
@@ -246,7 +247,7 @@ fn without_junctions(mut original: Drawing, drawing: &Drawing) -> Drawing {
     original
 }
 
-// Whether a line is another one without some of its spaces.
+// True if a line is another one without some of its spaces.
 fn lacks_spaces(line: &str, other: &str) -> bool {
     let mut left = line.chars().peekable();
     let are_spaces = other.chars().all(|character| left.next_if_eq(&character).is_some() || character == ' ');

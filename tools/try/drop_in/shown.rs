@@ -1,13 +1,13 @@
-//! The characters that a terminal shows of a text with SGR sequences, each with the style that is in effect.
+//! The characters that a terminal shows for a text with SGR sequences, each with its style.
 
 use std::collections::BTreeMap;
 
-/// Colours and attributes, each with its parameters in a sequence. One that isn't there is the terminal's own.
+/// Colours and attributes, each with its parameters in a sequence. A missing one is the terminal's default.
 #[derive(Clone, Debug, Default, PartialEq)]
 pub struct Style(BTreeMap<&'static str, String>);
 
 impl Style {
-    /// The style after a sequence with these parameters.
+    /// Changes the style by a sequence with these parameters.
     fn apply(&mut self, parameters: &str) {
         let mut words = parameters.split(';');
         while let Some(word) = words.next() {
@@ -61,17 +61,17 @@ impl Style {
     }
 }
 
-// The parameters of a colour after 38 or 48: a number of 256, or three parts.
+// Returns the parameters of a colour after 38 or 48: a number below 256, or red, green and blue.
 fn color<'a>(words: &mut impl Iterator<Item = &'a str>) -> String {
     let kind = words.next().unwrap_or_default();
     let count = if kind == "2" { 3 } else { 1 };
     [kind].into_iter().chain(words.take(count)).collect::<Vec<&str>>().join(";")
 }
 
-/// A character, with the style in effect.
+/// A character and its style.
 pub type Shown = (char, Style);
 
-/// The characters of a text except its white space, if it begins in a style.
+/// Returns the characters of a text that begins in a style, without white space.
 pub fn shown_from(first: &Style, text: &str) -> Vec<Shown> {
     let mut style = first.clone();
     let mut shown = Vec::new();
@@ -82,8 +82,8 @@ pub fn shown_from(first: &Style, text: &str) -> Vec<Shown> {
     shown
 }
 
-/// The characters that a drawing may show of a cell's text, in the cell's own style. A line is closed at its end. The next one begins in the
-/// cell's style, and has the sequences since the last reset. Those of a line that is cut by height are left out.
+/// Returns the characters that a drawing may show for a cell's text, with their styles. `own` is the style of the cell. Each line
+/// begins in that style, followed by the sequences since the last reset. A line that is cut by height has no sequences.
 pub fn may_be_shown(own: &Style, text: &str, is_cut: bool) -> Vec<Shown> {
     let mut allowed = shown_from(own, text);
     let mut resumed = own.clone();
@@ -105,7 +105,7 @@ fn characters(text: &str) -> impl Iterator<Item = char> {
     text.chars().filter(|character| !character.is_whitespace())
 }
 
-/// A text without its SGR sequences.
+/// Returns a text without its SGR sequences.
 pub fn visible(text: &str) -> String {
     let mut joined = String::new();
     each_part(text, |_, visible| joined += visible);

@@ -1,6 +1,6 @@
 """Tables drawn as text by a proved library.
 
-The library comfy_table is proved to draw by written rules; the code of this package isn't proved, but tested.
+It is proved that the library comfy_table draws by written rules. The code of this package is tested, but not proved.
 
     >>> from comfy_table_proved import tabulate
     >>> print(tabulate([["oats", 3], ["rye", -12.5]], headers=["name", "price"]))
@@ -11,9 +11,9 @@ The library comfy_table is proved to draw by written rules; the code of this pac
     │ rye  ┆ -12.5 │
     ╰──────┴───────╯
 
-`tabulate` draws rows, and `Table` keeps them for more; a `Cell` has colours and a side of its own. `draw_csv` takes CSV and the
-arguments of the program csvtable, and `python -m comfy_table_proved [OPTIONS] [FILE]` draws a file as that program does. All may
-be called from several threads.
+`tabulate` draws rows. `Table` keeps rows, so that more can be added. A `Cell` has its own colours and alignment. `draw_csv` draws
+CSV with the arguments of the program csvtable, and `python -m comfy_table_proved [OPTIONS] [FILE]` draws a file as that program
+does. All of them may be called from several threads.
 """
 
 from ._library import draw_csv

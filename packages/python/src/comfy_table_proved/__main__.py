@@ -1,4 +1,4 @@
-"""Draws a file of CSV as the program csvtable does: python -m comfy_table_proved [OPTIONS] [FILE]; without a file standard input."""
+"""Draws a CSV file, or standard input, as the program csvtable does: python -m comfy_table_proved [OPTIONS] [FILE]"""
 
 from __future__ import annotations
 
@@ -35,7 +35,7 @@ def _is_option(argument: str) -> bool:
 
 
 def _file_of(arguments: list[str]) -> str:
-    """The first word that is no option and no value of one; "-" if there is none. csvtable itself refuses a second one."""
+    """The first argument that is neither an option nor its value, or "-" if there is none. csvtable refuses a second one."""
     valued = _with_values()
     words = iter(arguments)
     for word in words:
@@ -49,7 +49,7 @@ def _file_of(arguments: list[str]) -> str:
 
 
 def _takes_the_next(option: str, valued: set[str]) -> bool:
-    """Whether the word after an option is its value: it isn't after `--width=60` and `-w60`."""
+    """True if the next argument is the option's value: after `--width` and `-w`, but not after `--width=60` and `-w60`."""
     if option.startswith("--"):
         return option in valued
     letters = [f"-{letter}" for letter in option[1:]]
@@ -58,7 +58,7 @@ def _takes_the_next(option: str, valued: set[str]) -> bool:
 
 
 def _with_values() -> set[str]:
-    """The options with values, which csvtable's help shows as `-w, --width <N>`."""
+    """The options that have values. csvtable's help shows them in the form `-w, --width <N>`."""
     try:
         text = draw_csv(b"", ["-h"])
     except ValueError as error:
@@ -71,7 +71,7 @@ def _asks_for_text(arguments: list[str]) -> bool:
 
 
 def _of_terminal(arguments: list[str]) -> list[str]:
-    """The width and the bold header that csvtable takes from a terminal, where nothing else is asked for."""
+    """The options for the terminal's width and a bold header, as csvtable has them in a terminal, unless others are given."""
     if not sys.stdout.isatty():
         return []
     names = {it.split("=")[0] for it in arguments}

@@ -1,4 +1,4 @@
-"""Words for colours and attributes, and cells that have their own."""
+"""Words for colours and attributes, and cells with their own."""
 
 from __future__ import annotations
 
@@ -11,9 +11,9 @@ from typing import Any, Optional
 from ._library import Look
 
 _COLORS = ("black", "red", "green", "yellow", "blue", "magenta", "cyan", "white")
-# The first 16 of the 256 colours of terminals.
+# The first 16 of a terminal's 256 colours.
 _NUMBERS = {name: number for number, name in enumerate([*_COLORS, *(f"bright_{color}" for color in _COLORS)])}
-# The parameter of the SGR sequence of each attribute, and the bit that comfy_table.h has for it.
+# The parameter of each attribute's SGR sequence, and its bit in comfy_table.h.
 _ATTRIBUTES = {
     "bold": (1, 1 << 1),
     "dim": (2, 1 << 2),
@@ -26,19 +26,21 @@ _ATTRIBUTES = {
 }
 PLAIN = Look()
 
-# The sides of comfy_table.h; 0 is that of the column.
+# The alignments in comfy_table.h. 0 is that of the column.
 _SIDES = {None: 0, "left": 1, "right": 2, "center": 3}
 
-# A colour as comfy_table.h has it: its kind, its number, its red, green and blue.
+# The numbers of a colour in comfy_table.h: kind, number, red, green and blue.
 Color = tuple[int, ...]
 
 
 class Cell:
-    """A value with colours and a side of its own, for a row or a list of headers.
+    """A value with its own colours and alignment, for a row or a list of headers.
 
-    colors: words as those that `colors` of a table returns: "red", "bold bright_green", "white on_#204080". They hold for the whole
-        cell, the spaces beside its text too.
-    align: "left", "right", "center", or None for the side of its column.
+    colors: words as in the setting `colors` of a table: "red", "bold bright_green", "white on_#204080". They apply to the whole
+        cell, with the spaces beside its text.
+    align: "left", "right", "center", or None for the alignment of the column.
+
+    ValueError is raised for other words.
     """
 
     __slots__ = ("value", "colors", "align")
@@ -46,7 +48,7 @@ class Cell:
     def __init__(self, value: object, colors: Optional[str] = None, align: Optional[str] = None) -> None:
         paint_of(colors)
         if align not in _SIDES:
-            raise ValueError(f'align is "left", "right", "center" or None, not {align!r}')
+            raise ValueError(f'align takes "left", "right", "center" or None, not {align!r}')
         self.value, self.colors, self.align = value, colors, align
 
     def __repr__(self) -> str:
@@ -54,19 +56,19 @@ class Cell:
 
 
 def value_of(value: Any) -> Any:
-    """A value, or the value of a cell."""
+    """The value of a cell, or a value itself."""
     return value.value if isinstance(value, Cell) else value
 
 
 def writes_colors(asked: str) -> bool:
-    """Whether colours are written: if the standard output is a terminal and NO_COLOR isn't set, always, or never."""
+    """True if colours are written: for "auto" if standard output is a terminal and NO_COLOR isn't set, and for "always"."""
     if asked not in ("auto", "always", "never"):
-        raise ValueError(f'color is "auto", "always" or "never", not {asked!r}')
+        raise ValueError(f'color takes "auto", "always" or "never", not {asked!r}')
     return asked == "always" or asked == "auto" and not os.environ.get("NO_COLOR") and _is_terminal(sys.stdout)
 
 
 def _is_terminal(output: Any) -> bool:
-    """Whether an output is a terminal; one that is closed or isn't there is none."""
+    """True if an output is a terminal. A closed or missing output isn't one."""
     try:
         return bool(output.isatty())
     except (AttributeError, ValueError):
@@ -74,7 +76,7 @@ def _is_terminal(output: Any) -> bool:
 
 
 def look_of(value: object, has_colors: bool) -> Look:
-    """How a value looks, which only a cell says, with its colours or without."""
+    """The look of a cell, with its colours or without, or that of any other value, which has none."""
     if not isinstance(value, Cell):
         return PLAIN
     paint = paint_of(value.colors) if has_colors else PLAIN
@@ -83,7 +85,7 @@ def look_of(value: object, has_colors: bool) -> Look:
 
 @functools.lru_cache(maxsize=256)
 def paint_of(words: Optional[str]) -> Look:
-    """What words ask for, of a cell."""
+    """The look that words describe. ValueError is raised for other words."""
     paint = PLAIN
     for word in (words or "").split():
         ground, color = _color_of(word)
@@ -98,7 +100,7 @@ def paint_of(words: Optional[str]) -> Look:
 
 @functools.lru_cache(maxsize=256)
 def sequence_of(words: str) -> str:
-    """The SGR sequence of words, in their order."""
+    """The SGR sequence that words describe, in their order. ValueError is raised for other words."""
     return f"\x1b[{';'.join(map(_parameters, words.split()))}m"
 
 
@@ -114,7 +116,7 @@ def _parameters(word: str) -> str:
 
 
 def _color_of(word: str) -> tuple[str, Optional[Color]]:
-    """Whether a word is for the background, and the colour that it names; none is named by an attribute."""
+    """The prefix of a word, which is "on_" for the background, and its colour, or None for an attribute."""
     if word in _ATTRIBUTES:
         return "", None
     ground, name = ("on_", word[3:]) if word.startswith("on_") else ("", word)
@@ -123,4 +125,4 @@ def _color_of(word: str) -> tuple[str, Optional[Color]]:
     if re.fullmatch("#[0-9A-Fa-f]{6}", name):
         return ground, (3, 0, *bytes.fromhex(name[1:]))
     known = ", ".join([*_ATTRIBUTES, *_NUMBERS])
-    raise ValueError(f"no colour {word!r}; there are {known} and #rrggbb, and colours behind on_ for the background")
+    raise ValueError(f"no colour {word!r}; there are {known} and #rrggbb, and each colour after on_ for the background")

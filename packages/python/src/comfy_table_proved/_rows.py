@@ -1,4 +1,4 @@
-"""Rows as people have them, read into lists of values."""
+"""Rows from lists, dicts, cursors, DataFrames and others, read into lists of values."""
 
 from __future__ import annotations
 
@@ -13,31 +13,31 @@ ShowIndex = Union[bool, str, Iterable[object]]
 
 
 class Values(NamedTuple):
-    """A table's values."""
+    """The values of a table's header and rows."""
 
     header: Optional[list[Any]]
     rows: list[list[Any]]
 
 
 class _Read(NamedTuple):
-    """Rows, what their columns are called where that is known, and what stands for each row where that is known."""
+    """Rows, the names of their columns, and an index with a label for each row. Names and index may be missing."""
 
     rows: list[list[Any]]
     keys: Optional[list[Any]]
     labels: Optional[list[Any]] = None
     labels_name: object = None
-    # Whether the values of a row have no order but that of their keys.
+    # True if the rows are dicts, whose values have no other order than that of their keys.
     are_dicts: bool = False
 
 
 class _Fetched(list):  # type: ignore[type-arg]
-    """The rows of a cursor, with the description of its columns."""
+    """The rows of a cursor, with the cursor's description of its columns."""
 
     description: Any = None
 
 
 def kept(data: Any) -> Any:
-    """Rows that can be read more than once, and added to where they are a list."""
+    """Rows that can be read more than once. Those of a list or an iterator become a list, to which rows can be added."""
     if getattr(data, "description", None) and hasattr(data, "fetchone"):
         fetched = _Fetched(data)
         fetched.description = data.description
@@ -46,7 +46,7 @@ def kept(data: Any) -> Any:
 
 
 def values_of(data: Any, headers: Headers, showindex: ShowIndex) -> Values:
-    """The header that is asked for, and the rows, with an index in front where that is asked for."""
+    """The header and the rows that the settings ask for, with an index as the first column if they ask for one."""
     read = _read(data)
     if isinstance(headers, str) and headers == "firstrow":
         header = read.rows[0] if read.rows else None
@@ -57,7 +57,7 @@ def values_of(data: Any, headers: Headers, showindex: ShowIndex) -> Values:
             read = _chosen_by(header, read)
     rows = read.rows
     if header and rows:
-        # As tabulate has it, the first columns are those without a name.
+        # As in tabulate, the first columns are without a name if there are fewer names than columns.
         header = [""] * (len(rows[0]) - len(header)) + header
     index = _index_of(showindex, read, len(rows))
     if index is None:
@@ -67,7 +67,7 @@ def values_of(data: Any, headers: Headers, showindex: ShowIndex) -> Values:
 
 
 def _read(data: Any) -> _Read:
-    """By what the data has, so that neither pandas nor numpy need be there."""
+    """Reads rows by the attributes that they have, so that neither pandas nor numpy is needed."""
     names = getattr(getattr(data, "dtype", None), "names", None)
     if names:
         return _Read([[row[name] for name in names] for row in data], list(names))
@@ -82,12 +82,12 @@ def _read(data: Any) -> _Read:
     if isinstance(data, _Fetched):
         return _Read([list(row) for row in data], [column[0] for column in data.description])
     if isinstance(data, (str, bytes)):
-        raise TypeError(f"rows are a list of rows, not {data!r}")
+        raise TypeError(f"rows must be a list of rows, not {data!r}")
     return _rows_of(list(data))
 
 
 def _columns_of(data: Mapping[Any, Any]) -> _Read:
-    """A mapping has a column for each key. Shorter columns end with None."""
+    """Reads a column for each key of a mapping. Shorter columns end with None."""
     columns = [_cells_of(column) for column in data.values()]
     count = max(map(len, columns), default=0)
     filled = [column + [None] * (count - len(column)) for column in columns]
@@ -95,7 +95,7 @@ def _columns_of(data: Mapping[Any, Any]) -> _Read:
 
 
 def _rows_of(data: list[Any]) -> _Read:
-    """Rows with keys have a column for each key, in the order in which keys are first met; a key that a row lacks gives None."""
+    """Reads a column for each key that a row has, in order of first use. A row without the key has None."""
     records = [_record(row) for row in data]
     found = list(dict.fromkeys(key for record in records if isinstance(record, dict) for key in record))
     rows = [[record.get(key) for key in found] if isinstance(record, dict) else record for record in records]
@@ -104,7 +104,7 @@ def _rows_of(data: list[Any]) -> _Read:
 
 
 def _record(row: Any) -> dict[Any, Any] | list[Any]:
-    """A row's values by its keys, or a list where it has none."""
+    """The values of a row by its keys, or a list if it has none."""
     if dataclasses.is_dataclass(row) and not isinstance(row, type):
         return {field.name: getattr(row, field.name) for field in dataclasses.fields(row)}
     if hasattr(row, "_fields"):
@@ -117,7 +117,7 @@ def _record(row: Any) -> dict[Any, Any] | list[Any]:
 
 def _cells_of(cells: Any) -> list[Any]:
     if isinstance(cells, (str, bytes)) or not hasattr(cells, "__iter__"):
-        raise TypeError(f"a row is a list of cells, not {cells!r}; for one column pass [[value], ..]")
+        raise TypeError(f"a row must be a list of cells, not {cells!r}; for one column pass [[value], ..]")
     return list(cells)
 
 
@@ -132,25 +132,25 @@ def _header_of(headers: Headers, read: _Read) -> Optional[list[Any]]:
         return None
     if isinstance(headers, str):
         if headers != "keys":
-            raise ValueError(f'headers is "keys", "firstrow", a list, a dict of keys or None, not {headers!r}')
+            raise ValueError(f'headers takes "keys", "firstrow", a list, a dict of keys or None, not {headers!r}')
         if read.keys is None and read.rows:
-            raise ValueError('headers="keys" asks for rows with keys')
+            raise ValueError('headers="keys" needs rows with keys')
         return read.keys
     if isinstance(headers, Mapping):
         if read.keys is None and read.rows:
-            raise ValueError("a dict of headers asks for rows with keys")
+            raise ValueError("a dict of headers needs rows with keys")
         return [headers.get(key, key) for key in read.keys or []] or None
     return list(headers) or None
 
 
 def _chosen_by(header: Optional[list[Any]], read: _Read) -> _Read:
-    """The columns that a header chooses, if each of its names is a key. Otherwise it names columns that have an order."""
+    """Rows with only the columns of a header, if each name of it is a key. Otherwise its names are new, and all columns stay."""
     names = [value_of(name) for name in header or []]
     if read.keys is None or names == read.keys or not names:
         return read
     unknown = [name for name in names if name not in read.keys]
     if unknown and read.are_dicts:
-        raise ValueError(f"no row has the key {unknown[0]!r}; a dict of headers, as {{key: name}}, names keys anew")
+        raise ValueError(f"no row has the key {unknown[0]!r}; a dict of headers, {{key: name}}, renames keys")
     if unknown:
         return read
     positions = [read.keys.index(name) for name in names]
@@ -158,10 +158,10 @@ def _chosen_by(header: Optional[list[Any]], read: _Read) -> _Read:
 
 
 def _index_of(asked: ShowIndex, read: _Read, count: int) -> Optional[list[Any]]:
-    """What stands in front of each row; nothing where the list is None."""
+    """The index: a label for each row, or None for no index."""
     if isinstance(asked, str):
         if asked not in ("default", "always", "never"):
-            raise ValueError(f'showindex is "default", "always", "never", True, False or a list, not {asked!r}')
+            raise ValueError(f'showindex takes "default", "always", "never", True, False or a list, not {asked!r}')
         shows, given = asked != "never", asked == "always"
     elif isinstance(asked, Iterable):
         index = list(asked)

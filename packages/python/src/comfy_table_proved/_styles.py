@@ -1,4 +1,4 @@
-"""Frames: their names, the numbers that the library has for them, and their characters."""
+"""Frames: their names, their numbers in comfy_table.h, and their characters."""
 
 from __future__ import annotations
 
@@ -7,12 +7,12 @@ from typing import NamedTuple, Optional, Sequence, Union
 
 Style = Union[str, Sequence[str], None]
 
-# Where lines between rows are drawn: everywhere, where a row has more than one line, nowhere.
+# The condition for lines between rows in comfy_table.h: always, if a drawn row has several lines, or never.
 EVERYWHERE, WHERE_NEEDED, NOWHERE = range(3)
 
-# The presets in the order of their numbers, and behind them the rounded frame. Of each the line above, the header's, the one below
-# the header, a row's, the one between rows and the one below; of each line what stands left, what fills it, what stands between
-# columns, and right. A space stands for nothing.
+# The presets in the order of their numbers, and after them the rounded frame. The lines of each are above the table, in the
+# header, below the header, in a row, between rows, and below the table. The characters of a line are the left one, the fill, the
+# one between columns, and the right one. A space means no character.
 _PRESETS = {
     "ASCII_FULL": ("+-++", "| ||", "+==+", "| ||", "|-+|", "+-++"),
     "ASCII_FULL_CONDENSED": ("+-++", "| ||", "+==+", "| ||", "    ", "+-++"),
@@ -32,37 +32,37 @@ _PRESETS = {
 _NUMBERS = {name: number for number, name in enumerate(_PRESETS)}
 
 
-# The character between columns of a frame with gaps, until the drawing is made. No text of such a table has it.
+# The character between columns of a frame with gaps, while the library draws. No text of the table has it.
 GAP = "\ue000"
 
 
 class Frame(NamedTuple):
-    """The characters of a frame, the number that the library has for them, if any, and where lines between rows are drawn."""
+    """The characters of a frame, its number in comfy_table.h, or None, and the condition for lines between rows."""
 
     lines: tuple[str, ...]
     number: Optional[int] = None
     row_lines: int = EVERYWHERE
-    # The lines of a table without a header, if they are others.
+    # The lines of a table without a header, if they differ.
     headless: Optional[tuple[str, ...]] = None
     is_markdown: bool = False
-    # In Markdown, columns at the left have a colon too.
+    # In Markdown, left-aligned columns have a colon too.
     has_colons: bool = False
-    # Two spaces are between columns, and none beside texts.
+    # Columns are separated by two spaces, and have no padding.
     has_gaps: bool = False
     # Lines end with their last visible character.
     is_trimmed: bool = False
-    # Columns are in the middle unless a setting says otherwise.
+    # Columns are centred if no setting aligns them.
     is_centered: bool = False
-    # An empty text of the first column is written as two points, because a reader would take the row as a continuation.
+    # An empty text in the first column is written as two points. Otherwise reStructuredText takes the row as part of the row above.
     marks_empty: bool = False
 
     def numbers(self) -> tuple[tuple[int, ...], ...]:
-        """The characters as comfy_table.h has them: nothing fills a line of texts, and 0 means none."""
+        """The characters as numbers of comfy_table.h: 0 means none, and lines of texts have no fill."""
         lines = [tuple(0 if it == " " else ord(it) for it in line or "    ") for line in self.lines]
         return tuple(line if at not in (1, 3) else (line[0], *line[2:]) for at, line in enumerate(lines))
 
     def for_table(self, has_header: bool, texts: Sequence[Sequence[str]]) -> Frame:
-        """The frame of a table with a header or without, and with a character for gaps that no text of the table has."""
+        """This frame for a table with these texts, with a header or without. Its character for gaps is in none of the texts."""
         lines = self.lines if has_header or self.headless is None else self.headless
         if not self.has_gaps:
             return self._replace(lines=lines)
@@ -71,7 +71,7 @@ class Frame(NamedTuple):
         return self._replace(lines=tuple(line.replace(GAP, gap) for line in lines))
 
     def finished(self, drawing: str) -> str:
-        """A drawing with gaps in place of their character, and without spaces at the ends of lines."""
+        """A drawing with two spaces for each gap, and without spaces at the ends of lines if the frame is trimmed."""
         if self.has_gaps:
             drawing = drawing.replace(self.lines[1][2], "  ")
         return re.sub(" +$", "", drawing, flags=re.MULTILINE) if self.is_trimmed else drawing
@@ -103,7 +103,7 @@ def _outline(frame: Frame) -> Frame:
 
 
 def _gaps(above: str, below_header: str, below: str, headless: tuple[str, str] = ("", "")) -> Frame:
-    """A frame with gaps between columns, of these lines; below a table without a header, and above it, are others."""
+    """A frame with gaps between columns and these lines. `headless` has the lines above and below a table without a header."""
 
     def lines(above: str, below: str) -> tuple[str, ...]:
         return tuple(f" {fill}{GAP} " if fill else "" for fill in (above, " ", below_header, " ", "", below))
@@ -111,7 +111,7 @@ def _gaps(above: str, below_header: str, below: str, headless: tuple[str, str] =
     return Frame(lines(above, below), row_lines=NOWHERE, headless=lines(*headless), has_gaps=True, is_trimmed=True)
 
 
-# Frames of tabulate by their names there, with its very characters.
+# Frames of tabulate, with its names and characters.
 _GRIDS = {
     "grid": _grid("+-++", "| ||", "+=++", "+-++", "+-++"),
     "simple_grid": _grid("┌─┬┐", "│ ││", "├─┼┤", "├─┼┤", "└─┴┘"),
@@ -135,20 +135,20 @@ _TABLEFMTS = {
     "github": MARKDOWN,
     "pipe": MARKDOWN._replace(has_colons=True),
 }
-# Programs for the other formats of tabulate.
+# Other ways to get the other formats of tabulate.
 _CONVERTED = "html unsafehtml latex latex_raw latex_booktabs latex_longtable mediawiki jira textile asciidoc"
 _INSTEAD = {
     **{name: 'pandoc, which reads tablefmt="grid"' for name in _CONVERTED.split()},
-    "tsv": "the module csv of Python",
+    "tsv": "Python's module csv",
     "colon_grid": 'tablefmt="pipe", which has colons too',
 }
 
 
 def frame_of(style: Style, tablefmt: object) -> Frame:
-    """The frame of a name or of lines."""
+    """The frame with a name, or with lines of your own. ValueError is raised if there is none."""
     if tablefmt is not None:
         if style is not None:
-            raise ValueError("style and tablefmt both name a frame")
+            raise ValueError("style and tablefmt both set the frame; pass one of them")
         return _frame_of_tablefmt(tablefmt)
     name = "rounded" if style is None else style
     if isinstance(name, (list, tuple)):
@@ -157,7 +157,7 @@ def frame_of(style: Style, tablefmt: object) -> Frame:
         return _STYLES[name.lower()]
     hint = f"; tablefmt={name!r} is one" if name in _TABLEFMTS else ""
     raise ValueError(
-        f'style is one of rounded, box, grid, ascii, plain, markdown or a preset such as "UTF8_FULL", not {name!r}{hint}'
+        f'style takes rounded, box, grid, ascii, plain, markdown or a preset such as "UTF8_FULL", not {name!r}{hint}'
     )
 
 
@@ -167,7 +167,7 @@ def _frame_of_lines(given: Sequence[object]) -> Frame:
         raise ValueError(f"a frame has six lines, each of four printable characters or none, not {given!r}")
     for at in 1, 3:
         if str(lines[at])[1] != " ":
-            raise ValueError(f"nothing but a space fills a line of texts, so the second character of {lines[at]!r} is one")
+            raise ValueError(f"a line of texts has no fill, so the second character of {lines[at]!r} must be a space")
     return Frame(tuple(map(str, lines)))
 
 
@@ -175,5 +175,5 @@ def _frame_of_tablefmt(name: object) -> Frame:
     if isinstance(name, str) and name in _TABLEFMTS:
         return _TABLEFMTS[name]
     if isinstance(name, str) and name in _INSTEAD:
-        raise ValueError(f"tablefmt {name!r} isn't there; in its place there is {_INSTEAD[name]}")
-    raise ValueError(f"tablefmt is one of {', '.join(_TABLEFMTS)}, not {name!r}; style has the other frames")
+        raise ValueError(f"no tablefmt {name!r}; use {_INSTEAD[name]}")
+    raise ValueError(f"tablefmt takes {', '.join(_TABLEFMTS)}, not {name!r}; style has other frames")

@@ -20,22 +20,22 @@ _Item = TypeVar("_Item")
 Width = Union[int, str, None]
 Heights = Union[int, Sequence[Optional[int]], None]
 
-# When the library draws a row as a table of its own: never, if a width has no room for all columns, always.
+# The conditions for expanding rows in comfy_table.h: never, if the width has no room for all columns, always.
 NEVER, AUTO, ALWAYS = range(3)
-# A sequence of colours or attributes, as the library keeps it.
+# A sequence of colours or attributes (SGR) that the library keeps.
 _SEQUENCE = "\x1b\\[[0-9;:]*m"
 
-# What other settings of tabulate are beside those that are here.
+# Hints for settings that only the package tabulate has.
 _INSTEAD = {
-    "numalign": "left, right and align_decimals",
-    "stralign": "left, right and center",
-    "colglobalalign": "left, right, center and colalign",
-    "headersalign": "Cell",
-    "headersglobalalign": "Cell",
-    "rowalign": "Cell",
-    "disable_numparse": "left",
-    "maxheadercolwidths": "maxcolwidths",
-    "preserve_whitespace": "nothing; spaces stay",
+    "numalign": "use left, right and align_decimals",
+    "stralign": "use left, right and center",
+    "colglobalalign": "use left, right, center and colalign",
+    "headersalign": "use Cell",
+    "headersglobalalign": "use Cell",
+    "rowalign": "use Cell",
+    "disable_numparse": "use left",
+    "maxheadercolwidths": "use maxcolwidths",
+    "preserve_whitespace": "spaces are always kept",
 }
 
 
@@ -73,70 +73,68 @@ def tabulate(
     ansi: bool = False,
     **others: NoReturn,
 ) -> str:
-    """The drawing of rows as a table, without a line feed at its end.
+    """Draws rows as a table, and returns it without a line feed at its end.
 
-    rows: a list of rows. A row is a list or whatever else can be iterated, or has keys: a dict, a dataclass, a named tuple, a
-        sqlite3.Row. Or a dict of columns, a cursor, a DataFrame, a Series or an array. Rows may have different lengths. `None` is
-        an empty cell, and other values are drawn by `str`. A `Cell` is a value with colours and a side of its own, in `headers`
-        too.
+    rows: a list of rows. A row is a list or another iterable, or it has keys: a dict, a dataclass, a named tuple, a sqlite3.Row.
+        Or rows are a dict of columns, a cursor, a DataFrame, a Series or an array. Rows may have different lengths. `None` is an
+        empty cell, and other values are drawn by `str`. A `Cell`, also in `headers`, is a value with its own colours and
+        alignment.
 
-    headers: "keys" of the rows, the "firstrow", a list, a dict that names keys anew, or None for no header. A list of keys
-        chooses columns by their keys. Another list names columns in order, but dicts, which have none, refuse it. If a list has
-        fewer names than the first row has columns, the first columns have no name.
-    tablefmt: a frame by the name that the package tabulate has for it, in its characters: "plain", "simple", "grid", "outline",
+    headers: "keys" for the keys of the rows, "firstrow" for the first row, a list, a dict that renames keys, or None for no header.
+        A list of keys chooses the columns with these keys. Another list names the columns in order, but dicts, whose columns have
+        no order, refuse it. If a list has fewer names than the first row has columns, the first columns have no name.
+    tablefmt: a frame of the package tabulate by its name there, with the same characters: "plain", "simple", "grid", "outline",
         "simple_grid", "rounded_grid", "heavy_grid", "mixed_grid", "double_grid", "fancy_grid", each of these with "_outline" in
-        place of "_grid", "psql", "pretty", "presto", "orgtbl", "rst", "github" and "pipe". Columns of "pretty" are in the middle.
-    style: a frame by name: "rounded" (without it), "box", "grid", "ascii", "plain" or a preset, as "UTF8_FULL"; "markdown" is as
-        `markdown=True`. Or a frame of your own, by six lines of four characters: ("╭─┬╮", "│ ┆│", "╞═╪╡", "│ ┆│", "├╌┼┤", "╰─┴╯")
-        are the lines above the table, of the header, below it, of a row, between rows and below the table. The characters are
-        at the left, all along, between columns and at the right; a space is no character, and "" no line.
-    floatfmt, intfmt, missingval: how floats and ints are written, as ".2f" and ",", and the text for `None`: one for all
-        columns, or a list with one for each column. Decimals are written as floats are, and so are ints of a column that has
-        floats. Beside "", "-", "n/a", "na", "null", "nan" and "inf" a column of numbers stays one; another `missingval` makes it
-        a column of texts.
-    showindex: True puts a column with the number of each row in front, counted from 0, or the index of a DataFrame; a list puts
-        its values there; "default" does so if rows have an index.
+        place of "_grid", "psql", "pretty", "presto", "orgtbl", "rst", "github" and "pipe". "pretty" centres its columns.
+    style: a frame by name: "rounded", which is the default, "box", "grid", "ascii", "plain" or a preset such as "UTF8_FULL".
+        "markdown" is the same as `markdown=True`. Or a frame of your own, of six lines with four characters each, for example
+        ("╭─┬╮", "│ ┆│", "╞═╪╡", "│ ┆│", "├╌┼┤", "╰─┴╯"). The lines are above the table, in the header, below the header, in a
+        row, between rows and below the table. The characters are the left one, the fill, the one between columns and the right
+        one. A space means no character, and "" no line.
+    floatfmt, intfmt, missingval: the formats of floats and ints, such as ".2f" and ",", and the text for `None`. Each is one for
+        all columns, or a list with one for each column. `floatfmt` also applies to Decimals, and to ints of a column that has
+        floats. A column of numbers stays one if `missingval` is "", "-", "n/a", "na", "null", "nan" or "inf". With another text
+        it becomes a column of texts.
+    showindex: True adds a first column with the index of a DataFrame, or with the number of each row, counted from 0. A list adds a
+        column with its values. "default" adds the index if rows have one.
 
-    left, right, center, columns, hidden: a column, or a list of them, by name or position. Names are those of the header.
-        Positions count from 0, and from -1 at the end. `columns` chooses which are drawn, in which order, and `hidden` which
-        aren't. A column in none of the first three is at the right if its values are numbers, negative ones and amounts of money
-        too.
-    colalign: the sides of the first columns, as ("left", "right", "center").
-    align_decimals: decimal points of a column of numbers are below each other; False leaves them as they are.
-    width: the greatest width in terminal columns; "terminal" is the width of the terminal, and None is no width. `full=True`
-        fills it, and makes columns with widths of their own wider if no other is there.
-    colwidths, mincolwidths, maxcolwidths: how many terminal columns a column's texts take, take at least, or at most: a number
-        for all columns, a list with a number or None for each column, or a dict of columns by name or position.
-    padding: how many terminal columns stay free beside texts, at the left and at the right: a number, a pair for left and right,
-        or a dict of such by columns.
-    max_height: how many lines a row below the header has at most, or a list with a number or None for each row.
-    limit: how many rows are drawn; if there are more, a line below says so.
-    row_lines: True has lines between rows in each style that has them, False in none.
-    expanded: True draws each row as a table of its own, of names and values; "auto" does so if the width is too small.
-    markdown: True draws a table for Markdown, which keeps to no width. A column in the middle has two colons there.
+    left, right, center, columns, hidden: a column, or a list of columns, by name in the header or by position. Positions count from
+        0, and from -1 at the end. The first three align columns. Of the other columns, those of numbers, also of amounts of
+        money, are right-aligned. `columns` chooses the columns to draw and their order, and `hidden` leaves columns out.
+    colalign: the alignments of the first columns, such as ("left", "right", "center").
+    align_decimals: True puts the decimal points of a column of numbers below each other.
+    width: the greatest width in terminal columns, "terminal" for the width of the terminal, or None for no limit. `full=True` makes
+        the table exactly that wide. Columns with their own widths then grow only if all columns have such widths.
+    colwidths, mincolwidths, maxcolwidths: the exact, least and greatest widths of a column's texts, in terminal columns. Each is a
+        number for all columns, a list with a number or None for each column, or a dict by name or position.
+    padding: the number of free terminal columns beside texts. It is a number for both sides, a pair for left and right, or a dict
+        of these by name or position.
+    max_height: the greatest number of lines of a row below the header, or a list with a number or None for each row.
+    limit: the greatest number of rows to draw. If there are more, a line below the table says so.
+    row_lines: True draws lines between rows in each style that has them, and False in none.
+    expanded: True draws each row as a table of its own, of names and values. "auto" does so if the width is too small.
+    markdown: True draws a table for Markdown, whose texts are never wrapped. A centred column has two colons there.
     bold_header: True writes the header in bold.
-    colors: a function of a row's position, a column's name (its position if it has none) and a value, which returns None or
-        words such as "red", "bold bright_green" or "black on_#ffcc00". Words are the colours of terminals, those after "bright_",
-        colours as "#ffcc00", each also after "on_" for the background, "bold", "dim", "italic", "underline", "blink", "reverse",
-        "crossed_out" and "overline".
-    color: "auto" writes colours, those of `Cell` and `bold_header` too, if the standard output is a terminal and the variable
-        NO_COLOR isn't set; "always" and "never" do as they say. If you write a drawing to another place, say which of them you
-        want.
-    ansi: True keeps sequences of colours and attributes (SGR) in values, wherever they are written. They take no columns.
+    colors: a function of a row's position, a column's name (or its position if it has none) and a value. It returns None, or words
+        such as "red", "bold bright_green" or "black on_#ffcc00". The words are "black", "red", "green", "yellow", "blue",
+        "magenta", "cyan" and "white", each also after "bright_", and colours such as "#ffcc00". After "on_" each of them is for
+        the background. Others are "bold", "dim", "italic", "underline", "blink", "reverse", "crossed_out" and "overline".
+    color: "auto" writes all colours, and `bold_header`, if standard output is a terminal and the variable NO_COLOR isn't set.
+        "always" and "never" don't depend on these. Set one of them if you write the drawing to another place.
+    ansi: True keeps sequences of colours and attributes (SGR) in values, wherever the drawing goes. They take no columns.
 
-    A table for Markdown has no colours. It and expanded rows have no widths of columns, no other padding, no heights by row and no
-    `Cell`. A table for Markdown has no frame of your own, and expanded rows have no side in the middle. With "auto", expanded rows show a `Cell`
-    by its value alone, and a column in the middle as its values ask for.
+    A table for Markdown and expanded rows can't have `Cell`, `colwidths`, `mincolwidths`, `maxcolwidths`, `padding` or a list as
+    `max_height`. A table for Markdown also has no colours and no frame of your own, and expanded rows have no `center`. With
+    `expanded="auto"`, `Cell` and `center` are allowed. Expanded rows then show only the value of a `Cell`, and align a centred
+    column by its values.
 
-    Without `ansi`, no text in a cell is taken for anything else: control characters become U+FFFD, TABs spaces, and line breaks
-    stay. Bytes are texts if they are UTF-8.
+    Without `ansi`, control characters are drawn as U+FFFD and TABs as spaces. Line breaks are kept. Bytes in UTF-8 are texts.
 
-    ValueError says what isn't there or can't be drawn: a column that is missing or whose name the header has twice, a value that
-    a setting doesn't have, a lone surrogate, which is no text. TypeError says what is no row or no setting. MemoryError says that
-    memory ran out.
+    ValueError is raised if a column is missing or the header has its name twice, if a setting has an unknown value, or if a text
+    has a lone surrogate. TypeError is raised if rows aren't rows, or a setting doesn't exist. MemoryError is raised if memory runs out.
     """
     for name in others:
-        hint = f"; in its place there is {_INSTEAD[name]}" if name in _INSTEAD else ""
+        hint = f"; {_INSTEAD[name]}" if name in _INSTEAD else ""
         raise TypeError(f"tabulate has no setting {name!r}{hint}")
     return str(
         Table(
@@ -175,7 +173,7 @@ def tabulate(
 
 
 def _shorten_help() -> None:
-    """Has `help` begin with a line that fits a terminal, in place of all settings. Type checkers read the definitions."""
+    """Shortens the first line of `help`, which would list all settings. Type checkers read the definitions."""
     names = {"headers": None, "tablefmt": None, "floatfmt": None}
     kind = inspect.Parameter.POSITIONAL_OR_KEYWORD
     parameters = [inspect.Parameter(name, kind, default=value) for name, value in names.items()]
@@ -187,8 +185,8 @@ def _shorten_help() -> None:
 
 @dataclasses.dataclass(repr=False, eq=False)
 class Table:
-    """Rows, their headers and settings, as `tabulate` takes them; each is an attribute that can be set. `str` and `repr` draw it,
-    and a notebook shows it without colours.
+    """Rows, headers and settings, as `tabulate` takes them. Each is an attribute, which can be changed. `str` and `repr` draw the
+    table, with the errors of `tabulate`. A notebook shows it without colours.
 
     >>> table = Table(headers=["name", "price"], style="ascii")
     >>> table.add_row(["oats", 3])
@@ -235,9 +233,9 @@ class Table:
         self.rows = kept(self.rows)
 
     def add_row(self, row: object) -> None:
-        """Adds a row below the others."""
+        """Adds a row below the others. TypeError is raised if `rows` isn't a list; a list or an iterator was made one."""
         if not isinstance(self.rows, list):
-            raise TypeError(f"rows are no list, but {type(self.rows).__name__}, to which no row can be added")
+            raise TypeError(f"no row can be added to rows of the type {type(self.rows).__name__}; pass a list")
         self.rows.append(row)
 
     def __len__(self) -> int:
@@ -258,7 +256,7 @@ _shorten_help()
 
 
 class _Contents(NamedTuple):
-    """The texts of the header and of each row, a look for each text or none, and the columns."""
+    """The texts of the header and the rows, the columns, and a look for each text. `looks` is empty if no text has one."""
 
     records: list[list[str]]
     looks: list[list[Look]]
@@ -290,7 +288,7 @@ def _drawing(table: Table) -> str:
     drawing = _drawn(contents, _heights_of(table.max_height, headers, len(values.rows)), settings)[:-1]
     if is_markdown:
         drawing = _with_colons(drawing, [column.side for column in contents.columns], frame.has_colons)
-    # The library's line on rows that aren't drawn speaks of records.
+    # The library's line that counts rows calls them records.
     return frame.finished(f"{drawing[:-len('records')]}rows" if settings.limit < len(values.rows) else drawing)
 
 
@@ -299,7 +297,7 @@ def _contents_of(table: Table, values: Values, frame: Frame, has_colors: bool) -
     if looks:
         values = _without_cells(values)
     writer = Writer(table.floatfmt, table.intfmt, table.missingval, table.colors, has_colors, bool(table.ansi))
-    # An empty row has one empty cell, so that there is a column.
+    # An empty row gets one empty cell, so that there is a column.
     names = [] if values.header is None else writer.header_of(values.header) or [""]
     records = ([] if values.header is None else [names]) + writer.rows_of(values.rows, names)
     layout = Layout(names, max(map(len, records)))
@@ -316,7 +314,7 @@ def _contents_of(table: Table, values: Values, frame: Frame, has_colors: bool) -
 
 
 def _drawn(contents: _Contents, heights: list[int], settings: RowsSettings) -> str:
-    """The drawing of contents. Those for Markdown and expanded ones have sides of columns alone, at the left or at the right."""
+    """The drawing of contents. In Markdown and expanded rows, the only setting of a column is left or right."""
     records, looks, columns = contents
     if settings.is_markdown:
         return draw_rows(records, [], [], [_plain(column.side, LEFT) for column in columns], settings)
@@ -324,7 +322,7 @@ def _drawn(contents: _Contents, heights: list[int], settings: RowsSettings) -> s
     if settings.expansion == ALWAYS:
         return draw_rows(records, [], [], plain, settings)
     if settings.expansion == AUTO and (looks or columns != plain):
-        # The library refuses these if rows may be expanded, so it is asked without them whether they are.
+        # The library refuses these if rows may be expanded. So rows are drawn without them first, to see if they are expanded.
         expanded = draw_rows(records, [], [], plain, settings)
         settings.expansion = NEVER
         if expanded != draw_rows(records, [], [], plain, settings):
@@ -333,12 +331,12 @@ def _drawn(contents: _Contents, heights: list[int], settings: RowsSettings) -> s
 
 
 def _plain(side: int, centered: int) -> ColumnNumbers:
-    """A column with a side alone, which is another one in place of the middle."""
+    """A column whose only setting is its side. `centered` is the side of a centred column."""
     return ColumnNumbers(1, 1, centered if side == CENTER else side, 0, 0)
 
 
 def _with_colons(drawing: str, sides: list[int], has_all: bool) -> str:
-    """A table for Markdown, in which columns in the middle have two colons, and columns at the left one if all have some."""
+    """A table for Markdown with two colons for centred columns, and with one for left-aligned columns if `has_all`."""
     header, line, *rows = drawing.split("\n")
     cells = zip(line[1:-1].split("|"), sides)
     return "\n".join([header, f"|{'|'.join(_colons(cell, side, has_all) for cell, side in cells)}|", *rows])
@@ -351,18 +349,18 @@ def _colons(cell: str, side: int, has_all: bool) -> str:
 
 
 def _refuse_settings(table: Table, values: Values, is_markdown: bool) -> None:
-    """Refuses settings that a table for Markdown or expanded rows don't have."""
+    """Raises ValueError for settings that a table for Markdown or expanded rows can't have."""
     if not is_markdown and not table.expanded:
         return
     is_expanded = not is_markdown and table.expanded != "auto"
     asked = {
-        "side in the middle": is_expanded and (table.center is not None or "center" in (table.colalign or ())),
+        "center": is_expanded and (table.center is not None or "center" in (table.colalign or ())),
         "colwidths": table.colwidths is not None,
         "mincolwidths": table.mincolwidths is not None,
         "maxcolwidths": table.maxcolwidths is not None,
         "padding": table.padding != 1,
         "frame of your own": is_markdown and not isinstance(table.style, (str, type(None))),
-        "heights by row": isinstance(table.max_height, (list, tuple)),
+        "list as max_height": isinstance(table.max_height, (list, tuple)),
         "Cell": (is_markdown or is_expanded) and _has_cells(values),
     }
     for name, is_asked in asked.items():
@@ -371,7 +369,7 @@ def _refuse_settings(table: Table, values: Values, is_markdown: bool) -> None:
 
 
 def _looks_of(values: Values, has_colors: bool) -> list[list[Look]]:
-    """How the values of the header and of each row look, with colours or without; nothing if none is a cell."""
+    """The looks of all values, with colours or without. The list is empty if no value is a cell."""
     rows = [*([] if values.header is None else [values.header]), *values.rows]
     if not _has_cells(values):
         return []
@@ -383,7 +381,7 @@ def _has_cells(values: Values) -> bool:
 
 
 def _without_cells(values: Values) -> Values:
-    """The values, with that of a cell in its place."""
+    """The values, with each cell replaced by its value."""
     header = None if values.header is None else [value_of(value) for value in values.header]
     return Values(header, [[value_of(value) for value in row] for row in values.rows])
 
@@ -400,7 +398,7 @@ def _settings_of(
     expansion = _expansion_of(table.expanded)
     width = _width_of(table.width)
     if width != NO_WIDTH and frame.has_gaps:
-        # Of the two columns of each gap the library knows one. An expanded row has two columns.
+        # A gap takes two terminal columns, but the library counts one. An expanded row has two columns.
         width = max(1, width - (2 if expansion == ALWAYS else columns) + 1)
     return RowsSettings(
         max_height=NO_LIMIT if height is None else height,
@@ -421,7 +419,7 @@ def _settings_of(
 
 
 def _heights_of(heights: Heights, headers: int, rows: int) -> list[int]:
-    """The greatest height of the header and of each row, if there is a list of them. As csvtable takes it, 0 is 1."""
+    """The greatest heights of the header, which is 0 for no limit, and of each row, if `heights` is a list. 0 counts as 1."""
     if not isinstance(heights, (list, tuple)):
         return []
     wholes = [_whole(height, "max_height") for height in heights]
@@ -432,7 +430,7 @@ def _heights_of(heights: Heights, headers: int, rows: int) -> list[int]:
 def _limit_of(table: Table, has_header: bool) -> Optional[int]:
     limit = _whole(table.limit, "limit")
     if limit == 0 and not has_header:
-        raise ValueError("limit=0 leaves nothing to draw where there is no header")
+        raise ValueError("limit=0 without a header leaves nothing to draw")
     return limit
 
 
@@ -445,7 +443,7 @@ def _whole(number: Any, name: str, otherwise: str = " or None", greatest: int = 
         return None
     if not is_whole(number, 0, greatest):
         upward = f"from 0 to {greatest}" if greatest < NO_LIMIT - 1 else "from 0 on"
-        raise ValueError(f"{name} is a whole number {upward}{otherwise}, not {number!r}")
+        raise ValueError(f"{name} takes a whole number {upward}{otherwise}, not {number!r}")
     return int(number)
 
 
@@ -453,7 +451,7 @@ def _width_of(width: Width) -> int:
     if width == "terminal":
         return shutil.get_terminal_size().columns
     number = _whole(width, "width", ', "terminal" or None', 65535)
-    # As csvtable takes it, 0 is no width.
+    # As in csvtable, 0 means no width.
     return number or NO_WIDTH
 
 
@@ -464,4 +462,4 @@ def _expansion_of(asked: bool | str) -> int:
         return AUTO
     if asked is True:
         return ALWAYS
-    raise ValueError(f'expanded is True, False or "auto", not {asked!r}')
+    raise ValueError(f'expanded takes True, False or "auto", not {asked!r}')

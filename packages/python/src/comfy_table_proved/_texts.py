@@ -1,4 +1,4 @@
-"""Values written as the texts of cells."""
+"""The texts of cells, made from values."""
 
 from __future__ import annotations
 
@@ -9,7 +9,8 @@ from typing import Any, Callable, Iterable, Optional, Sequence, Union
 from ._paints import sequence_of
 
 Column = Union[str, int]
-# The column is a name, or a position if there is none. Functions for one of both are taken too.
+# The arguments are the row's position, the column's name or else its position, and the value. Functions that only take names or
+# positions are accepted too.
 Colors = Callable[[int, Any, Any], Optional[str]]
 Texts = Union[str, Sequence[Optional[str]], None]
 
@@ -20,7 +21,7 @@ _REPLACEMENT = "\ufffd"
 class Writer:
     """Writes values as texts. A setting is one text for all columns, or a list with one for each of the first columns.
 
-    Colours by value are asked for even if they aren't written, so that a wrong word is always found.
+    The function `colors` is called even if colours aren't written, so that an unknown word always raises ValueError.
     """
 
     def __init__(
@@ -31,7 +32,7 @@ class Writer:
         self._of_floats: set[int] = set()
 
     def rows_of(self, rows: list[list[Any]], names: list[str]) -> list[list[str]]:
-        """The texts of rows below these names. An empty row has one empty text, so that there is a column."""
+        """The texts of rows with these names of columns. An empty row gets one empty text, so that there is a column."""
         if self._floatfmt is not None:
             self._of_floats = {at for row in rows for at, value in enumerate(row) if _is_float(value)}
         return [self._texts_of(position, row, names) or [""] for position, row in enumerate(rows)]
@@ -40,7 +41,7 @@ class Writer:
         return [self._plain("" if name is None else _text(name)) for name in header]
 
     def _texts_of(self, position: int, row: list[Any], names: list[str]) -> list[str]:
-        """The texts of the row at a position, below these names, with sequences of their colours."""
+        """The texts of the row at a position, with these names of columns, and with the sequences of their colours."""
         texts = [self._text_of(at, value) for at, value in enumerate(row)]
         if self._colors is None:
             return texts
@@ -62,13 +63,13 @@ class Writer:
         return self._plain(format(value, wanted) if wanted else _text(value))
 
     def _plain(self, text: str) -> str:
-        # Beside colours by value sequences are kept, and without `ansi` none in a value is to be one of them.
+        # The library keeps sequences if `colors` makes some. Without `ansi`, those in values are replaced first.
         return text if self._colors is None or self._ansi else text.replace(_ESCAPE, _REPLACEMENT)
 
 
 def _is_float(value: object) -> bool:
-    """Whether a value is a float, one of numpy too, or a Decimal."""
-    # Abstract classes take much longer to ask, so common types come first.
+    """True for a float, also one of numpy, and for a Decimal."""
+    # Checks common types first, because abstract classes are much slower.
     if isinstance(value, (float, int, str)):
         return isinstance(value, float)
     return isinstance(value, (numbers.Real, decimal.Decimal)) and not isinstance(value, numbers.Rational)
@@ -81,7 +82,7 @@ def _is_int(value: object) -> bool:
 
 
 def _text(value: object) -> str:
-    """A value by str, or bytes that are UTF-8 by the text that they are."""
+    """The text of a value: that of str, or for bytes in UTF-8 the text that they encode."""
     if isinstance(value, bytes):
         try:
             return value.decode()
@@ -91,12 +92,12 @@ def _text(value: object) -> str:
 
 
 def _painted(text: str, words: str | None) -> str:
-    """A text between the sequences of such words."""
+    """A text with the sequence of these words before it, and a reset after it; without words the text alone."""
     return f"{sequence_of(words)}{text}{_ESCAPE}[0m" if words else text
 
 
 def _at(setting: Texts, at: int) -> str | None:
-    """What a setting has for a column."""
+    """The value of a setting for a column."""
     if setting is None or isinstance(setting, str):
         return setting
     return setting[at] if at < len(setting) else None

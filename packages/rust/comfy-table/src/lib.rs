@@ -1,2 +1,2 @@
-//! The package comfy_table_proved under the name of the crate whose calls it has, so that `[patch.crates-io]` finds it there.
+//! The package comfy_table_proved under the name of the original crate, for `[patch.crates-io]`.
 pub use comfy_table_proved::*;

@@ -1,12 +1,21 @@
 use crate::csvtable::error::Error;
 
-/// A column, by its name in the header, or by its position, counted from 0.
+/// The name or the position of a column. Texts and numbers are converted to it.
+///
+/// ```
+/// use comfy_table_proved::csvtable::{Column, Rows};
+///
+/// let rows = Rows::new(["name", "price"]).row(("oats", 3));
+/// let swapped = rows.columns([Column::from("price"), Column::from(0)])?;
+/// assert_eq!(swapped.to_string().lines().nth(1), Some("│ price ┆ name │"));
+/// # Ok::<(), comfy_table_proved::csvtable::Error>(())
+/// ```
 #[derive(Clone, Debug, PartialEq, Eq)]
 #[non_exhaustive]
 pub enum Column {
-    /// By its name in the header.
+    /// The name in the header.
     Name(String),
-    /// By its position, counted from 0.
+    /// The position, counted from 0.
     Position(usize),
 }
 
@@ -29,7 +38,8 @@ impl From<usize> for Column {
 }
 
 impl Column {
-    /// Its position below this header, of so many columns.
+    /// The position in a table with this header and this number of columns. It is an error if there is no such column, or if the
+    /// header has the name twice.
     pub(crate) fn position(&self, header: &[String], count: usize) -> Result<usize, Error> {
         let name = match self {
             Column::Position(position) if *position < count => return Ok(*position),

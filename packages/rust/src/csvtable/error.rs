@@ -1,19 +1,27 @@
 use crate::library::OutOfMemory;
 use std::fmt;
 
-/// Why there is no drawing.
+/// The reason why there is no drawing.
+///
+/// ```
+/// use comfy_table_proved::csvtable::{Error, Rows, draw_csv};
+///
+/// assert!(matches!(draw_csv("a,b\n", &["-w", "wide"]), Err(Error::Arguments(_))));
+/// let missing = Rows::new(["name", "price"]).right(["cost"]).unwrap_err();
+/// assert_eq!(missing.to_string(), "no column cost");
+/// ```
 #[derive(Clone, Debug, PartialEq, Eq)]
 #[non_exhaustive]
 pub enum Error {
-    /// The input is refused, with what csvtable says.
+    /// The input can't be drawn. The text is csvtable's message.
     Input(String),
-    /// The arguments are refused, with what csvtable says.
+    /// The arguments are refused. The text is csvtable's message, or its help or version if they ask for that.
     Arguments(String),
     /// The table has no column of this name, or at this position.
     NoColumn(String),
-    /// The header has this name twice, so that it says no column.
+    /// The header has this name twice, so it doesn't name one column.
     AmbiguousColumn(String),
-    /// The column at this position is to stand at the left and at the right.
+    /// The column at this position would have to be both left-aligned and right-aligned.
     TwoSides(usize),
     /// Memory ran out.
     OutOfMemory,
@@ -26,7 +34,7 @@ impl fmt::Display for Error {
             Error::NoColumn(column) => write!(formatter, "no column {column}"),
             Error::AmbiguousColumn(name) => write!(formatter, "the header has {name} twice; give the column's position"),
             Error::TwoSides(position) => {
-                write!(formatter, "the column at position {position} can't stand at the right and at the left")
+                write!(formatter, "the column at position {position} can't be both right-aligned and left-aligned")
             }
             Error::OutOfMemory => formatter.write_str("out of memory"),
         }

@@ -1,8 +1,18 @@
 use std::fmt::Display;
 
-/// What can be a row: an array, a vector or a slice of values, or a tuple of values of different types.
+/// A row: an array, a vector or a slice of values, or a tuple of up to twelve values of different types.
+///
+/// ```
+/// use comfy_table_proved::csvtable::Rows;
+///
+/// let mut rows = Rows::new(["name", "price"]);
+/// rows.push(["oats", "3"]);
+/// rows.push(("rye", -12.5));
+/// rows.push(vec![String::from("barley")]);
+/// assert_eq!(rows.len(), 3);
+/// ```
 pub trait IntoCells {
-    /// Hands on each of the values, in order.
+    /// Calls a function for each value, in order.
     fn for_each_cell(self, each: impl FnMut(&dyn Display));
 }
 

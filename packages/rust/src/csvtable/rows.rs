@@ -15,29 +15,37 @@ use std::borrow::Cow;
 use std::env;
 use std::fmt::{self, Display, Write};
 
-/// When a row is drawn as a table of its own, of names and cells.
+/// The condition for expanding rows. An expanded row is drawn as a table of its own, with a line for each column: its name and its
+/// cell.
+///
+/// ```
+/// use comfy_table_proved::csvtable::{Expanded, Rows, Style};
+///
+/// let rows = Rows::new(["name", "price"]).row(("oats", 3)).expanded(Expanded::Always).style(Style::Ascii);
+/// assert!(rows.to_string().contains("| price | 3"));
+/// ```
 #[derive(Clone, Copy, Debug, Default, PartialEq, Eq)]
 #[non_exhaustive]
 pub enum Expanded {
     /// Never.
     #[default]
     Never,
-    /// Where a width is kept that is too small for the columns.
+    /// If the table has a width that is too small for its columns.
     Auto,
     /// Always.
     Always,
 }
 
-// What the library has for a column: by its contents, at the left, at the right.
+// The sides of a column in comfy_table.h: by its contents, left, right.
 const BY_CONTENTS: u32 = 0;
 const LEFT: u32 = 1;
 const RIGHT: u32 = 2;
 
-/// Rows, and how their table is drawn. Rows may have different lengths.
+/// Rows of values, and the settings of their table. Rows may have different lengths.
 ///
-/// No text in a cell is taken for anything else: control characters become U+FFFD, TABs spaces, and line breaks stay.
+/// In a cell, control characters are drawn as U+FFFD and TABs as spaces. Line breaks are kept.
 ///
-/// `Display` writes what [`Rows::draw`] returns, which ends with a line feed. Where memory runs out, it is an error.
+/// `Display` writes the drawing of [`Rows::draw`], which ends with a line feed. It returns an error if memory runs out.
 ///
 /// ```
 /// use comfy_table_proved::csvtable::{Rows, Style};
@@ -45,7 +53,14 @@ const RIGHT: u32 = 2;
 /// let mut tides = Rows::new(["harbour", "high water"]);
 /// tides.push(("Brest", "07:49"));
 /// tides.push(("Saint-Malo", "09:55"));
-/// print!("{}", tides.right(["high water"])?.width(30).style(Style::Box));
+/// assert_eq!(tides.right(["high water"])?.style(Style::Box).to_string(), "\
+/// ┌────────────┬────────────┐
+/// │ harbour    ┆ high water │
+/// ╞════════════╪════════════╡
+/// │ Brest      ┆      07:49 │
+/// │ Saint-Malo ┆      09:55 │
+/// └────────────┴────────────┘
+/// ");
 /// # Ok::<(), comfy_table_proved::csvtable::Error>(())
 /// ```
 #[derive(Clone, Debug)]
@@ -53,9 +68,9 @@ pub struct Rows {
     header: Vec<String>,
     // the header and the rows
     texts: Texts,
-    // what each column asks for, as many as a row has cells at most
+    // the side of each column, as many as the longest row has cells
     sides: Vec<u32>,
-    // the positions of the columns that are drawn; of all where there are none
+    // the positions of the columns to draw, or none for all columns
     chosen: Vec<usize>,
     style: Style,
     has_row_lines: Option<bool>,
@@ -78,7 +93,21 @@ struct Settings {
 }
 
 impl Rows {
-    /// A table with a header, and no rows yet.
+    /// Makes a table with a header and no rows.
+    ///
+    /// ```
+    /// use comfy_table_proved::csvtable::Rows;
+    ///
+    /// let rows = Rows::new(["name", "price"]).row(("oats", 3)).row(("rye", -12.5));
+    /// assert_eq!(rows.to_string(), "\
+    /// ╭──────┬───────╮
+    /// │ name ┆ price │
+    /// ╞══════╪═══════╡
+    /// │ oats ┆   3   │
+    /// │ rye  ┆ -12.5 │
+    /// ╰──────┴───────╯
+    /// ");
+    /// ```
     pub fn new(header: impl IntoCells) -> Rows {
         let mut rows = Rows::without_header();
         rows.push(header);
@@ -87,7 +116,20 @@ impl Rows {
         rows
     }
 
-    /// A table without a header.
+    /// Makes a table with neither header nor rows. Rows can be collected into one too.
+    ///
+    /// ```
+    /// use comfy_table_proved::csvtable::Rows;
+    ///
+    /// let squares: Rows = (8..11).map(|number| [number, number * number]).collect();
+    /// assert_eq!(squares.to_string(), "\
+    /// ╭────┬─────╮
+    /// │  8 ┆  64 │
+    /// │  9 ┆  81 │
+    /// │ 10 ┆ 100 │
+    /// ╰────┴─────╯
+    /// ");
+    /// ```
     pub fn without_header() -> Rows {
         Rows {
             header: Vec::new(),
@@ -100,7 +142,7 @@ impl Rows {
         }
     }
 
-    /// Adds a row below the others. An empty one has one empty cell.
+    /// Adds a row below the others. A row without values gets one empty cell.
     pub fn push(&mut self, cells: impl IntoCells) {
         let first = self.texts.lengths.len();
         let has_sequences = self.settings.has_sequences;
@@ -119,109 +161,227 @@ impl Rows {
         self.sides.resize(self.sides.len().max(count), BY_CONTENTS);
     }
 
-    /// The table with a row more.
+    /// Adds a row below the others, as [`push`](Rows::push) does, and returns the table.
     pub fn row(mut self, cells: impl IntoCells) -> Rows {
         self.push(cells);
         self
     }
 
-    /// How many rows there are below the header.
+    /// Returns the number of rows, without the header.
+    ///
+    /// ```
+    /// use comfy_table_proved::csvtable::Rows;
+    ///
+    /// let rows = Rows::new(["name", "price"]);
+    /// assert!(rows.is_empty());
+    /// assert_eq!(rows.row(("oats", 3)).len(), 1);
+    /// ```
     pub fn len(&self) -> usize {
         self.texts.counts.len() - usize::from(self.settings.has_header)
     }
 
-    /// Whether there is none.
+    /// Returns true if there are no rows. A header doesn't count.
     pub fn is_empty(&self) -> bool {
         self.len() == 0
     }
 
-    /// Draws these columns alone, in this order; all where the list is empty. A column is one of the header, or one that a row
-    /// has by now.
+    /// Draws only these columns, in this order, or all columns if the list is empty.
+    ///
+    /// ```
+    /// use comfy_table_proved::csvtable::{Rows, Style};
+    ///
+    /// let rows = Rows::new(["name", "price", "stock"]).row(("oats", 3, 40)).style(Style::Ascii);
+    /// assert_eq!(rows.columns(["stock", "name"])?.to_string(), "\
+    /// +-------+------+
+    /// | stock | name |
+    /// +==============+
+    /// |    40 | oats |
+    /// +-------+------+
+    /// ");
+    /// # Ok::<(), comfy_table_proved::csvtable::Error>(())
+    /// ```
+    ///
+    /// # Errors
+    ///
+    /// [`Error::NoColumn`] if the header doesn't have a name, or if neither the header nor a row has a cell at a position; add rows
+    /// first. [`Error::AmbiguousColumn`] if the header has a name twice. The table is dropped.
     pub fn columns<T: Into<Column>>(mut self, columns: impl IntoIterator<Item = T>) -> Result<Rows, Error> {
         self.chosen = self.positions(columns)?;
         Ok(self)
     }
 
-    /// Columns that stand at the right, beside those of numbers.
+    /// Right-aligns these columns, even if they don't hold numbers.
+    ///
+    /// ```
+    /// use comfy_table_proved::csvtable::Rows;
+    ///
+    /// let rows = Rows::new(["harbour", "high water"]).row(("Brest", "07:49 h")).right([1])?;
+    /// assert_eq!(rows.to_string().lines().nth(3), Some("│ Brest   ┆    07:49 h │"));
+    /// # Ok::<(), comfy_table_proved::csvtable::Error>(())
+    /// ```
+    ///
+    /// # Errors
+    ///
+    /// Those of [`columns`](Rows::columns), and [`Error::TwoSides`] if [`left`](Rows::left) has named the column. The table is
+    /// dropped.
     pub fn right<T: Into<Column>>(self, columns: impl IntoIterator<Item = T>) -> Result<Rows, Error> {
         self.aligned(columns, RIGHT)
     }
 
-    /// Columns that stand at the left, of numbers or not.
+    /// Left-aligns these columns, even if they hold numbers.
+    ///
+    /// ```
+    /// use comfy_table_proved::csvtable::Rows;
+    ///
+    /// let rows = Rows::new(["number", "name"]).row((17, "oats")).left(["number"])?;
+    /// assert_eq!(rows.to_string().lines().nth(3), Some("│ 17     ┆ oats │"));
+    /// # Ok::<(), comfy_table_proved::csvtable::Error>(())
+    /// ```
+    ///
+    /// # Errors
+    ///
+    /// Those of [`columns`](Rows::columns), and [`Error::TwoSides`] if [`right`](Rows::right) has named the column. The table is
+    /// dropped.
     pub fn left<T: Into<Column>>(self, columns: impl IntoIterator<Item = T>) -> Result<Rows, Error> {
         self.aligned(columns, LEFT)
     }
 
-    /// Keeps to so many terminal columns; 0 is no width.
+    /// Sets the greatest width of the table, in terminal columns. 0, as without this call, means that there is no limit.
+    ///
+    /// ```
+    /// use comfy_table_proved::csvtable::{Rows, Style};
+    ///
+    /// let rows = Rows::new(["bike", "place"]).row((17, "dock 3, at the harbour")).width(22).style(Style::Ascii);
+    /// assert_eq!(rows.to_string(), "\
+    /// +------+-------------+
+    /// | bike | place       |
+    /// +====================+
+    /// |   17 | dock 3, at  |
+    /// |      | the harbour |
+    /// +------+-------------+
+    /// ");
+    /// ```
     pub fn width(mut self, width: u16) -> Rows {
         self.settings.width = (width > 0).then_some(width);
         self
     }
 
-    /// Keeps to the width that `COLUMNS` says, else to that of the terminal, else to 80.
+    /// Sets the terminal's width as the greatest width. This is the value of the variable `COLUMNS`, if it is a number from 1 to
+    /// 65535. Otherwise the terminal is asked, and without a terminal the width is 80.
     #[cfg(feature = "tty")]
     pub fn terminal_width(self) -> Rows {
-        let said = env::var("COLUMNS").ok().and_then(|text| text.parse().ok()).filter(|columns| *columns > 0);
-        self.width(said.or_else(terminal::columns).unwrap_or(80))
+        let set = env::var("COLUMNS").ok().and_then(|text| text.parse().ok()).filter(|columns| *columns > 0);
+        self.width(set.or_else(terminal::columns).unwrap_or(80))
     }
 
-    /// Whether the width is filled.
+    /// Makes the table exactly as wide as the set width, if true. Without a width this has no effect.
+    ///
+    /// ```
+    /// use comfy_table_proved::csvtable::Rows;
+    ///
+    /// let rows = Rows::without_header().row(["oats"]).width(20).full(true);
+    /// assert_eq!(rows.to_string().lines().nth(1), Some("│ oats             │"));
+    /// ```
     pub fn full(mut self, is_full: bool) -> Rows {
         self.settings.is_full = is_full;
         self
     }
 
-    /// So many lines a row has at most.
+    /// Sets the greatest number of lines of a row below the header. Longer texts are cut, and end with `…`. 0 counts as 1.
+    ///
+    /// ```
+    /// use comfy_table_proved::csvtable::Rows;
+    ///
+    /// let rows = Rows::without_header().row(["dock 3\nharbour"]).max_height(1);
+    /// assert_eq!(rows.to_string().lines().nth(1), Some("│ dock 3… │"));
+    /// ```
     pub fn max_height(mut self, lines: usize) -> Rows {
         self.settings.max_height = Some(lines);
         self
     }
 
-    /// Draws so many rows; where there are more, a line below says so.
+    /// Draws only the first `rows` rows. If there are more, a line below the table says so.
+    ///
+    /// ```
+    /// use comfy_table_proved::csvtable::Rows;
+    ///
+    /// let rows: Rows = (1..4).map(|number| [number]).collect();
+    /// assert_eq!(rows.limit(1).to_string(), "╭───╮\n│ 1 │\n╰───╯\n1 of 3 rows\n");
+    /// ```
     pub fn limit(mut self, rows: usize) -> Rows {
         self.settings.limit = Some(rows);
         self
     }
 
-    /// The frame.
+    /// Sets the frame, [`Style::Rounded`] without this call.
     pub fn style(mut self, style: Style) -> Rows {
         self.style = style;
         self
     }
 
-    /// Lines between rows: in each style that has them, or in none. Without it the style says so.
+    /// Draws lines between all rows if true, in each style that has such lines, and none if false. Without this call, the style
+    /// decides.
+    ///
+    /// ```
+    /// use comfy_table_proved::csvtable::{Rows, Style};
+    ///
+    /// let rows: Rows = [["a"], ["b"]].into_iter().collect();
+    /// assert_eq!(rows.style(Style::Ascii).row_lines(false).to_string(), "+---+\n| a |\n| b |\n+---+\n");
+    /// ```
     pub fn row_lines(mut self, are_drawn: bool) -> Rows {
         self.has_row_lines = Some(are_drawn);
         self
     }
 
-    /// When a row is drawn as a table of its own.
+    /// Sets when rows are expanded, [`Expanded::Never`] without this call.
     pub fn expanded(mut self, when: Expanded) -> Rows {
         self.settings.expanded = when;
         self
     }
 
-    /// Whether the header is written in bold.
+    /// Writes the header, or the names of expanded rows, in bold if true. This is done wherever the table goes, except in Markdown.
     pub fn bold_header(mut self, is_bold: bool) -> Rows {
         self.settings.has_bold_header = is_bold;
         self
     }
 
-    /// Whether a first column `#` has the numbers of the rows.
+    /// Adds a first column `#` with the numbers of the rows, from 1, if true.
+    ///
+    /// ```
+    /// use comfy_table_proved::csvtable::{Rows, Style};
+    ///
+    /// let rows = Rows::new(["name"]).row(["oats"]).row(["rye"]).number(true).style(Style::Ascii).row_lines(false);
+    /// assert_eq!(rows.to_string(), "\
+    /// +---+------+
+    /// | # | name |
+    /// +==========+
+    /// | 1 | oats |
+    /// | 2 | rye  |
+    /// +---+------+
+    /// ");
+    /// ```
     pub fn number(mut self, is_numbered: bool) -> Rows {
         self.settings.is_numbered = is_numbered;
         self
     }
 
-    /// Whether decimal points of a column of numbers stand below each other; without it they do.
+    /// Puts the decimal points of a column of numbers below each other if true, as without this call.
+    ///
+    /// ```
+    /// use comfy_table_proved::csvtable::Rows;
+    ///
+    /// let rows = Rows::without_header().row([3.25]).row([-12.5]);
+    /// assert_eq!(rows.to_string(), "╭────────╮\n│   3.25 │\n│ -12.5  │\n╰────────╯\n");
+    /// assert_eq!(rows.align_decimals(false).to_string(), "╭───────╮\n│  3.25 │\n│ -12.5 │\n╰───────╯\n");
+    /// ```
     pub fn align_decimals(mut self, are_aligned: bool) -> Rows {
         self.settings.leaves_decimals = !are_aligned;
         self
     }
 
-    /// Colours the cells of the rows that are there. The function is given a row's position, a column's, and the cell, and
-    /// returns the cell that stands in its place, of which text, colours and attributes count. They are written wherever the
-    /// table goes, except in a table for Markdown.
+    /// Colours the cells of the rows so far. The function gets the position of the row, that of the column, and the cell. It returns
+    /// a cell, whose text, colours and attributes replace those of the cell. They are written wherever the table goes, except in
+    /// Markdown. The header isn't coloured.
     ///
     /// ```
     /// use comfy_table_proved::Color;
@@ -252,7 +412,18 @@ impl Rows {
         self
     }
 
-    /// The drawing, which ends with a line feed. It is empty where there are neither header nor rows. Memory alone can be refused.
+    /// Draws the table. The drawing ends with a line feed. It is empty if there are neither header nor rows.
+    ///
+    /// # Errors
+    ///
+    /// [`Error::OutOfMemory`]. The table is unchanged.
+    ///
+    /// ```
+    /// use comfy_table_proved::csvtable::Rows;
+    ///
+    /// assert_eq!(Rows::without_header().row(["oats"]).draw()?, "╭──────╮\n│ oats │\n╰──────╯\n");
+    /// # Ok::<(), comfy_table_proved::csvtable::Error>(())
+    /// ```
     pub fn draw(&self) -> Result<String, Error> {
         let settings = self.settings();
         let is_plain = self.style == Style::Markdown && self.settings.has_sequences;
@@ -272,8 +443,8 @@ impl Rows {
         Ok(self.counted_as_rows(draw_rows(&texts, &columns, &settings)?))
     }
 
-    // A drawing whose line on further rows speaks of rows, where the library's speaks of records. No line of a row is taken for it,
-    // since a space stands before each text.
+    // A drawing whose last line counts rows, if it counted records. A line of a row isn't mistaken for it, because a space comes
+    // before each text.
     fn counted_as_rows(&self, drawing: String) -> String {
         let Some(limit) = self.settings.limit else {
             return drawing;
@@ -335,18 +506,18 @@ impl Rows {
             aligns_decimals: (!leaves_decimals).into(),
             has_sequences: has_sequences.into(),
             is_markdown: (self.style == Style::Markdown).into(),
-            // None of the styles here is one of own lines.
+            // No style of this module has lines of its own.
             frame: Frame::default(),
         }
     }
 }
 
-// None in a text is to be one of the sequences of colours.
+// A text whose escape characters are replaced, so that it has no sequences of colours.
 fn plain(text: &str) -> String {
     text.replace('\x1b', "\u{fffd}")
 }
 
-// A text without its sequences of colours and attributes.
+// A text without its sequences of colours and attributes (SGR).
 fn visible(text: &str) -> String {
     let mut parts = text.split("\x1b[");
     let first = parts.next().unwrap_or_default().to_owned();
@@ -366,7 +537,7 @@ impl Texts {
         self.lengths.push(self.joined.len() - start);
     }
 
-    // The texts without the sequences that `paint` put into them, which a table for Markdown can't have.
+    // The texts without the sequences of `paint`, because a table for Markdown can't have them.
     fn without_sequences(&self) -> Texts {
         let mut plain = Texts::default();
         for row in self.rows() {
@@ -377,12 +548,12 @@ impl Texts {
     }
 
     fn rows(&self) -> impl Iterator<Item = Vec<&str>> {
-        let mut behind = self.joined.as_str();
+        let mut left = self.joined.as_str();
         let mut lengths = self.lengths.iter();
         self.counts.iter().map(move |count| {
             let cut = |length: &usize| {
-                let (text, rest) = behind.split_at(*length);
-                behind = rest;
+                let (text, rest) = left.split_at(*length);
+                left = rest;
                 text
             };
             lengths.by_ref().take(*count).map(cut).collect()

@@ -1,10 +1,21 @@
 use crate::style::{TableStyle, presets};
 
-/// The frame of a table: one by the names that csvtable has, or a preset.
+/// The frame of a table: one of csvtable's, or a preset.
+///
+/// ```
+/// use comfy_table_proved::csvtable::{Rows, Style};
+///
+/// let rows = Rows::new(["name", "price"]).row(("oats", 3)).style(Style::Markdown);
+/// assert_eq!(rows.to_string(), "\
+/// | name | price |
+/// |------|------:|
+/// | oats |     3 |
+/// ");
+/// ```
 #[derive(Clone, Copy, Debug, Default, PartialEq, Eq)]
 #[non_exhaustive]
 pub enum Style {
-    /// Round corners, and lines between rows only where a row has several lines.
+    /// Round corners, and lines between rows only if a drawn row has several lines.
     #[default]
     Rounded,
     /// As `Rounded`, with square corners.
@@ -13,11 +24,11 @@ pub enum Style {
     Grid,
     /// ASCII, with lines between all rows.
     Ascii,
-    /// Spaces alone.
+    /// Only spaces.
     Plain,
-    /// A table for Markdown, which keeps to no width.
+    /// A table for Markdown. Its texts are escaped and never wrapped, and its rows are never expanded, whatever the width is.
     Markdown,
-    /// What [`Style::of_preset`] returns.
+    /// A preset, made by [`Style::of_preset`].
     Preset(Preset),
 }
 
@@ -25,11 +36,11 @@ pub enum Style {
 #[derive(Clone, Copy, Debug, PartialEq, Eq)]
 pub struct Preset(u32);
 
-// The position of UTF8_FULL with round corners, behind the presets.
+// The number of UTF8_FULL with round corners, which comes after the presets.
 const ROUNDED: u32 = presets::ALL.len() as u32;
 
 impl Style {
-    /// The frame of a preset; none for any other style.
+    /// Returns the frame of a preset, or `None` for any other style.
     ///
     /// ```
     /// use comfy_table_proved::csvtable::{Rows, Style};
@@ -43,7 +54,7 @@ impl Style {
         Some(Style::Preset(Preset(position as u32)))
     }
 
-    /// The number that comfy_table.h has for it.
+    /// The number in comfy_table.h.
     pub(crate) fn number(self) -> u32 {
         match self {
             Style::Rounded | Style::Grid | Style::Markdown => ROUNDED,
@@ -54,7 +65,7 @@ impl Style {
         }
     }
 
-    /// Whether it has lines between rows only where a row has several lines.
+    /// True if lines between rows are drawn only if a drawn row has several lines.
     pub(crate) fn is_compact(self) -> bool {
         matches!(self, Style::Rounded | Style::Box)
     }

@@ -1,6 +1,6 @@
-//! The structs of comfy_table.h, without its prefix, in its order.
+//! The structs of comfy_table.h, in its order and without its prefix.
 
-/// The number for a character, where there may be none.
+/// The number of a character, or the number for none.
 pub fn of_character(character: Option<char>) -> u32 {
     match character {
         None => 0,
@@ -9,7 +9,7 @@ pub fn of_character(character: Option<char>) -> u32 {
     }
 }
 
-// Stands for U+0000.
+// The number of U+0000, because 0 means no character.
 const NUL: u32 = 0x110000;
 
 #[repr(C)]
@@ -79,7 +79,7 @@ pub struct ContentLine {
     pub right: u32,
 }
 
-/// The style of the lines in `frame`.
+/// The style whose lines are in `frame`.
 pub const OWN_STYLE: u32 = u32::MAX;
 
 #[repr(C)]
@@ -118,7 +118,7 @@ pub struct RowsColumn {
 }
 
 impl RowsColumn {
-    /// A column with a side, and nothing else of its own.
+    /// A column with this side, and no other setting.
     pub fn at(side: u32) -> RowsColumn {
         RowsColumn { left_padding: 1, right_padding: 1, side, least: 0, greatest: 0 }
     }

@@ -1,4 +1,4 @@
-//! Styles that are ready to be used. There are thirteen:
+//! Thirteen styles that are ready to use. [`Table::load_style`](crate::Table::load_style) takes one of them.
 //!
 //! ```text
 //! ASCII_FULL            ASCII_FULL_CONDENSED   ASCII_NO_BORDERS
@@ -46,8 +46,7 @@
 
 use crate::style::{ContentLineStyle, LineStyle, TableStyle};
 
-// Below a space stands for no character.
-
+// A space is written for no character.
 const fn character(character: char) -> Option<char> {
     if character == ' ' { None } else { Some(character) }
 }
@@ -61,6 +60,16 @@ const fn contents([left, junction, right]: [char; 3]) -> ContentLineStyle {
 }
 
 /// Lines everywhere, in ASCII. A new table has this style.
+///
+/// ```text
+/// +-------+-------+
+/// | Hello | there |
+/// +===============+
+/// | a     | b     |
+/// |-------+-------|
+/// | c     | d     |
+/// +-------+-------+
+/// ```
 pub const ASCII_FULL: TableStyle = TableStyle {
     top_border: line(['+', '-', '+', '+']),
     header_lines: contents(['|', '|', '|']),
@@ -70,7 +79,16 @@ pub const ASCII_FULL: TableStyle = TableStyle {
     bottom_border: line(['+', '-', '+', '+']),
 };
 
-/// As `ASCII_FULL`, without lines between rows.
+/// As [`ASCII_FULL`], without lines between rows.
+///
+/// ```text
+/// +-------+-------+
+/// | Hello | there |
+/// +===============+
+/// | a     | b     |
+/// | c     | d     |
+/// +-------+-------+
+/// ```
 pub const ASCII_FULL_CONDENSED: TableStyle = TableStyle {
     top_border: line(['+', '-', '+', '+']),
     header_lines: contents(['|', '|', '|']),
@@ -80,7 +98,15 @@ pub const ASCII_FULL_CONDENSED: TableStyle = TableStyle {
     bottom_border: line(['+', '-', '+', '+']),
 };
 
-/// As `ASCII_FULL`, without lines around the table.
+/// As [`ASCII_FULL`], without lines around the table.
+///
+/// ```text
+///  Hello | there
+/// ===============
+///  a     | b
+/// -------+-------
+///  c     | d
+/// ```
 pub const ASCII_NO_BORDERS: TableStyle = TableStyle {
     top_border: LineStyle::none(),
     header_lines: contents([' ', '|', ' ']),
@@ -90,7 +116,17 @@ pub const ASCII_NO_BORDERS: TableStyle = TableStyle {
     bottom_border: LineStyle::none(),
 };
 
-/// Lines around the table and below the header, in ASCII, and free lines between rows.
+/// Lines around the table and below the header, in ASCII, and an empty line between rows.
+///
+/// ```text
+/// +---------------+
+/// | Hello   there |
+/// +===============+
+/// | a       b     |
+/// |               |
+/// | c       d     |
+/// +---------------+
+/// ```
 pub const ASCII_BORDERS_ONLY: TableStyle = TableStyle {
     top_border: line(['+', '-', '-', '+']),
     header_lines: contents(['|', ' ', '|']),
@@ -101,6 +137,15 @@ pub const ASCII_BORDERS_ONLY: TableStyle = TableStyle {
 };
 
 /// Lines around the table and below the header, in ASCII.
+///
+/// ```text
+/// +---------------+
+/// | Hello   there |
+/// +===============+
+/// | a       b     |
+/// | c       d     |
+/// +---------------+
+/// ```
 pub const ASCII_BORDERS_ONLY_CONDENSED: TableStyle = TableStyle {
     top_border: line(['+', '-', '-', '+']),
     header_lines: contents(['|', ' ', '|']),
@@ -110,7 +155,17 @@ pub const ASCII_BORDERS_ONLY_CONDENSED: TableStyle = TableStyle {
     bottom_border: line(['+', '-', '-', '+']),
 };
 
-/// Horizontal lines alone, in ASCII.
+/// Only horizontal lines, in ASCII.
+///
+/// ```text
+/// ---------------
+///  Hello   there
+/// ===============
+///  a       b
+/// ---------------
+///  c       d
+/// ---------------
+/// ```
 pub const ASCII_HORIZONTAL_ONLY: TableStyle = TableStyle {
     top_border: line([' ', '-', '-', ' ']),
     header_lines: ContentLineStyle::none(),
@@ -120,7 +175,14 @@ pub const ASCII_HORIZONTAL_ONLY: TableStyle = TableStyle {
     bottom_border: line([' ', '-', '-', ' ']),
 };
 
-/// The lines that Markdown asks for. Texts aren't escaped.
+/// The lines of a table for Markdown. Texts aren't escaped, and line breaks in them break the table.
+///
+/// ```text
+/// | Hello | there |
+/// |-------|-------|
+/// | a     | b     |
+/// | c     | d     |
+/// ```
 pub const ASCII_MARKDOWN: TableStyle = TableStyle {
     top_border: LineStyle::none(),
     header_lines: contents(['|', '|', '|']),
@@ -131,6 +193,16 @@ pub const ASCII_MARKDOWN: TableStyle = TableStyle {
 };
 
 /// Lines everywhere.
+///
+/// ```text
+/// ┌───────┬───────┐
+/// │ Hello ┆ there │
+/// ╞═══════╪═══════╡
+/// │ a     ┆ b     │
+/// ├╌╌╌╌╌╌╌┼╌╌╌╌╌╌╌┤
+/// │ c     ┆ d     │
+/// └───────┴───────┘
+/// ```
 pub const UTF8_FULL: TableStyle = TableStyle {
     top_border: line(['┌', '─', '┬', '┐']),
     header_lines: contents(['│', '┆', '│']),
@@ -140,7 +212,16 @@ pub const UTF8_FULL: TableStyle = TableStyle {
     bottom_border: line(['└', '─', '┴', '┘']),
 };
 
-/// As `UTF8_FULL`, without lines between rows.
+/// As [`UTF8_FULL`], without lines between rows.
+///
+/// ```text
+/// ┌───────┬───────┐
+/// │ Hello ┆ there │
+/// ╞═══════╪═══════╡
+/// │ a     ┆ b     │
+/// │ c     ┆ d     │
+/// └───────┴───────┘
+/// ```
 pub const UTF8_FULL_CONDENSED: TableStyle = TableStyle {
     top_border: line(['┌', '─', '┬', '┐']),
     header_lines: contents(['│', '┆', '│']),
@@ -150,7 +231,15 @@ pub const UTF8_FULL_CONDENSED: TableStyle = TableStyle {
     bottom_border: line(['└', '─', '┴', '┘']),
 };
 
-/// As `UTF8_FULL`, without lines around the table.
+/// As [`UTF8_FULL`], without lines around the table.
+///
+/// ```text
+///  Hello ┆ there
+/// ═══════╪═══════
+///  a     ┆ b
+/// ╌╌╌╌╌╌╌┼╌╌╌╌╌╌╌
+///  c     ┆ d
+/// ```
 pub const UTF8_NO_BORDERS: TableStyle = TableStyle {
     top_border: LineStyle::none(),
     header_lines: contents([' ', '┆', ' ']),
@@ -161,6 +250,15 @@ pub const UTF8_NO_BORDERS: TableStyle = TableStyle {
 };
 
 /// Lines around the table and below the header.
+///
+/// ```text
+/// ┌───────────────┐
+/// │ Hello   there │
+/// ╞═══════════════╡
+/// │ a       b     │
+/// │ c       d     │
+/// └───────────────┘
+/// ```
 pub const UTF8_BORDERS_ONLY: TableStyle = TableStyle {
     top_border: line(['┌', '─', '─', '┐']),
     header_lines: contents(['│', ' ', '│']),
@@ -170,7 +268,17 @@ pub const UTF8_BORDERS_ONLY: TableStyle = TableStyle {
     bottom_border: line(['└', '─', '─', '┘']),
 };
 
-/// Horizontal lines alone.
+/// Only horizontal lines.
+///
+/// ```text
+/// ───────────────
+///  Hello   there
+/// ═══════════════
+///  a       b
+/// ───────────────
+///  c       d
+/// ───────────────
+/// ```
 pub const UTF8_HORIZONTAL_ONLY: TableStyle = TableStyle {
     top_border: line([' ', '─', '─', ' ']),
     header_lines: ContentLineStyle::none(),
@@ -181,9 +289,15 @@ pub const UTF8_HORIZONTAL_ONLY: TableStyle = TableStyle {
 };
 
 /// No lines.
+///
+/// ```text
+///  Hello  there
+///  a      b
+///  c      d
+/// ```
 pub const NOTHING: TableStyle = TableStyle::new();
 
-// All of them, in the order of comfy_table.h.
+// All presets, in the order of comfy_table.h.
 pub(crate) const ALL: [TableStyle; 13] = [
     ASCII_FULL,
     ASCII_FULL_CONDENSED,

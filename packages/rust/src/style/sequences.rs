@@ -1,6 +1,13 @@
 //! Colours and attributes of texts in terminals.
 
-/// An attribute of a text in a terminal.
+/// An attribute of a text in a terminal. Terminals show those that they know.
+///
+/// ```
+/// use comfy_table_proved::{Attribute, Cell};
+///
+/// let name = Cell::new("Bike").add_attributes(vec![Attribute::Bold, Attribute::Underlined]);
+/// # let _ = name;
+/// ```
 #[derive(Clone, Copy, Debug, PartialEq, Eq, PartialOrd, Ord, Hash)]
 #[non_exhaustive]
 pub enum Attribute {
@@ -8,7 +15,7 @@ pub enum Attribute {
     Reset,
     /// Bold, or brighter.
     Bold,
-    /// Less bright.
+    /// Dimmer.
     Dim,
     /// Italic.
     Italic,
@@ -16,17 +23,17 @@ pub enum Attribute {
     Underlined,
     /// Underlined twice.
     DoubleUnderlined,
-    /// Underlined by a wave.
+    /// Underlined with a wavy line.
     Undercurled,
-    /// Underlined by dots.
+    /// Underlined with dots.
     Underdotted,
-    /// Underlined by dashes.
+    /// Underlined with dashes.
     Underdashed,
     /// Blinks less than 150 times a minute.
     SlowBlink,
     /// Blinks 150 times a minute or more.
     RapidBlink,
-    /// Text and background change their colours.
+    /// The colours of text and background are exchanged.
     Reverse,
     /// Not shown.
     Hidden,
@@ -62,10 +69,18 @@ pub enum Attribute {
     NotOverLined,
 }
 
-/// A colour of a terminal.
+/// A colour of a terminal. The first 16 of the 256 numbered colours have names.
+///
+/// ```
+/// use comfy_table_proved::{Cell, Color};
+///
+/// let debt = Cell::new(-12).fg(Color::Red).bg(Color::Rgb { r: 32, g: 32, b: 32 });
+/// let credit = Cell::new(84).fg(Color::AnsiValue(28));
+/// # let _ = (debt, credit);
+/// ```
 #[derive(Clone, Copy, Debug, PartialEq, Eq, PartialOrd, Ord, Hash)]
 pub enum Color {
-    /// The terminal's own colour.
+    /// The default colour of the terminal.
     Reset,
     /// Colour 0 of 256.
     Black,
@@ -99,7 +114,7 @@ pub enum Color {
     White,
     /// Colour 7 of 256.
     Grey,
-    /// A colour by its red, green and blue part.
+    /// A colour with these parts of red, green and blue.
     Rgb {
         /// The red part.
         r: u8,
@@ -108,12 +123,12 @@ pub enum Color {
         /// The blue part.
         b: u8,
     },
-    /// One of 256 colours by its number.
+    /// The colour with this number, of 256.
     AnsiValue(u8),
 }
 
 impl Color {
-    /// Its number, where it is one of 256.
+    /// The number of a colour that is one of 256, or `None`.
     pub(crate) fn number(self) -> Option<u8> {
         Some(match self {
             Color::Reset | Color::Rgb { .. } => return None,

@@ -1,108 +1,146 @@
 //! The characters of a table's frame.
 
-/// A horizontal line of the frame. Where no part is set it isn't drawn.
+/// The characters of a horizontal line of the frame. If none is set, the line isn't drawn. Otherwise a space is drawn for each
+/// missing one, except at borders that no line of the [`TableStyle`] has.
 ///
 /// ```text
+///   fill    fill
+///   ↓       ↓
 /// ├╌╌╌╌╌╌╌┼╌╌╌╌╌╌╌┤
+/// ↑       ↑       ↑
 /// left    junction
-///     fill        right
+///                 right
+/// ```
+///
+/// ```
+/// use comfy_table_proved::{LineStyle, Table, presets::NOTHING};
+///
+/// let mut table = Table::new();
+/// table.load_style(NOTHING.header_separator(LineStyle::none().fill('-'))).set_header(["Bike", "Dock"]).add_row([17, 3]);
+/// assert_eq!(table.to_string(), " Bike  Dock \n------------\n 17    3    ");
 /// ```
 #[derive(Clone, Copy, Debug, Default, PartialEq, Eq)]
 pub struct LineStyle {
-    /// What stands at its left end.
+    /// The character at the left end.
     pub left: Option<char>,
-    /// What is repeated along the columns.
+    /// The character that is repeated along each column.
     pub fill: Option<char>,
-    /// What stands between two columns.
+    /// The character between two columns.
     pub junction: Option<char>,
-    /// What stands at its right end.
+    /// The character at the right end.
     pub right: Option<char>,
 }
 
 impl LineStyle {
-    /// A line with all parts set.
+    /// Makes a line with all four characters.
+    ///
+    /// ```
+    /// use comfy_table_proved::{LineStyle, presets::UTF8_FULL};
+    ///
+    /// assert_eq!(UTF8_FULL.row_separator, LineStyle::new('├', '╌', '┼', '┤'));
+    /// ```
     pub const fn new(left: char, fill: char, junction: char, right: char) -> LineStyle {
         LineStyle { left: Some(left), fill: Some(fill), junction: Some(junction), right: Some(right) }
     }
 
-    /// A line without any part.
+    /// Makes a line without characters, which isn't drawn.
     pub const fn none() -> LineStyle {
         LineStyle { left: None, fill: None, junction: None, right: None }
     }
 
-    /// Sets what stands at its left end.
+    /// Sets the character at the left end.
     pub const fn left(mut self, character: char) -> LineStyle {
         self.left = Some(character);
         self
     }
 
-    /// Sets what is repeated along the columns.
+    /// Sets the character that is repeated along each column.
     pub const fn fill(mut self, character: char) -> LineStyle {
         self.fill = Some(character);
         self
     }
 
-    /// Sets what stands between two columns.
+    /// Sets the character between two columns.
     pub const fn junction(mut self, character: char) -> LineStyle {
         self.junction = Some(character);
         self
     }
 
-    /// Sets what stands at its right end.
+    /// Sets the character at the right end.
     pub const fn right(mut self, character: char) -> LineStyle {
         self.right = Some(character);
         self
     }
 }
 
-/// A line that holds texts.
+/// The vertical borders of the lines that hold texts.
 ///
 /// ```text
 /// │ Hello ┆ there │
+/// ↑       ↑       ↑
 /// left    junction
 ///                 right
 /// ```
 #[derive(Clone, Copy, Debug, Default, PartialEq, Eq)]
 pub struct ContentLineStyle {
-    /// The left border.
+    /// The character of the left border.
     pub left: Option<char>,
-    /// What stands between two columns.
+    /// The character between two columns.
     pub junction: Option<char>,
-    /// The right border.
+    /// The character of the right border.
     pub right: Option<char>,
 }
 
 impl ContentLineStyle {
-    /// A line with all parts set.
+    /// Makes borders of all three characters.
+    ///
+    /// ```
+    /// use comfy_table_proved::{ContentLineStyle, presets::UTF8_FULL};
+    ///
+    /// assert_eq!(UTF8_FULL.content_lines, ContentLineStyle::new('│', '┆', '│'));
+    /// ```
     pub const fn new(left: char, junction: char, right: char) -> ContentLineStyle {
         ContentLineStyle { left: Some(left), junction: Some(junction), right: Some(right) }
     }
 
-    /// A line without any part.
+    /// Makes borders without characters.
     pub const fn none() -> ContentLineStyle {
         ContentLineStyle { left: None, junction: None, right: None }
     }
 
-    /// Sets the left border.
+    /// Sets the character of the left border.
     pub const fn left(mut self, character: char) -> ContentLineStyle {
         self.left = Some(character);
         self
     }
 
-    /// Sets what stands between two columns.
+    /// Sets the character between two columns.
     pub const fn junction(mut self, character: char) -> ContentLineStyle {
         self.junction = Some(character);
         self
     }
 
-    /// Sets the right border.
+    /// Sets the character of the right border.
     pub const fn right(mut self, character: char) -> ContentLineStyle {
         self.right = Some(character);
         self
     }
 }
 
-/// The six kinds of lines of a table.
+/// The characters of a table's frame, for each of the six kinds of its lines.
+///
+/// ```text
+/// ┌───────┬───────┐  top_border
+/// │ Hello ┆ there │  header_lines
+/// ╞═══════╪═══════╡  header_separator
+/// │ a     ┆ b     │  content_lines
+/// ├╌╌╌╌╌╌╌┼╌╌╌╌╌╌╌┤  row_separator
+/// │ c     ┆ d     │  content_lines
+/// └───────┴───────┘  bottom_border
+/// ```
+///
+/// A border at the left or right, or between columns, is drawn if one of the six lines has a character for it. The other lines
+/// then have a space there. Use one of the [`presets`](crate::presets), change one, or begin with [`TableStyle::new`]:
 ///
 /// ```
 /// use comfy_table_proved::{ContentLineStyle, LineStyle, Table, TableStyle};
@@ -117,7 +155,7 @@ impl ContentLineStyle {
 /// ```
 #[derive(Clone, Copy, Debug, Default, PartialEq, Eq)]
 pub struct TableStyle {
-    /// The line above everything.
+    /// The line above the table.
     pub top_border: LineStyle,
     /// The borders of the header's lines.
     pub header_lines: ContentLineStyle,
@@ -127,12 +165,12 @@ pub struct TableStyle {
     pub content_lines: ContentLineStyle,
     /// The line between two rows.
     pub row_separator: LineStyle,
-    /// The line below everything.
+    /// The line below the table.
     pub bottom_border: LineStyle,
 }
 
 impl TableStyle {
-    /// A style without any characters.
+    /// Makes a style without characters, as [`NOTHING`](crate::presets::NOTHING).
     pub const fn new() -> TableStyle {
         TableStyle {
             top_border: LineStyle::none(),
@@ -144,7 +182,7 @@ impl TableStyle {
         }
     }
 
-    /// Sets the line above everything.
+    /// Sets the line above the table.
     pub const fn top_border(mut self, line: LineStyle) -> TableStyle {
         self.top_border = line;
         self
@@ -157,6 +195,19 @@ impl TableStyle {
     }
 
     /// Sets the line below the header.
+    ///
+    /// ```
+    /// use comfy_table_proved::{LineStyle, Table, presets::ASCII_FULL_CONDENSED};
+    ///
+    /// let mut table = Table::new();
+    /// table.load_style(ASCII_FULL_CONDENSED.header_separator(LineStyle::new('+', '-', '+', '+')));
+    /// assert_eq!(table.set_header(["Bike", "Dock"]).add_row([17, 3]).to_string(), "\
+    /// +------+------+
+    /// | Bike | Dock |
+    /// +------+------+
+    /// | 17   | 3    |
+    /// +------+------+");
+    /// ```
     pub const fn header_separator(mut self, line: LineStyle) -> TableStyle {
         self.header_separator = line;
         self
@@ -174,20 +225,44 @@ impl TableStyle {
         self
     }
 
-    /// Sets the line below everything.
+    /// Sets the line below the table.
     pub const fn bottom_border(mut self, line: LineStyle) -> TableStyle {
         self.bottom_border = line;
         self
     }
 
-    /// The style with round corners.
+    /// Returns this style with round corners, in place of those that it has.
+    ///
+    /// ```
+    /// use comfy_table_proved::{Table, presets::UTF8_FULL};
+    ///
+    /// let mut table = Table::new();
+    /// table.load_style(UTF8_FULL.with_rounded_corners()).add_row(["a", "b"]);
+    /// assert_eq!(table.to_string(), "\
+    /// ╭───┬───╮
+    /// │ a ┆ b │
+    /// ╰───┴───╯");
+    /// ```
     pub const fn with_rounded_corners(mut self) -> TableStyle {
         self.top_border = self.top_border.left('╭').right('╮');
         self.bottom_border = self.bottom_border.left('╰').right('╯');
         self
     }
 
-    /// The style with solid lines between columns and between rows.
+    /// Returns this style with solid lines between columns and between rows, in place of dashed ones.
+    ///
+    /// ```
+    /// use comfy_table_proved::{Table, presets::UTF8_FULL};
+    ///
+    /// let mut table = Table::new();
+    /// table.load_style(UTF8_FULL.with_solid_inner_borders()).add_row(["a", "b"]).add_row(["c", "d"]);
+    /// assert_eq!(table.to_string(), "\
+    /// ┌───┬───┐
+    /// │ a │ b │
+    /// ├───┼───┤
+    /// │ c │ d │
+    /// └───┴───┘");
+    /// ```
     pub const fn with_solid_inner_borders(mut self) -> TableStyle {
         self.header_lines = self.header_lines.junction('│');
         self.content_lines = self.content_lines.junction('│');

@@ -1,4 +1,4 @@
-//! Draws tab-separated text as `ctable [WIDTH|- [disabled|dynamic|full]]` does, by the original.
+//! Draws TAB-separated text as `ctable [WIDTH|- [disabled|dynamic|full]]` does, by the original.
 
 use comfy_table::presets::ASCII_FULL;
 use comfy_table::{Cell, ContentArrangement, Row, Table};

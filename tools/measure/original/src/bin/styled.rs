@@ -1,4 +1,4 @@
-//! Draws tab-separated text as tools/measure/styled/main.rt.txt does, by the original with its features `tty` and `custom_styling`.
+//! Draws TAB-separated text as tools/measure/styled/main.rt.txt does, by the original with its features `tty` and `custom_styling`.
 
 use comfy_table::presets::ASCII_FULL;
 use comfy_table::{Attribute, Cell, Color, ColumnConstraint, Row, Table, Width};
