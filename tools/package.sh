@@ -1,6 +1,7 @@
 #!/bin/sh
 # Makes all that a release has in a folder: a wheel for Python, a crate for Rust, an archive with the library for C, its header
 # and its file for pkg-config, and of the program csvtable, with its page and its completions, a Debian package and an archive.
+# For a browser it makes the page csvtable.html. If a program for it isn't there, it is left out, and the last line says so.
 # No network is needed. What isn't built yet is built first, which proves it. Equal files make equal packages.
 #
 # usage: tools/package.sh OUT
@@ -24,6 +25,12 @@ for file in packages/python/pyproject.toml packages/rust/Cargo.toml; do
   grep -qx "version = \"$version\"" "$file" || { echo "$file hasn't the version $version" >&2; exit 1; }
 done
 export SOURCE_DATE_EPOCH="${SOURCE_DATE_EPOCH:-$(date -ud "$(sed -n 's/^\.TH CSVTABLE 1 \([0-9-]*\) .*/\1/p' share/csvtable.1)" +%s)}"
+
+# Whether a program is there that makes a file; if not, the file is left out.
+left_out=
+has() {
+  command -v "$1" > /dev/null || { left_out="$left_out $2 (no $1)" && return 1; }
+}
 
 # Prints a tar of what stands in a folder under a name, the same for equal files.
 packed() {
@@ -59,4 +66,12 @@ cp LICENSE "$work/python"
 ${CC:-cc} -shared -o "$work/python/src/comfy_table_proved/libcomfy_table.so" \
   -Wl,--whole-archive "$prefix/lib/libcomfy_c.a" -Wl,--no-whole-archive "$prefix/lib/liblibc_c.a"
 (cd "$work/python" && python3 build_wheel.py "$out" > /dev/null)
+
+# The page for a browser is one file.
+if has wasm-opt csvtable.html; then
+  build comfy_c wasm64-unknown-unknown/csvtable.wasm ../../tools/make/targets.py wasm64-unknown-unknown
+  tools/make/page.py crates/comfy_c/out/wasm64-unknown-unknown/csvtable.wasm "$out/csvtable.html"
+fi
+
 ls "$out"
+[ -z "$left_out" ] || echo "left out:$left_out"

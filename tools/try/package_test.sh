@@ -226,6 +226,12 @@ if command -v python3 > /dev/null; then
     mypy --strict --no-incremental --cache-dir /dev/null packages/python/src/comfy_table_proved
   fi
 fi
+# The page, in Chromium if it is there.
+if [ -e "$work/packages/csvtable.html" ]; then
+  tools/try/browser.py "$work/packages/csvtable.html" "$CSVTABLE"
+  ! command -v chromium > /dev/null || tried="$tried, Chromium"
+fi
+
 # An installer takes a wheel by its tag alone, so it says what the library asks of the system.
 case $(ls "$work/packages") in
   *manylinux_2_*) ;;
