@@ -18,13 +18,10 @@ static void *freed[64];
 
 /* Asks the browser for memory up to an address, and for a quarter of what is there if it gives that. */
 static int is_grown_to(u64 address) {
-    u64 pages = (address - end + 65535) >> 16, more = end >> 18;
-    if (__builtin_wasm_memory_grow(0, pages + more) == (u64)-1) {
-        more = 0;
-        if (__builtin_wasm_memory_grow(0, pages) == (u64)-1) return 0;
-    }
-    end += (pages + more) << 16;
-    return 1;
+    u64 pages = (address - end + 65535) >> 16, more = pages + (end >> 18);
+    if (__builtin_wasm_memory_grow(0, more) == (u64)-1) more = __builtin_wasm_memory_grow(0, pages) == (u64)-1 ? 0 : pages;
+    end += more << 16;
+    return more > 0;
 }
 
 __attribute__((export_name("malloc"))) void *malloc(u64 size) {

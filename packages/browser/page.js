@@ -31,8 +31,8 @@ function asked(blob, words) {
       answer(data);
     };
     worker.onerror = (event) => {
+      of("said").textContent = `The drawing ended: ${event.message}`;
       stop();
-      answer({ failure: event.message });
     };
     worker.postMessage({ module, input: blob, words });
   });
@@ -46,13 +46,11 @@ function wordsOf(line) {
 
 // How many columns of the font are in the place for the drawing.
 function columns() {
-  const probe = document.createElement("span");
-  probe.textContent = "0".repeat(100);
-  of("lines").append(probe);
-  const width = probe.getBoundingClientRect().width / 100;
-  probe.remove();
-  const style = getComputedStyle(of("view"));
-  return Math.floor((of("view").clientWidth - parseFloat(style.paddingLeft) - parseFloat(style.paddingRight)) / width);
+  const zeros = of("lines").appendChild(document.createElement("span"));
+  zeros.textContent = "0".repeat(100);
+  const width = zeros.getBoundingClientRect().width / 100;
+  zeros.remove();
+  return Math.floor((of("view").clientWidth - 2 * of("lines").offsetLeft) / width);
 }
 
 // All arguments. Of two that are the same option, csvtable takes the last.
@@ -67,10 +65,6 @@ async function draw() {
   of("said").textContent = "Drawing";
   const answer = await asked(input, argumentsNow());
   if (answer.isOld) return;
-  if (answer.failure) {
-    const bytes = new TextEncoder().encode(`The drawing ended: ${answer.failure}\n`);
-    Object.assign(answer, { bytes, starts: Uint32Array.of(0, bytes.length), result: OUT_OF_MEMORY });
-  }
   drawn = answer;
   const lines = drawn.starts.length - 1;
   of("sheet").style.height = `${Math.min(lines, MOST_LINES) * LINE_HEIGHT}px`;
@@ -119,14 +113,11 @@ function measure(runs) {
 }
 
 function lineOf(line) {
-  const place = document.createElement("div");
-  const style = {};
+  const place = document.createElement("div"), style = {};
   line.split(/\x1b\[([\d;:]*)m/).forEach((piece, at) => {
     if (at % 2) return changeStyle(style, piece.split(/[;:]/).map(Number));
-    if (!piece) return;
-    const part = Object.keys(style).length ? document.createElement("span") : place;
-    Object.assign(part.style, part === place ? {} : style);
-    if (part !== place) place.append(part);
+    const part = place.appendChild(document.createElement("span"));
+    Object.assign(part.style, style);
     appendRuns(part, piece);
   });
   return place;
@@ -160,20 +151,19 @@ function colorFrom(numbers) {
 }
 
 const ATTRIBUTES = {
-  1: ["fontWeight", "bold"], 2: ["opacity", ".6"], 3: ["fontStyle", "italic"], 4: ["textDecoration", "underline"],
-  8: ["visibility", "hidden"], 9: ["textDecoration", "line-through"], 22: ["fontWeight"], 23: ["fontStyle"],
-  24: ["textDecoration"], 28: ["visibility"], 29: ["textDecoration"], 39: ["color"], 49: ["background"],
+  1: { fontWeight: "bold" }, 2: { opacity: ".6" }, 3: { fontStyle: "italic" }, 4: { textDecoration: "underline" },
+  8: { visibility: "hidden" }, 9: { textDecoration: "line-through" }, 22: { fontWeight: "", opacity: "" }, 23: { fontStyle: "" },
+  24: { textDecoration: "" }, 28: { visibility: "" }, 29: { textDecoration: "" },
 };
 
 function changeStyle(style, numbers) {
   while (numbers.length) {
-    const number = numbers.shift(), tens = Math.floor(number / 10);
-    const [property, value] = ATTRIBUTES[number] ?? [[4, 10].includes(tens) ? "background" : "color"];
+    const number = numbers.shift(), last = number % 10, tens = (number - last) / 10;
+    const place = tens === 4 || tens === 10 ? "background" : "color";
     if (number === 0) Object.keys(style).forEach((key) => delete style[key]);
-    else if (number === 38 || number === 48) style[property] = colorFrom(numbers);
-    else if (value) style[property] = value;
-    else if (ATTRIBUTES[number]) delete style[property];
-    else if ([3, 4, 9, 10].includes(tens)) style[property] = COLORS[(number % 10) + (tens > 4 ? 8 : 0)];
+    else if (ATTRIBUTES[number]) Object.assign(style, ATTRIBUTES[number]);
+    else if (number === 38 || number === 48) style[place] = colorFrom(numbers);
+    else if ([3, 4, 9, 10].includes(tens)) style[place] = last === 9 ? "" : COLORS[last + (tens > 4 ? 8 : 0)];
   }
 }
 

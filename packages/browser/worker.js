@@ -8,11 +8,12 @@ function startsOfLines(bytes) {
 
 // Draws with a new instance for each drawing, because an instance gives no memory back to the browser.
 onmessage = async ({ data: { module, input, words } }) => {
+  let answer;
   try {
-    const { result, bytes } = new Library(module).draw(new Uint8Array(await input.arrayBuffer()), words);
-    const starts = startsOfLines(bytes);
-    postMessage({ result, bytes, starts }, [bytes.buffer, starts.buffer]);
+    answer = new Library(module).draw(new Uint8Array(await input.arrayBuffer()), words);
   } catch (error) {
-    postMessage({ failure: error.message });
+    answer = { result: OUT_OF_MEMORY, bytes: new TextEncoder().encode(`The drawing ended: ${error.message}\n`) };
   }
+  answer.starts = startsOfLines(answer.bytes);
+  postMessage(answer, [answer.bytes.buffer, answer.starts.buffer]);
 };
