@@ -32,7 +32,8 @@
  * Lengths are in bytes. What is written to output is UTF-8, each line ends with a line feed unless otherwise said, and no zero
  * byte follows.
  *
- * Link libcomfy_c.a, and after it liblibc_c.a of the Rattle toolchain, through which it asks for memory.
+ * Link libcomfy_c.a, and after it liblibc_c.a, through which it asks for memory. For Linux on x86-64 the second file is one of the
+ * Rattle toolchain; docs/PROVED.md of the sources says where it comes from elsewhere.
  */
 #ifndef COMFY_TABLE_H
 #define COMFY_TABLE_H

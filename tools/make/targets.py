@@ -111,23 +111,25 @@ def kept_words(words):
 
 def shuffle_for(triple):
     """x86's PSHUFB in the target's words: a byte of %m below 128 chooses a byte of %a by its low four bits, any other gives 0."""
-    head = "define internal <16 x i8> @shuffled_bytes(<16 x i8> %a, <16 x i8> %m) alwaysinline {\n"
-    if triple.startswith("arm64") or triple.startswith("aarch64"):
-        name = "llvm.aarch64.neon.tbl1.v16i8"
-        body = f"  %k = and <16 x i8> %m, splat (i8 -113)\n  %r = call <16 x i8> @{name}(<16 x i8> %a, <16 x i8> %k)\n"
-        return f"{head}{body}  ret <16 x i8> %r\n}}\ndeclare <16 x i8> @{name}(<16 x i8>, <16 x i8>)\n"
-    lines, last = [], "zeroinitializer"
-    for at in range(16):
-        lines += [
-            f"  %m{at} = extractelement <16 x i8> %m, i32 {at}",
-            f"  %i{at} = and i8 %m{at}, 15",
-            f"  %e{at} = extractelement <16 x i8> %a, i8 %i{at}",
-            f"  %n{at} = icmp slt i8 %m{at}, 0",
-            f"  %s{at} = select i1 %n{at}, i8 0, i8 %e{at}",
-            f"  %v{at} = insertelement <16 x i8> {last}, i8 %s{at}, i32 {at}",
-        ]
-        last = f"%v{at}"
-    return head + "\n".join(lines) + f"\n  ret <16 x i8> {last}\n}}\n"
+    table = "declare <16 x i8> @llvm.aarch64.neon.tbl1.v16i8(<16 x i8>, <16 x i8>)\n"
+    lines = [
+        "  %k = and <16 x i8> %m, splat (i8 -113)",
+        "  %v15 = call <16 x i8> @llvm.aarch64.neon.tbl1.v16i8(<16 x i8> %a, <16 x i8> %k)",
+    ]
+    if not triple.startswith("arm64"):
+        table, lines = "", []
+        for at in range(16):
+            before = f"%v{at - 1}" if at else "zeroinitializer"
+            lines += [
+                f"  %m{at} = extractelement <16 x i8> %m, i32 {at}",
+                f"  %i{at} = and i8 %m{at}, 15",
+                f"  %e{at} = extractelement <16 x i8> %a, i8 %i{at}",
+                f"  %n{at} = icmp slt i8 %m{at}, 0",
+                f"  %s{at} = select i1 %n{at}, i8 0, i8 %e{at}",
+                f"  %v{at} = insertelement <16 x i8> {before}, i8 %s{at}, i32 {at}",
+            ]
+    head = "define internal <16 x i8> @shuffled_bytes(<16 x i8> %a, <16 x i8> %m) alwaysinline {"
+    return "\n".join([head, *lines, "  ret <16 x i8> %v15", "}", table])
 
 
 def library(compiler, code, heap, out):
