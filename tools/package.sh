@@ -47,15 +47,13 @@ packed "$work" "csvtable-$version" | gzip -9n > "$out/csvtable-$version-linux-x8
 put_debian "$work/debian" "$version"
 write_debian "$work/debian" "$out/csvtable_${version}_amd64.deb"
 
-prefix=$work/comfy_table-$version
+# The libraries for each system in a folder, and a shared one for Python. That for Linux names no C library, and takes what it
+# needs of the one that Python has, so that it is for each of them.
+prefix=$work/c
 put_library > /dev/null
 cp LICENSE "$prefix"
-packed "$work" "comfy_table-$version" | gzip -9n > "$out/comfy_table-$version-linux-x86_64.tar.gz"
-
-# The libraries for each target in a folder, and a shared one for Python. It names no C library, and takes what it needs of the
-# one that Python has, so that it is for each of them.
 mkdir -p "$work/lib/linux-x86_64"
-cp "$prefix"/lib/*.a "$work/lib/linux-x86_64"
+mv "$prefix"/lib/*.a "$work/lib/linux-x86_64"
 link_shared() {
   "$1" -shared -nostdlib -o "$2/libcomfy_table.so" -Wl,--whole-archive "$2/libcomfy_c.a" -Wl,--no-whole-archive "$2/liblibc_c.a" -lgcc
 }
@@ -80,14 +78,10 @@ name=comfy_table_proved-$version
 mkdir "$work/$name"
 cp -r packages/rust/* LICENSE "$work/$name"
 for folder in "$work"/lib/*; do
-  system=$(basename "$folder")
-  if [ "$system" != linux-x86_64 ]; then
-    cp -r "$prefix" "$work/other"
-    rm "$work"/other/lib/*.a
-    mv "$work/other" "$work/comfy_table-$version-$system"
-    cp "$folder"/*comfy_c.* "$folder"/*libc_c.* "$work/comfy_table-$version-$system/lib"
-    packed "$work" "comfy_table-$version-$system" | gzip -9n > "$out/comfy_table-$version-$system.tar.gz"
-  fi
+  system=$(basename "$folder") archive=comfy_table-$version-$(basename "$folder")
+  cp -r "$prefix" "$work/$archive"
+  cp "$folder"/*comfy_c.* "$folder"/*libc_c.* "$work/$archive/lib"
+  packed "$work" "$archive" | gzip -9n > "$out/$archive.tar.gz"
   mkdir -p "$work/$name/lib/$system"
   cp "$folder"/*comfy_c.* "$folder"/*libc_c.* "$work/$name/lib/$system"
   for shared in "$folder"/*comfy_table.*; do

@@ -11,7 +11,7 @@ const OTHER = "[^ -~\\u00a0-\\u017f\\u2026\\u2500-\\u257f]";
 const RUN = new RegExp(`[!-~]?${OTHER}+(?: ${OTHER}+)*`, "gu");
 
 let module, measuring, worker, stop;
-let input, name, drawn, text;
+let input, name, drawn;
 const widths = new Map();
 
 // ---- drawing
