@@ -1,6 +1,6 @@
 "use strict";
 
-// What comfy_table.h calls the results that this file looks at.
+// Names that comfy_table.h has for results.
 const DRAWN = 0, OUT_OF_MEMORY = 3;
 
 // The function comfy_csv_draw in an instance of the module, which has memory of its own.
@@ -26,7 +26,7 @@ class Library {
     return address;
   }
 
-  // What csvtable draws or says of an input for these arguments: the result, and the bytes.
+  // The result for an input and arguments, and the bytes of the drawing or of csvtable's message.
   draw(input, words) {
     const joined = new TextEncoder().encode(words.map((word) => word + "\0").join(""));
     const given = [this.put(input), BigInt(input.length), this.put(joined), BigInt(joined.length)];

@@ -2,7 +2,7 @@
 
 const of = (id) => document.getElementById(id);
 
-// Heights are in pixels. A browser has no taller box than that of so many lines, and shows no more of them at once.
+// The height is in pixels. Browsers have no box for many more lines than the first number. The second are shown at once.
 const LINE_HEIGHT = 17, MOST_LINES = 1_000_000, SHOWN_LINES = 500;
 
 // Characters that a browser's monospaced font has. Others come from other fonts, and are made as wide as the library counts them:
@@ -16,7 +16,7 @@ const widths = new Map();
 
 // ---- drawing
 
-// What csvtable draws or says, by a worker, so that the page stays usable. A newer question ends an older one.
+// Asks a worker for the drawing or message of csvtable, so that the page stays usable. A newer question ends an older one.
 function asked(blob, words) {
   if (stop) stop();
   worker ??= new Worker(URL.createObjectURL(new Blob([of("library").textContent, of("worker").textContent])));
@@ -167,7 +167,7 @@ function changeStyle(style, numbers) {
   }
 }
 
-// ---- what the user does
+// ---- the user
 
 function take(blob, called) {
   if (!blob) return;

@@ -1,5 +1,5 @@
 /*
- * Memory for the library on a target for which the Rattle toolchain has no liblibc_c.a: what the proved code calls to ask for it.
+ * Memory for the library on a target for which the Rattle toolchain has no liblibc_c.a. The proved code calls these functions.
  *
  * Nothing proves that these functions do what the contracts of the toolchain's crate libc say. tools/make/targets.py compiles
  * this file to LLVM's form for Linux on x86-64 first, because the proved code takes both words of an answer in registers, as C

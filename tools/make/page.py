@@ -3,7 +3,7 @@
 
     tools/make/page.py MODULE.wasm OUT.html
 
-MODULE.wasm is what tools/make/targets.py makes. The page's Content-Security-Policy has the digests of its scripts and of its
+tools/make/targets.py makes MODULE.wasm. The page's Content-Security-Policy has the digests of its scripts and of its
 style, so that a browser runs no others, and lets none of them send anything.
 """
 import base64
@@ -21,7 +21,7 @@ def digest(text):
 
 
 def parts_of(module):
-    """What the template names."""
+    """Texts for the names in the template."""
     files = {"library": "library.js", "worker": "worker.js", "page": "page.js", "style": "page.css"}
     parts = {name: (TOP / "packages/browser" / file).read_text() for name, file in files.items()}
     parts["module"] = base64.b64encode(gzip.compress(module, 9, mtime=0)).decode()

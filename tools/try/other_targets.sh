@@ -4,7 +4,7 @@
 #  - the shared libraries for macOS by a loader of this project, which is no macOS; that for arm64 by qemu-user
 # Each must draw 3,000 random calls as the library for Linux on x86-64 does, byte for byte, and pass the tests for C that its
 # system has the calls for. The package for Rust must pass its tests on aarch64, if RUSTC, rustc if it isn't set, has that target.
-# What can't be run here is left out, and the last line says what was tried.
+# Systems that can't be run here are left out, and the last line names those that were tried.
 #
 # usage: tools/try/other_targets.sh PACKAGES
 set -eu
@@ -29,7 +29,7 @@ unpack() {
   [ -n "$(ls "$work/$1")" ]
 }
 
-# Compares the drawings of a library with those of this system: draw SYSTEM RUN COMPILER ARGUMENT..; RUN is what runs a program.
+# Compares the drawings of a library with those of this system: draw SYSTEM RUN COMPILER ARGUMENT..; RUN is the program that runs it, or nothing.
 draw() {
   system=$1 run=$2 compiler=$3
   shift 3

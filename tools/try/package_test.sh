@@ -232,7 +232,7 @@ if [ -e "$work/packages/csvtable.html" ]; then
   ! command -v chromium > /dev/null || tried="$tried, Chromium"
 fi
 
-# What other targets have, as far as it runs here.
+# Other targets, as far as they run here.
 tools/try/other_targets.sh "$work/packages"
 
 # An installer takes a wheel by its tag alone, so it says what the library asks of the system.

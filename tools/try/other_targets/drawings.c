@@ -1,6 +1,6 @@
 /*
- * Prints what the three functions return and draw for random calls, the same ones on every target: drawings [COUNT].
- * tools/try/other_targets.sh compares what it prints on other targets with what it prints on Linux on x86-64.
+ * Prints results and drawings of the three functions for random calls, the same ones on every target: drawings [COUNT].
+ * tools/try/other_targets.sh compares its output on other targets with that on Linux on x86-64.
  */
 #include "comfy_table.h"
 
@@ -19,7 +19,7 @@ static uint32_t below(uint32_t n) {
     return (uint32_t)((state >> 33) % n);
 }
 
-/* One of n texts of several writings, and what looks like numbers, dates, sequences and control characters. */
+/* Texts of several writings, numbers, dates, sequences and control characters. */
 static const char *const words[] = {
     "a", "oats", "Z\xc3\xbcrich", "\xe4\xba\xac\xe9\x83\xbd", "\xce\x91\xce\xb8\xce\xae\xce\xbd\xce\xb1", "12.50", "-3", "1,150.00", "",
     "a longer text that wraps", "\xe2\x98\x95 and \xf0\x9f\x8d\xb0", "two\nlines", "q\"uote", "2026-01-02", "\x1b[31mred\x1b[0m",
