@@ -50,6 +50,7 @@ write_debian "$work/debian" "$out/csvtable_${version}_amd64.deb"
 # The libraries for each system in a folder, and a shared one for Python. That for Linux names no C library, and takes what it
 # needs of the one that Python has, so that it is for each of them.
 prefix=$work/c
+build comfy_c module.bc ../../tools/make/c_library.py
 put_library > /dev/null
 cp LICENSE "$prefix"
 mkdir -p "$work/lib/linux-x86_64"

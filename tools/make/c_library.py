@@ -95,10 +95,12 @@ def build(target):
             words = [sys.executable, f"{kit}/bin/rt", "lib"]
         folder.mkdir(parents=True, exist_ok=True)
         if target == HOST:
-            # Those of other targets come from the same module, so they are made again.
+            # Those of other targets are of the same sources, so they are made again.
             for made in [*Path("out").glob("*/*comfy_c.*"), *Path("out").glob("*/csvtable.wasm")]:
                 made.unlink()
         status = subprocess.call(words)
+        if status:
+            print(f"the build for {target} ended with {status}; a number below 0 is that of a signal", file=sys.stderr)
         if status == 0 and target == HOST:
             shutil.copy(f"{at}/module.bc", "out/module.bc")
             shutil.copy(f"{at}/words", "out/module.words")
