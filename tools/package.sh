@@ -1,10 +1,12 @@
 #!/bin/sh
-# Makes all that a release has in a folder: a wheel for Python, a crate for Rust, an archive with the library for C, its header
-# and its file for pkg-config, and of the program csvtable, with its page and its completions, a Debian package and an archive.
+# Makes all that a release has in a folder: a crate for Rust, for each target a wheel for Python and an archive with the library
+# for C, its header and its file for pkg-config, and of the program csvtable, with its page and its completions, a Debian package
+# and an archive. For a browser it makes the page csvtable.html. If a program for a file isn't there, the file is left out, and
+# the last line says so.
 # No network is needed. What isn't built yet is built first, which proves it. Equal files make equal packages.
 #
 # usage: tools/package.sh OUT
-# CC is the compiler that links the shared library of the wheel, cc where it isn't set. Making the wheel takes Python 3.11.
+# CC is the compiler that links the shared library of the wheel for this system, cc where it isn't set. Making the wheel takes Python 3.11.
 # DPKG_DEB is the program that writes the Debian package, dpkg-deb where it isn't set; without it tar and ar write it.
 # SOURCE_DATE_EPOCH is the time of all files, the day of the version where it isn't set.
 set -eu
@@ -25,6 +27,12 @@ for file in packages/python/pyproject.toml packages/rust/Cargo.toml; do
 done
 export SOURCE_DATE_EPOCH="${SOURCE_DATE_EPOCH:-$(date -ud "$(sed -n 's/^\.TH CSVTABLE 1 \([0-9-]*\) .*/\1/p' share/csvtable.1)" +%s)}"
 
+# Whether a program is there that makes a file; if not, the file is left out.
+left_out=
+has() {
+  command -v "$1" > /dev/null || { left_out="$left_out $2 (no $1)" && return 1; }
+}
+
 # Prints a tar of what stands in a folder under a name, the same for equal files.
 packed() {
   folder=$1 name=$2
@@ -39,24 +47,65 @@ packed "$work" "csvtable-$version" | gzip -9n > "$out/csvtable-$version-linux-x8
 put_debian "$work/debian" "$version"
 write_debian "$work/debian" "$out/csvtable_${version}_amd64.deb"
 
-prefix=$work/comfy_table-$version
+# The libraries for each system in a folder, and a shared one for Python. That for Linux names no C library, and takes what it
+# needs of the one that Python has, so that it is for each of them.
+prefix=$work/c
+build comfy_c module.bc ../../tools/make/c_library.py
 put_library > /dev/null
 cp LICENSE "$prefix"
-packed "$work" "comfy_table-$version" | gzip -9n > "$out/comfy_table-$version-linux-x86_64.tar.gz"
+mkdir -p "$work/lib/linux-x86_64"
+mv "$prefix"/lib/*.a "$work/lib/linux-x86_64"
+link_shared() {
+  "$1" -shared -nostdlib -o "$2/libcomfy_table.so" -Wl,--whole-archive "$2/libcomfy_c.a" -Wl,--no-whole-archive "$2/liblibc_c.a" -lgcc
+}
+link_shared "${CC:-cc}" "$work/lib/linux-x86_64"
+
+# Other targets: the name in files, the target in Rust's words, a file that is made, and a program that takes.
+while read -r system target made program; do
+  has "$program" "$system" || continue
+  build comfy_c "$target/$made" ../../tools/make/targets.py "$target"
+  mkdir -p "$work/lib/$system"
+  cp crates/comfy_c/out/"$target"/* "$work/lib/$system"
+done <<END
+linux-aarch64 aarch64-unknown-linux-gnu libcomfy_c.a aarch64-linux-gnu-gcc
+macos-aarch64 aarch64-apple-darwin libcomfy_c.a rt
+macos-x86_64 x86_64-apple-darwin libcomfy_c.a rt
+windows-x86_64 x86_64-pc-windows-gnu libcomfy_c.a x86_64-w64-mingw32-gcc
+windows-x86_64 x86_64-pc-windows-msvc comfy_c.lib rt
+END
+[ ! -d "$work/lib/linux-aarch64" ] || link_shared aarch64-linux-gnu-gcc "$work/lib/linux-aarch64"
 
 name=comfy_table_proved-$version
-mkdir "$work/$name" "$work/$name/lib"
+mkdir "$work/$name"
 cp -r packages/rust/* LICENSE "$work/$name"
-cp "$prefix"/lib/*.a "$work/$name/lib"
-# The pages that its README names are there too.
+for folder in "$work"/lib/*; do
+  system=$(basename "$folder") archive=comfy_table-$version-$(basename "$folder")
+  cp -r "$prefix" "$work/$archive"
+  cp "$folder"/*comfy_c.* "$folder"/*libc_c.* "$work/$archive/lib"
+  packed "$work" "$archive" | gzip -9n > "$out/$archive.tar.gz"
+  mkdir -p "$work/$name/lib/$system"
+  cp "$folder"/*comfy_c.* "$folder"/*libc_c.* "$work/$name/lib/$system"
+  for shared in "$folder"/*comfy_table.*; do
+    # Without MinGW there is no DLL.
+    [ -e "$shared" ] || continue
+    cp -r packages/python "$work/python"
+    cp LICENSE "$work/python"
+    cp "$shared" "$work/python/src/comfy_table_proved"
+    (cd "$work/python" && python3 build_wheel.py "$out" > /dev/null)
+    rm -r "$work/python"
+  done
+done
+# The pages that its README names are in the crate too.
 mkdir "$work/$name/docs"
 cp docs/DIFFERENCES.md docs/PROVED.md "$work/$name/docs"
 sed -i 's|](../../docs/|](docs/|g' "$work/$name/README.md"
 packed "$work" "$name" | gzip -9n > "$out/$name.crate"
 
-cp -r packages/python "$work/python"
-cp LICENSE "$work/python"
-${CC:-cc} -shared -o "$work/python/src/comfy_table_proved/libcomfy_table.so" \
-  -Wl,--whole-archive "$prefix/lib/libcomfy_c.a" -Wl,--no-whole-archive "$prefix/lib/liblibc_c.a"
-(cd "$work/python" && python3 build_wheel.py "$out" > /dev/null)
+# The page for a browser is one file.
+if has wasm-opt csvtable.html; then
+  build comfy_c wasm64-unknown-unknown/csvtable.wasm ../../tools/make/targets.py wasm64-unknown-unknown
+  tools/make/page.py crates/comfy_c/out/wasm64-unknown-unknown/csvtable.wasm "$out/csvtable.html"
+fi
+
 ls "$out"
+[ -z "$left_out" ] || echo "left out:$left_out"

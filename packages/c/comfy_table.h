@@ -41,7 +41,8 @@
  * Lengths are in bytes. The bytes written to output are UTF-8. Each line ends with a line feed, unless a comment says otherwise,
  * and no zero byte follows.
  *
- * Link libcomfy_c.a, and after it liblibc_c.a of the Rattle toolchain, through which it allocates memory.
+ * Link libcomfy_c.a, and after it liblibc_c.a, through which it allocates memory. For Linux on x86-64 the second file is one of the
+ * Rattle toolchain; docs/PROVED.md of the sources says where it comes from elsewhere.
  */
 #ifndef COMFY_TABLE_H
 #define COMFY_TABLE_H

@@ -7,13 +7,13 @@ serves each of them.
 import base64
 import hashlib
 import re
-import subprocess
 import sys
 import tomllib
 import zipfile
 from pathlib import Path
 
 _HERE = Path(__file__).parent
+_LIBRARIES = (".so", ".dylib", ".dll")
 
 
 def build_wheel(wheel_directory, config_settings=None, metadata_directory=None):
@@ -21,10 +21,10 @@ def build_wheel(wheel_directory, config_settings=None, metadata_directory=None):
     project = tomllib.loads((_HERE / "pyproject.toml").read_text())["project"]
     name = f"{project['name']}-{project['version']}"
     files = _package(project["name"])
-    tag = _tag(_HERE / "src" / next(path for path in files if path.endswith(".so")))
+    tag = _tag(next(data for path, data in files.items() if path.endswith(_LIBRARIES)))
     files[f"{name}.dist-info/LICENSE"] = (_HERE / "LICENSE").read_bytes()
     files[f"{name}.dist-info/METADATA"] = _metadata(project).encode()
-    files[f"{name}.dist-info/WHEEL"] = _lines([("Wheel-Version", "1.0"), ("Generator", "build_wheel"), ("Root-Is-Purelib", "false"), ("Tag", tag)]).encode()
+    files[f"{name}.dist-info/WHEEL"] = _lines([("Wheel-Version", "1.0"), ("Generator", "build_wheel"), ("Root-Is-Purelib", "false"), *_tags(tag)]).encode()
     record = f"{name}.dist-info/RECORD"
     files[record] = ("".join(f"{path},{_digest(data)},{len(data)}\n" for path, data in files.items()) + f"{record},,\n").encode()
     with zipfile.ZipFile(Path(wheel_directory) / f"{name}-{tag}.whl", "w", zipfile.ZIP_DEFLATED) as wheel:
@@ -40,19 +40,32 @@ def build_sdist(sdist_directory, config_settings=None):
 
 
 def _tag(library):
-    """The tag of Linux systems that have the symbols of the C library that are used."""
-    symbols = subprocess.run(["objdump", "-T", library], capture_output=True, check=True, text=True).stdout
-    versions = [(int(major), int(minor)) for major, minor in re.findall(r"GLIBC_(\d+)\.(\d+)", symbols)]
-    # 2.17 is the oldest that installers know by this form.
+    """The tag of the systems for which a shared library of these bytes is."""
+    number = lambda at, size: int.from_bytes(library[at : at + size], "little")
+    if library.startswith(b"MZ"):
+        return "py3-none-win_amd64"
+    if library.startswith(b"\xcf\xfa\xed\xfe"):
+        return "py3-none-macosx_11_0_" + {0x0100000C: "arm64", 0x01000007: "x86_64"}[number(4, 4)]
+    processor = {183: "aarch64", 62: "x86_64"}[number(18, 2)]
+    versions = [(int(major), int(minor)) for major, minor in re.findall(rb"GLIBC_(\d+)\.(\d+)", library)]
+    # 2.17 is the oldest that installers know by this form. A library that names no version of glibc is for musl too, which was
+    # tried on x86_64.
     major, minor = max(versions + [(2, 17)])
-    return f"py3-none-manylinux_{major}_{minor}_x86_64"
+    is_for_musl = not versions and processor == "x86_64"
+    return f"py3-none-manylinux_{major}_{minor}_{processor}" + (f".musllinux_1_2_{processor}" if is_for_musl else "")
+
+
+def _tags(tag):
+    """A header for each of the systems of a tag."""
+    python, abi, systems = tag.split("-")
+    return [("Tag", f"{python}-{abi}-{system}") for system in systems.split(".")]
 
 
 def _package(name):
     """The files of the package by their paths in the wheel."""
     source = _HERE / "src"
-    paths = [path for path in sorted((source / name).rglob("*")) if path.is_file() and path.suffix in {".py", ".so", ".typed"}]
-    if not any(path.suffix == ".so" for path in paths):
+    paths = [path for path in sorted((source / name).rglob("*")) if path.is_file() and path.name.endswith((".py", ".typed", *_LIBRARIES))]
+    if not any(path.name.endswith(_LIBRARIES) for path in paths):
         sys.exit("the shared library isn't there; tools/package.sh puts it into the package's folder")
     return {path.relative_to(source).as_posix(): path.read_bytes() for path in paths}
 

@@ -1,18 +1,24 @@
-//! Links the library. COMFY_C is the folder of libcomfy_c.a and liblibc_c.a; a package has them in its folder `lib`.
+//! Links the library. COMFY_C is the folder of its two files; a package has such a folder in `lib` for each target.
 
 use std::env;
 use std::path::Path;
 
+/// The folders of `lib`. One for Linux is for glibc and musl.
+const TARGETS: [&str; 5] = ["linux-x86_64", "linux-aarch64", "macos-aarch64", "macos-x86_64", "windows-x86_64"];
+
 fn main() {
     println!("cargo::rerun-if-env-changed=COMFY_C");
-    if let Some(target) = other_target() {
-        println!("cargo::error=the library is for Linux on x86-64, and this build is for {target}; README.md says what to do");
+    let target = format!("{}-{}", of("CARGO_CFG_TARGET_OS"), of("CARGO_CFG_TARGET_ARCH"));
+    let given = env::var("COMFY_C").ok();
+    if given.is_none() && !TARGETS.contains(&target.as_str()) {
+        let all = TARGETS.join(", ");
+        println!("cargo::error=the library is for {all}, and this build is for {}; README.md says what to do", of("TARGET"));
         return;
     }
-    let packaged = env::var("CARGO_MANIFEST_DIR").expect("cargo names the package's folder") + "/lib";
-    let folder = env::var("COMFY_C").unwrap_or(packaged);
+    let folder = given.unwrap_or_else(|| format!("{}/lib/{target}", of("CARGO_MANIFEST_DIR")));
     for library in ["comfy_c", "libc_c"] {
-        let file = format!("lib{library}.a");
+        let is_msvc = of("CARGO_CFG_TARGET_ENV") == "msvc";
+        let file = if is_msvc { format!("{library}.lib") } else { format!("lib{library}.a") };
         println!("cargo::rerun-if-changed={folder}/{file}");
         // `cargo check` and `cargo doc` need no library, so this is no error.
         if !Path::new(&folder).join(&file).exists() {
@@ -23,9 +29,7 @@ fn main() {
     println!("cargo::rustc-link-search=native={folder}");
 }
 
-/// The target of this build, unless the library is for it.
-fn other_target() -> Option<String> {
-    let of = |name: &str| env::var(name).unwrap_or_default();
-    let is_library = (of("CARGO_CFG_TARGET_OS"), of("CARGO_CFG_TARGET_ARCH")) == ("linux".into(), "x86_64".into());
-    (!is_library).then(|| of("TARGET"))
+/// A variable that cargo sets, or nothing.
+fn of(name: &str) -> String {
+    env::var(name).unwrap_or_default()
 }

@@ -1,18 +1,27 @@
 #!/usr/bin/env python3
 """Makes the library for C, crates/comfy_c/out/libcomfy_c.a, from the libraries that `rt ci` has proved and kept in crates/*/out.
 
-    tools/make/c_library.py
+    tools/make/c_library.py [TARGET]
 
 Only the crate comfy_c is proved again then. If a library is missing, or older than one of its sources, a line says so, and
 `rt lib` makes the file. It uses no result of `rt ci`, so it proves all crates again.
+
+Beside the file are module.bc and module.words: the LLVM module that the toolchain compiled, and the arguments with which it called
+clang. tools/make/targets.py compiles the module for targets that the toolchain doesn't have. TARGET is another target that the
+toolchain has, aarch64-unknown-linux-gnu. The library for it is put into out/TARGET; that takes the libraries of `rt ci`.
 """
 import os
+import shutil
 import subprocess
 import sys
+import tempfile
 from pathlib import Path
 
+import keeper
+
 TOP = Path(__file__).resolve().parents[2]
-KIT = Path(subprocess.check_output(["rt", "doc"], text=True).strip()).parent
+KIT = Path(keeper.KIT)
+HOST = "x86_64-unknown-linux-gnu"
 CRATE = "comfy_c"
 
 
@@ -59,27 +68,50 @@ def missing(crate):
     return f"{newer[0]} is newer than {built.parent}" if newer else None
 
 
-def words_for(below):
-    """The arguments of a build that links these libraries."""
+def words_for(below, target, toolchain, file):
+    """The arguments of a build for a target, to a file, that links these libraries."""
     words = ["--crate-name", CRATE, "src/lib.rt", "--crate-type", "staticlib", "--links", f"{CRATE}="]
     for library in ["std", *libraries_of(CRATE)]:
         words += ["--extern", f"{library}={library_at(library)}"]
     for place in [*(library_at(library).parent for library in below), KIT / "rlibs"]:
         words += ["-L", f"dependency={place}"]
     words += ["--antt-project", KIT / "rattle/logic/antt-project.json", "--logic-built", KIT / "logic_built"]
-    return [*words, "--toolchain", KIT / "toolchain", "-o", f"out/lib{CRATE}.a", "--jobs", "2"]
+    words += ["--target", target, "--incremental", "out/incremental"]
+    return [*words, "--toolchain", toolchain, "-o", file, "--jobs", "2"]
+
+
+def build(target):
+    """Builds the library for a target, with a toolchain that keeps the module in a folder, and returns the status."""
+    below = sorted(all_below(CRATE))
+    lacks = next(filter(None, map(missing, below)), None)
+    folder = Path("out" if target == HOST else f"out/{target}")
+    with tempfile.TemporaryDirectory() as at:
+        kit = keeper.copied_kit(at)
+        words = [KIT / "bin/rattle", "build", *words_for(below, target, f"{kit}/toolchain", folder / f"lib{CRATE}.a")]
+        if lacks and target != HOST:
+            sys.exit(f"{lacks}; run rt ci first")
+        if lacks:
+            print(f"{lacks}, so all crates are proved again", file=sys.stderr)
+            words = [sys.executable, f"{kit}/bin/rt", "lib"]
+        folder.mkdir(parents=True, exist_ok=True)
+        if target == HOST:
+            # Those of other targets are of the same sources, so they are made again.
+            for made in [*Path("out").glob("*/*comfy_c.*"), *Path("out").glob("*/csvtable.wasm")]:
+                made.unlink()
+        status = subprocess.call(words)
+        if status:
+            print(f"the build for {target} ended with {status}; a number below 0 is that of a signal", file=sys.stderr)
+        if status == 0 and target == HOST:
+            shutil.copy(f"{at}/module.bc", "out/module.bc")
+            shutil.copy(f"{at}/words", "out/module.words")
+    return status
 
 
 def main():
-    if len(sys.argv) != 1:
+    if len(sys.argv) > 2 or "-h" in sys.argv:
         sys.exit(__doc__)
-    below = sorted(all_below(CRATE))
     os.chdir(folder_of(CRATE))
-    if lacks := next(filter(None, map(missing, below)), None):
-        print(f"{lacks}, so all crates are proved again", file=sys.stderr)
-        sys.exit(subprocess.call(["rt", "lib"]))
-    os.makedirs("out", exist_ok=True)
-    sys.exit(subprocess.call([KIT / "bin/rattle", "build", *words_for(below)]))
+    sys.exit(build(sys.argv[1] if len(sys.argv) == 2 else HOST))
 
 
 if __name__ == "__main__":

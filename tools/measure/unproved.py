@@ -12,42 +12,12 @@ that `rt ci` builds. On other texts they are up to 28 % more.
 """
 import os
 import re
-import shutil
 import subprocess
 import sys
 import tempfile
 
-KIT = os.path.dirname(subprocess.check_output(["rt", "doc"], text=True).strip())
-CLANG = f"{KIT}/toolchain/bin/clang"
-
-# The program that replaces clang. It keeps the module and its own arguments, and then calls clang.
-KEEPER = """#!/usr/bin/env python3
-import os, shutil, sys
-if "module.bc" in sys.argv:
-    shutil.copyfile("module.bc", {at!r} + "/module.bc")
-    open({at!r} + "/words", "w").write("\\n".join(sys.argv[1:]))
-os.execv({clang!r}, [{clang!r}, *sys.argv[1:]])
-"""
-
-
-def copied_kit(at):
-    """A folder with everything of the kit, and with the keeper in place of clang."""
-    kit = f"{at}/kit"
-    os.makedirs(f"{kit}/toolchain/bin")
-    for name in os.listdir(KIT):
-        if name not in ("bin", "toolchain"):
-            os.symlink(f"{KIT}/{name}", f"{kit}/{name}")
-    # `rt` finds its kit from the place of its own file, so a link doesn't work.
-    shutil.copytree(f"{KIT}/bin", f"{kit}/bin")
-    os.symlink(f"{KIT}/toolchain/lib", f"{kit}/toolchain/lib")
-    for name in os.listdir(f"{KIT}/toolchain/bin"):
-        if name != "clang":
-            os.symlink(f"{KIT}/toolchain/bin/{name}", f"{kit}/toolchain/bin/{name}")
-    with open(f"{kit}/toolchain/bin/clang", "w") as keeper:
-        keeper.write(KEEPER.format(at=at, clang=CLANG))
-    os.chmod(f"{kit}/toolchain/bin/clang", 0o755)
-    return kit
-
+sys.path.insert(0, os.path.join(os.path.dirname(__file__), "../make"))
+from keeper import CLANG, KIT, copied_kit
 
 def hints_in(folder, crate):
     """The hints on inlining in a crate's sources, by the names of their functions in the module."""

@@ -124,7 +124,7 @@ $(sed -n '/^\[target/,/^```$/p' packages/rust/README.md | grep -v '^```' \
     | sed 's|path = "[^"]*"|path = "../crate"|; s|version = "8.0.1"|path = "../comfy-table"|')
 END
   (cd "$work/anywhere" && cargo check -q --offline && cargo tree --offline -q) > "$work/drawn"
-  (cd "$work/anywhere" && cargo tree --offline -q --target aarch64-apple-darwin) >> "$work/drawn"
+  (cd "$work/anywhere" && cargo tree --offline -q --target riscv64gc-unknown-linux-gnu) >> "$work/drawn"
   [ "$(sed -n 's/^└── \([^ ]*\) .*/\1/p' "$work/drawn" | tr '\n' ' ')" = "comfy_table_proved comfy-table " ]
   echo "a project has the package on one target and the original on another one"
 }
@@ -140,7 +140,7 @@ try_refusals() {
     fi
     grep -qF "$words" "$work/said"
   }
-  refused "this build is for aarch64-apple-darwin" cargo check --target aarch64-apple-darwin
+  refused "this build is for riscv64gc-unknown-linux-gnu" cargo check --target riscv64gc-unknown-linux-gnu
   refused "no libcomfy_c.a in $work/csv;" env COMFY_C="$work/csv" cargo build
   refused "has no feature reexport_crossterm" cargo check --features reexport_crossterm
   (cd "$work/crate" && COMFY_C="$work/csv" cargo check -q --offline && COMFY_C="$work/csv" cargo doc -q --offline)
@@ -148,7 +148,7 @@ try_refusals() {
 
 # csvtable, from its archive, and from its Debian package by dpkg; where that isn't there the package is only unpacked.
 mkdir "$work/prefix" "$work/programs"
-tar -C "$work/prefix" --strip-components=1 -xzf "$work"/packages/csvtable-*.tar.gz
+tar -C "$work/prefix" --strip-components=1 -xzf "$work"/packages/csvtable-*-linux-x86_64.tar.gz
 try_csvtable "$work/prefix"
 if command -v dpkg > /dev/null; then
   tried="Debian, $tried"
@@ -161,7 +161,7 @@ else
 fi
 
 # C, by pkg-config where it is there.
-tar -C "$work/prefix" --strip-components=1 -xzf "$work"/packages/comfy_table-*.tar.gz
+tar -C "$work/prefix" --strip-components=1 -xzf "$work"/packages/comfy_table-*-linux-x86_64.tar.gz
 if command -v pkg-config > /dev/null; then
   flags=$(PKG_CONFIG_PATH=$work/prefix/lib/pkgconfig pkg-config --cflags --libs comfy_table)
 else
@@ -212,7 +212,7 @@ fi
 if command -v python3 > /dev/null; then
   tried="$tried, Python"
   python3 -m venv "$work/venv"
-  "$work/venv/bin/pip" install -q --no-index --disable-pip-version-check "$work"/packages/*.whl
+  "$work/venv/bin/pip" install -q --no-index --disable-pip-version-check "$work"/packages/*-manylinux*_x86_64.whl
   compare_csv "$work/venv/bin/python" packages/python/examples/draw_csv.py
   "$work/venv/bin/python" -m unittest discover -s packages/python/tests
   # The stored answers of the package tabulate are compared with what it says, if Debian's Python has it.
@@ -226,6 +226,15 @@ if command -v python3 > /dev/null; then
     mypy --strict --no-incremental --cache-dir /dev/null packages/python/src/comfy_table_proved
   fi
 fi
+# The page, in Chromium if it is there.
+if [ -e "$work/packages/csvtable.html" ]; then
+  tools/try/browser.py "$work/packages/csvtable.html" "$CSVTABLE"
+  ! command -v chromium > /dev/null || tried="$tried, Chromium"
+fi
+
+# Other targets, as far as they run here.
+tools/try/other_targets.sh "$work/packages"
+
 # An installer takes a wheel by its tag alone, so it says what the library asks of the system.
 case $(ls "$work/packages") in
   *manylinux_2_*) ;;

@@ -5,10 +5,26 @@ from __future__ import annotations
 import array
 import ctypes
 import functools
+import platform
+import sys
 from pathlib import Path
 from typing import Any, Callable, NamedTuple, Sequence
 
-_LIBRARY = ctypes.CDLL(str(Path(__file__).with_name("libcomfy_table.so")))
+_FILES = {"darwin": "libcomfy_table.dylib", "win32": "comfy_table.dll"}
+
+
+def _load() -> ctypes.CDLL:
+    """The library of this wheel. ImportError says so if the wheel is for another system."""
+    file = Path(__file__).with_name(_FILES.get(sys.platform, "libcomfy_table.so"))
+    try:
+        return ctypes.CDLL(str(file))
+    except OSError as error:
+        wheels = "Linux on x86_64 and aarch64, macOS on arm64 and x86_64, Windows on AMD64"
+        system = f"{sys.platform} on {platform.machine()}"
+        raise ImportError(f"no library here is for {system}; there are wheels for {wheels}: {error}") from error
+
+
+_LIBRARY = _load()
 
 # What a call returns. Its other numbers say that something was refused.
 _ROOM_TOO_SMALL = 1

@@ -1,0 +1,48 @@
+"use strict";
+
+// Names that comfy_table.h has for results.
+const DRAWN = 0, OUT_OF_MEMORY = 3;
+
+// The function comfy_csv_draw in an instance of the module, which has memory of its own.
+class Library {
+  constructor(module) {
+    this.called = new WebAssembly.Instance(module).exports;
+  }
+
+  // The bytes of the memory from an address on. An earlier view is of no use after a call, which may take more memory.
+  bytes(address, length) {
+    return new Uint8Array(this.called.memory.buffer, Number(address), length);
+  }
+
+  room(length) {
+    const address = this.called.malloc(BigInt(length));
+    if (!address) throw new RangeError("the page's memory ran out");
+    return address;
+  }
+
+  put(bytes) {
+    const address = this.room(bytes.length);
+    this.bytes(address, bytes.length).set(bytes);
+    return address;
+  }
+
+  // The result for an input and arguments, and the bytes of the drawing or of csvtable's message.
+  draw(input, words) {
+    const joined = new TextEncoder().encode(words.map((word) => word + "\0").join(""));
+    const given = [this.put(input), BigInt(input.length), this.put(joined), BigInt(joined.length)];
+    const needed = this.put(new Uint8Array(8));
+    for (let room = 4096 + 4 * input.length; ; ) {
+      const output = this.room(room);
+      const result = this.called.comfy_csv_draw(...given, output, BigInt(room), needed);
+      if (result === OUT_OF_MEMORY) throw new RangeError("the page's memory ran out");
+      const length = Number(new DataView(this.called.memory.buffer).getBigUint64(Number(needed), true));
+      const bytes = length <= room && this.bytes(output, length).slice();
+      this.called.free(output);
+      if (bytes) {
+        for (const address of [given[0], given[2], needed]) this.called.free(address);
+        return { result, bytes };
+      }
+      room = length;
+    }
+  }
+}
