@@ -198,7 +198,7 @@ too_wide is =
     let wide = shown_columns line.columns (codes "0123456789") refl line.shows in
     absurd (omega (arith, line.within, wide, ten))
 
--- a line that counts three rows, where one of two is drawn
+-- a line that counts three rows, but there are two
 three_rows : ¬ (Drawn no_width 1 (codes " a \n1 of 3 records\n"))
 unfolding digits
 three_rows is =
@@ -219,7 +219,7 @@ Padded limit bytes = ShowRows (codes "ab") (1 ∷ 1 ∷ []) (1 ∷ 1 ∷ []) [] 
 padded_layout : (limit : ℕ) → layout_for (settings no_width limit) [] [] (wide_column ∷ []) the_rows ≡ Some (the_layout no_width limit) → (bytes : Text) (is : Padded limit bytes) → is.layout ≡ the_layout no_width limit
 padded_layout limit asked bytes is = same_Some _ _ (sym is.is_layout ∙ asked)
 
--- a line that counts three rows, where one of two is drawn
+-- a line that counts three rows, but there are two
 padded_three_rows : ¬ (Padded 1 (codes "  a  \n1 of 3 records\n"))
 unfolding digits
 padded_three_rows is =

@@ -91,7 +91,7 @@ pub(crate) fn alignment_of(number: u32) -> Option<CellAlignment>
     }
 }
 
-/// The colour that numbers stand for.
+/// The colour of these numbers; none if they set none.
 pub(crate) fn color_of(color: ColorNumbers) -> Option<Color>
     ensures { result ≡ color_of color }
 {
