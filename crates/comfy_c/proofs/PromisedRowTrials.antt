@@ -229,3 +229,24 @@ padded_three_rows is =
     let made : bytes ≡ terminated_text_of kept.lines ++ note_for false (Some 1) (Some 2) = kept.written in
     let letter : ◌≡◌ {A = ℕ} 0x33 0x32 = ap (λ (t : Text). slice_index_or t 9 0) (ap reverse made ∙ reverse-append (terminated_text_of kept.lines) (note_for false (Some 1) (Some 2))) in
     absurd (omega (arith, letter))
+
+-- lines of a table end with a line feed
+last_is_feed : (lines : List Text) → slice_index_or (reverse (terminated_text_of lines)) 0 0x0A ≡ 0x0A
+last_is_feed [] = refl
+last_is_feed (line ∷ lines) =
+    ap (λ (t : Text). slice_index_or t 0 0x0A) (reverse-append (line ++ 0x0A ∷ []) (terminated_text_of lines))
+    ∙ by_rest (reverse (terminated_text_of lines)) (last_is_feed lines)
+  where
+    by_rest : (back : Text) → slice_index_or back 0 0x0A ≡ 0x0A → slice_index_or (back ++ reverse (line ++ 0x0A ∷ [])) 0 0x0A ≡ 0x0A
+    by_rest [] is = ap (λ (t : Text). slice_index_or t 0 0x0A) (reverse-append line (0x0A ∷ []))
+    by_rest (b ∷ back) is = is
+
+-- a last line without its line feed
+padded_unended : ¬ (Padded all (codes "  a  \n  b  "))
+padded_unended is =
+    let bytes = codes "  a  \n  b  " in
+    let own = table_settings false (1 ∷ 1 ∷ []) [] [] (wide_column ∷ []) in
+    let kept = subst (λ (layout : Layout). KeepTablePromises own layout the_rows bytes) (padded_layout all refl bytes is) (is.keep_table refl (omega arith)) in
+    let made : bytes ≡ terminated_text_of kept.lines = kept.written ∙ append-nil (terminated_text_of kept.lines) in
+    let space : ◌≡◌ {A = ℕ} 0x20 0x0A = ap (λ (t : Text). slice_index_or t 0 0x0A) (ap reverse made) ∙ last_is_feed kept.lines in
+    absurd (omega (arith, space))
