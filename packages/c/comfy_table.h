@@ -275,6 +275,7 @@ struct comfy_rows_settings {
 
 /*
  * Draws a table of rows into the caller's buffer, as csvtable with the option --count draws records of these texts into a pipe.
+ * Lines that count them say rows: "row 2 of 3" above an expanded row, and "2 of 3 rows" below those of a limit.
  *
  * texts has the texts of all cells in order, without anything between them. lengths has the length of each text in bytes, and
  * counts the number of cells of each row, which may differ. columns has a struct for each column, or for the first ones; the

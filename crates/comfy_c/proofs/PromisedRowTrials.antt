@@ -22,6 +22,7 @@ use Rattle.csv_tables.specs.Drawn.{drawn_rows, note_for}
 use Rattle.csv_tables.specs.declared.options.Expansion.TheVariants.{Never}
 use Rattle.csv_tables.specs.declared.options.Layout.{Layout}
 use Rattle.csv_tables.specs.declared.options.RowSeparators.TheVariants.{Styled}
+use Rattle.csv_tables.specs.declared.selection.Noun.TheVariants.{Row}
 use Rattle.promises.specs.Shown.{Shows, ShowsColumns}
 use Rattle.promises.specs.Shown.Shows.{byte, nothing, sequence}
 use Rattle.promises.specs.Tables.{HasCharactersWithin}
@@ -86,7 +87,7 @@ Drawn width limit bytes = ShowRows (codes "ab") (1 ∷ 1 ∷ []) (1 ∷ 1 ∷ []
 abbrev the_layout : ℕ → ℕ → Layout
 the_layout width limit =
     record {
-      selection = record { has_header = false; limit = limit_of limit; is_numbered = false };
+      selection = record { has_header = false; limit = limit_of limit; is_numbered = false; noun = Row };
       columns = record { drawn = 0 ∷ []; right = []; left = [] };
       look =
           record {
@@ -199,13 +200,13 @@ too_wide is =
     absurd (omega (arith, line.within, wide, ten))
 
 -- a line that counts three rows, but there are two
-three_rows : ¬ (Drawn no_width 1 (codes " a \n1 of 3 records\n"))
+three_rows : ¬ (Drawn no_width 1 (codes " a \n1 of 3 rows\n"))
 unfolding digits
 three_rows is =
-    let kept = subst (λ (layout : Layout). AreStraightLines layout the_rows (codes " a \n1 of 3 records\n")) (is_asked no_width 1 refl (codes " a \n1 of 3 records\n") is) ((is.keep refl).straight (harmless no_width 1) (narrow no_width 1)) (record { unmarked = refl; unkept = refl }) (inl (inl (inl are_narrow))) in
+    let kept = subst (λ (layout : Layout). AreStraightLines layout the_rows (codes " a \n1 of 3 rows\n")) (is_asked no_width 1 refl (codes " a \n1 of 3 rows\n") is) ((is.keep refl).straight (harmless no_width 1) (narrow no_width 1)) (record { unmarked = refl; unkept = refl }) (inl (inl (inl are_narrow))) in
     let noted = kept.1 in
-    let made : codes " a \n1 of 3 records\n" ≡ noted.drawn ++ note_for false (Some 1) (Some 2) = noted.joined ∙ ap (λ (count : Option ℕ). noted.drawn ++ note_for false (Some 1) count) noted.is_count in
-    let letter : ◌≡◌ {A = ℕ} 0x33 0x32 = ap (λ (t : Text). slice_index_or t 9 0) (ap reverse made ∙ reverse-append noted.drawn (note_for false (Some 1) (Some 2))) in
+    let made : codes " a \n1 of 3 rows\n" ≡ noted.drawn ++ note_for Row false (Some 1) (Some 2) = noted.joined ∙ ap (λ (count : Option ℕ). noted.drawn ++ note_for Row false (Some 1) count) noted.is_count in
+    let letter : ◌≡◌ {A = ℕ} 0x33 0x32 = ap (λ (t : Text). slice_index_or t 6 0) (ap reverse made ∙ reverse-append noted.drawn (note_for Row false (Some 1) (Some 2))) in
     absurd (omega (arith, letter))
 
 -- ---- the same rows, in a column with paddings of two
@@ -220,14 +221,14 @@ padded_layout : (limit : ℕ) → layout_for (settings no_width limit) [] [] (wi
 padded_layout limit asked bytes is = same_Some _ _ (sym is.is_layout ∙ asked)
 
 -- a line that counts three rows, but there are two
-padded_three_rows : ¬ (Padded 1 (codes "  a  \n1 of 3 records\n"))
+padded_three_rows : ¬ (Padded 1 (codes "  a  \n1 of 3 rows\n"))
 unfolding digits
 padded_three_rows is =
-    let bytes = codes "  a  \n1 of 3 records\n" in
+    let bytes = codes "  a  \n1 of 3 rows\n" in
     let own = table_settings false (1 ∷ 1 ∷ []) [] [] (wide_column ∷ []) in
     let kept = subst (λ (layout : Layout). KeepTablePromises own layout the_rows bytes) (padded_layout 1 refl bytes is) (is.keep_table refl (omega arith)) in
-    let made : bytes ≡ terminated_text_of kept.lines ++ note_for false (Some 1) (Some 2) = kept.written in
-    let letter : ◌≡◌ {A = ℕ} 0x33 0x32 = ap (λ (t : Text). slice_index_or t 9 0) (ap reverse made ∙ reverse-append (terminated_text_of kept.lines) (note_for false (Some 1) (Some 2))) in
+    let made : bytes ≡ terminated_text_of kept.lines ++ note_for Row false (Some 1) (Some 2) = kept.written in
+    let letter : ◌≡◌ {A = ℕ} 0x33 0x32 = ap (λ (t : Text). slice_index_or t 6 0) (ap reverse made ∙ reverse-append (terminated_text_of kept.lines) (note_for Row false (Some 1) (Some 2))) in
     absurd (omega (arith, letter))
 
 -- lines of a table end with a line feed

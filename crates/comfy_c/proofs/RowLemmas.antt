@@ -276,7 +276,7 @@ never_expanded expansion is has_room = ap (λ (e : Expansion). is_expanded_in e 
 
 module _ (law : (table : TableValue) (lines : List Text) → IsTableDrawing table lines → KeepsPromises table lines) (own : SettingsValue) (layout : Layout) (bytes : Text) where
   -- the lines of the table that is drawn keep its promises
-  module _ (rows : List (List Text)) (text : Text) (joined : bytes ≡ text ++ note_for false layout.selection.limit (Some (count_below layout.selection rows))) where
+  module _ (rows : List (List Text)) (text : Text) (joined : bytes ≡ text ++ note_for layout.selection.noun false layout.selection.limit (Some (count_below layout.selection rows))) where
     abbrev content : SelectedValue
     content = with_centers own.columns (selected_of (Some (count_below layout.selection rows)) layout rows)
 
@@ -289,7 +289,7 @@ module _ (law : (table : TableValue) (lines : List Text) → IsTableDrawing tabl
           keep = law (table_by own layout drawn.has_separators rows) lines drawn.is_arranged.headline;
           written =
               joined
-              ∙ ap (λ (t : Text). t ++ note_for false layout.selection.limit (Some (count_below layout.selection rows)))
+              ∙ ap (λ (t : Text). t ++ note_for layout.selection.noun false layout.selection.limit (Some (count_below layout.selection rows)))
               (drawn.is
               ∙ ap (λ (t : TableValue). terminated_text_of (drawing_of_infos t drawn.arranged.infos))
               (all_rows_are_the_table drawn.arranged.table (length drawn.arranged.table.rows) (omega arith) ∙ drawn.is_arranged.of_table));
@@ -302,7 +302,7 @@ module _ (law : (table : TableValue) (lines : List Text) → IsTableDrawing tabl
       let drawn : RendersStyled own layout.look (with_centers own.columns made.content) made.text = subst (λ (b : Bool). RendersStyledContent own b layout.look made.content made.text) plain made.is_text in
       let expanded : drawn.is_expanded ≡ false = drawn.expansion ∙ never_expanded layout.look.expansion never _ in
       keep_drawn rows made.text
-      (made.joined ∙ ap₂ (λ (b : Bool) (content : SelectedValue). made.text ++ note_for b layout.selection.limit content.count) plain (sym made.is_content))
+      (made.joined ∙ ap₂ (λ (b : Bool) (content : SelectedValue). made.text ++ note_for content.noun b layout.selection.limit content.count) plain (sym made.is_content))
       (subst (λ (content : SelectedValue). RendersStyledTable own false layout.look (with_centers own.columns content) made.text) (sym made.is_content)
       (subst (λ (b : Bool). RendersStyledTable own b layout.look (with_centers own.columns made.content) made.text) expanded drawn.drawn))
 

@@ -22,6 +22,7 @@ use Rattle.csv_tables.specs.declared.options.Layout.{Layout}
 use Rattle.csv_tables.specs.declared.options.Look.{Look}
 use Rattle.csv_tables.specs.declared.options.RowSeparators.{RowSeparators}
 use Rattle.csv_tables.specs.declared.options.RowSeparators.TheVariants.{Needed, Never, Styled}
+use Rattle.csv_tables.specs.declared.selection.Noun.TheVariants.{Row}
 use Rattle.csv_tables.specs.declared.selection.Selection.{Selection}
 
 -- ---- settings
@@ -64,6 +65,7 @@ selection_for settings =
       has_header = is_set settings.has_header;
       limit = limit_of settings.limit;
       is_numbered = is_set settings.is_numbered;
+      noun = Row;
     }
 
 -- ---- drawings

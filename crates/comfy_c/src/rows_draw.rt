@@ -15,6 +15,7 @@ use csv_tables::{Layout, output_of_styled_records};
 use std::alloc::Global;
 
 /// Draws the table of rows into the caller's buffer, as `csvtable` draws records of these texts.
+/// Lines that count them say rows: `row 2 of 3`, and `2 of 3 rows` if a limit leaves some out.
 ///
 /// `texts` has the texts of all cells in their order, without anything between them. `lengths` has
 /// the length of each in bytes, and `counts` the number of cells of each row. The first row may be

@@ -7,7 +7,7 @@ ghost use Rattle.comfy_c.specs.RowCalls.{can_have, expansions, has_sides_alone, 
 use crate::cells_numbers::LookNumbers;
 use crate::frame::{FrameNumbers, style_for};
 use crate::rows_columns::{RowsColumn, are_unset, have_sides};
-use csv_tables::{Expansion, Look, RowSeparators, Selection};
+use csv_tables::{Expansion, Look, Noun, RowSeparators, Selection};
 
 /// How a table of rows is drawn. A flag is set if it isn't 0.
 #[derive(Clone, Copy, Debug)]
@@ -55,6 +55,7 @@ impl RowsSettings {
             has_header: self.has_header != 0,
             limit: limit_of(self.limit),
             is_numbered: self.is_numbered != 0,
+            noun: Noun::Row,
         }
     }
 

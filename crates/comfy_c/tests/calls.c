@@ -294,7 +294,7 @@ static void expect_rows_are_drawn(void) {
                 TEXT("(======^======)\n[ name \xe2\x94\x82 days ]\n[ oats \xe2\x94\x82    3 ]\n(======^======)\n"));
     settings = plain_settings();
     settings.limit = 0;
-    expect_rows("rows are limited", &rows, settings, TEXT("+------+------+\n| name | days |\n+=============+\n+------+------+\n0 of 1 records\n"));
+    expect_rows("rows are limited", &rows, settings, TEXT("+------+------+\n| name | days |\n+=============+\n+------+------+\n0 of 1 rows\n"));
 }
 
 static void expect_rows_have_looks_and_heights(void) {

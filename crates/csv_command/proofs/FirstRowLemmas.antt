@@ -62,7 +62,7 @@ module _ (options : Options) (first all : List (List Text)) (alike : AreDrawnAli
     where
       shown : Option (List Text) → List (List Text) → SelectedValue
       shown names rows =
-          record { names = names; rows = rows; columns = drawn_columns columns (map (seen options.look.has_sequences) rows); count = count; is_numbered = options.selection.is_numbered }
+          record { names = names; rows = rows; columns = drawn_columns columns (map (seen options.look.has_sequences) rows); count = count; is_numbered = options.selection.is_numbered; noun = options.selection.noun }
 
   pub same_output : (count : Option ℕ) (output : Text) → RendersChosen count options first output → RendersChosen count options all output
   same_output count output made =

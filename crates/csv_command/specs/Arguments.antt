@@ -28,6 +28,7 @@ use Rattle.csv_tables.specs.declared.options.Look.{Look}
 use Rattle.csv_records.specs.declared.options.InputOptions.{InputOptions}
 use Rattle.csv_command.specs.declared.arguments.Options.{Options}
 use Rattle.csv_command.specs.declared.columns.ColumnWords.{ColumnWords}
+use Rattle.csv_tables.specs.declared.selection.Noun.TheVariants.{Record}
 use Rattle.csv_tables.specs.declared.selection.Selection.{Selection}
 use Rattle.csv_tables.specs.declared.options.RowSeparators.{RowSeparators}
 use Rattle.csv_tables.specs.declared.options.RowSeparators.TheVariants.{Styled, Needed, Never}
@@ -211,6 +212,7 @@ pub record IsSelectionParsed (found : Found) (selection : Selection) : Type 0 wh
   pub header : selection.has_header ≡ not (is_given found (codes "no-header"))
   pub limit : selection.limit ≡ number_found 64 found (codes "limit")
   pub numbers : selection.is_numbered ≡ is_given found (codes "number")
+  pub noun : selection.noun ≡ Record
 
 -- which columns are drawn
 pub record AreColumnsParsed (found : Found) (columns : ColumnWords) : Type 0 where

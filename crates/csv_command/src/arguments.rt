@@ -15,7 +15,7 @@ use clap::error::ErrorKind;
 use clap::parser::ArgMatches;
 use clap::{Command, Error};
 use csv_records::{Delimiter, Encoding, InputOptions, only_ascii, parse_digits};
-use csv_tables::{Expansion, Look, RowSeparators, Selection};
+use csv_tables::{Expansion, Look, Noun, RowSeparators, Selection};
 use std::alloc::{AllocError, Global};
 
 // The width of a terminal that doesn't say its own.
@@ -327,6 +327,7 @@ fn selection_of<'a>(matches: &ArgMatches<'a>) -> Selection
         has_header: !is_given(matches, "no-header"),
         limit: matches.get_one::<usize>("limit"),
         is_numbered: is_given(matches, "number"),
+        noun: Noun::Record,
     }
 }
 

@@ -37,8 +37,8 @@ pub no_rows : (selection : Selection) → drawn_rows selection [] ≡ []
 no_rows selection = ap (limited selection.limit) (no_records selection.has_header).1 ∙ no_limited selection.limit
 
 -- of no records nothing is drawn, and there is no note
-pub nothing_noted : (Draws : Bool → Option ℕ → Text → Type 0) (MayCount : Option ℕ → Type 0) (expansion : Expansion) (limit : Option ℕ) → MayCount (Some 0) → ((is_expanded : Bool) (count : Option ℕ) → Draws is_expanded count []) → IsDrawnWithNote Draws MayCount expansion limit []
-nothing_noted Draws MayCount expansion limit is_count empty =
+pub nothing_noted : (Draws : Bool → Option ℕ → Text → Type 0) (MayCount : Option ℕ → Type 0) (expansion : Expansion) (selection : Selection) → MayCount (Some 0) → ((is_expanded : Bool) (count : Option ℕ) → Draws is_expanded count []) → IsDrawnWithNote Draws MayCount expansion selection []
+nothing_noted Draws MayCount expansion selection is_count empty =
     let kind = either expansion in
     record {
       count = Some 0;
@@ -47,14 +47,14 @@ nothing_noted Draws MayCount expansion limit is_count empty =
       expansion = kind.1;
       drawn = [];
       draws = empty kind.0 (Some 0);
-      joined = nothing limit;
+      joined = nothing selection.limit;
     }
   where
-    nothing : (limit : Option ℕ) → [] ≡ note_for false limit (Some 0)
+    nothing : (limit : Option ℕ) → [] ≡ note_for selection.noun false limit (Some 0)
     nothing None = refl
     nothing (Some n) = by_test (nat_lt n 0) (grind arith)
       where
-        by_test : (b : Bool) → b ≡ false → [] ≡ (if b then [] ++ (note_text n (Some 0) ++ codes "\n") else [])
+        by_test : (b : Bool) → b ≡ false → [] ≡ (if b then [] ++ (note_text selection.noun n (Some 0) ++ codes "\n") else [])
         by_test true is = absurd (cc is)
         by_test false is = refl
 
@@ -82,10 +82,10 @@ module _ (IsGood : Text → Type 0) where
   -- of no records there are none
   pub nothing_drawn : (layout : Layout) (MayCount : Option ℕ → Type 0) → MayCount (Some 0) → EachLineFor IsGood MayCount layout [] []
   nothing_drawn layout MayCount is_count =
-      nothing_noted (DrawsLines IsGood (drawn_rows layout.selection [])) MayCount layout.look.expansion layout.selection.limit is_count
-      (λ is_expanded count. subst (λ (rows : List (List Text)). DrawsLines IsGood rows is_expanded count []) (sym (no_rows layout.selection)) (by_kind is_expanded count))
+      nothing_noted (DrawsLines IsGood layout.selection.noun (drawn_rows layout.selection [])) MayCount layout.look.expansion layout.selection is_count
+      (λ is_expanded count. subst (λ (rows : List (List Text)). DrawsLines IsGood layout.selection.noun rows is_expanded count []) (sym (no_rows layout.selection)) (by_kind is_expanded count))
     where
-      by_kind : (is_expanded : Bool) (count : Option ℕ) → DrawsLines IsGood [] is_expanded count []
+      by_kind : (is_expanded : Bool) (count : Option ℕ) → DrawsLines IsGood layout.selection.noun [] is_expanded count []
       by_kind true count = refl
       by_kind false count = no_lines
 
@@ -97,10 +97,10 @@ module _ (IsGood : Text → Type 0) where
       no_columns = record { drawn = []; right = []; left = [] }
 
   -- those of what is drawn
-  table_lines : (is_expanded : Bool) (content : SelectedValue) (lines : List Text) (text : Text) → HasLines is_expanded content lines text → All IsGood lines → DrawsLines IsGood content.rows is_expanded content.count text
+  table_lines : (is_expanded : Bool) (content : SelectedValue) (lines : List Text) (text : Text) → HasLines is_expanded content lines text → All IsGood lines → DrawsLines IsGood content.noun content.rows is_expanded content.count text
   table_lines false content lines text are good = record { lines = lines; are = are; each = good }
   table_lines true content lines text (parts, within, unbroken, is) good =
-      subst (AreExpanded (λ fields own. HasEachLine IsGood own) content.count 1 content.rows) (sym is) (from 0 content.rows)
+      subst (AreExpanded (λ fields own. HasEachLine IsGood own) content.noun content.count 1 content.rows) (sym is) (from 0 content.rows)
     where
       part : (at : ℕ) → HasEachLine IsGood (terminated_text_of (parts at))
       part at =
@@ -110,12 +110,12 @@ module _ (IsGood : Text → Type 0) where
             each = All-weaker (Contains lines) IsGood (λ line in_lines. All-contains IsGood lines line good in_lines) (parts at) (within at);
           }
 
-      from : (k : ℕ) (rows : List (List Text)) → AreExpanded (λ fields own. HasEachLine IsGood own) content.count (k + 1) rows (flat_map (numbered_lines content.count parts) (range_with_len k (length rows)))
+      from : (k : ℕ) (rows : List (List Text)) → AreExpanded (λ fields own. HasEachLine IsGood own) content.noun content.count (k + 1) rows (flat_map (numbered_lines content parts) (range_with_len k (length rows)))
       from k [] = refl
       from k (fields ∷ rows) = (
         terminated_text_of (parts k),
-        flat_map (numbered_lines content.count parts) (range_with_len (k + 1) (length rows)),
-        append_assoc (record_line (k + 1) content.count) _ _,
+        flat_map (numbered_lines content parts) (range_with_len (k + 1) (length rows)),
+        append_assoc (record_line content.noun (k + 1) content.count) _ _,
         part k,
         from (k + 1) rows,
       )
@@ -130,9 +130,9 @@ module _ (IsGood : Text → Type 0) where
         is_expanded = made.is_expanded;
         expansion = may_expand layout.look.expansion ((length made.content.rows == 0) || has_room_for layout.look made.content (is_aligned_in layout.look made.content)) made.is_expanded (made.expansion ∙ shown layout.look.is_markdown none _);
         drawn = made.text;
-        draws = subst (λ (rows : List (List Text)). DrawsLines IsGood rows made.is_expanded known made.text) same
-            (subst (λ (c : SelectedValue). DrawsLines IsGood c.rows made.is_expanded c.count made.text) (sym made.is_content) (table_lines made.is_expanded made.content lines made.text made.has_lines good));
-        joined = made.joined ∙ ap₂ (λ (b : Bool) (n : Option ℕ). made.text ++ note_for b layout.selection.limit n) none (ap (λ (c : SelectedValue). c.count) (sym made.is_content));
+        draws = subst (λ (rows : List (List Text)). DrawsLines IsGood layout.selection.noun rows made.is_expanded known made.text) same
+            (subst (λ (c : SelectedValue). DrawsLines IsGood c.noun c.rows made.is_expanded c.count made.text) (sym made.is_content) (table_lines made.is_expanded made.content lines made.text made.has_lines good));
+        joined = made.joined ∙ ap₂ (λ (b : Bool) (c : SelectedValue). made.text ++ note_for c.noun b layout.selection.limit c.count) none (sym made.is_content);
       }
     where
       shown : (b : Bool) → b ≡ false → (e : Bool) → (not b && e) ≡ e

@@ -181,7 +181,7 @@ module _ (arguments : List Text) (context : OutputContext) (invocation : Invocat
             header = back.header;
             rule = rule;
             lines = back.lines;
-            is = back.is ∙ ap (λ (c : SelectedValue). terminated_text_of (back.header ∷ rule ∷ back.lines) ++ note_for true options.selection.limit c.count) same;
+            is = back.is ∙ ap (λ (c : SelectedValue). terminated_text_of (back.header ∷ rule ∷ back.lines) ++ note_for c.noun true options.selection.limit c.count) same;
             unbroken = All-cons HasNoBreak back.header (rule ∷ back.lines) (All-head HasNoBreak back.header back.lines back.unbroken) (All-cons HasNoBreak rule back.lines (printable_unbroken rule (rule_is_printable (sides back.content) _)) (All-tail HasNoBreak back.header back.lines back.unbroken));
             is_rule = is_rule;
             as_many = each_count;

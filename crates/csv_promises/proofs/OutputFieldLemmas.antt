@@ -24,6 +24,7 @@ use Rattle.csv_tables.proofs.FieldControlLemmas.{text_fields}
 use Rattle.csv_tables.proofs.RowLemmas.{with_rows-rows}
 use Rattle.csv_tables.specs.Cells.{Shown, cell_for, columns_within, held, pair_for, shown_cells, shown_in, with_weight, number_name, row_for, counted_from}
 use Rattle.csv_tables.specs.Columns.{ColumnsValue, name_at}
+use Rattle.csv_tables.specs.declared.selection.Noun.{Noun}
 use Rattle.csv_tables.specs.Drawn.{SelectedValue, RendersAsTable, RendersRecords, RendersTable, columns_of, drawn_fields, drawn_rows, empty_table, has_room_for, headed_table, names_of, note_for, output_table, pairs_in, record_line, record_text, rows_table, separated_table, some_lines, table_text, nowrap_in, is_aligned_in, is_table_expanded, names_or_none}
 use Rattle.csv_tables.specs.NoWrap.{has_room}
 use Rattle.csv_command.specs.Drawn.{layout_with}
@@ -68,9 +69,9 @@ pub record DrawsAll (look : Look) : Type 0 where
   pub uncut : look.max_height ≡ None
   pub style : IsStyleWithout 0x0A look.style
 
-module _ (look : Look) (all : DrawsAll look) (is_numbered : Bool) (names : Option (List Text)) (rows : List (List Text)) (columns : List ColumnPlan) (count : Option ℕ) where
+module _ (look : Look) (all : DrawsAll look) (is_numbered : Bool) (noun : Noun) (names : Option (List Text)) (rows : List (List Text)) (columns : List ColumnPlan) (count : Option ℕ) where
   abbrev pub content : SelectedValue
-  content = record { names = names; rows = rows; columns = columns; count = count; is_numbered = is_numbered }
+  content = record { names = names; rows = rows; columns = columns; count = count; is_numbered = is_numbered; noun = noun }
 
   abbrev header : List Text
   header = unwrap_or names []
@@ -270,12 +271,12 @@ module _ (look : Look) (all : DrawsAll look) (is_numbered : Bool) (names : Optio
         row_of column = pair_for look (name_at header column.position) (field_or_blank fields column.position)
 
     -- from a record on
-    from : (k : ℕ) (front rest : List (List Text)) → length front ≡ k → rows ≡ front ++ rest → AreExpanded (ShowsPairs look header (positions_of columns)) count (k + 1) rest (flat_map (record_text content own_arranged) (range_with_len k (length rest)))
+    from : (k : ℕ) (front rest : List (List Text)) → length front ≡ k → rows ≡ front ++ rest → AreExpanded (ShowsPairs look header (positions_of columns)) noun count (k + 1) rest (flat_map (record_text content own_arranged) (range_with_len k (length rest)))
     from k front [] at splits = refl
     from k front (fields ∷ more) at splits = (
       terminated_text_of (some_lines own_arranged first n),
       flat_map (record_text content own_arranged) (range_with_len (k + 1) (length more)),
-      append_assoc (record_line (k + 1) count) _ _,
+      append_assoc (record_line noun (k + 1) count) _ _,
       by_count first n (pairs_at header (positions_of columns) fields) (subst (AllZip (IsRowFor []) (pairs_at header (positions_of columns) fields)) (sym rows_of) (are_pairs look all.unkept all.table all.uncut columns header fields columns)) (subst (All (HasPlainFields true)) (sym rows_of) (plain_pairs fields)) (pairs_two fields),
       from (k + 1) (front ++ fields ∷ []) more (omega (arith, length-append front (fields ∷ []), at)) (splits ∙ sym (append_assoc front (fields ∷ []) more)),
     )
@@ -289,8 +290,8 @@ module _ (look : Look) (all : DrawsAll look) (is_numbered : Bool) (names : Optio
         rows_of : take n (drop first (table true text renders).rows) ≡ pairs_in look content fields
         rows_of = ap (λ (own : List RowValue). take n (drop first own)) rows_are ∙ rows_at look content k front fields more at splits
 
-    pub records_shown : AreExpanded (ShowsPairs look header (positions_of columns)) count 1 rows text
-    records_shown = subst (AreExpanded (ShowsPairs look header (positions_of columns)) count 1 rows) (sym (is_text true text renders)) (from 0 [] rows refl refl)
+    pub records_shown : AreExpanded (ShowsPairs look header (positions_of columns)) noun count 1 rows text
+    records_shown = subst (AreExpanded (ShowsPairs look header (positions_of columns)) noun count 1 rows) (sym (is_text true text renders)) (from 0 [] rows refl refl)
 
 -- ---- outputs
 
@@ -312,7 +313,7 @@ module _ (layout : Layout) (all : DrawsAll layout.look) (known : Option ℕ) (re
   columns = columns_of layout records
 
   abbrev own : SelectedValue
-  own = content look all is_numbered names rows columns known
+  own = content look all is_numbered layout.selection.noun names rows columns known
 
   same : made.content ≡ own
   same = sym made.is_content
@@ -324,7 +325,7 @@ module _ (layout : Layout) (all : DrawsAll layout.look) (known : Option ℕ) (re
   utf8 = all_drawn (All IsUtf8) layout.selection.has_header layout.selection.limit records (All-weaker AllText (All IsUtf8) text_fields records texts)
 
   abbrev Shows : Bool → Option ℕ → Text → Type 0
-  Shows is_expanded = ShowsFields is_expanded look is_numbered layout.columns names rows
+  Shows is_expanded = ShowsFields is_expanded look layout.selection layout.columns names rows
 
   abbrev are : Bool
   are = is_aligned_in look own
@@ -346,14 +347,14 @@ module _ (layout : Layout) (all : DrawsAll layout.look) (known : Option ℕ) (re
     lined,
     subst (Rows layout.columns.drawn) (sides-shown layout.columns look.has_sequences all.unkept rows)
         (subst (λ (ps : List ℕ). Rows ps (own_sides columns)) positions
-        (rows_shown look all is_numbered names rows columns known text renders utf8 (record { table = all.table; kind = sym kind; unbroken = nowrap-shown layout.columns look.has_sequences all.unkept rows }) (reaches_last layout records known own refl some below)
+        (rows_shown look all is_numbered layout.selection.noun names rows columns known text renders utf8 (record { table = all.table; kind = sym kind; unbroken = nowrap-shown layout.columns look.has_sequences all.unkept rows }) (reaches_last layout records known own refl some below)
         (mark_for are layout.columns rows) (marks-shown layout.columns look.has_sequences all.unkept rows are))),
   )
     where
       Rows : List ℕ → List CellAlignment → Type 0
       Rows ps own = ShowsRows look (is_some names) false (sides_after_number is_numbered own) (whole_for look.width look.expansion is_numbered ps rows) (all_rows is_numbered (mark_for are layout.columns rows) ps names rows) text
   by_kind true kind text renders =
-      subst (λ (ps : List ℕ). AreExpanded (ShowsPairs look (unwrap_or names []) ps) known 1 rows text) positions (records_shown look all is_numbered names rows columns known text renders (sym kind))
+      subst (λ (ps : List ℕ). AreExpanded (ShowsPairs look (unwrap_or names []) ps) layout.selection.noun known 1 rows text) positions (records_shown look all is_numbered layout.selection.noun names rows columns known text renders (sym kind))
 
   text : RendersAsTable look own made.text
   text = subst (λ (c : SelectedValue). RendersAsTable look c made.text) same (is_table_text known layout records output made all.table)
@@ -368,19 +369,19 @@ module _ (layout : Layout) (all : DrawsAll layout.look) (known : Option ℕ) (re
         expansion = may_expand look.expansion ((length rows == 0) || has_room_for look own (is_aligned_in look own)) text.is_expanded text.expansion;
         drawn = made.text;
         draws = by_kind text.is_expanded text.expansion made.text text.drawn;
-        joined = made.joined ∙ ap₂ (λ (b : Bool) (n : Option ℕ). made.text ++ note_for b layout.selection.limit n) all.table (ap (λ (c : SelectedValue). c.count) same);
+        joined = made.joined ∙ ap₂ (λ (b : Bool) (c : SelectedValue). made.text ++ note_for c.noun b layout.selection.limit c.count) all.table same;
       }
 
 -- of no records nothing is shown
 pub none_of_all : (MayCount : Option ℕ → Type 0) → MayCount (Some 0) → (layout : Layout) → ShowsAllFields MayCount layout [] []
 none_of_all MayCount is_count layout =
-    nothing_noted (Shows (names_of layout.selection.has_header []) (drawn_rows layout.selection [])) MayCount layout.look.expansion layout.selection.limit is_count
+    nothing_noted (Shows (names_of layout.selection.has_header []) (drawn_rows layout.selection [])) MayCount layout.look.expansion layout.selection is_count
     (λ is_expanded count.
     subst (λ (own : Option (List Text)). Shows own (drawn_rows layout.selection []) is_expanded count []) (sym (no_records layout.selection.has_header).0)
     (subst (λ (own : List (List Text)). Shows None own is_expanded count []) (sym (no_rows layout.selection)) (by_kind is_expanded count)))
   where
     Shows : Option (List Text) → List (List Text) → Bool → Option ℕ → Text → Type 0
-    Shows names rows is_expanded = ShowsFields is_expanded layout.look layout.selection.is_numbered layout.columns names rows
+    Shows names rows is_expanded = ShowsFields is_expanded layout.look layout.selection layout.columns names rows
 
     by_kind : (is_expanded : Bool) (count : Option ℕ) → Shows None [] is_expanded count []
     by_kind true count = refl
@@ -406,7 +407,7 @@ module _ (arguments : List Text) (context : OutputContext) (invocation : Invocat
       nothing empty no_output = subst (λ (rs : List (List Text)). ShowsRecords options rs output) (sym empty) (subst (ShowsRecords options []) (sym no_output) no_fields)
 
       IsGood : Option (List Text) → List (List Text) → ColumnsValue → Type 0
-      IsGood names rows columns = IsWrittenFor (λ is_expanded. ShowsFields is_expanded options.look options.selection.is_numbered columns names rows) options records output
+      IsGood names rows columns = IsWrittenFor (λ is_expanded. ShowsFields is_expanded options.look options.selection columns names rows) options records output
 
       drawn_by : (known : Option ℕ) (rs : List (List Text)) → IsDrawnBy false arguments context invocation input records output is known rs → ShowsRecords options records output
       drawn_by known rs by =

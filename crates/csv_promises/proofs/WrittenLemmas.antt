@@ -95,5 +95,5 @@ module _ (is_markdown : Bool) (arguments : List Text) (context : OutputContext) 
 
     pub same_content : selected_of known (layout_with options by.made.columns) records ≡ selected_of known (layout_with options by.made.columns) rs
     same_content =
-        ap₂ (λ (names : Option (List Text)) (rows : List (List Text)). let content : SelectedValue = record { names = names; rows = rows; columns = drawn_columns by.made.columns (map (seen options.look.has_sequences) rows); count = known; is_numbered = options.selection.is_numbered } in content)
+        ap₂ (λ (names : Option (List Text)) (rows : List (List Text)). let content : SelectedValue = record { names = names; rows = rows; columns = drawn_columns by.made.columns (map (seen options.look.has_sequences) rows); count = known; is_numbered = options.selection.is_numbered; noun = options.selection.noun } in content)
         (sym by.names) (sym by.rows)

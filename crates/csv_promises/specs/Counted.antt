@@ -8,6 +8,8 @@ use Rattle.csv_tables.specs.Drawn.{drawn_rows, note_for, record_line, records_be
 use Rattle.csv_tables.specs.declared.options.Expansion.{Expansion}
 use Rattle.csv_tables.specs.declared.options.Expansion.TheVariants.{Always, Auto, Never}
 use Rattle.csv_tables.specs.declared.options.Layout.{Layout}
+use Rattle.csv_tables.specs.declared.selection.Noun.{Noun}
+use Rattle.csv_tables.specs.declared.selection.Selection.{Selection}
 
 -- records are expanded always, never, or perhaps
 abbrev pub MayExpand : Expansion → Bool → Type 0
@@ -28,7 +30,7 @@ IsCount options records count =
 -- what is written of records: what is drawn of them, expanded or not, and then the note
 -- `3 of 12 records`, or `first 3 records; there are more`, if the limit leaves some out
 pub record IsDrawnWithNote (Draws : Bool → Option ℕ → Text → Type 0)
-    (MayCount : Option ℕ → Type 0) (wanted : Expansion) (limit : Option ℕ) (text : Text)
+    (MayCount : Option ℕ → Type 0) (wanted : Expansion) (selection : Selection) (text : Text)
     : Type 0 where
   pub count : Option ℕ
   pub is_count : MayCount count
@@ -36,23 +38,22 @@ pub record IsDrawnWithNote (Draws : Bool → Option ℕ → Text → Type 0)
   pub expansion : MayExpand wanted is_expanded
   pub drawn : Text
   pub draws : Draws is_expanded count drawn
-  pub joined : text ≡ drawn ++ note_for false limit count
+  pub joined : text ≡ drawn ++ note_for selection.noun false selection.limit count
 
 -- so it is for options
 abbrev pub IsWrittenFor : (Bool → Option ℕ → Text → Type 0) → Options → List (List Text) → Text
     → Type 0
 IsWrittenFor Draws options records text =
-    IsDrawnWithNote Draws (IsCount options records) options.look.expansion options.selection.limit
-    text
+    IsDrawnWithNote Draws (IsCount options records) options.look.expansion options.selection text
 
 -- a text is that of expanded records, from that of this number on: a line `record 2 of 7`, or
 -- `record 2`, and below it a text for the record's fields
-abbrev pub AreExpanded : (List Text → Text → Type 0) → Option ℕ → ℕ → List (List Text) → Text
-    → Type 0
-AreExpanded Shows count number [] text = text ≡ []
-AreExpanded Shows count number (fields ∷ rows) text =
-    (own : Text) × (rest : Text) × (text ≡ record_line number count ++ (own ++ rest))
-    × Shows fields own × AreExpanded Shows count (number + 1) rows rest
+abbrev pub AreExpanded : (List Text → Text → Type 0) → Noun → Option ℕ → ℕ → List (List Text)
+    → Text → Type 0
+AreExpanded Shows noun count number [] text = text ≡ []
+AreExpanded Shows noun count number (fields ∷ rows) text =
+    (own : Text) × (rest : Text) × (text ≡ record_line noun number count ++ (own ++ rest))
+    × Shows fields own × AreExpanded Shows noun count (number + 1) rows rest
 
 -- P holds of each line of a text
 pub record HasEachLine (P : Text → Type 0) (text : Text) : Type 0 where
@@ -62,19 +63,20 @@ pub record HasEachLine (P : Text → Type 0) (text : Text) : Type 0 where
 
 -- P holds of each drawn line, so not of the numbers of expanded records
 abbrev pub DrawsLines :
-    (Text → Type 0) → List (List Text) → Bool → Option ℕ → Text → Type 0
-DrawsLines P rows false count text = HasEachLine P text
-DrawsLines P rows true count text =
-    AreExpanded (λ fields own. HasEachLine P own) count 1 rows text
+    (Text → Type 0) → Noun → List (List Text) → Bool → Option ℕ → Text → Type 0
+DrawsLines P noun rows false count text = HasEachLine P text
+DrawsLines P noun rows true count text =
+    AreExpanded (λ fields own. HasEachLine P own) noun count 1 rows text
 
 -- P holds of each line that a layout draws of records, and a note may count them so
 abbrev pub EachLineFor : (Text → Type 0) → (Option ℕ → Type 0) → Layout → List (List Text) → Text
     → Type 0
 EachLineFor P MayCount layout records text =
-    IsDrawnWithNote (DrawsLines P (drawn_rows layout.selection records)) MayCount
-    layout.look.expansion layout.selection.limit text
+    IsDrawnWithNote (DrawsLines P layout.selection.noun (drawn_rows layout.selection records))
+    MayCount layout.look.expansion layout.selection text
 
 -- P holds of each line that is written of records, but for those that count records
 abbrev pub EachDrawnLine : (Text → Type 0) → Options → List (List Text) → Text → Type 0
 EachDrawnLine P options records text =
-    IsWrittenFor (DrawsLines P (drawn_rows options.selection records)) options records text
+    IsWrittenFor (DrawsLines P options.selection.noun (drawn_rows options.selection records)) options
+    records text

@@ -23,6 +23,7 @@ use Rattle.csv_tables.specs.NoWrap.{framed_width, is_nowrap}
 use Rattle.csv_tables.specs.declared.options.Expansion.{Expansion}
 use Rattle.csv_tables.specs.declared.options.Expansion.TheVariants.{Always, Auto, Never}
 use Rattle.csv_tables.specs.declared.options.Look.{Look}
+use Rattle.csv_tables.specs.declared.selection.Selection.{Selection}
 use Rattle.csv_command.specs.declared.arguments.Options.{Options}
 use Rattle.csv_promises.specs.Counted.{AreExpanded, IsDrawnWithNote, IsWrittenFor}
 use Rattle.csv_promises.specs.Harmless.{IsInBold}
@@ -248,30 +249,30 @@ columns_asked options names rows =
 
 -- a text shows these columns of a header, if there is one, and rows; or expands the rows
 abbrev pub ShowsFields :
-    Bool → Look → Bool → ColumnsValue → Option (List Text) → List (List Text) → Option ℕ → Text
+    Bool → Look → Selection → ColumnsValue → Option (List Text) → List (List Text) → Option ℕ → Text
     → Type 0
-ShowsFields false look is_numbered columns names rows count text =
+ShowsFields false look selection columns names rows count text =
     (are : Bool) × AreLinedUp look are
-    × ShowsRows look (is_some names) false (sides_for is_numbered columns rows)
-    (whole_for look.width look.expansion is_numbered columns.drawn rows)
-    (all_rows is_numbered (mark_for are columns rows) columns.drawn names rows) text
-ShowsFields true look is_numbered columns names rows count text =
-    AreExpanded (ShowsPairs look (unwrap_or names []) columns.drawn) count 1 rows text
+    × ShowsRows look (is_some names) false (sides_for selection.is_numbered columns rows)
+    (whole_for look.width look.expansion selection.is_numbered columns.drawn rows)
+    (all_rows selection.is_numbered (mark_for are columns rows) columns.drawn names rows) text
+ShowsFields true look selection columns names rows count text =
+    AreExpanded (ShowsPairs look (unwrap_or names []) columns.drawn) selection.noun count 1 rows text
 
 -- a text shows what a layout draws of records: the header, if there is one, and below it as many as
 -- the layout asks for, in its columns; and the note on others, which may count them so
 abbrev pub ShowsAllFields : (Option ℕ → Type 0) → Layout → List (List Text) → Text → Type 0
 ShowsAllFields MayCount layout records text =
     IsDrawnWithNote (λ is_expanded.
-    ShowsFields is_expanded layout.look layout.selection.is_numbered layout.columns
+    ShowsFields is_expanded layout.look layout.selection layout.columns
     (names_of layout.selection.has_header records) (drawn_rows layout.selection records)) MayCount
-    layout.look.expansion layout.selection.limit text
+    layout.look.expansion layout.selection text
 
 -- it shows the columns that options choose
 abbrev pub ShowsDrawn :
     Bool → Options → Option (List Text) → List (List Text) → Option ℕ → Text → Type 0
 ShowsDrawn is_expanded options names rows count text =
-    ShowsFields is_expanded options.look options.selection.is_numbered
+    ShowsFields is_expanded options.look options.selection
     (columns_asked options (unwrap_or names []) rows) names rows count text
 
 -- a text shows records: the header, if there is one, and below it as many as options ask for, and

@@ -51,7 +51,7 @@ pub record IsMarkdownTable (options : Options) (records : List (List Text)) (tex
   pub lines : List Text
   pub is :
       text ≡ terminated_text_of (header ∷ rule ∷ lines)
-      ++ note_for true options.selection.limit count
+      ++ note_for options.selection.noun true options.selection.limit count
   pub unbroken : All HasNoBreak (header ∷ rule ∷ lines)
   pub is_rule : IsRule columns rule
   pub as_many :

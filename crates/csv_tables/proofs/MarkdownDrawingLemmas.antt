@@ -210,7 +210,7 @@ pub record GivesRecordsBack (counted : Option ℕ) (layout : Layout) (records : 
       output ≡ terminated_text_of (header
       ∷ rule_line (sides content)
       (max_content_widths (markdown_table layout.look content))
-      ∷ lines) ++ note_for true layout.selection.limit content.count
+      ∷ lines) ++ note_for content.noun true layout.selection.limit content.count
   pub unbroken : All HasNoBreak (header ∷ lines)
   pub names :
       GivesBack (shown_names layout.look content.is_numbered content.columns
@@ -258,7 +258,7 @@ records_are_given_back counted layout records output is short text made some =
       lines = lines;
       is =
           made.joined
-          ∙ ap₂ (λ (t : Text) (b : Bool). t ++ note_for b layout.selection.limit content.count) (drawn.is ∙ ap₂ (λ (a b : List Text). terminated_text_of (below_first rule a ++ b)) above below) is;
+          ∙ ap₂ (λ (t : Text) (b : Bool). t ++ note_for content.noun b layout.selection.limit content.count) (drawn.is ∙ ap₂ (λ (a b : List Text). terminated_text_of (below_first rule a ++ b)) above below) is;
       unbroken = subst (All HasNoBreak) whole (own.headline.controls.without_breaks (markdown_unbroken look content));
       names = line_gives_back look content widths arranged some (header_line look content widths arranged) first;
       rows = lines_give_back look content widths arranged some (counted_from 1 content.rows) others;

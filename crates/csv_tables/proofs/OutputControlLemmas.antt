@@ -46,7 +46,9 @@ use Rattle.csv_tables.proofs.OutputLemmas.{each_markdown_line, markdown_unbroken
 use Rattle.csv_tables.proofs.SeparatorLemmas.{condensed-all, separated}
 use Rattle.csv_tables.proofs.TextTableLemmas.{EachLine, MakesRows, cells_each, pair_each, rows_of_texts, table_of_texts}
 use Rattle.csv_tables.proofs.WholeTableLemmas.{IsDrawn, drawn-is, drawn_plain, drawn_table-is, measured-drawn}
-use Rattle.csv_tables.specs.Drawn.{SelectedValue, RendersAsMarkdown, RendersRecords, RendersAsTable, RendersContent, are_more, condensed_style, markdown_content, markdown_lines, markdown_look, markdown_rule, markdown_table, note_for, output_table, record_line, rows_table, separated_table, sides, is_aligned_in, note_text, record_heading}
+use Rattle.csv_tables.specs.Drawn.{SelectedValue, RendersAsMarkdown, RendersRecords, RendersAsTable, RendersContent, are_more, condensed_style, markdown_content, markdown_lines, markdown_look, markdown_rule, markdown_table, note_for, one_of, output_table, record_line, rows_table, separated_table, several_of, sides, is_aligned_in, note_text, record_heading}
+use Rattle.csv_tables.specs.declared.selection.Noun.{Noun}
+use Rattle.csv_tables.specs.declared.selection.Noun.TheVariants.{Record, Row}
 use Rattle.csv_tables.specs.Laws.{HasLines, IsOutputWith}
 
 -- ---- rows
@@ -253,20 +255,31 @@ printable_is_seen text all = ap visible_text (sym (append-nil text)) ∙ shown_b
 both_printable : (xs ys : Text) → is_printable_ascii xs ≡ true → is_printable_ascii ys ≡ true → is_printable_ascii (xs ++ ys) ≡ true
 both_printable xs ys one other = list_all-append (is_in_range 0x20 0x7E) xs ys ∙ ap₂ (λ a b. a && b) one other
 
-pub heading_is_printable : (n : ℕ) (m : Option ℕ) → is_printable_ascii (record_heading n m) ≡ true
-heading_is_printable n m = by_count m
-  where
-    front : is_printable_ascii (codes "record " ++ decimal n) ≡ true
-    front = both_printable (codes "record ") (decimal n) refl (number_is_printable n)
+one_is_printable : (noun : Noun) → is_printable_ascii (one_of noun) ≡ true
+one_is_printable Record = refl
+one_is_printable Row = refl
 
-    by_count : (m : Option ℕ) → is_printable_ascii (record_heading n m) ≡ true
+several_is_printable : (noun : Noun) → is_printable_ascii (several_of noun) ≡ true
+several_is_printable Record = refl
+several_is_printable Row = refl
+
+pub heading_is_printable : (noun : Noun) (n : ℕ) (m : Option ℕ) → is_printable_ascii (record_heading noun n m) ≡ true
+heading_is_printable noun n m = by_count m
+  where
+    word : Text
+    word = one_of noun ++ codes " "
+
+    front : is_printable_ascii (word ++ decimal n) ≡ true
+    front = both_printable word (decimal n) (both_printable (one_of noun) (codes " ") (one_is_printable noun) refl) (number_is_printable n)
+
+    by_count : (m : Option ℕ) → is_printable_ascii (record_heading noun n m) ≡ true
     by_count None = front
     by_count (Some m) =
-        both_printable ((codes "record " ++ decimal n) ++ codes " of ") (decimal m)
-        (both_printable (codes "record " ++ decimal n) (codes " of ") front refl) (number_is_printable m)
+        both_printable ((word ++ decimal n) ++ codes " of ") (decimal m)
+        (both_printable (word ++ decimal n) (codes " of ") front refl) (number_is_printable m)
 
-pub note_is_printable : (n : ℕ) (m : Option ℕ) → is_printable_ascii (note_text n m) ≡ true
-note_is_printable n None = by_noun (n == 1)
+pub note_is_printable : (noun : Noun) (n : ℕ) (m : Option ℕ) → is_printable_ascii (note_text noun n m) ≡ true
+note_is_printable noun n None = by_noun (n == 1)
   where
     front : Text
     front = (codes "first " ++ decimal n) ++ codes " "
@@ -274,12 +287,14 @@ note_is_printable n None = by_noun (n == 1)
     first : is_printable_ascii front ≡ true
     first = both_printable (codes "first " ++ decimal n) (codes " ") (both_printable (codes "first ") (decimal n) refl (number_is_printable n)) refl
 
-    by_noun : (b : Bool) → is_printable_ascii ((front ++ (if b then codes "record" else codes "records")) ++ codes "; there are more") ≡ true
-    by_noun true = both_printable (front ++ codes "record") (codes "; there are more") (both_printable front (codes "record") first refl) refl
-    by_noun false = both_printable (front ++ codes "records") (codes "; there are more") (both_printable front (codes "records") first refl) refl
-note_is_printable n (Some m) =
-    both_printable ((decimal n ++ codes " of ") ++ decimal m) (codes " records")
-    (both_printable (decimal n ++ codes " of ") (decimal m) (both_printable (decimal n) (codes " of ") (number_is_printable n) refl) (number_is_printable m)) refl
+    by_noun : (b : Bool) → is_printable_ascii ((front ++ (if b then one_of noun else several_of noun)) ++ codes "; there are more") ≡ true
+    by_noun true = both_printable (front ++ one_of noun) (codes "; there are more") (both_printable front (one_of noun) first (one_is_printable noun)) refl
+    by_noun false = both_printable (front ++ several_of noun) (codes "; there are more") (both_printable front (several_of noun) first (several_is_printable noun)) refl
+note_is_printable noun n (Some m) =
+    both_printable (((decimal n ++ codes " of ") ++ decimal m) ++ codes " ") (several_of noun)
+    (both_printable ((decimal n ++ codes " of ") ++ decimal m) (codes " ")
+    (both_printable (decimal n ++ codes " of ") (decimal m) (both_printable (decimal n) (codes " of ") (number_is_printable n) refl) (number_is_printable m)) refl)
+    (several_is_printable noun)
 
 -- ---- outputs of good lines
 
@@ -297,21 +312,21 @@ module _ (L G : Text → Type 0) (good : IsOfLines L G) where
       subst G (sym (append_assoc (line ++ 0x0A ∷ []) (terminated_text_of lines) rest ∙ joined))
       (good.before line (terminated_text_of lines ++ rest) (All-head L line lines none) (after_lines lines rest (All-tail L line lines none) more))
 
-  after_record_line : (n : ℕ) (m : Option ℕ) (rest : Text) → G rest → G (record_line n m ++ rest)
-  after_record_line n m rest more =
-      let line = record_heading n m in
-      subst G (sym (append_assoc line (codes "\n") rest)) (good.before line rest (good.printable line (heading_is_printable n m)) more)
+  after_record_line : (noun : Noun) (n : ℕ) (m : Option ℕ) (rest : Text) → G rest → G (record_line noun n m ++ rest)
+  after_record_line noun n m rest more =
+      let line = record_heading noun n m in
+      subst G (sym (append_assoc line (codes "\n") rest)) (good.before line rest (good.printable line (heading_is_printable noun n m)) more)
 
   -- the line on records that aren't drawn
-  note_is_good : (is_markdown : Bool) (limit : Option ℕ) (count : Option ℕ) → G (note_for is_markdown limit count)
-  note_is_good is_markdown None count = good.nothing
-  note_is_good is_markdown (Some limit) count = by_test (are_more limit count)
+  note_is_good : (noun : Noun) (is_markdown : Bool) (limit : Option ℕ) (count : Option ℕ) → G (note_for noun is_markdown limit count)
+  note_is_good noun is_markdown None count = good.nothing
+  note_is_good noun is_markdown (Some limit) count = by_test (are_more limit count)
     where
       note : Text
-      note = note_text limit count ++ codes "\n"
+      note = note_text noun limit count ++ codes "\n"
 
       seen : G note
-      seen = good.before (note_text limit count) [] (good.printable (note_text limit count) (note_is_printable limit count)) good.nothing
+      seen = good.before (note_text noun limit count) [] (good.printable (note_text noun limit count) (note_is_printable noun limit count)) good.nothing
 
       by_markdown : (b : Bool) → G ((if b then codes "\n" else []) ++ note)
       by_markdown true = good.before [] note (good.printable [] refl) seen
@@ -328,22 +343,22 @@ module _ (L G : Text → Type 0) (good : IsOfLines L G) where
       subst (λ (t : Text). G (t ++ rest)) (sym is) (records (range_with_len 0 (length content.rows)))
     where
       one : ℕ → Text
-      one at = record_line (at + 1) content.count ++ terminated_text_of (parts at)
+      one at = record_line content.noun (at + 1) content.count ++ terminated_text_of (parts at)
 
       records : (places : List ℕ) → G (flat_map one places ++ rest)
       records [] = more
       records (at ∷ places) =
-          let line = record_line (at + 1) content.count in
+          let line = record_line content.noun (at + 1) content.count in
           let part = terminated_text_of (parts at) in
           subst G (sym (append_assoc (one at) (flat_map one places) rest ∙ append_assoc line part (flat_map one places ++ rest)))
-          (after_record_line (at + 1) content.count (part ++ (flat_map one places ++ rest))
+          (after_record_line content.noun (at + 1) content.count (part ++ (flat_map one places ++ rest))
           (after_lines (parts at) (flat_map one places ++ rest) (All-weaker (Contains lines) L (λ l in_lines. All-contains L lines l none in_lines) (parts at) (within at)) (records places)))
 
   -- an output of such lines
   pub output_of_lines : (counted : Option ℕ) (layout : Layout) (records : List (List Text)) (output : Text) (lines : List Text) → IsOutputWith counted layout records output lines → All L lines → G output
   output_of_lines counted layout records output lines made none =
       subst G (sym made.joined)
-      (after_text made.is_expanded made.content lines made.text _ made.has_lines none (note_is_good layout.look.is_markdown layout.selection.limit made.content.count))
+      (after_text made.is_expanded made.content lines made.text _ made.has_lines none (note_is_good made.content.noun layout.look.is_markdown layout.selection.limit made.content.count))
 
 -- ---- lines without replaced characters
 

@@ -70,7 +70,7 @@ module _ (rows : RecordRows) where
         let part = part_is at fields left is (drawn_fields rows.selected fields) (pairs_by rows fields) refl (as_many fields) in
         let count : drawn_fields rows.selected fields ≡ drawn_fields rows.selected (slice_index_or rows.selected.rows at []) = ap (drawn_fields rows.selected) (sym place.1) in
         ap₂ (λ (a b : Text). a ++ b)
-        (ap (λ (t : Text). record_line (at + 1) rows.selected.count ++ t)
+        (ap (λ (t : Text). record_line rows.selected.noun (at + 1) rows.selected.count ++ t)
         (part ∙ ap (λ n. terminated_text_of (some_lines arranged (sum_by (drawn_fields rows.selected) (take at rows.selected.rows)) n)) count))
         (records_are (at + 1) left (place.2 ∙ ap (λ n. drop n rows.selected.rows) one))
 

@@ -120,7 +120,8 @@ fields_text table infos (row ∷ rows) =
 -- an expanded record: its line, and its fields
 abbrev pub expanded_record : RecordRows → TableValue → List ColumnInfo → ℕ → List Text → Text
 expanded_record rows table infos at fields =
-    record_line (at + 1) rows.selected.count ++ fields_text table infos (pairs_by rows fields)
+    record_line rows.selected.noun (at + 1) rows.selected.count
+    ++ fields_text table infos (pairs_by rows fields)
 
 -- expanded records from a place on
 abbrev pub expanded_from : RecordRows → TableValue → List ColumnInfo → ℕ → List (List Text)

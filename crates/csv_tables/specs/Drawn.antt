@@ -26,6 +26,8 @@ use Rattle.csv_tables.specs.declared.options.Layout.{Layout}
 use Rattle.csv_tables.specs.declared.options.RowSeparators.{RowSeparators}
 use Rattle.csv_tables.specs.declared.options.RowSeparators.TheVariants.{Styled, Needed, Never}
 use Rattle.csv_tables.specs.declared.options.ColumnPlan.{ColumnPlan}
+use Rattle.csv_tables.specs.declared.selection.Noun.{Noun}
+use Rattle.csv_tables.specs.declared.selection.Noun.TheVariants.{Record, Row}
 use Rattle.csv_tables.specs.declared.selection.Selection.{Selection}
 use Rattle.csv_tables.specs.NoWrap.{has_room, with_min_widths, with_min_field_width}
 
@@ -60,15 +62,16 @@ column_count selection records =
 
 -- ---- contents
 
--- what is drawn of some records: names, where there are any, rows, and columns of them; how many
--- records stand below the header, where that is known; and whether a column of numbers stands
--- before the columns
+-- what is drawn of some records: names, if there are any, rows, and columns of them; the count of
+-- records below the header, if it is known; whether a column of numbers is before the columns; and
+-- the word for a record
 pub record SelectedValue : Type 0 where
   pub names : Option (List Text)
   pub rows : List (List Text)
   pub columns : List ColumnPlan
   pub count : Option ℕ
   pub is_numbered : Bool
+  pub noun : Noun
 
 -- the columns that are drawn of some records
 abbrev pub columns_of : Layout → List (List Text) → List ColumnPlan
@@ -85,6 +88,7 @@ selected_of counted layout records =
       columns = columns_of layout records;
       count = counted;
       is_numbered = layout.selection.is_numbered;
+      noun = layout.selection.noun;
     }
 
 -- ---- tables
@@ -218,14 +222,23 @@ is_table_expanded look content =
 abbrev pub is_expanded_for : Look → SelectedValue → Bool
 is_expanded_for look content = not look.is_markdown && is_table_expanded look content
 
--- what stands above a record: its number, and how many there are where that is known
-abbrev pub record_heading : ℕ → Option ℕ → Text
-record_heading number None = codes "record " ++ decimal number
-record_heading number (Some count) =
-    ((codes "record " ++ decimal number) ++ codes " of ") ++ decimal count
+-- the word for one record, and the word for several
+abbrev pub one_of : Noun → Text
+one_of Record = codes "record"
+one_of Row = codes "row"
 
-abbrev pub record_line : ℕ → Option ℕ → Text
-record_line number count = record_heading number count ++ codes "\n"
+abbrev pub several_of : Noun → Text
+several_of Record = codes "records"
+several_of Row = codes "rows"
+
+-- the heading of a record: its number, and the count of records if it is known
+abbrev pub record_heading : Noun → ℕ → Option ℕ → Text
+record_heading noun number None = (one_of noun ++ codes " ") ++ decimal number
+record_heading noun number (Some count) =
+    (((one_of noun ++ codes " ") ++ decimal number) ++ codes " of ") ++ decimal count
+
+abbrev pub record_line : Noun → ℕ → Option ℕ → Text
+record_line noun number count = record_heading noun number count ++ codes "\n"
 
 -- how many fields of an expanded record are drawn
 abbrev pub drawn_fields : SelectedValue → List Text → ℕ
@@ -239,7 +252,7 @@ some_lines arranged first (suc count) = part_lines arranged first (suc count)
 -- an expanded record: its line, and its part of the table, behind those of the records before
 abbrev pub record_text : SelectedValue → ArrangedValue → ℕ → Text
 record_text content arranged at =
-    record_line (at + 1) content.count
+    record_line content.noun (at + 1) content.count
     ++ terminated_text_of (some_lines arranged
     (sum_by (drawn_fields content) (take at content.rows))
     (drawn_fields content (slice_index_or content.rows at [])))
@@ -336,21 +349,21 @@ abbrev pub are_more : ℕ → Option ℕ → Bool
 are_more limit None = true
 are_more limit (Some count) = nat_lt limit count
 
--- what is said of records that aren't drawn, where so many are
-abbrev pub note_text : ℕ → Option ℕ → Text
-note_text limit None =
+-- the note on records that aren't drawn, below those that are
+abbrev pub note_text : Noun → ℕ → Option ℕ → Text
+note_text noun limit None =
     (((codes "first " ++ decimal limit) ++ codes " ")
-    ++ (if limit == 1 then codes "record" else codes "records")) ++ codes "; there are more"
-note_text limit (Some count) =
-    ((decimal limit ++ codes " of ") ++ decimal count) ++ codes " records"
+    ++ (if limit == 1 then one_of noun else several_of noun)) ++ codes "; there are more"
+note_text noun limit (Some count) =
+    (((decimal limit ++ codes " of ") ++ decimal count) ++ codes " ") ++ several_of noun
 
 -- the line on records that aren't drawn, in Markdown below an empty one
-abbrev pub note_for : Bool → Option ℕ → Option ℕ → Text
-note_for is_markdown None count = []
-note_for is_markdown (Some limit) count =
+abbrev pub note_for : Noun → Bool → Option ℕ → Option ℕ → Text
+note_for noun is_markdown None count = []
+note_for noun is_markdown (Some limit) count =
     if are_more limit count
     then (if is_markdown then codes "\n" else [])
-    ++ (note_text limit count ++ codes "\n")
+    ++ (note_text noun limit count ++ codes "\n")
     else []
 
 -- the output for some records, of which so many stand below the header, where that is known: the
@@ -362,7 +375,8 @@ pub record RendersRecords (counted : Option ℕ) (layout : Layout) (records : Li
   pub text : Text
   pub is_text : RendersContent layout.look.is_markdown layout.look content text
   pub joined :
-      output ≡ text ++ note_for layout.look.is_markdown layout.selection.limit content.count
+      output
+      ≡ text ++ note_for content.noun layout.look.is_markdown layout.selection.limit content.count
 
 -- how many records stand below the header
 abbrev pub count_below : Selection → List (List Text) → ℕ

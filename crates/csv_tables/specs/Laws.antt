@@ -48,8 +48,9 @@ MarksStandBelow fields =
 -- ---- lines
 
 -- an expanded record: its own line, and some lines below it
-abbrev pub numbered_lines : Option ℕ → (ℕ → List Text) → ℕ → Text
-numbered_lines count parts at = record_line (at + 1) count ++ terminated_text_of (parts at)
+abbrev pub numbered_lines : SelectedValue → (ℕ → List Text) → ℕ → Text
+numbered_lines content parts at =
+    record_line content.noun (at + 1) content.count ++ terminated_text_of (parts at)
 
 -- lines are those of a text; or, expanded, such lines alone stand below each record's own line
 abbrev pub HasLines : Bool → SelectedValue → List Text → Text → Type 0
@@ -57,7 +58,7 @@ HasLines false content lines text = AreLinesOf text lines
 HasLines true content lines text =
     (parts : ℕ → List Text) × ((at : ℕ) → All (Contains lines) (parts at)) × All HasNoBreak lines
     × (text
-    ≡ flat_map (numbered_lines content.count parts) (range_with_len 0 (length content.rows)))
+    ≡ flat_map (numbered_lines content parts) (range_with_len 0 (length content.rows)))
 
 -- an output has these lines, before the line on records that aren't drawn
 pub record IsOutputWith (counted : Option ℕ) (layout : Layout) (records : List (List Text))
@@ -69,7 +70,8 @@ pub record IsOutputWith (counted : Option ℕ) (layout : Layout) (records : List
   pub text : Text
   pub has_lines : HasLines is_expanded content lines text
   pub joined :
-      output ≡ text ++ note_for layout.look.is_markdown layout.selection.limit content.count
+      output
+      ≡ text ++ note_for content.noun layout.look.is_markdown layout.selection.limit content.count
 
 -- the table that is drawn of some records: of their rows or of their fields, with lines between
 -- rows or without

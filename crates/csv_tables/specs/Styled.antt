@@ -150,7 +150,8 @@ pub record RendersStyledRecords (settings : SettingsValue) (counted : Option ℕ
   pub text : Text
   pub is_text : RendersStyledContent settings layout.look.is_markdown layout.look content text
   pub joined :
-      output ≡ text ++ note_for layout.look.is_markdown layout.selection.limit content.count
+      output
+      ≡ text ++ note_for content.noun layout.look.is_markdown layout.selection.limit content.count
 
 -- the output for records that are counted: nothing if there are none
 abbrev pub RendersAnyStyledRecords : SettingsValue → Layout → List (List Text) → Text

@@ -231,7 +231,8 @@ fn push_expanded(
     let mut cells = Vec::new(rows.selected.alloc);
     let mut at = place;
     for fields in next.iter() {
-        push_record_line(text, at, rows.selected.count())?;
+        let selected = &rows.selected;
+        push_record_line(text, selected.noun, at, selected.count())?;
         push_fields(text, rows, &fields, &mut writer, &mut cells)?;
         at += 1;
     }

@@ -4,6 +4,7 @@ ghost use Rattle.std.specs.Prelude.{◌≡◌, ◌+◌, ◌++◌, OnOk, string_b
 ghost use Rattle.csv_tables.specs.Drawn.{is_expanded_in, record_line};
 
 use crate::options::Expansion;
+use crate::selection::Noun;
 use comfy_table::Result;
 use std::fmt::Write;
 
@@ -19,12 +20,18 @@ pub(crate) fn is_expanded(expansion: Expansion, has_room: bool) -> bool
 }
 
 /// Appends the line above the record at a place.
-pub(crate) fn push_record_line(text: &mut String, at: usize, count: Option<usize>) -> Result<()>
+pub(crate) fn push_record_line(
+    text: &mut String,
+    noun: Noun,
+    at: usize,
+    count: Option<usize>,
+) -> Result<()>
     ensures { OnOk result (string_bytes text.new
-        ≡ string_bytes text.old ++ record_line (at + 1) count) }
+        ≡ string_bytes text.old ++ record_line noun (at + 1) count) }
 {
-    // one `write!` of all parts takes 120 instructions more
-    text.push_str("record ")?;
+    // One `write!` of all parts takes 120 instructions more.
+    text.push_str(noun.one())?;
+    text.push(' ')?;
     write!(text, "{}", at as u128 + 1)?;
     if let Some(count) = count {
         text.push_str(" of ")?;

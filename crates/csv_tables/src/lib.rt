@@ -32,5 +32,5 @@ pub use output::{
     drawn_records, drawn_styled_records, output_of_records, output_of_styled_records,
     text_of_records,
 };
-pub use selection::{Columns, Selection};
+pub use selection::{Columns, Noun, Selection};
 pub use settings::{CellSettings, ColumnSettings, RowSettings, Settings};

@@ -22,6 +22,7 @@ use crate::nowrap::{keep_nowrap, keep_nowrap_fields};
 use crate::options::{Expansion, Layout, Look};
 use crate::rows::RecordRows;
 use crate::selected::SelectedRecords;
+use crate::selection::{Noun, Selection};
 use crate::separators::{separate_fields, separate_rows};
 use crate::settings::Settings;
 use crate::table::markdown_look;
@@ -63,7 +64,7 @@ pub fn drawn_styled_records(
         RendersStyledRecords settings count layout.now records drawn) }
 {
     let look = &layout.look;
-    let note = note_of(alloc, look.is_markdown, layout.selection.limit, count)?;
+    let note = note_of(alloc, look.is_markdown, &layout.selection, count)?;
     let selected = SelectedRecords::new(alloc, records, count, layout)?;
     if look.is_markdown {
         return markdown_records(selected, look, note);
@@ -301,16 +302,17 @@ fn with_rule_between(contents: &LazyTable, first: &str, below: &str) -> Result<S
 fn note_of(
     alloc: Global,
     is_markdown: bool,
-    limit: Option<usize>,
+    selection: &Selection,
     count: Option<usize>,
 ) -> std::result::Result<String, AllocError>
-    ensures { IfOk result (λ note. string_bytes note ≡ note_for is_markdown limit count) }
+    ensures { IfOk result (λ note. string_bytes note
+        ≡ note_for selection.now.noun is_markdown selection.now.limit count) }
 {
     let mut note = String::new(alloc);
-    match limit {
+    match selection.limit {
         Some(limit) if are_more(limit, count) => {
             note.push_str(if is_markdown { "\n" } else { "" })?;
-            push_note(&mut note, limit, count)?;
+            push_note(&mut note, selection.noun, limit, count)?;
             note.push('\n')?;
         }
         _ => {}
@@ -332,16 +334,17 @@ fn are_more(limit: usize, count: Option<usize>) -> bool
 // Appends how many records are drawn, and how many there are.
 fn push_note(
     note: &mut String,
+    noun: Noun,
     limit: usize,
     count: Option<usize>,
 ) -> std::result::Result<(), AllocError>
     ensures { OnOk result (string_bytes note.new
-        ≡ string_bytes note.old ++ note_text limit count) }
+        ≡ string_bytes note.old ++ note_text noun limit count) }
 {
     match count {
-        Some(count) => write!(note, "{limit} of {count} records"),
+        Some(count) => write!(note, "{limit} of {count} {}", noun.several()),
         None => {
-            let drawn = if limit == 1 { "record" } else { "records" };
+            let drawn = if limit == 1 { noun.one() } else { noun.several() };
             write!(note, "first {limit} {drawn}; there are more")
         }
     }

@@ -10,7 +10,7 @@ ghost use Rattle.csv_tables.specs.Styled.{centered, with_centers};
 use crate::columns::drawn_columns;
 use crate::limits::settings_at;
 use crate::options::{ColumnPlan, Layout};
-use crate::selection::{limited, names_of, records_below};
+use crate::selection::{Noun, limited, names_of, records_below};
 use crate::settings::ColumnSettings;
 use comfy_parts::Result;
 use comfy_parts::style::CellAlignment;
@@ -33,8 +33,10 @@ pub struct SelectedRecords {
     pub(crate) columns: Vec<ColumnPlan>,
     // of each column, the least position of it and of those behind it
     least_behind: Vec<usize>,
-    // whether a column of numbers stands before them
+    // whether a column of numbers is before them
     pub(crate) is_numbered: bool,
+    // the word for a record in lines that count them
+    pub(crate) noun: Noun,
 }
 
 impl Model for SelectedRecords {
@@ -54,6 +56,7 @@ impl Model for SelectedRecords {
       columns = c.columns.items;
       count = c.count;
       is_numbered = c.is_numbered;
+      noun = c.noun;
     } };
 }
 
@@ -81,6 +84,7 @@ impl SelectedRecords {
             columns,
             least_behind,
             is_numbered: layout.selection.is_numbered,
+            noun: layout.selection.noun,
         })
     }
 

@@ -2,7 +2,7 @@
 
 ghost use Rattle.std.specs.Prelude.{◌≡◌, ◌==◌, length};
 ghost use Rattle.csv_tables.specs.Columns.{ColumnsValue, count_of};
-ghost use Rattle.csv_tables.specs.Drawn.{column_count, drawn_rows, limited, names_of, names_or_none, records_below};
+ghost use Rattle.csv_tables.specs.Drawn.{column_count, drawn_rows, limited, names_of, names_or_none, one_of, records_below, several_of};
 
 use csv_records::{Record, Rows};
 use std::marker::Model;
@@ -18,6 +18,39 @@ pub struct Selection {
     /// from 1. No position is its own, and other columns keep theirs. Records that are expanded
     /// have their numbers above them anyway, and no such field.
     pub is_numbered: bool,
+    /// The word for a record in the lines that count records.
+    pub noun: Noun,
+}
+
+/// The word for a record in the lines that count records.
+#[derive(Clone, Copy, Debug, PartialEq, Eq)]
+pub enum Noun {
+    /// `record 1 of 2`.
+    Record,
+    /// `row 1 of 2`.
+    Row,
+}
+
+impl Noun {
+    /// The word for one.
+    pub(crate) fn one(self) -> &'static str
+        ensures { result.now ≡ one_of self }
+    {
+        match self {
+            Noun::Record => "record",
+            Noun::Row => "row",
+        }
+    }
+
+    /// The word for several, and for none.
+    pub(crate) fn several(self) -> &'static str
+        ensures { result.now ≡ several_of self }
+    {
+        match self {
+            Noun::Record => "records",
+            Noun::Row => "rows",
+        }
+    }
 }
 
 impl Selection {

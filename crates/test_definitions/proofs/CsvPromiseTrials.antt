@@ -31,6 +31,8 @@ use Rattle.promises.specs.Shown.{ShowsColumns}
 use Rattle.promises.specs.Tables.{HasCharactersWithin}
 use Rattle.csv_tables.specs.Columns.{ColumnsValue}
 use Rattle.csv_tables.specs.Drawn.{drawn_rows, note_for, record_line}
+use Rattle.csv_tables.specs.declared.selection.Noun.TheVariants.{Record, Row}
+use Rattle.csv_tables.specs.declared.selection.Selection.{Selection}
 use Rattle.comfy_table.specs.Drawing.{terminated_text_of}
 use Rattle.comfy_table.specs.Laws.{AreLinesOf, LeavesNoneOpen}
 use Rattle.csv_promises.specs.Counted.{AreExpanded, DrawsLines, EachDrawnLine, HasEachLine, MayExpand}
@@ -59,13 +61,13 @@ unbold = record bold { has_bold_header = false; aligns_decimals = false; style =
 
 -- without a header, with records expanded or not, and a limit
 abbrev pub asked : Expansion → Option ℕ → Options → Options
-asked expansion limit options = record options { selection = record options.selection { has_header = false; limit = limit }; look = record unbold { expansion = expansion } }
+asked expansion limit options = record options { selection = record options.selection { has_header = false; limit = limit; noun = Record }; look = record unbold { expansion = expansion } }
 
 -- what is written of rows has the drawn lines alone, if no limit is asked for
 pub drawn_lines : (P : Text → Type 0) (options : Options) → options.look.expansion ≡ Never → options.selection.limit ≡ None → (records : List (List Text)) (text : Text) → EachDrawnLine P options records text → HasEachLine P text
 drawn_lines P options never unlimited records text is =
-    subst (HasEachLine P) (sym (is.joined ∙ ap (λ (limit : Option ℕ). is.drawn ++ note_for false limit is.count) unlimited ∙ append-nil is.drawn))
-    (subst (λ (b : Bool). DrawsLines P (drawn_rows options.selection records) b is.count is.drawn) (subst (λ (e : Expansion). MayExpand e is.is_expanded) never is.expansion) is.draws)
+    subst (HasEachLine P) (sym (is.joined ∙ ap (λ (limit : Option ℕ). is.drawn ++ note_for options.selection.noun false limit is.count) unlimited ∙ append-nil is.drawn))
+    (subst (λ (b : Bool). DrawsLines P options.selection.noun (drawn_rows options.selection records) b is.count is.drawn) (subst (λ (e : Expansion). MayExpand e is.is_expanded) never is.expansion) is.draws)
 
 -- two lines of rows show the same number of columns
 same_columns : (first second text : Text) → slice_split (λ b. b == 0x0A) text ≡ first ∷ second ∷ [] ∷ [] → list_any (λ b. b == 0x1B) first ≡ false → list_any (λ b. b == 0x1B) second ≡ false → (options : Options) (records : List (List Text)) → IsStraight (asked Never None options) records text → measure first ≡ measure second
@@ -377,7 +379,7 @@ ends_in_m line front is (own, ends) =
 
 -- one record of a field `a` below a name `a`
 abbrev OneExpanded : Text → Type 0
-OneExpanded = AreExpanded (ShowsPairs unbold (codes "a" ∷ []) (0 ∷ [])) (Some 1) 1 ((codes "a" ∷ []) ∷ [])
+OneExpanded = AreExpanded (ShowsPairs unbold (codes "a" ∷ []) (0 ∷ [])) Record (Some 1) 1 ((codes "a" ∷ []) ∷ [])
 
 -- it isn't the second one, and not without its line
 another_number : ¬ (OneExpanded (codes "record 2 of 1\n a  a \n"))
@@ -426,7 +428,7 @@ split_date keeps =
     omega (arith, whole)
 
 -- nothing stands behind the last record
-text_behind : ¬ (AreExpanded (ShowsPairs unbold [] []) (Some 1) 2 [] (codes " a \n"))
+text_behind : ¬ (AreExpanded (ShowsPairs unbold [] []) Record (Some 1) 2 [] (codes " a \n"))
 text_behind is = cc is
 
 -- records are expanded where that is asked for, and not where it is forbidden
@@ -445,22 +447,22 @@ expanded options = asked Always None options
 abbrev in_rows : Look
 in_rows = record unbold { expansion = Never }
 
-lost_field : (columns : ColumnsValue) (is_numbered : Bool) (count : Option ℕ) → columns.drawn ≡ 0 ∷ [] → is_numbered ≡ false → ¬ (ShowsFields false in_rows is_numbered columns None ((codes "a" ∷ []) ∷ []) count [])
+lost_field : (columns : ColumnsValue) (selection : Selection) (count : Option ℕ) → columns.drawn ≡ 0 ∷ [] → selection.is_numbered ≡ false → ¬ (ShowsFields false in_rows selection columns None ((codes "a" ∷ []) ∷ []) count [])
 unfolding field_at
-lost_field columns is_numbered count first unnumbered (are, lined, shows) =
+lost_field columns selection count first unnumbered (are, lined, shows) =
     nothing_shows_no_field in_rows refl refl [] (true ∷ [])
     (subst (λ (field : Text). Shows false (0 ∷ []) ((field ∷ []) ∷ [])) a_stays
     (subst (λ (positions : List ℕ). Shows false positions (all_rows false no_marks positions None ((codes "a" ∷ []) ∷ []))) first
     (subst (λ (b : Bool). Shows b columns.drawn (all_rows b no_marks columns.drawn None ((codes "a" ∷ []) ∷ []))) unnumbered
-    (subst (λ (b : Bool). Shows is_numbered columns.drawn (all_rows is_numbered (mark_for b columns ((codes "a" ∷ []) ∷ [])) columns.drawn None ((codes "a" ∷ []) ∷ []))) (lined.unasked refl) shows))))
+    (subst (λ (b : Bool). Shows selection.is_numbered columns.drawn (all_rows selection.is_numbered (mark_for b columns ((codes "a" ∷ []) ∷ [])) columns.drawn None ((codes "a" ∷ []) ∷ []))) (lined.unasked refl) shows))))
   where
     Shows : Bool → List ℕ → List (List Text) → Type 0
     Shows b positions rows = ShowsRows in_rows false false (sides_after_number b (map (side_for columns ((codes "a" ∷ []) ∷ [])) positions)) (whole_for None Never b positions ((codes "a" ∷ []) ∷ [])) rows []
 
 lost_record : (options : Options) → options.columns.chosen.items ≡ [] → options.columns.dropped.items ≡ [] → options.selection.is_numbered ≡ false → ¬ (ShowsRecords (asked Never None options) ((codes "a" ∷ []) ∷ []) [])
 lost_record options chosen dropped unnumbered is =
-    lost_field columns options.selection.is_numbered is.count first unnumbered
-    (subst (ShowsFields false in_rows options.selection.is_numbered columns None ((codes "a" ∷ []) ∷ []) is.count) (sym (is.joined ∙ append-nil is.drawn))
+    lost_field columns (asked Never None options).selection is.count first unnumbered
+    (subst (ShowsFields false in_rows (asked Never None options).selection columns None ((codes "a" ∷ []) ∷ []) is.count) (sym (is.joined ∙ append-nil is.drawn))
     (subst (λ (b : Bool). ShowsDrawn b (asked Never None options) None ((codes "a" ∷ []) ∷ []) is.count is.drawn) is.expansion is.draws))
   where
     columns : ColumnsValue
@@ -472,13 +474,13 @@ lost_record options chosen dropped unnumbered is =
 -- nor is a text that a program in C gives in a row
 -- false: comfy_c::drawn_rows
 abbrev one_column_of : ColumnsValue → Layout
-one_column_of columns = record { columns = columns; look = in_rows; selection = record { has_header = false; is_numbered = false; limit = None } }
+one_column_of columns = record { columns = columns; look = in_rows; selection = record { has_header = false; is_numbered = false; limit = None; noun = Row } }
 
 lost_text : (MayCount : Option ℕ → Type 0) (columns : ColumnsValue) → columns.drawn ≡ 0 ∷ [] → ¬ (ShowsAllFields MayCount (one_column_of columns) ((codes "a" ∷ []) ∷ []) [])
 lost_text MayCount columns first is =
-    lost_field columns false is.count first refl
-    (subst (ShowsFields false in_rows false columns None ((codes "a" ∷ []) ∷ []) is.count) (sym (is.joined ∙ append-nil is.drawn))
-    (subst (λ (b : Bool). ShowsFields b in_rows false columns None ((codes "a" ∷ []) ∷ []) is.count is.drawn) is.expansion is.draws))
+    lost_field columns (one_column_of columns).selection is.count first refl
+    (subst (ShowsFields false in_rows (one_column_of columns).selection columns None ((codes "a" ∷ []) ∷ []) is.count) (sym (is.joined ∙ append-nil is.drawn))
+    (subst (λ (b : Bool). ShowsFields b in_rows (one_column_of columns).selection columns None ((codes "a" ∷ []) ∷ []) is.count is.drawn) is.expansion is.draws))
 
 -- fields behind their numbers, and without
 rows_after_numbers : map (λ is_numbered. all_rows is_numbered no_marks (1 ∷ []) (Some (codes "a" ∷ codes "b" ∷ [])) ((codes "x" ∷ codes "y" ∷ []) ∷ (codes "z" ∷ []) ∷ [])) (true ∷ false ∷ [])
@@ -498,9 +500,9 @@ counts_two : (options : Options) (text : Text) → first_of_two options text →
 unfolding digits
 counts_two options text is = by_count is.count is.is_count is.joined
   where
-    by_count : (count : Option ℕ) → MatchOption count ((options.counts_all ≡ false) × (1 < 2)) (λ n. n ≡ 2) → text ≡ is.drawn ++ note_for false (Some 1) count → (the_count text ≡ 0x32) ⊎ (the_count text ≡ 0x20)
-    by_count None more made = inr (ap (λ (t : Text). slice_index_or t 9 0) (ap reverse made ∙ reverse-append is.drawn (note_for false (Some 1) None)))
-    by_count (Some n) two made = inl (ap (λ (t : Text). slice_index_or t 9 0) (ap reverse (made ∙ ap (λ (m : ℕ). is.drawn ++ note_for false (Some 1) (Some m)) two) ∙ reverse-append is.drawn (note_for false (Some 1) (Some 2))))
+    by_count : (count : Option ℕ) → MatchOption count ((options.counts_all ≡ false) × (1 < 2)) (λ n. n ≡ 2) → text ≡ is.drawn ++ note_for Record false (Some 1) count → (the_count text ≡ 0x32) ⊎ (the_count text ≡ 0x20)
+    by_count None more made = inr (ap (λ (t : Text). slice_index_or t 9 0) (ap reverse made ∙ reverse-append is.drawn (note_for Record false (Some 1) None)))
+    by_count (Some n) two made = inl (ap (λ (t : Text). slice_index_or t 9 0) (ap reverse (made ∙ ap (λ (m : ℕ). is.drawn ++ note_for Record false (Some 1) (Some m)) two) ∙ reverse-append is.drawn (note_for Record false (Some 1) (Some 2))))
 
 neither : (n : ℕ) → ¬ (n ≡ 0x32) → ¬ (n ≡ 0x20) → ¬ ((n ≡ 0x32) ⊎ (n ≡ 0x20))
 neither n two more (inl is) = two is
@@ -523,7 +525,7 @@ another_count options is =
     by_count : (count : Option ℕ) → MatchOption count ((options.counts_all ≡ false) × (1 < 1)) (λ n. n ≡ 1) → ShowsDrawn true (expanded options) None ((codes "a" ∷ []) ∷ []) count is.drawn → ¬ (codes "record 1 of 2\n 1  a \n" ≡ is.drawn)
     by_count None more shows made = absurd (omega (arith, more.1))
     by_count (Some n) one (own, rest, is, shows, more) made =
-        let same : codes "record 1 of 2\n 1  a \n" ≡ record_line 1 (Some 1) ++ (own ++ rest) = made ∙ is ∙ ap (λ (m : ℕ). record_line 1 (Some m) ++ (own ++ rest)) one in
+        let same : codes "record 1 of 2\n 1  a \n" ≡ record_line Record 1 (Some 1) ++ (own ++ rest) = made ∙ is ∙ ap (λ (m : ℕ). record_line Record 1 (Some m) ++ (own ++ rest)) one in
         let letter : ◌≡◌ {A = ℕ} 0x32 0x31 = ap (λ (t : Text). slice_index_or t 12 0) same in absurd (omega (arith, letter))
 
 -- and if a count is asked for, it isn't left out
@@ -531,10 +533,10 @@ count_is_missing : (options : Options) → options.counts_all ≡ true → ¬ (f
 unfolding digits
 count_is_missing options counts is = by_count is.count is.is_count is.joined
   where
-    by_count : (count : Option ℕ) → MatchOption count ((options.counts_all ≡ false) × (1 < 2)) (λ n. n ≡ 2) → ¬ (codes " a \nfirst 1 record; there are more\n" ≡ is.drawn ++ note_for false (Some 1) count)
+    by_count : (count : Option ℕ) → MatchOption count ((options.counts_all ≡ false) × (1 < 2)) (λ n. n ≡ 2) → ¬ (codes " a \nfirst 1 record; there are more\n" ≡ is.drawn ++ note_for Record false (Some 1) count)
     by_count None uncounted made = absurd (cc (counts, uncounted.0))
     by_count (Some n) two made =
-        let letter : ◌≡◌ {A = ℕ} 0x65 0x73 = ap (λ (t : Text). slice_index_or t 1 0) (ap reverse (made ∙ ap (λ (m : ℕ). is.drawn ++ note_for false (Some 1) (Some m)) two) ∙ reverse-append is.drawn (note_for false (Some 1) (Some 2))) in absurd (omega (arith, letter))
+        let letter : ◌≡◌ {A = ℕ} 0x65 0x73 = ap (λ (t : Text). slice_index_or t 1 0) (ap reverse (made ∙ ap (λ (m : ℕ). is.drawn ++ note_for Record false (Some 1) (Some m)) two) ∙ reverse-append is.drawn (note_for Record false (Some 1) (Some 2))) in absurd (omega (arith, letter))
 
 -- ---- texts that a terminal gets
 

@@ -15,6 +15,7 @@ use Rattle.csv_tables.specs.declared.options.ColumnPlan.{ColumnPlan}
 use Rattle.csv_tables.specs.declared.options.Look.{Look}
 use Rattle.csv_tables.proofs.MarkdownLineLemmas.{GivesBack}
 use Rattle.csv_tables.specs.MarkdownLines.{parts_between_bars, read_part, without_outer_spaces}
+use Rattle.csv_tables.specs.declared.selection.Noun.TheVariants.{Record}
 use Rattle.test_definitions.proofs.PlainLook.{plain_look}
 
 -- a line as its parts are read
@@ -66,6 +67,7 @@ content =
       columns = record { position = 0; alignment = None; points = None; is_nowrap = false } ∷ record { position = 1; alignment = Some Right; points = None; is_nowrap = false } ∷ [];
       count = None;
       is_numbered = false;
+      noun = Record;
     }
 
 -- the line below the header has a colon for the column at the right

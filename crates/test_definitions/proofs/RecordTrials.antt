@@ -38,6 +38,7 @@ use Rattle.comfy_parts.specs.Presets.{nothing, utf8_full, utf8_full_condensed}
 use Rattle.comfy_parts.specs.StyleModifiers.{with_rounded_corners}
 use Rattle.csv_tables.specs.Cells.{held, columns_within, unless_blank}
 use Rattle.csv_tables.specs.declared.options.ColumnPlan.{ColumnPlan}
+use Rattle.csv_tables.specs.declared.selection.Noun.TheVariants.{Record, Row}
 
 abbrev texts : List String → List Text
 texts words = map (λ (word : String). codes word) words
@@ -281,16 +282,21 @@ chosen_alignments = refl
 
 -- ---- the line on records that aren't drawn
 
-notes : map (note_for false (Some 2)) (Some 1 ∷ Some 2 ∷ Some 3 ∷ None ∷ []) ≡ [] ∷ [] ∷ codes "2 of 3 records\n" ∷ codes "first 2 records; there are more\n" ∷ []
+notes : map (note_for Record false (Some 2)) (Some 1 ∷ Some 2 ∷ Some 3 ∷ None ∷ []) ≡ [] ∷ [] ∷ codes "2 of 3 records\n" ∷ codes "first 2 records; there are more\n" ∷ []
 unfolding digits
 notes = refl
 
-note_on_one : note_for false (Some 1) None ≡ codes "first 1 record; there are more\n"
+note_on_one : note_for Record false (Some 1) None ≡ codes "first 1 record; there are more\n"
 unfolding digits
 note_on_one = refl
 
+-- rows that a caller gives aren't called records
+notes_on_rows : note_for Row false (Some 1) None ∷ note_for Row false (Some 0) (Some 2) ∷ [] ≡ codes "first 1 row; there are more\n" ∷ codes "0 of 2 rows\n" ∷ []
+unfolding digits
+notes_on_rows = refl
+
 -- in Markdown below an empty line
-note_in_markdown : note_for true (Some 2) (Some 3) ≡ codes "\n2 of 3 records\n"
+note_in_markdown : note_for Record true (Some 2) (Some 3) ≡ codes "\n2 of 3 records\n"
 unfolding digits
 note_in_markdown = refl
 
@@ -299,14 +305,19 @@ rule : rule_line (None ∷ Some Right ∷ []) (3 ∷ 1 ∷ []) ≡ codes "|-----
 rule = refl
 
 -- the line above a record
-third_record : record_line 3 (Some 12) ≡ codes "record 3 of 12\n"
+third_record : record_line Record 3 (Some 12) ≡ codes "record 3 of 12\n"
 unfolding digits
 third_record = refl
 
--- and where it isn't known how many there are
-third_uncounted : record_line 3 None ≡ codes "record 3\n"
+-- and if the count isn't known
+third_uncounted : record_line Record 3 None ≡ codes "record 3\n"
 unfolding digits
 third_uncounted = refl
+
+-- of a row
+third_row : record_line Row 3 (Some 12) ≡ codes "row 3 of 12\n"
+unfolding digits
+third_row = refl
 
 first_rows : limited {A = ℕ} (Some 2) (1 ∷ 2 ∷ 3 ∷ []) ≡ 1 ∷ 2 ∷ []
 first_rows = refl

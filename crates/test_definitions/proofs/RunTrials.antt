@@ -9,6 +9,7 @@ use Rattle.comfy_parts.specs.Text.{Text}
 use Rattle.csv_records.specs.Beginning.{whole_lines}
 use Rattle.csv_records.specs.declared.encoding.Encoding.TheVariants.{Utf8}
 use Rattle.csv_tables.specs.Drawn.{note_for}
+use Rattle.csv_tables.specs.declared.selection.Noun.TheVariants.{Record}
 use Rattle.csv_command.specs.Drawn.{AreEnough, IsNotEnough}
 use Rattle.csv_command.proofs.FirstRowLemmas.{whole_no_memory}
 use Rattle.csv_command.specs.Run.{IsAfter, IsAfterIn}
@@ -86,6 +87,6 @@ lines : map whole_lines (codes "a\nb\nc" ∷ codes "a\n" ∷ codes "ab" ∷ code
 lines = refl
 
 -- a count that is known isn't drawn as one that isn't
-two_notes : ¬ (note_for false (Some 3) (Some 12) ≡ note_for false (Some 3) None)
+two_notes : ¬ (note_for Record false (Some 3) (Some 12) ≡ note_for Record false (Some 3) None)
 unfolding digits
 two_notes is = let differ : 16 ≡ 32 = ap length is in absurd (omega (arith, differ))

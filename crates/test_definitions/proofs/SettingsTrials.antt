@@ -12,6 +12,7 @@ use Rattle.csv_tables.specs.Drawn.{SelectedValue}
 use Rattle.csv_tables.specs.Settings.{CellSettingsValue, RowSettingsValue, dressed}
 use Rattle.csv_tables.specs.Styled.{dressed_table, placed}
 use Rattle.csv_tables.specs.declared.options.ColumnPlan.{ColumnPlan}
+use Rattle.csv_tables.specs.declared.selection.Noun.TheVariants.{Record}
 
 -- a red cell with a line below its text, one in the middle, and one that has nothing of its own
 abbrev red : CellSettingsValue
@@ -46,7 +47,7 @@ places : placed true (column 1 ∷ column 0 ∷ column 2 ∷ []) (red ∷ middle
 places = refl
 
 abbrev content : SelectedValue
-content = record { names = None; rows = []; columns = column 1 ∷ column 0 ∷ []; count = None; is_numbered = true }
+content = record { names = None; rows = []; columns = column 1 ∷ column 0 ∷ []; count = None; is_numbered = true; noun = Record }
 
 -- the header has a red name, the first record has nothing of its own, and the second one has at most one line
 abbrev settings : List RowSettingsValue

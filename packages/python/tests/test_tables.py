@@ -134,7 +134,7 @@ class Drawings(unittest.TestCase):
         self.assertEqual(
             tabulate([["oats", 3]], headers=["name", "price"], expanded=True, style="box"),
             drawn("""
-record 1 of 1
+row 1 of 1
 ┌───────┬──────┐
 │ name  ┆ oats │
 │ price ┆ 3    │
@@ -358,7 +358,7 @@ class Snippets(unittest.TestCase):
         self.assertEqual(tabulate([["\ue000", "\ue001"]], tablefmt="plain"), "\ue000  \ue001")
         lines = tabulate([["one two three four", "five six seven"]], tablefmt="simple", width=17).split("\n")
         self.assertEqual(max(map(len, lines)), 17)
-        self.assertEqual(tabulate([["a", 1]], ["x", "y"], tablefmt="plain", expanded=True), "record 1 of 1\n x    a\n y    1")
+        self.assertEqual(tabulate([["a", 1]], ["x", "y"], tablefmt="plain", expanded=True), "row 1 of 1\n x    a\n y    1")
 
     def test_columns_in_the_middle_of_markdown(self):
         rows, names = [["a", 1], ["bcd", 22]], ["x", "num"]
@@ -686,7 +686,7 @@ class Settings(unittest.TestCase):
 """)
         self.assertEqual(tabulate(rows, style=["", "   !", "", "", "", "    "], padding=0), "ab \ncd ")
         self.expect(tabulate(rows[:1], ["x", "y"], style=frame, expanded=True), """
-record 1 of 1
+row 1 of 1
 ╔═══╦═══╗
 ║ x │ a ║
 ╟───┼───╢

@@ -93,7 +93,7 @@ fn markdown_records_and_bold() {
     assert_eq!(
         rows.clone().expanded(Expanded::Always).style(Style::Box).to_string(),
         "\
-record 1 of 1
+row 1 of 1
 ┌───┬─────┐
 │ x ┆ a|b │
 │ y ┆ 1   │

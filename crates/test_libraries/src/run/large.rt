@@ -7,7 +7,7 @@ use comfy_table::ContentArrangement;
 use comfy_table::presets::ASCII_FULL;
 use csv_command::{ColumnWords, Options, draw};
 use csv_records::{Delimiter, InputOptions};
-use csv_tables::{Expansion, Look, RowSeparators, Selection};
+use csv_tables::{Expansion, Look, Noun, RowSeparators, Selection};
 use std::alloc::{Alloc, AllocError, Global};
 use std::process::Abort;
 
@@ -250,6 +250,7 @@ pub(super) fn options(alloc: Global, width: Option<u16>, has_sequences: bool) ->
             has_header: true,
             limit: None,
             is_numbered: false,
+            noun: Noun::Record,
         },
         columns: ColumnWords {
             chosen: Vec::new(alloc),

@@ -288,8 +288,7 @@ def _drawing(table: Table) -> str:
     drawing = _drawn(contents, _heights_of(table.max_height, headers, len(values.rows)), settings)[:-1]
     if is_markdown:
         drawing = _with_colons(drawing, [column.side for column in contents.columns], frame.has_colons)
-    # The library's line that counts rows calls them records.
-    return frame.finished(f"{drawing[:-len('records')]}rows" if settings.limit < len(values.rows) else drawing)
+    return frame.finished(drawing)
 
 
 def _contents_of(table: Table, values: Values, frame: Frame, has_colors: bool) -> _Contents:

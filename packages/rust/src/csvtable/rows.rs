@@ -430,7 +430,7 @@ impl Rows {
         let drawn = if is_plain { Cow::Owned(self.texts.without_sequences()) } else { Cow::Borrowed(&self.texts) };
         if self.chosen.is_empty() {
             let columns: Vec<RowsColumn> = self.sides.iter().copied().map(RowsColumn::at).collect();
-            return Ok(self.counted_as_rows(draw_rows(&drawn, &columns, &settings)?));
+            return Ok(draw_rows(&drawn, &columns, &settings)?);
         }
         let mut texts = Texts::default();
         for row in drawn.rows() {
@@ -440,20 +440,7 @@ impl Rows {
             texts.counts.push(self.chosen.len());
         }
         let columns: Vec<RowsColumn> = self.chosen.iter().map(|position| RowsColumn::at(self.sides[*position])).collect();
-        Ok(self.counted_as_rows(draw_rows(&texts, &columns, &settings)?))
-    }
-
-    // A drawing whose last line counts rows, if it counted records. A line of a row isn't mistaken for it, because a space comes
-    // before each text.
-    fn counted_as_rows(&self, drawing: String) -> String {
-        let Some(limit) = self.settings.limit else {
-            return drawing;
-        };
-        let of = format!("\n{limit} of {} ", self.len());
-        match drawing.strip_suffix("records\n") {
-            Some(front) if front.ends_with(&of) => format!("{front}rows\n"),
-            _ => drawing,
-        }
+        Ok(draw_rows(&texts, &columns, &settings)?)
     }
 
     fn positions<T: Into<Column>>(&self, columns: impl IntoIterator<Item = T>) -> Result<Vec<usize>, Error> {

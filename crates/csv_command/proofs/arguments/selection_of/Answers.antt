@@ -10,4 +10,5 @@ returns c =
       header = ap not c.is_given.ensures;
       limit = limit;
       numbers = c.is_given-2.ensures;
+      noun = refl;
     }

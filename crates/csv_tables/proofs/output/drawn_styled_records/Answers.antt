@@ -14,14 +14,14 @@ returns-then-look c =
     let look = layout.look in
     let settings = c.args.settings in
     let selected = c.in_ok-selected.selected in
-    let count = ap (λ (s : SelectedValue). s.count) c.in_ok-selected.ensures in
+    let counted = ap (λ (s : SelectedValue). note_for s.noun look.is_markdown layout.selection.limit s.count) c.in_ok-selected.ensures in
     IfOk-weaker c.markdown_records.result _ _
     (λ output made. record {
       content = selected;
       is_content = sym c.in_ok-selected.ensures;
       text = made.0;
       is_text = subst (λ b. RendersStyledContent settings b look selected made.0) (sym c.if-look.true) made.1;
-      joined = made.2 ∙ ap (λ (t : Text). made.0 ++ t) (c.in_ok-note.ensures ∙ ap (note_for look.is_markdown layout.selection.limit) (sym count));
+      joined = made.2 ∙ ap (λ (t : Text). made.0 ++ t) (c.in_ok-note.ensures ∙ sym counted);
     })
     c.markdown_records.ensures
 
@@ -42,7 +42,7 @@ returns c =
     subst (λ (s : SelectedValue). RendersStyled settings look s text) same
     (renders settings look contents arranged.infos (subst (λ (s : SelectedValue). AreDrawnContents settings look s contents) (sym same) made) c.in_ok-arranged_contents.ensures.infos c.in_ok-arranged_contents.ensures.rows) in
     let kind : RendersStyledContent settings look.is_markdown look content text = subst (λ b. RendersStyledContent settings b look content text) (sym c.if-look.false) drawn in
-    let count = ap (λ (s : SelectedValue). s.count) c.in_ok-selected.ensures in
+    let counted = ap (λ (s : SelectedValue). note_for s.noun look.is_markdown layout.selection.limit s.count) c.in_ok-selected.ensures in
     IfOk-weaker c.of_records.result _ _
     (λ output is. record {
       content = content;
@@ -51,6 +51,6 @@ returns c =
       is_text = kind;
       joined = is
           ∙ ap (λ (v : LazyTableValue). string_bytes c.new-2.result ++ (drawn_next v.rows v.table arranged.infos 0 true true v.rows.selected.rows ++ string_bytes c.in_ok-note.note)) c.in_ok-arranged_contents.ensures.contents
-          ∙ ap (λ (t : Text). t ++ (text ++ string_bytes c.in_ok-note.note)) c.new-2.ensures.bytes ∙ ap (λ (t : Text). text ++ t) (c.in_ok-note.ensures ∙ ap (note_for look.is_markdown layout.selection.limit) (sym count));
+          ∙ ap (λ (t : Text). t ++ (text ++ string_bytes c.in_ok-note.note)) c.new-2.ensures.bytes ∙ ap (λ (t : Text). text ++ t) (c.in_ok-note.ensures ∙ sym counted);
     })
     c.of_records.ensures
