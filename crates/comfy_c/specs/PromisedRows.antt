@@ -119,7 +119,8 @@ pub record KeepTablePromises (settings : SettingsValue) (layout : Layout) (rows 
   pub keep : KeepsPromises (table_by settings layout has_separators rows) lines
   pub written :
       bytes ≡ terminated_text_of lines
-      ++ note_for layout.selection.noun false layout.selection.limit (Some (count_below layout.selection rows))
+      ++ note_for layout.selection.noun false layout.selection.limit
+      (Some (count_below layout.selection rows))
 
 -- bytes are UTF-8, of lines of the table of rows that settings, looks, heights and columns ask for
 pub record ShowRows (texts : Text) (lengths counts : List ℕ) (looks : List LookNumbers)

@@ -78,5 +78,5 @@ EachLineFor P MayCount layout records text =
 -- P holds of each line that is written of records, but for those that count records
 abbrev pub EachDrawnLine : (Text → Type 0) → Options → List (List Text) → Text → Type 0
 EachDrawnLine P options records text =
-    IsWrittenFor (DrawsLines P options.selection.noun (drawn_rows options.selection records)) options
-    records text
+    IsWrittenFor (DrawsLines P options.selection.noun (drawn_rows options.selection records))
+    options records text

@@ -257,7 +257,8 @@ ShowsFields false look selection columns names rows count text =
     (whole_for look.width look.expansion selection.is_numbered columns.drawn rows)
     (all_rows selection.is_numbered (mark_for are columns rows) columns.drawn names rows) text
 ShowsFields true look selection columns names rows count text =
-    AreExpanded (ShowsPairs look (unwrap_or names []) columns.drawn) selection.noun count 1 rows text
+    AreExpanded (ShowsPairs look (unwrap_or names []) columns.drawn) selection.noun count 1 rows
+    text
 
 -- a text shows what a layout draws of records: the header, if there is one, and below it as many as
 -- the layout asks for, in its columns; and the note on others, which may count them so

@@ -344,7 +344,11 @@ fn push_note(
     match count {
         Some(count) => write!(note, "{limit} of {count} {}", noun.several()),
         None => {
-            let drawn = if limit == 1 { noun.one() } else { noun.several() };
+            let drawn = if limit == 1 {
+                noun.one()
+            } else {
+                noun.several()
+            };
             write!(note, "first {limit} {drawn}; there are more")
         }
     }
