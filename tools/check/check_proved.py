@@ -17,6 +17,7 @@
 - No line of src/ and specs/ has more than 100 characters, except `use` lines and `#[tactic(..)]`, which `rt fmt` doesn't break.
 - The crate of documented examples agrees with the doc comments (tools/make/doc_examples.py).
 - csvtable's man page and completions agree with its options (tools/make/manual.py).
+- Each place of the version has that of CHANGELOG.md.
 - The pictures agree with the stored outputs (tools/make/pictures.py). Each link of a page leads to a file or a heading.
 """
 import glob
@@ -42,7 +43,21 @@ COUNTS = "no one two three four five six seven eight nine ten eleven twelve".spl
 CALLERS = ["test_callers", "csv_promises"]
 PAGE_WITH = {"comfy_run": ["devices"], "csv_tables": ["csv_records", "csv_command"]}  # further crates on a CALLING.md
 STORED = ["csvtable/stdout"]
-LINKED = ["README.md", "CONTRIBUTING.md", "docs/*.md", "crates/*/CALLING.md", "crates/case_files/FORMAT.md", "packages/*/README.md"]
+LINKED = ["README.md", "CHANGELOG.md", "CONTRIBUTING.md", "SECURITY.md", "docs/*.md", "crates/*/CALLING.md", "crates/case_files/FORMAT.md", "packages/*/README.md"]
+# The places of the version, beside the newest heading of CHANGELOG.md.
+VERSIONS = {
+    "crates/csv_command/src/options.rt": r'\.version\("(.*)"\)',
+    "docs/INSTALL.md": r"(?:csvtable|comfy_table|comfy_table_proved)[-_](\d+\.\d+\.\d+)",
+    "packages/c/comfy_table.h": r'^#define COMFY_TABLE_VERSION "(.*)"',
+    "packages/c/comfy_table.pc": r"^Version: (.*)",
+    "packages/python/pyproject.toml": r'^version = "(.*)"',
+    "packages/python/src/comfy_table_proved/__init__.py": r'^__version__ = "(.*)"',
+    "packages/rust/Cargo.toml": r'^version = "(.*)"',
+    "packages/rust/README.md": r"comfy_table_proved-(\d+\.\d+\.\d+)",
+    "packages/rust/src/lib.rs": r"comfy_table_proved-(\d+\.\d+\.\d+)",
+    "README.md": r"comfy_table_proved-(\d+\.\d+\.\d+)",
+    "share/csvtable.1": r'"csvtable (\d+\.\d+\.\d+)"',
+}
 # Names in backquotes of a CALLING.md that the sources don't have, each with the reason.
 NOT_OURS = {
     "yours": "a crate of the reader's",
@@ -188,6 +203,16 @@ def wrong_lines():
     return wrong
 
 
+def wrong_versions():
+    """The places that don't have the version of the newest heading of CHANGELOG.md."""
+    version = re.search(r"^## (\d+\.\d+\.\d+)", text_of("CHANGELOG.md"), re.M)[1]
+    wrong = []
+    for path, pattern in VERSIONS.items():
+        found = re.findall(pattern, text_of(path), re.M)
+        wrong += [f"{path} has version {it}, and CHANGELOG.md {version}" for it in found or ["none"] if it != version]
+    return wrong
+
+
 def without_source():
     """The files of specs/ whose first comment doesn't end with the source of their rules."""
     paths = (path for crate in LIBRARIES for path in files_of(crate, "specs/**/*.antt"))
@@ -241,6 +266,7 @@ def main():
     wrong += unlisted()
     wrong += [*unreached(), *uncalled()]
     wrong += wrong_lines()
+    wrong += wrong_versions()
     wrong += [f"{path} has no source of its rules" for path in without_source()]
     print("\n".join(wrong) or "all agree")
     return 1 if wrong else 0
