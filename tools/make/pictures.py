@@ -23,6 +23,7 @@ SIDES = {
     "├": "0111", "┤": "1011", "┬": "1101", "┴": "1110", "┼": "1111", "╞": "0211", "╡": "2011", "╪": "2211",
 }
 DASHED = "╌┆"
+ROUNDED = "╭╮╰╯"
 SGR = re.compile("\x1b\\[([0-9;]*)m")
 
 
@@ -38,7 +39,13 @@ def drawing_of_case(name):
     return "".join(re.findall(r"^=(.*\n)", case, re.M))
 
 
+def typed_ledger():
+    """The command that draws README's first table, and its stored output."""
+    return "$ csvtable -w 60 ledger.csv\n" + text_of("crates/csvtable/stdout")
+
+
 PICTURES = {
+    "ledger.svg": ("A terminal in which csvtable draws a ledger", typed_ledger),
     "report.svg": ("A table of test results, with colours by value", colored_report),
     "scripts.svg": ("A table of names in eight scripts", lambda: drawing_of_case("names-in-eight-scripts")),
 }
@@ -60,6 +67,10 @@ def frame(character, left, top):
     """The lines of a frame character, in the form of a path. `left` and `top` are the corner of its cell, in pixels."""
     middle, center = left + WIDTH / 2, top + HEIGHT / 2
     ends = [(left, center), (left + WIDTH, center), (middle, top), (middle, top + HEIGHT)]
+    if character in ROUNDED:
+        (x, y), (across, down) = (end for side, end in zip(SIDES[character], ends) if side == "1")
+        yield f"M{x:g} {y:g}Q{middle:g} {center:g} {across:g} {down:g}"
+        return
     for side, (x, y) in zip(SIDES[character], ends):
         for apart in {"0": (), "1": (0,), "2": (-1.5, 1.5)}[side]:
             yield f"M{middle:g} {center + apart:g}L{x:g} {y + apart:g}"
@@ -107,8 +118,8 @@ def svg(title, drawing):
             f"<title>{escape(title)}</title>",
             f'<rect width="{width}" height="{height}" rx="6" fill="{BACKGROUND}"/>',
             f'<g font-family="DejaVu Sans Mono, Menlo, Consolas, monospace" font-size="15" fill="{FOREGROUND}" stroke-width="1.2">',
-            f'<path stroke="{FRAME}" d="{"".join(frames[0])}"/>',
-            f'<path stroke="{FRAME}" stroke-dasharray="3 2" d="{"".join(frames[1])}"/>',
+            f'<path fill="none" stroke="{FRAME}" d="{"".join(frames[0])}"/>',
+            f'<path fill="none" stroke="{FRAME}" stroke-dasharray="3 2" d="{"".join(frames[1])}"/>',
             *texts,
             "</g>",
             "</svg>",
