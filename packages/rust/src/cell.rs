@@ -1,6 +1,7 @@
 use crate::style::CellAlignment;
 #[cfg(feature = "tty")]
 use crate::style::{Attribute, Color};
+use crate::text::Text;
 
 /// A text in a table, with its settings. Line feeds separate the lines of the text.
 ///
@@ -12,7 +13,7 @@ use crate::style::{Attribute, Color};
 /// ```
 #[derive(Clone, Debug, PartialEq, Eq, Hash)]
 pub struct Cell {
-    pub(crate) text: String,
+    pub(crate) text: Text,
     pub(crate) delimiter: Option<char>,
     pub(crate) alignment: Option<CellAlignment>,
     #[cfg(feature = "tty")]
@@ -39,7 +40,7 @@ impl Cell {
     /// Makes a cell with this text, which isn't copied, and no settings.
     pub fn new_owned(content: String) -> Cell {
         Cell {
-            text: content,
+            text: Text::Own(content),
             delimiter: None,
             alignment: None,
             #[cfg(feature = "tty")]
@@ -53,7 +54,7 @@ impl Cell {
 
     /// Returns a copy of the text.
     pub fn content(&self) -> String {
-        self.text.clone()
+        self.text.to_string()
     }
 
     /// Sets the delimiter, the character at which long lines may break, in place of the column's or the table's.

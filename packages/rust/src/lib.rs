@@ -61,6 +61,7 @@ mod style;
 mod table;
 #[cfg(feature = "tty")]
 mod terminal;
+mod text;
 
 pub use cell::{Cell, Cells};
 pub use column::Column;

@@ -1,6 +1,7 @@
 use std::slice;
 
 use crate::cell::{Cell, Cells};
+use crate::text;
 
 /// The cells of a row, and its greatest height.
 ///
@@ -71,6 +72,8 @@ impl Row {
 
 impl<T: Into<Cells>> From<T> for Row {
     fn from(cells: T) -> Row {
-        Row { cells: cells.into().0, max_height: None }
+        let mut cells = cells.into().0;
+        text::join(&mut cells);
+        Row { cells, max_height: None }
     }
 }

@@ -157,9 +157,9 @@ impl Table {
 
     fn drawn(&self, form: Form) -> String {
         let width = self.width();
-        let cells = arrays::cells_of(self);
+        let (cells, longest) = arrays::cells_of(self);
         let settings = arrays::settings_of(self, width, form);
-        let room = arrays::room_for(self, &cells, width);
+        let room = arrays::room_for(self, &cells, longest, width);
         match library::draw_cells(&cells, &self.truncation_indicator, &settings, room) {
             Ok(drawing) => drawing,
             Err(library::OutOfMemory) => handle_alloc_error(Layout::new::<u8>()),

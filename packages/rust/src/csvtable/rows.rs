@@ -11,6 +11,7 @@ use crate::library::{Texts, draw_rows};
 #[cfg(feature = "tty")]
 use crate::terminal;
 use std::borrow::Cow;
+use std::cell;
 #[cfg(feature = "tty")]
 use std::env;
 use std::fmt::{self, Display, Write};
@@ -145,16 +146,13 @@ impl Rows {
     /// Adds a row below the others. A row without values gets one empty cell.
     pub fn push(&mut self, cells: impl IntoCells) {
         let first = self.texts.lengths.len();
-        let has_sequences = self.settings.has_sequences;
-        cells.for_each_cell(|value| {
-            if has_sequences {
-                self.texts.push_cell(&plain(&value.to_string()));
-            } else {
-                self.texts.push_cell(value);
-            }
-        });
+        if self.settings.has_sequences {
+            cells.for_each_cell(|value| self.texts.push_text(&plain(&value.to_string())));
+        } else {
+            self.texts.push_values(cells);
+        }
         if self.texts.lengths.len() == first {
-            self.texts.push_cell(&"");
+            self.texts.push_text("");
         }
         let count = self.texts.lengths.len() - first;
         self.texts.counts.push(count);
@@ -401,11 +399,11 @@ impl Rows {
             for (column, text) in row.iter().enumerate() {
                 let text = if was_plain { plain(text) } else { (*text).into() };
                 let Some(row) = at.checked_sub(first) else {
-                    self.texts.push_cell(&text);
+                    self.texts.push_text(&text);
                     continue;
                 };
                 let cell = painted(row, column, Cell::new_owned(text));
-                self.texts.push_cell(&between_sequences(&cell, &cell.text));
+                self.texts.push_text(&between_sequences(&cell, &cell.text));
             }
             self.texts.counts.push(row.len());
         }
@@ -435,7 +433,7 @@ impl Rows {
         let mut texts = Texts::default();
         for row in drawn.rows() {
             for position in &self.chosen {
-                texts.push_cell(row.get(*position).unwrap_or(&""));
+                texts.push_text(row.get(*position).unwrap_or(&""));
             }
             texts.counts.push(self.chosen.len());
         }
@@ -518,17 +516,24 @@ fn visible(text: &str) -> String {
 }
 
 impl Texts {
-    fn push_cell(&mut self, value: &dyn Display) {
-        let start = self.joined.len();
-        write!(self.joined, "{value}").expect("a string takes every text");
-        self.lengths.push(self.joined.len() - start);
+    fn push_text(&mut self, text: &str) {
+        self.joined.push_str(text);
+        self.lengths.push(text.len());
+    }
+
+    // Appends the text that each value prints.
+    fn push_values(&mut self, values: impl IntoCells) {
+        let end = cell::Cell::new(self.joined.len());
+        let left = cell::Cell::new(Some((values, &mut self.lengths)));
+        let mut joined = Joined { text: &mut self.joined, end: &end };
+        write!(joined, "{}", Values { left, end: &end }).expect("a string takes every text");
     }
 
     // The texts without the sequences of `paint`, because a table for Markdown can't have them.
     fn without_sequences(&self) -> Texts {
         let mut plain = Texts::default();
         for row in self.rows() {
-            row.iter().for_each(|text| plain.push_cell(&visible(text)));
+            row.iter().for_each(|text| plain.push_text(&visible(text)));
             plain.counts.push(row.len());
         }
         plain
@@ -545,6 +550,43 @@ impl Texts {
             };
             lengths.by_ref().take(*count).map(cut).collect()
         })
+    }
+}
+
+// The values of a row. They print one after another, and the length of each is noted, so that one call of `write!` prints them all.
+struct Values<'a, V> {
+    // the values and the list for their lengths, until they are printed
+    left: cell::Cell<Option<(V, &'a mut Vec<usize>)>>,
+    // where the text that is printed ends
+    end: &'a cell::Cell<usize>,
+}
+
+impl<V: IntoCells> Display for Values<'_, V> {
+    fn fmt(&self, formatter: &mut fmt::Formatter<'_>) -> fmt::Result {
+        let Some((values, lengths)) = self.left.take() else {
+            return Ok(());
+        };
+        let mut printed = Ok(());
+        values.for_each_cell(|value| {
+            let start = self.end.get();
+            printed = printed.and(value.fmt(formatter));
+            lengths.push(self.end.get() - start);
+        });
+        printed
+    }
+}
+
+// A text that is appended to, and where it ends.
+struct Joined<'a> {
+    text: &'a mut String,
+    end: &'a cell::Cell<usize>,
+}
+
+impl Write for Joined<'_> {
+    fn write_str(&mut self, text: &str) -> fmt::Result {
+        self.text.push_str(text);
+        self.end.set(self.text.len());
+        Ok(())
     }
 }
 

@@ -11,9 +11,11 @@ use crate::style::{CellAlignment, ColumnConstraint, ContentArrangement, ContentL
 use crate::table::{Form, Table};
 #[cfg(feature = "tty")]
 use crate::terminal;
+use crate::text;
 
-/// The cells, rows and columns of a table.
-pub fn cells_of(table: &Table) -> CellTable {
+/// The cells, rows and columns of a table, and the bytes of its longest row.
+pub fn cells_of(table: &Table) -> (CellTable, usize) {
+    let mut longest = 0;
     let mut made = CellTable {
         texts: String::with_capacity(rows_of(table).map(bytes_in).sum()),
         cells: Vec::with_capacity(rows_of(table).map(Row::cell_count).sum()),
@@ -21,13 +23,13 @@ pub fn cells_of(table: &Table) -> CellTable {
         columns: table.columns.iter().map(of_column).collect(),
     };
     for row in rows_of(table) {
+        let start = made.texts.len();
         made.rows.push(numbers::Row { cells: row.cells.len(), max_height: row.max_height.unwrap_or(0) });
-        for cell in &row.cells {
-            made.texts.push_str(&cell.text);
-            made.cells.push(of_cell(cell));
-        }
+        text::push_all(&mut made.texts, &row.cells);
+        made.cells.extend(row.cells.iter().map(of_cell));
+        longest = longest.max(made.texts.len() - start);
     }
-    made
+    (made, longest)
 }
 
 fn rows_of(table: &Table) -> impl Iterator<Item = &Row> {
@@ -39,14 +41,15 @@ fn bytes_in(row: &Row) -> usize {
 }
 
 /// How many bytes the drawing of a table within a width has at most, in most cases: far too many cost nothing, and too few a
-/// second drawing. For each row it counts the lines that its texts may take, one of the frame, and sequences of its cells.
-pub fn room_for(table: &Table, cells: &CellTable, width: Option<u16>) -> usize {
+/// second drawing. For each row it counts the lines that its texts may take, one of the frame, and sequences of its cells. The
+/// longest row has so many bytes.
+pub fn room_for(table: &Table, cells: &CellTable, longest: usize, width: Option<u16>) -> usize {
     const SEQUENCES: usize = 64;
     const MOST: usize = 1 << 30;
     let columns = table.columns.len();
     let paddings: usize = table.columns.iter().map(|column| usize::from(column.padding_width())).sum();
     // The longest texts of the columns may stand in different rows.
-    let unwrapped = 2 * rows_of(table).map(bytes_in).max().unwrap_or(0) + paddings + columns + 1;
+    let unwrapped = 2 * longest + paddings + columns + 1;
     let line = match (&table.arrangement, width) {
         (ContentArrangement::Dynamic | ContentArrangement::DynamicFullWidth, Some(width)) => {
             usize::from(width).max(paddings + 2 * columns + 1)
