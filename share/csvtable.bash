@@ -1,7 +1,14 @@
 # Completes the options of csvtable in bash.
 _csvtable() {
-  local word=${COMP_WORDS[COMP_CWORD]}
-  case ${COMP_WORDS[COMP_CWORD - 1]} in
+  local word=${COMP_WORDS[COMP_CWORD]} option=${COMP_WORDS[COMP_CWORD - 1]}
+  # `--style=box` is three words
+  [ "$word" != = ] || word=
+  [ "$option" != = ] || option=${COMP_WORDS[COMP_CWORD - 2]}
+  case $option in
+    -d|--delimiter)
+      COMPREPLY=($(compgen -W 'auto tab spaces' -- "$word"))
+      return
+      ;;
     -e|--encoding)
       COMPREPLY=($(compgen -W 'utf-8 utf8 cp1252 windows-1252 latin1 latin-1 iso-8859-1 utf-16 utf16 utf-16le' -- "$word"))
       return
@@ -18,7 +25,7 @@ _csvtable() {
       COMPREPLY=($(compgen -W 'auto always never' -- "$word"))
       return
       ;;
-    -d|--delimiter|--skip|--limit|-c|--columns|--drop|-r|--right|--left|-w|--width|-m|--max-height)
+    --skip|--limit|-c|--columns|--drop|-r|--right|--left|-w|--width|-m|--max-height)
       return
       ;;
   esac

@@ -20,6 +20,7 @@ class Option:
         self.letter, self.kind, self.value = letter, kind, value
         self.name = name if kind not in ("File", "Letter") else None
         self.help = re.sub(r"\\\n *", "", help).replace("\\n", " ")
+        self.values = VALUES.get(kind, DELIMITERS if name == "delimiter" else [])
 
     def forms(self):
         """The forms of the option, for example `-w` and `--width`."""
@@ -27,8 +28,6 @@ class Option:
 
 
 SOURCE = text_of("crates/csv_command/src/options.rt")
-SPECS = [Option(*it) for it in re.findall(SPEC, SOURCE, re.M)]
-OPTIONS = [it for it in SPECS if it.kind != "File"]
 VERSION = re.search(r'\.version\("(.+?)"\)', SOURCE)[1]
 DATE = "2026-11-27"  # of this version
 ABOUT = re.search(r'\.about\("(.+?)"\)', SOURCE)[1]
@@ -46,6 +45,9 @@ def style_names():
 
 PAGE = "docs/CSVTABLE.md"
 VALUES = {"When": names_in("WHENS"), "Encoding": names_in("ENCODINGS"), "Style": style_names()}
+DELIMITERS = ["auto", "tab", "spaces"]
+SPECS = [Option(*it) for it in re.findall(SPEC, SOURCE, re.M)]
+OPTIONS = [it for it in SPECS if it.kind != "File"]
 
 
 def escaped(text):
@@ -79,7 +81,7 @@ def man_page():
         value = f" \\fI{option.value}\\fR" if option.value else ""
         lines += [".TP", ", ".join(f"\\fB{escaped(it)}\\fR" for it in option.forms()) + value, escaped(option.help)]
         if option.kind == "Style":
-            lines += [".br", escaped(", ".join(VALUES[option.kind]))]
+            lines += [".br", escaped(", ".join(option.values))]
     lines += [".TP", "\\fB\\-h\\fR, \\fB\\-\\-help\\fR", "Print help", ".TP", "\\fB\\-V\\fR, \\fB\\-\\-version\\fR", "Print version"]
     lines += [".SH EXIT STATUS", ".TP", "0", "The drawing was written.", ".TP", "1"]
     lines += [escaped("The input or the output failed, the input isn't text, isn't in its encoding or has a quote that is never closed, a column doesn't exist, or memory ran out.")]
@@ -90,21 +92,25 @@ def man_page():
     lines += [".SH EXAMPLES"]
     for example, purpose in examples():
         lines += [".TP", command(example), escaped(purpose[0].upper() + purpose[1:])]
+    lines += [".SH SEE ALSO", ".BR column (1),", ".BR iconv (1),", ".BR less (1),", ".BR mlr (1)"]
     return "\n".join(lines) + "\n"
 
 
 def bash():
     cases = "".join(
-        f"    {'|'.join(it.forms())})\n      COMPREPLY=($(compgen -W '{' '.join(VALUES[it.kind])}' -- \"$word\"))\n      return\n      ;;\n"
+        f"    {'|'.join(it.forms())})\n      COMPREPLY=($(compgen -W '{' '.join(it.values)}' -- \"$word\"))\n      return\n      ;;\n"
         for it in OPTIONS
-        if it.kind in VALUES
+        if it.values
     )
-    taking = "|".join(form for it in OPTIONS if it.value and it.kind not in VALUES for form in it.forms())
+    taking = "|".join(form for it in OPTIONS if it.value and not it.values for form in it.forms())
     forms = " ".join(form for it in OPTIONS for form in it.forms()) + " -h --help -V --version"
     return f"""# Completes the options of csvtable in bash.
 _csvtable() {{
-  local word=${{COMP_WORDS[COMP_CWORD]}}
-  case ${{COMP_WORDS[COMP_CWORD - 1]}} in
+  local word=${{COMP_WORDS[COMP_CWORD]}} option=${{COMP_WORDS[COMP_CWORD - 1]}}
+  # `--style=box` is three words
+  [ "$word" != = ] || word=
+  [ "$option" != = ] || option=${{COMP_WORDS[COMP_CWORD - 2]}}
+  case $option in
 {cases}    {taking})
       return
       ;;
@@ -125,7 +131,7 @@ def zsh_text(text):
 def zsh():
     lines = ["#compdef csvtable", "# Completes the options of csvtable in zsh.", "_arguments -s \\"]
     for option in OPTIONS:
-        values = f"({' '.join(VALUES[option.kind])})" if option.kind in VALUES else " "
+        values = f"({' '.join(option.values)})" if option.values else " "
         value = f":{option.value}:{values}" if option.value else ""
         text = zsh_text(option.help)
         forms = option.forms()

@@ -134,15 +134,28 @@ RECIPES = [
     Recipe("csvtable -c name,3-5 --limit 20 big.csv", "big.csv", BIG, ["│ name ┆ x ┆ y ┆ z │", "│ n19  ┆ 1 ┆ 2 ┆ 3 │\n╰", "first 20 records; there are more\n"]),
     Recipe("csvtable -e cp1252 --skip 4 bank.csv", "bank.csv", ("1\n2\n3\n4\n" + BANK).encode("latin-1"), ["│ Buchungstag ┆ Verwendungszweck ┆   Betrag │", "Bäckerei Müller"]),
     Recipe(
-        "csvtable ledger.csv | less -S",
+        "csvtable --color always ledger.csv | less -RS",
         "ledger.csv",
         LEDGER,
-        ["│ date       ┆ place  ┆ text         ", "│ 2026-01-15 ┆ Αθήνα  ┆ Tickets to th"],
+        ["│\x1b[1m date       \x1b[0m┆\x1b[1m place  ", "│ 2026-01-15 ┆ Αθήνα  ┆ Tickets to th"],
         before="export LESS=-EX TERM=xterm LC_ALL=C.UTF-8",
         columns=40,
     ),
     Recipe("csvtable --limit 20 big.csv", "big.csv", BIG, ["│ id ┆ name ┆ x ┆ y ┆ z ┆ last │", "│ 19 ┆ n19  ┆ 1 ┆ 2 ┆ 3 ┆    4 │\n╰", "first 20 records; there are more\n"]),
-    Recipe("jq -r '.[] | [.name, .size] | @csv' files.json | csvtable -n", "files.json", FILES, ["│ a, b.txt ┆   12 │", "│ c        ┆ 3000 │"]),
+    Recipe("mlr --csv filter '$amount < 0' ledger.csv | csvtable", "ledger.csv", LEDGER, ["┆ amount │\n", "┆ -12.80 │\n"]),
+    Recipe("mlr --csv cat a.csv b.csv | csvtable", "a.csv", "name,qty\nnut,3\n", ["│ nut  ┆   3 │\n│ bolt ┆  12 │"], before="printf 'name,qty\\nbolt,12\\n' > b.csv"),
+    Recipe("mlr --csv stats1 -a count,sum,mean -f amount ledger.csv | csvtable", "ledger.csv", LEDGER, ["│ amount_count ┆ amount_sum ┆ amount_mean │"]),
+    Recipe("mlr --ijson --ocsv unsparsify files.json | csvtable", "files.json", FILES, ["│ name     ┆ size │", "│ a, b.txt ┆   12 │", "│ c        ┆ 3000 │"]),
+    Recipe("iconv -f cp1250 bank.csv | csvtable", "bank.csv", "imię,v\nŁukasz,1\n".encode("cp1250"), ["│ imię   ┆ v │", "│ Łukasz ┆ 1 │"], before="export LC_ALL=C.UTF-8"),
+    Recipe(
+        "watch 'csvtable -w $COLUMNS ledger.csv'",
+        "ledger.csv",
+        LEDGER,
+        ["│ date       ┆ place  "],
+        before='export TERM=xterm LC_ALL=C.UTF-8; watch() { timeout 2 watch "$@" || true; }',
+        columns=80,
+    ),
+    Recipe("git log --format=%h%x09%an%x09%s | csvtable -tn", "ledger.csv", LEDGER, [" ┆ Ann ┆ one │\n"], before=GIT),
     Recipe(
         "git config diff.csv.textconv csvtable",
         "ledger.csv",
@@ -268,7 +281,7 @@ def recipe_fault(recipe, out):
 
 def tried_recipe(program, recipe):
     """True if the output of an example differs. An example is left out if its other programs aren't installed."""
-    others = [it for it in ("git", "jq", "less", "mlr") if it in recipe.script.split() and not shutil.which(it)]
+    others = [it for it in ("git", "less", "mlr", "watch") if it in recipe.script.split() and not shutil.which(it)]
     if others:
         print(f"{recipe.command}: left out, without {others[0]}")
         return False
