@@ -18,7 +18,7 @@
 - The crate of documented examples agrees with the doc comments (tools/make/doc_examples.py).
 - csvtable's man page and completions agree with its options (tools/make/manual.py).
 - Each place of the version has that of CHANGELOG.md.
-- The pictures agree with the stored outputs (tools/make/pictures.py). Each link of a page leads to a file or a heading.
+- The gallery and the pictures agree with the stored outputs (tools/make/gallery.py, pictures.py). Each link of a page leads to a file or a heading.
 """
 import glob
 import os
@@ -33,6 +33,7 @@ from what_is_believed import updated
 
 sys.path.append(f"{TOP}/tools/make")
 from doc_examples import wrong_examples
+from gallery import is_wrong
 from manual import wrong_files
 from pictures import wrong_pictures
 
@@ -258,6 +259,7 @@ def main():
     wrong += wrong_examples()
     wrong += [f"{path} differs from the output of tools/make/manual.py" for path in wrong_files()]
     wrong += [f"{path} differs from the output of tools/make/pictures.py" for path in wrong_pictures()]
+    wrong += ["docs/GALLERY.md differs from the output of tools/make/gallery.py"] if is_wrong() else []
     wrong += wrong_links()
     wrong += [f"docs/PROVED.md doesn't have this line: {it}" for it in updated(page).splitlines() if it not in page.splitlines()]
     passed_on = re.search(r"^pub use comfy_parts::laws::\{(.*?)\};", text_of("crates/comfy_table/src/laws.rt"), re.M | re.S)[1]
