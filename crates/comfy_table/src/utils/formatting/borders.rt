@@ -44,7 +44,8 @@ pub(crate) fn optional_frame_line(
     if !is_drawn(line) {
         return Ok(None);
     }
-    let mut text = String::new(*table.columns.allocator());
+    let room = room_for(columns, line.fill.unwrap_or(' '));
+    let mut text = String::with_capacity(*table.columns.allocator(), room)?;
     push_frame_line(&mut text, table, line, columns)?;
     Ok(Some(text))
 }
@@ -103,4 +104,14 @@ fn push_repeated(text: &mut String, fill: char, count: usize) -> Result<()>
         text.push(fill)?;
     }
     Ok(())
+}
+
+/// The bytes of a line over these columns, whose borders take at most as many as this character in
+/// each column.
+pub(crate) fn room_for(columns: &[ShownColumn], fill: char) -> usize {
+    let mut room = columns.len().saturating_add(1);
+    for column in columns {
+        room = room.saturating_add(column.info.width());
+    }
+    room.saturating_mul(fill.len_utf8())
 }

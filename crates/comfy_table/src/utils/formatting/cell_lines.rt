@@ -27,6 +27,9 @@ use std::alloc::Global;
 use std::borrow::CowStr;
 use std::marker::Model;
 
+// How many lines a new list has room for.
+const MOST_LINES: usize = 8;
+
 /// A line of a cell: its terminal columns, and the text that is written.
 #[derive(Drop)]
 pub struct Line<'a> {
@@ -143,17 +146,20 @@ pub fn row_cell_lines<'a>(
             end,
         }));
     }
-    let lines = listed_lines(table, limit, cell, info, empty_list(spare))?;
+    let lines = listed_lines(table, limit, cell, info, empty_list(spare)?)?;
     Ok(CellLines::Multiple(lines))
 }
 
-// A list without lines, in the memory of a spare one.
-fn empty_list<'a>(spare: &mut Vec<Vec<Line<'a>>>) -> Vec<Line<'a>>
-    ensures { result.items ≡ [] }
+// A list without lines, in the memory of a spare one, or else with room for the lines of most
+// cells.
+fn empty_list<'a>(spare: &mut Vec<Vec<Line<'a>>>) -> Result<Vec<Line<'a>>>
+    ensures { IfOk result (λ list. list.items ≡ []) }
 {
-    let mut list = spare.pop().unwrap_or(Vec::new(*spare.allocator()));
+    let Some(mut list) = spare.pop() else {
+        return Ok(Vec::with_capacity(*spare.allocator(), MOST_LINES)?);
+    };
     list.clear();
-    list
+    Ok(list)
 }
 
 /// The columns and the two parts of the text of a cell's one line, if it fits and is written as it

@@ -11,7 +11,7 @@ ghost use Rattle.comfy_table.specs.Pieces.{row_height, shown_infos};
 ghost use Rattle.comfy_table.specs.RowCells.{cell_of, row_in, row_with};
 
 use crate::table::Table;
-use crate::utils::formatting::borders::optional_frame_line;
+use crate::utils::formatting::borders::{optional_frame_line, room_for};
 use crate::utils::formatting::drawn_cell::row_height;
 use crate::utils::formatting::frame_lines::FrameLines;
 use crate::utils::formatting::output::Output;
@@ -78,12 +78,14 @@ impl<'a> Writer<'a> {
             ≡ record { table = table.now; infos = infos.now }) }
     {
         let alloc = *table.columns.allocator();
+        let columns = shown_infos(alloc, infos)?;
+        let line = String::with_capacity(alloc, room_for(columns.as_slice(), ' '))?;
         Ok(Writer {
             table,
             infos,
             frame,
-            columns: shown_infos(alloc, infos)?,
-            line: String::new(alloc),
+            columns,
+            line,
         })
     }
 

@@ -78,6 +78,7 @@ impl<'a, 'r> RowCursor<'a, 'r> {
                 free = piece.push(text, gap, free)?;
                 height = height.max(1);
             } else {
+                make_room(&mut self.further, columns.len())?;
                 let cell = drawn_cell(row, column, table, styles, &mut self.spare)?;
                 height = cell.height().max(height);
                 self.further.push(cell)?;
@@ -129,4 +130,14 @@ impl<'a, 'r> RowCursor<'a, 'r> {
         }
         gaps.push_end(text, free)
     }
+}
+
+// Lets an empty list have room for a cell in each column.
+fn make_room(cells: &mut Vec<DrawnCell<'_, '_>>, columns: usize) -> Result<()>
+    ensures { OnOk result (cells.new.items ≡ cells.old.items) }
+{
+    if cells.is_empty() {
+        cells.reserve(columns)?;
+    }
+    Ok(())
 }

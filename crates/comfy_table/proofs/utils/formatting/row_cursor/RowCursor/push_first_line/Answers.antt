@@ -8,7 +8,7 @@ use Rattle.comfy_table.proofs.RowGapLemmas.{gap_more, joined_all, joined_to}
 use Rattle.comfy_table.specs.DrawnCells.{AreFurther, DrawnCell, drawn_cell, greatest_height, piece_at}
 use Rattle.comfy_table.specs.Pieces.{blank_piece}
 use Rattle.comfy_table.specs.RowCells.{row_in}
-use Rattle.comfy_table.proofs.utils.formatting.row_cursor.RowCursor.push_first_line.Goals.{then-is_empty+in-Some+in_ok-free, else-is_empty+in_ok-cell+in_ok-push+in_ok-free-2}
+use Rattle.comfy_table.proofs.utils.formatting.row_cursor.RowCursor.push_first_line.Goals.{then-is_empty+in-Some+in_ok-free, else-is_empty+in_ok-make_room+in_ok-cell+in_ok-push+in_ok-free-2}
 use Rattle.comfy_table.proofs.utils.formatting.row_cursor.RowCursor.push_first_line.Goals as goal
 
 pub loop-column-preserved : goal.loop-column-preserved
@@ -34,13 +34,14 @@ loop-column-preserved c =
           ap₂ (λ text free. string_bytes text ++ spaces free) w.text-is w.free-is
           ∙ w.in_ok-free.ensures
           ∙ ap (λ (t : Text). string_bytes c.loop-column.text ++ (spaces c.loop-column.free ++ (c.loop-column.gap.now ++ t))) (only w.in-Some.piece w.in-Some.ensures)
-      | else-is_empty+in_ok-cell+in_ok-push+in_ok-free-2 w ↦
+      | else-is_empty+in_ok-make_room+in_ok-cell+in_ok-push+in_ok-free-2 w ↦
           ap₂ (λ text free. string_bytes text ++ spaces free) w.text-is w.free-is
           ∙ w.in_ok-free-2.ensures
           ∙ ap (λ (t : Text). string_bytes c.loop-column.text ++ (spaces c.loop-column.free ++ (c.loop-column.gap.now ++ t)))
           (let cell = w.in_ok-cell.cell in
           let further = c.loop-column.self-inside.further.items in
-          let pushed : w.push-else-is_empty.new.self.items ≡ further ++ cell ∷ [] = w.in_ok-push.ensures.items in
+          let pushed : w.push-else-is_empty.new.self.items ≡ further ++ cell ∷ [] =
+          w.in_ok-push.ensures.items ∙ ap (λ (ds : List DrawnCell). ds ++ cell ∷ []) w.in_ok-make_room.ensures in
           let size : length w.push-else-is_empty.new.self.items ≡ length (further ++ cell ∷ []) = ap length pushed in
           let long : w.len.result ≡ length w.push-else-is_empty.new.self.items = grind (arith, w.len.ensures) in
           let count : w.len.result - 1 ≡ length (further ++ cell ∷ []) - 1 = ap (λ n. n - 1) (long ∙ size) in
@@ -50,7 +51,7 @@ loop-column-preserved c =
     let height : c.if-is_empty.height ≡ max (length drawn.pieces) c.loop-column.height =
     elim c.if-is_empty.branch [
       | then-is_empty+in-Some+in_ok-free w ↦ let one : length drawn.pieces ≡ 1 = sym (ap length w.in-Some.ensures) in grind (arith, nat_tests, w.height-is, w.max-height.ensures, one)
-      | else-is_empty+in_ok-cell+in_ok-push+in_ok-free-2 w ↦
+      | else-is_empty+in_ok-make_room+in_ok-cell+in_ok-push+in_ok-free-2 w ↦
           let high : w.height.result ≡ length drawn.pieces = w.height.ensures ∙ ap (λ (d : DrawnCell). length d.pieces) w.in_ok-cell.ensures in
           omega (arith, w.height-is, w.max-height-else-is_empty.ensures, high)
     ] in
@@ -63,10 +64,11 @@ loop-column-preserved c =
           let size : length drawn.pieces ≡ 1 = sym (ap length w.in-Some.ensures) in
           subst (λ (fs : List DrawnCell). AreFurther fs (before ++ drawn ∷ [])) (sym (ap (λ inside. inside.further.items) w.self-inside-is ∙ none))
           (further-none before drawn (omega (arith, size)) (subst (λ (fs : List DrawnCell). AreFurther fs before) none c.loop-column.invariant.3))
-      | else-is_empty+in_ok-cell+in_ok-push+in_ok-free-2 w ↦
+      | else-is_empty+in_ok-make_room+in_ok-cell+in_ok-push+in_ok-free-2 w ↦
           subst (λ (fs : List DrawnCell). AreFurther fs (before ++ drawn ∷ []))
           (sym (ap (λ inside. inside.further.items) w.self-inside-is
           ∙ w.in_ok-push.ensures.items
+          ∙ ap (λ (ds : List DrawnCell). ds ++ w.in_ok-cell.cell ∷ []) w.in_ok-make_room.ensures
           ∙ ap (λ (d : DrawnCell). c.loop-column.self-inside.further.items ++ d ∷ []) w.in_ok-cell.ensures))
           (further-more c.loop-column.self-inside.further.items before drawn c.loop-column.invariant.3)
     ] in (
