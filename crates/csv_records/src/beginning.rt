@@ -18,11 +18,13 @@ use std::alloc::{AllocError, Global};
 
 const LINE_FEED: u8 = b'\n';
 
-/// The first `most` records of an input of which these bytes were read, and how many these have,
-/// where their whole lines are enough: their text ends with a line feed and outside quotes, it has
-/// more records, and it shows its delimiter. None where more has to be read, be it
-/// since no text ends there. An input in UTF-16 is read whole, and so is one that doesn't have more
-/// line feeds.
+/// Reads the first `most` records from the beginning of an input, and counts all records in this
+/// beginning.
+///
+/// Only its complete lines are looked at. `None` means that they aren't enough, and that more has
+/// to be read: they hold no more than `most` records, end inside quotes, don't show the delimiter,
+/// or can't be decoded. UTF-16 always gives `None`, and so does an input whose lines end with
+/// carriage returns alone. The only error is that memory runs out.
 pub fn read_beginning(
     alloc: Global,
     read: &[u8],

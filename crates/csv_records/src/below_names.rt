@@ -109,7 +109,7 @@ fn push_columns(text: &mut String, line: &str, starts: &[usize]) -> Result<(), A
     Ok(())
 }
 
-// Appends a character of a field, with the space before it where that is a single one.
+// Appends a character of a field, after the space before it if this is a single one.
 fn push_with_space(text: &mut String, spaces: usize, c: char) -> Result<(), AllocError>
     ensures { OnOk result (string_bytes text.new ≡ string_bytes text.old ++ with_space spaces c) }
 {

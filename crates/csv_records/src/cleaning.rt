@@ -1,5 +1,5 @@
-//! Texts without control characters, and without those that turn the direction of text, so that
-//! each character is where it is counted.
+//! Texts without control characters, and without those that turn the direction of text, so that a
+//! terminal shows each character in the column in which it is counted.
 
 ghost use Rattle.std.specs.Prelude.{◌≡◌, ◌∷◌, [], IfNone, IfOk, IfSome, OnOk, chars, if◌then◌else◌, not, string_bytes};
 ghost use Rattle.std.specs.Iterator.{YieldsFirstBy, item_count};
@@ -21,7 +21,7 @@ const TAB_WIDTH: usize = 4;
 /// A field as it is drawn. A TAB becomes spaces up to the next multiple of four terminal columns,
 /// by the visible part of its line since the last TAB. A line feed, a carriage return, or both in
 /// this order reversed, are one line feed. Every other control character, and each that turns the
-/// direction of text, becomes U+FFFD. SGR sequences stay where they are kept.
+/// direction of text, becomes U+FFFD. SGR sequences stay if they are kept.
 pub fn cleaned(alloc: Global, field: &str, keeps_sequences: bool) -> Result<String, AllocError>
     ensures { IfOk result (λ text. string_bytes text ≡ cleaned keeps_sequences field.now) }
 {
@@ -157,7 +157,7 @@ fn first_piece(text: &str, keeps_sequences: bool) -> Option<(Piece<'_>, &str)>
     Some((Piece::Character(c), rest))
 }
 
-// The bytes of the sequence at a text's front where sequences are kept, 0 if there is none.
+// The bytes of the sequence at a text's front if sequences are kept, 0 if there is none.
 fn kept_len(text: &str, keeps_sequences: bool) -> usize
     ensures value { result ≡ (if keeps_sequences then sequence_len text.now else 0) }
     ensures boundary { IsCharBoundary text.now result }

@@ -69,7 +69,7 @@ pub(crate) fn first_count(bytes: &[u8], delimiter: u8, has_quotes: bool) -> Opti
     }
 }
 
-// The state after a byte, and whether it ends a field; none where it ends a record.
+// The state after a byte, and whether it ends a field; none if it ends a record.
 fn step(state: State, byte: u8, delimiter: u8, has_quotes: bool) -> Option<(State, bool)>
     ensures { option_map (λ next. (state_at next.0, next.1)) result
         ≡ step (config_for delimiter has_quotes) (state_at state) byte }
@@ -101,7 +101,7 @@ fn step(state: State, byte: u8, delimiter: u8, has_quotes: bool) -> Option<(Stat
     }
 }
 
-// The same where a field begins.
+// The same at the beginning of a field.
 fn start_field(byte: u8, delimiter: u8, has_quotes: bool) -> Option<(State, bool)>
     ensures { option_map (λ next. (state_at next.0, next.1)) result
         ≡ after_step (start_field (config_for delimiter has_quotes) byte) }
@@ -113,7 +113,7 @@ fn start_field(byte: u8, delimiter: u8, has_quotes: bool) -> Option<(State, bool
     }
 }
 
-// And in a field, where a quote is like another byte.
+// The same in a field without quotes, in which a quote is like another byte.
 fn in_field(byte: u8, delimiter: u8) -> Option<(State, bool)>
     ensures { option_map (λ next. (state_at next.0, next.1)) result
         ≡ after_step (in_field (config_for delimiter true) byte) }

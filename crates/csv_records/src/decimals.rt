@@ -130,7 +130,7 @@ impl ColumnMarks {
         self.comma.add(field, number.comma, DecimalMark::Comma);
     }
 
-    /// The decimal mark of the column, where the fields have one.
+    /// The decimal mark of the column, if its fields have one.
     pub fn points(self) -> Option<Points>
         ensures { result ≡ points_for self }
     {

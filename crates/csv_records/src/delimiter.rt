@@ -29,11 +29,11 @@ pub enum Delimiter {
 /// The byte between the fields of a text, and the text of its records: all of it, or the rest after
 /// a first line `sep=X`.
 ///
-/// Such a line is looked for unless a byte is asked for, also after a byte-order mark. X is one
-/// ASCII character that is no quote. The letters may be capitals.
+/// Such a line is looked for unless a byte is given, also after a byte-order mark. X is one ASCII
+/// character that is no quote. The letters may be capitals.
 ///
-/// `Auto` takes that of TAB, `;`, `,` and `|` by which the most of the first ten records have one
-/// same number of fields, above 1; of several the first.
+/// `Auto` tries TAB, `;`, `,` and `|`. For each it counts how many of the first ten records have
+/// the same number of fields, at least two. It takes the first one with the highest count.
 pub(crate) fn delimited<'a>(
     alloc: Global,
     text: &'a str,
@@ -61,9 +61,9 @@ pub(crate) fn delimited<'a>(
     }
 }
 
-/// Whether a text whose lines are whole shows its delimiter, however it goes on: a
-/// byte is asked for, which is no line feed, or its first line names one, or each that is tried
-/// gives it more records than are looked at. Where spaces part fields, a text is read whole.
+/// Whether a text whose lines are complete shows its delimiter, whatever follows: a byte is given
+/// that is no line feed, or its first line names one, or each that is tried gives it more records
+/// than are looked at. If spaces separate fields, a text is read whole.
 pub(crate) fn shows_delimiter(
     alloc: Global,
     text: &str,
@@ -105,7 +105,7 @@ fn delimiter_in(line: &[u8]) -> Option<u8>
     }
 }
 
-// The ASCII character that is all of a word, where it may be between fields.
+// The ASCII character that is all of a word, if it may separate fields.
 pub fn only_ascii(word: &[u8]) -> Option<u8>
     ensures { result ≡ only_ascii word.now }
 {

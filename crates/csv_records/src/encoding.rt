@@ -29,12 +29,18 @@ pub enum Encoding {
     Utf16,
 }
 
-/// The text of an input below the lines that are left out, which may be in another encoding. Where
-/// none is asked for, an input that begins with a byte-order mark of UTF-16 is UTF-16, and any
-/// other one UTF-8, unless it is seen to be no text. An input in UTF-8 of which no line is left out
-/// becomes its text without a copy.
+/// The text of an input after the lines that are left out.
 ///
-/// `NotUtf16` comes of a surrogate without a partner, and of an odd number of bytes.
+/// If no encoding is given, an input that begins with a byte-order mark of UTF-16 is UTF-16, and
+/// any other one is UTF-8, unless its bytes show that it is no text. An input in UTF-8 becomes its
+/// text without a copy, if no line is left out.
+///
+/// # Errors
+///
+/// - `NotUtf8`, `NotUtf16`: the bytes aren't in the encoding. In UTF-16 this is a surrogate without
+///   a partner, or an odd number of bytes.
+/// - `NotText`: no encoding is given, and the bytes are those of another kind of file.
+/// - `OutOfMemory`
 pub fn decoded(alloc: Global, input: Vec<u8>, options: &InputOptions) -> Result<String, DecodeError>
     ensures text { IfOk result (λ text. IsDecodedBy options.now input.items (string_bytes text)) }
     ensures not_copied { IfOk result (λ text.
@@ -69,7 +75,7 @@ fn text_below(
     }
 }
 
-/// The encoding that was asked for, or is found.
+/// The encoding that is given, or else found.
 pub(crate) fn encoding_of(encoding: Option<Encoding>, input: &[u8]) -> Encoding
     ensures { result ≡ encoding_of encoding input.now }
 {

@@ -12,7 +12,7 @@ use thiserror::Error;
 /// feed, a carriage return, or a carriage return with a line feed, also between quotes.
 #[derive(Clone, Copy, Debug, PartialEq, Eq, Error)]
 pub enum DecodeError {
-    /// No encoding was asked for, and the input is seen to be another thing than text in UTF-8.
+    /// No encoding is given, and the input's bytes are those of another kind of file than text.
     #[error("{0}")]
     NotText(NotText),
     /// The input isn't UTF-8.

@@ -112,7 +112,7 @@ fn figure_number(digits: &str, is_bare: bool) -> FieldNumber
     }
 }
 
-// The same of digits with at most one mark. Nothing is said of other texts.
+// The same for digits with at most one mark. For other texts the result has no meaning.
 fn plain_number(digits: &[u8], is_bare: bool) -> Option<FieldNumber>
     ensures value { IfSome result (λ number. number
         ≡ number_with (is_figure digits.now) is_bare digits.now) }

@@ -73,7 +73,7 @@ impl Ends {
 #[derive(Drop)]
 pub(crate) struct Fields {
     bytes: Vec<u8>,
-    // where each field ends among the bytes
+    // the end of each field among the bytes
     ends: Ends,
 }
 
@@ -126,7 +126,7 @@ impl Fields {
         self.ends.start(at)
     }
 
-    /// The field at a position, by where it starts, and where it ends.
+    /// The field at a position, by its start and its end among the bytes.
     pub(crate) fn field_from(&self, at: usize, start: usize) -> (&[u8], usize)
         requires there { at < length (fields_of self.now) }
         requires start { start ≡ prev 0 self.now.ends at }

@@ -6,8 +6,8 @@ use crate::encoding::Encoding;
 /// How an input is read.
 #[derive(Clone, Copy, Debug)]
 pub struct InputOptions {
-    /// How the input is written as bytes. If that isn't said, an input that begins with a
-    /// byte-order mark of UTF-16 is UTF-16, and any other one UTF-8.
+    /// How the input is written as bytes. If this is none, an input that begins with a byte-order
+    /// mark of UTF-16 is UTF-16, and any other one is UTF-8.
     pub encoding: Option<Encoding>,
     /// How many lines at the input's front are left out, in whatever encoding they are. A line ends
     /// at a line feed, a carriage return, or both, also between quotes.

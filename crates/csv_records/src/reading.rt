@@ -15,12 +15,15 @@ use crate::spaces::tabbed_text;
 use crate::text::line_before;
 use std::alloc::Global;
 
-/// The records of a text, which `decoded` has below the lines that are left out. An empty line is
-/// no record; `""` is an empty field.
+/// The records of a text that `decoded` has made. An empty line is no record; `""` is an empty
+/// field.
 ///
-/// `Unclosed` has the number of the line where the quote opens, those that are left out counted
-/// too.
-/// `SplitCharacter` comes only of a delimiter that isn't ASCII.
+/// # Errors
+///
+/// - `Unclosed`: a quote is never closed. It has the number of the line in which the quote opens,
+///   and counts the lines that are left out.
+/// - `SplitCharacter`: the delimiter isn't ASCII, and is a byte of another character.
+/// - `OutOfMemory`
 pub fn read_records(
     alloc: Global,
     text: &str,

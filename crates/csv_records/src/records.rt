@@ -278,13 +278,13 @@ impl<'a> Record<'a> {
     }
 }
 
-/// Fields of a record, one after another. Each is found by where the one before it ends.
+/// Fields of a record, one after another. Each begins at the end of the one before it.
 #[derive(Drop)]
 pub struct RecordFields<'a> {
     fields: &'a Fields,
     // of those that are left
     place: Place,
-    // where the first of them starts among the bytes
+    // the start of the first of them among the bytes
     start: usize,
 }
 
