@@ -60,7 +60,7 @@ fn points_at(alignment: Option<CellAlignment>, marks: Option<ColumnMarks>) -> Op
     }
 }
 
-/// The name of the column at a position, or its number, counted from 1, where it has none.
+/// The name of the column at a position, or its number, counted from 1, if it has no name.
 pub fn name_at<'a>(
     alloc: Global,
     names: &Record<'a>,

@@ -28,9 +28,9 @@ const RECORDS: usize = 256;
 /// at a time.
 #[derive(Drop)]
 pub struct RecordDrawing {
-    // the next piece, which is made before it is asked for: memory runs out only before a piece
+    // the next piece, which is made before the caller wants it: memory runs out only before a piece
     ready: Option<String>,
-    // what comes behind it
+    // the rest of the drawing after it
     rest: Option<Remaining>,
 }
 
@@ -100,12 +100,12 @@ pub(crate) struct Remaining {
     pub arranged: ArrangedTable<LazyTable>,
     // the record that is drawn next
     pub place: usize,
-    // whether what stands above the records is drawn with it
+    // whether the lines above the records are drawn with it
     pub is_first: bool,
     pub note: String,
 }
 
-// The next piece of a drawing, and what comes behind it.
+// The next piece of a drawing, and the rest after it.
 fn piece_of(rest: Option<Remaining>) -> Result<(Option<String>, Option<Remaining>)>
     requires { IfSome rest (λ left.
         left.place ≤ length left.arranged.contents.rows.selected.rows) }

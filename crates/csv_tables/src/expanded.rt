@@ -8,7 +8,7 @@ use crate::selection::Noun;
 use comfy_table::Result;
 use std::fmt::Write;
 
-/// Whether records are expanded, where a width has room for the table of their rows, or hasn't.
+/// Whether records are expanded, if the width has, or hasn't, room for the table of their rows.
 pub(crate) fn is_expanded(expansion: Expansion, has_room: bool) -> bool
     ensures { result ≡ is_expanded_in expansion has_room }
 {

@@ -8,9 +8,9 @@ ghost use Rattle.csv_tables.specs.declared.options.Look.{Look};
 ghost use Rattle.csv_tables.specs.declared.options.Layout.{Layout};
 ghost use Rattle.csv_tables.specs.declared.options.ColumnPlan.{ColumnPlan};
 
-/// Decimal marks stand below each other, by spaces alone. A column shows the fields of records with
-/// nothing but spaces behind them. In a column with a decimal mark the fraction of each field is as
-/// long with its spaces, so all marks are as far from the right side.
+/// Decimal marks are below each other, by spaces alone. A column shows the fields of records with
+/// nothing but spaces after them. In a column with a decimal mark, the fraction of each field has
+/// the same length with its spaces, so all marks are equally far from the right side.
 pub fn decimal_marks_stand_below_each_other()
     ensures spaces { (look : Look) (is_aligned : Bool) (column : ColumnPlan)
         (fields : List Text)
@@ -18,18 +18,21 @@ pub fn decimal_marks_stand_below_each_other()
     ensures marks { (fields : List Text) → MarksStandBelow fields }
 {}
 
-/// All lines of an output take equally many terminal columns: as they are written, where nothing is
-/// in bold; or without their sequences, where no control character stands beside them, with a bold
-/// header too. Lines end at line feeds. Each character of the style adds one column and none is a
-/// line feed, and sequences in fields are not kept.
+/// All lines of an output take the same number of terminal columns. Without a bold header these are
+/// the lines as they are written. With one they are the lines without their sequences, if there is
+/// no other control character.
 ///
-/// That is so where no width is kept to, for texts of every script up to 65535 columns; where rows
-/// are cut, U+FE01 stands nowhere directly beside U+FE0E or U+FE0F. It is so under every width
-/// where no character takes more than one column, and where each character of each text fits its
-/// column. The tables of expanded records are as wide as each other; the lines that number them and
-/// the one on further records aren't among these lines. An output for Markdown of texts up to 65535
-/// columns is straight, whatever its look asks for besides, and its line below the header is as
-/// wide as the others.
+/// It holds in each of these cases, if each character of the style adds one column and none is a
+/// line feed, and sequences in fields aren't kept:
+///
+/// - Without a width, for texts of every script up to 65535 columns. If rows are cut, U+FE01 is
+///   nowhere directly next to U+FE0E or U+FE0F.
+/// - Under every width, if no character takes more than one column.
+/// - Under every width, if each character of each text fits its column.
+///
+/// The tables of expanded records have the same width. The lines that number them, and the line on
+/// further records, aren't among these lines. An output for Markdown of texts up to 65535 columns
+/// is straight, whatever else its look has, and its line below the header is as wide as the others.
 pub fn outputs_are_straight()
     ensures whole { (visible : Bool)
         (counted : Option ℕ) (layout : Layout) (records : List (List Text)) (output : Text)

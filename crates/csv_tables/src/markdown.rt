@@ -10,12 +10,13 @@ use comfy_parts::style::CellAlignment;
 use csv_records::split_first;
 use std::alloc::{AllocError, Global};
 
-/// A text as a cell of a Markdown table, to be read as its characters. A backslash stands before
-/// what could begin or end markup: `|`, `\`, `<`, `[`, `]`; `&` of a character reference; `*`,
-/// `` ` ``, `~` and `_` where another one stands behind, but for `_` right behind a letter or a
-/// digit. A word that has one has further ones in `:/` and between `w` and a point: a reader that
-/// makes links of web addresses would take the backslashes into the link. A line feed is written
-/// `<br>`.
+/// A text as a cell of a Markdown table, from which a reader gets its characters.
+///
+/// A backslash is added before each character that could begin or end markup: `|`, `\`, `<`, `[`,
+/// `]`; `&` of a character reference; `*`, `` ` ``, `~` and `_` if the same character follows, but
+/// not a `_` directly after a letter or a digit. A word with a backslash gets further ones in `:/`
+/// and between `w` and a point, because a reader that makes links of web addresses would take the
+/// backslashes into the link. A line feed becomes `<br>`.
 pub fn escaped(alloc: Global, text: &str) -> Result<String, AllocError>
     ensures { IfOk result (λ t. string_bytes t ≡ encode_utf8_all (escaped (chars text.now))) }
 {
@@ -72,7 +73,7 @@ fn push_rule_segment(
     text.push_str(if is_right(side) { ":|" } else { "-|" })
 }
 
-/// Whether cells of this alignment stand at the right.
+/// Whether cells of this alignment are at the right.
 pub(crate) fn is_right(alignment: Option<CellAlignment>) -> bool
     ensures { result ≡ is_right alignment }
 {
@@ -85,7 +86,7 @@ fn first(text: &str) -> Option<char>
     text.chars().next()
 }
 
-// Appends a character, after a backslash where it is special.
+// Appends a character, after a backslash if it is special.
 fn push_escaped(cell: &mut String, c: char, is_special: bool) -> Result<(), AllocError>
     ensures { OnOk result (string_bytes cell.new
         ≡ string_bytes cell.old ++ encode_utf8_all (escaped_character is_special c)) }
@@ -151,7 +152,7 @@ fn is_space(c: char) -> bool
     c == ' ' || c == '\n'
 }
 
-// Whether a web address could stand here: `://`, or `www.`, of which a neighbour is seen.
+// Whether a web address could be here: `://`, or `www.`, by the characters next to it.
 fn is_in_address(before: Option<char>, c: char, after: Option<char>) -> bool
     ensures { result ≡ is_in_address before c after }
 {
@@ -175,8 +176,8 @@ fn is_mark(c: char) -> bool
     matches!(c, '|' | '\\' | '<' | '[' | ']')
 }
 
-// Whether another one behind it would make a character markup. An underscore behind a letter or a
-// digit begins none.
+// Whether the same character later in the text would make a character markup. An underscore after
+// a letter or a digit begins none.
 fn is_paired(before: Option<char>, c: char) -> bool
     ensures { result ≡ is_paired before c }
 {
@@ -189,7 +190,7 @@ fn holds(text: &str, c: char) -> bool
     text.chars().any(|d| d == c)
 }
 
-// Whether a letter or a digit stands there.
+// Whether a letter or a digit is there.
 fn is_in_word(c: Option<char>) -> bool
     ensures { result ≡ is_in_word c }
 {

@@ -34,7 +34,7 @@ pub struct Look {
     pub separators: RowSeparators,
     /// Whether a record is drawn as a table of its own, of names and fields.
     pub expansion: Expansion,
-    /// The width to keep to, in terminal columns; none where none is kept.
+    /// The width to keep to, in terminal columns, if there is one.
     pub width: Option<u16>,
     /// Whether the width is filled too.
     pub fills_width: bool,
@@ -42,8 +42,8 @@ pub struct Look {
     pub max_height: Option<usize>,
     /// Whether the header is written in bold.
     pub has_bold_header: bool,
-    /// Whether the decimal points of a column of numbers stand below each other, where there is
-    /// room for the spaces behind its fields. In Markdown and in expanded records they don't.
+    /// Whether the decimal points of a column of numbers are below each other, if there is room
+    /// for the spaces after its fields. In Markdown and in expanded records they aren't.
     pub aligns_decimals: bool,
     /// Whether SGR sequences in fields count no terminal columns. ESC is then kept as it is.
     pub has_sequences: bool,
@@ -82,9 +82,9 @@ pub enum Expansion {
 pub struct ColumnPlan {
     /// The position of its field in a record, counted from 0.
     pub position: usize,
-    /// The alignment of its cells, where it isn't that of the table.
+    /// The alignment of its cells, if it isn't that of the table.
     pub alignment: Option<CellAlignment>,
-    /// The decimal mark of its fields, where these stand at the right and have one.
+    /// The decimal mark of its fields, if they are right-aligned and have one.
     pub points: Option<Points>,
     /// Whether its fields are numbers and dates alone, which aren't broken.
     pub is_nowrap: bool,

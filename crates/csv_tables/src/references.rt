@@ -5,7 +5,7 @@ ghost use Rattle.csv_tables.specs.References.{begins_kind, begins_number, begins
 
 use csv_records::split_first;
 
-/// What stands in a reference before `;`: a name, or the digits of a number.
+/// The part of a reference before `;`: a name, or the digits of a number.
 #[derive(Clone, Copy)]
 pub(crate) enum ReferenceKind {
     Name,
@@ -13,8 +13,8 @@ pub(crate) enum ReferenceKind {
     Hexadecimal,
 }
 
-/// Whether what stands behind an ampersand makes it a reference: a name, or a number behind `#`,
-/// and `;`.
+/// Whether the text after an ampersand makes it a reference: a name, or `#` and a number, and then
+/// `;`.
 pub(crate) fn begins_reference(behind: &str) -> bool
     ensures { result ≡ begins_reference (chars behind.now) }
 {

@@ -24,14 +24,14 @@ pub struct SelectedRecords {
     pub(crate) alloc: Global,
     records: Records,
     has_header: bool,
-    // whether a header without fields stands where no record is one
+    // whether there is a header without fields if no record is one
     is_headed: bool,
     // how many rows are drawn
     limit: Option<usize>,
-    // how many records stand below the header, where that is known
+    // the number of records below the header, if it is known
     count: Option<usize>,
     pub(crate) columns: Vec<ColumnPlan>,
-    // of each column, the least position of it and of those behind it
+    // for each column, the least position of it and of those after it
     least_behind: Vec<usize>,
     // whether a column of numbers is before them
     pub(crate) is_numbered: bool,
@@ -61,8 +61,8 @@ impl Model for SelectedRecords {
 }
 
 impl SelectedRecords {
-    /// What is drawn of these records, of which so many stand below the header, where that is
-    /// known.
+    /// Selects what is drawn of these records. `count` is the number of records below the header,
+    /// if it is known.
     pub fn new(
         alloc: Global,
         records: Records,
@@ -88,7 +88,7 @@ impl SelectedRecords {
         })
     }
 
-    /// The same with a header, which has no fields where no record is one.
+    /// The same with a header, which has no fields if no record is one.
     pub(crate) fn with_header(self) -> SelectedRecords
         ensures { result ≡ markdown_content self }
     {
@@ -113,7 +113,7 @@ impl SelectedRecords {
         Ok(selected)
     }
 
-    /// The header, where there is one.
+    /// The header, if there is one.
     pub(crate) fn names(&self) -> Option<Record<'_>>
         ensures { result ≡ self.now.names }
     {
@@ -190,7 +190,7 @@ impl SelectedRecords {
         Ok(sides)
     }
 
-    /// How many records there are below the header, drawn or not, where that is known.
+    /// The number of records below the header, drawn or not, if it is known.
     pub(crate) fn count(&self) -> Option<usize>
         ensures { result ≡ self.now.count }
     {
@@ -227,7 +227,7 @@ fn centered(column: ColumnPlan, settings: &[ColumnSettings]) -> ColumnPlan
     }
 }
 
-// Of each column, the least position of it and of those behind it.
+// For each column, the least position of it and of those after it.
 fn least_positions_of(alloc: Global, columns: &[ColumnPlan]) -> Result<Vec<usize>, AllocError>
     ensures { IfOk result (λ leasts. leasts.items ≡ least_positions columns.now) }
 {

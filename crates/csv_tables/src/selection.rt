@@ -12,11 +12,11 @@ use std::marker::Model;
 pub struct Selection {
     /// Whether the first record is the header.
     pub has_header: bool,
-    /// How many records below the header are drawn; all where there is no limit.
+    /// How many records below the header are drawn; all if there is no limit.
     pub limit: Option<usize>,
-    /// Whether a column `#` stands ahead, with the number of each record below the header, counted
-    /// from 1. No position is its own, and other columns keep theirs. Records that are expanded
-    /// have their numbers above them anyway, and no such field.
+    /// Whether the first column is `#`, with the number of each record below the header, counted
+    /// from 1. It has no position, and other columns keep theirs. Expanded records have their
+    /// numbers above them anyway, and no such field.
     pub is_numbered: bool,
     /// The word for a record in the lines that count records.
     pub noun: Noun,
@@ -107,9 +107,9 @@ impl Model for Columns {
 }
 
 impl Columns {
-    /// Those that are drawn, in their order, and those that stand at the right and at the left,
-    /// where a position in both lists stands at the right. All others stand at the right where
-    /// their fields are numbers. No record needs to have a field at such a position.
+    /// Those that are drawn, in their order, and those that are right-aligned and left-aligned. A
+    /// position in both lists is right-aligned. All others are right-aligned if their fields are
+    /// numbers. No record needs to have a field at such a position.
     pub fn new(drawn: Vec<usize>, right: Vec<usize>, left: Vec<usize>) -> Columns
         ensures { result
             ≡ record { drawn = drawn.items; right = right.items; left = left.items } }
@@ -154,7 +154,7 @@ fn count_of(names: &Record<'_>, rows: &Rows<'_>) -> usize
     count
 }
 
-/// The header, where there is one.
+/// The header, if there is one.
 pub(crate) fn names_of<'a>(records: &Rows<'a>, has_header: bool) -> Option<Record<'a>>
     ensures { result ≡ names_of has_header records.now }
 {

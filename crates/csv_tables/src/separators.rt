@@ -12,7 +12,7 @@ use crate::options::RowSeparators;
 use crate::rows::RecordRows;
 use comfy_table::{ArrangedTable, LineStyle, Result, RowWriter, TableStyle};
 
-/// Leaves out the lines that a table's style has between rows, where they aren't wanted.
+/// Leaves out the lines that a table's style has between rows, if they aren't wanted.
 pub(crate) fn separate_rows(contents: &mut LazyTable, separators: RowSeparators) -> Result<()>
     requires { contents.old.rows.is_expanded ≡ false }
     ensures table { OnOk result (AreRowsSeparated separators contents.old.table

@@ -47,7 +47,7 @@ pub struct CellSettings {
     pub alignment: Option<CellAlignment>,
     /// The colour of its text.
     pub foreground: Option<Color>,
-    /// The colour behind its text.
+    /// The background colour of its text.
     pub background: Option<Color>,
     /// Its attributes. In a bold header they come after bold.
     pub attributes: Vec<Attribute>,

@@ -21,7 +21,7 @@ use std::alloc::{AllocError, Global};
 pub(crate) struct ColumnSummary {
     /// Whether they are numbers.
     pub(crate) kind: FieldKind,
-    /// Their decimal marks, where each of them is narrow, and a number or neutral.
+    /// Their decimal marks, if each of them is narrow, and a number or neutral.
     pub(crate) marks: Option<ColumnMarks>,
     /// Whether each of them is a number or a date, which isn't broken.
     pub(crate) are_nowrap: bool,
@@ -141,8 +141,8 @@ fn add_record(
     Ok(())
 }
 
-// Adds what a field says of the column at its position. Positions behind the end of the list have
-// the summary of no field.
+// Adds a field to the summary of the column at its position. Positions after the end of the list
+// have the summary of no field.
 fn add_field(
     alloc: Global,
     summaries: &mut Vec<ColumnSummary>,

@@ -15,7 +15,7 @@ use csv_records::Record;
 use std::alloc::Global;
 
 impl SelectedRecords {
-    // The number of the row at a place, where rows are numbered.
+    // The number of the row at a place, if rows are numbered.
     pub(crate) fn number_at(&self, at: usize) -> Option<u128>
         ensures { option_map decimal result ≡ number_of self.now.is_numbered (at + 1) }
     {
@@ -26,7 +26,7 @@ impl SelectedRecords {
         }
     }
 
-    // A table with a header of these names, where there are any, and with the settings of rows.
+    // A table with a header of these names, if there are any, and with the settings of rows.
     pub(crate) fn headed_table(
         &self,
         names: Option<Record<'_>>,
