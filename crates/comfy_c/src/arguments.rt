@@ -23,7 +23,7 @@ pub(crate) fn command_line(alloc: Global, text: &str) -> Result<Vec<&str>, Alloc
     Ok(arguments)
 }
 
-// A text without the zero byte at its end, where it has one.
+// A text without the zero byte at its end, if it has one.
 fn without_end(text: &str) -> &str
     ensures { 0 < length text.now → ended result.now ≡ closed text.now }
 {

@@ -28,11 +28,11 @@ pub struct ColumnNumbers {
     pub right_padding: u16,
     /// The character at which texts may break; 0 for none.
     pub delimiter: u32,
-    /// Where texts stand, as in a cell.
+    /// The side of texts, as in a cell.
     pub alignment: u32,
-    /// 1 where it isn't drawn, 2 where it is as wide as its content, 3 where it has the width
-    /// `width`, 4 where it has at least this, 5 at most this, 6 at least this and at most `upper`.
-    /// Any other number stands for no constraint.
+    /// 1 if it isn't drawn, 2 if it is as wide as its content, 3 if it has the width `width`, 4 if
+    /// it has at least this, 5 at most this, 6 at least this and at most `upper`. Any other number
+    /// sets no constraint.
     pub constraint: u32,
     pub width: WidthNumbers,
     pub upper: WidthNumbers,

@@ -9,25 +9,26 @@ use csv_command::{ARGUMENT_NOT_UTF8, Refusal, render_csv};
 use std::alloc::Global;
 
 /// Draws the table of CSV into the caller's buffer, as `csvtable` does for these arguments and a
-/// file of these bytes where standard output is no terminal, and neither `COLUMNS` nor `NO_COLOR`
-/// is set.
+/// file of these bytes if standard output is no terminal, and neither `COLUMNS` nor `NO_COLOR` is
+/// set.
 ///
-/// A zero byte ends each argument; that of the last one may be missing. No file is opened: an
-/// argument for one names the input in messages, and its end may tell what stands between fields.
+/// A zero byte ends each argument; that of the last one may be missing. No file is opened: the name
+/// of a file among the arguments only appears in messages, and `.tsv` at its end says that TABs
+/// separate fields.
 ///
 /// | Returned | Meaning | At the front of the buffer |
 /// |---|---|---|
 /// | 0 | the input is drawn | the drawing |
 /// | 1 | the buffer is too small | nothing |
-/// | 2 | the input can't be drawn as the arguments ask | the line that `csvtable` says |
+/// | 2 | the input can't be drawn as the arguments ask | the message of `csvtable` |
 /// | 3 | memory ran out | nothing |
-/// | 4 | the arguments ask for no drawing | what `csvtable` says, help and version too |
+/// | 4 | the arguments ask for no drawing | the text of `csvtable`, such as help and version |
 ///
-/// `needed` is then the length in bytes of what stands there; after 1 it is that of the drawing,
-/// and after 3 it is unchanged.
+/// `needed` is then the length in bytes of this text. After 1 it is that of the drawing, and after
+/// 3 it is unchanged.
 ///
-/// A buffer that is too small for what is said with 2 or 4 is unchanged, as it is with 1 and 3;
-/// else it is unchanged behind what was written.
+/// With 2 and 4 a buffer that is too small for the message is unchanged, and so it is with 1 and 3.
+/// Otherwise it is unchanged after the bytes that were written.
 ///
 /// ```
 /// let status = comfy_csv_draw(rt.alloc(), b"a,b\n", b"-w\x0040", &mut output, &mut needed);

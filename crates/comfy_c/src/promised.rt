@@ -15,13 +15,13 @@ use crate::rows_settings::RowsSettings;
 use promises::laws::drawings_keep_the_promises;
 use std::alloc::Global;
 
-/// What a caller gets with 0, unless it asks for the widths of contents, is UTF-8: the lines of the
-/// table that its numbers and texts describe, each with a line feed behind it, or trimmed and with
-/// line feeds between them.
+/// The bytes that a caller gets with 0, unless it wants the widths of contents, are UTF-8: the
+/// lines of the table that its numbers and texts describe, each ended by a line feed, or trimmed
+/// and with line feeds between them.
 ///
-/// They keep each promise that is made of a table's lines. So a width under `Dynamic` holds in
-/// frame lines, or is passed by borders, paddings and one for each column alone, where no column
-/// has a constraint but `Hidden`.
+/// They keep each promise on a table's lines. So under `Dynamic`, if no column has a constraint
+/// except `Hidden`, frame lines have at most the width, or as many characters as borders, paddings
+/// and one for each column take.
 pub fn drawn_cells(
     alloc: Global,
     texts: &[u8],

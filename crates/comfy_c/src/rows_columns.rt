@@ -96,8 +96,8 @@ fn width_unless_zero(width: u16) -> Option<u16>
     (width != 0).then_some(width)
 }
 
-/// The columns of these rows that are asked for; none if a column that isn't there has settings,
-/// or if no column is left.
+/// The columns to draw of these rows; none if a column that isn't there has settings, or if no
+/// column is left.
 pub(crate) fn columns_of(
     alloc: Global,
     asked: &[RowsColumn],

@@ -36,7 +36,7 @@ use std::alloc::Global;
 /// returned if a table for Markdown is asked for, or if rows are or may be expanded, and there are
 /// looks, heights or columns with more than a side at the left or right. Then lengths, counts,
 /// looks and heights are looked at, and after them the texts. Last, 4 is returned if a column that
-/// no row has is asked for, or if no column is left.
+/// no row has has settings, or if no column is left.
 ///
 /// With 1 to 5 the buffer is unchanged. With 0 it is unchanged after the drawing.
 #[unsafe(no_mangle)]

@@ -45,7 +45,7 @@ pub(crate) fn texts_of<'a>(
     if !add_up(texts, lengths, counts) {
         return Err(DrawRefusal::Lengths);
     }
-    // Each text is UTF-8 if all bytes are, and each text ends where a character does.
+    // Each text is UTF-8 if all bytes are, and each text ends at the end of a character.
     let Ok(whole) = from_utf8(texts) else {
         return Err(DrawRefusal::NotUtf8);
     };

@@ -44,10 +44,10 @@ pub fn harmless_drawing(alloc: Global, arguments: &[&str], input: &[u8]) -> Opti
     render_csv(alloc, arguments, input).ok()
 }
 
-/// The line that `csvtable` writes on standard error where these bytes can't be drawn as these
-/// arguments ask: nothing where they can, or where the arguments ask for no drawing. Whatever the
-/// bytes, the names in them and the name of the file are, it holds no control character but the
-/// line feed at its end, and none that turns the direction of text.
+/// The line that `csvtable` writes on standard error if these bytes can't be drawn as these
+/// arguments ask: nothing if they can, or if the arguments ask for no drawing. Whatever the bytes,
+/// the names in them and the name of the file are, its only control character is the line feed at
+/// its end, and no character turns the direction of text.
 pub fn harmless_message(alloc: Global, arguments: &[&str], input: &[u8]) -> Option<String>
     ensures { IfSome result (λ message. IsTameLine (string_bytes message)) }
 {

@@ -23,9 +23,9 @@ use comfy_table::{Lines, Result, Table};
 /// column is as wide as its widest text if all have room, or wider under `DynamicFullWidth`. If not
 /// all have room, there is a level, which is at least an even share of it. A column whose widest
 /// text is at most the level is as wide as this text. Any other is at least as wide as the level,
-/// or has room for its lines at such a width. A frame line counts at most as many characters as the
-/// width under `Dynamic`, or as borders, paddings and one for each column. Under `DynamicFullWidth`
-/// it counts exactly as many, if a column is shown. Rows of printable ASCII count the same.
+/// or has room for its lines at such a width. Under `Dynamic` a frame line has at most max(W,
+/// borders + paddings + shown columns) characters, if W is the width. Under `DynamicFullWidth` it
+/// has exactly that many, if a column is shown. Rows of printable ASCII have as many.
 pub fn headline(table: &Table) -> Result<Lines>
     ensures drawing { IfOk result (λ lines. IsHeadline table.now lines) }
     ensures characters { IfOk result (λ lines. All IsUtf8 lines) }

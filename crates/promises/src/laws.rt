@@ -49,7 +49,7 @@ pub fn numbers_are_printable()
     ensures { (n : ℕ) → is_printable_ascii (decimal n) ≡ true }
 {}
 
-/// The frame of a table is plain, where paddings, delimiters and indicator are those of a new table
+/// The frame of a table is plain if paddings, delimiters and indicator are those of a new table,
 /// and each character of the style adds one terminal column.
 pub fn new_frames_are_plain()
     ensures { (table : TableValue) → HasNewFrame table → HasPlainFrame table }
@@ -61,12 +61,12 @@ pub fn the_ellipsis_stands_apart()
     ensures { IsApart ellipsis }
 {}
 
-/// Each character of a style adds one terminal column, where `TableStyle::is_one_column` says yes.
+/// Each character of a style adds one terminal column if `TableStyle::is_one_column` is true.
 pub fn frame_characters_make_plain_styles()
     ensures { (style : TableStyle) → has_frame_characters style ≡ true → IsOneColumnStyle style }
 {}
 
-/// A header and rows that an empty table gets stand below each other, and each cell has a column.
+/// A header and rows that an empty table gets are below each other, and each cell has a column.
 #[tactic(auto, using(crate::proofs::ConditionLemmas::of_rows))]
 pub fn rows_stand_below_each_other()
     ensures { (base : TableValue) (header : RowValue) (rows : List RowValue) → IsEmpty base
