@@ -1,4 +1,4 @@
-# For the scripts that read this file at the top of the project: what is built, and where it is put.
+# Builds and installs programs, for the scripts that read this file at the top of the project.
 
 # Builds what a crate's out/ hasn't yet, by a command in the crate's folder.
 build() {
@@ -28,7 +28,7 @@ put_library() {
   put 644 packages/c/comfy_table.pc lib/pkgconfig
 }
 
-# The program csvtable with its page and its completions. It stands in libexec/, and bin/csvtable is a script that runs it with
+# The program csvtable with its page and its completions. It is in libexec/, and bin/csvtable is a script that runs it with
 # the width of the terminal.
 put_csvtable() {
   build csvtable csvtable rt run -- --version

@@ -6,9 +6,9 @@
 # No network is needed. What isn't built yet is built first, which proves it. Equal files make equal packages.
 #
 # usage: tools/package.sh OUT
-# CC is the compiler that links the shared library of the wheel for this system, cc where it isn't set. Making the wheel takes Python 3.11.
-# DPKG_DEB is the program that writes the Debian package, dpkg-deb where it isn't set; without it tar and ar write it.
-# SOURCE_DATE_EPOCH is the time of all files, the day of the version where it isn't set.
+# CC is the compiler that links the shared library of the wheel for this system, cc if it isn't set. Making the wheel takes Python 3.11.
+# DPKG_DEB is the program that writes the Debian package, dpkg-deb if it isn't set; without it tar and ar write it.
+# SOURCE_DATE_EPOCH is the time of all files, the day of the version if it isn't set.
 set -eu
 if [ $# -ne 1 ]; then
   echo "usage: $0 OUT" >&2
@@ -33,7 +33,7 @@ has() {
   command -v "$1" > /dev/null || { left_out="$left_out $2 (no $1)" && return 1; }
 }
 
-# Prints a tar of what stands in a folder under a name, the same for equal files.
+# Prints a tar of a folder's files under a name, the same for equal files.
 packed() {
   folder=$1 name=$2
   shift 2

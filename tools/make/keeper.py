@@ -23,7 +23,7 @@ def copied_kit(at):
     for name in os.listdir(KIT):
         if name not in ("bin", "toolchain"):
             os.symlink(f"{KIT}/{name}", f"{kit}/{name}")
-    # `rt` finds its kit by where its own file is, so links don't do.
+    # `rt` finds its kit by the place of its own file, so a link wouldn't do.
     shutil.copytree(f"{KIT}/bin", f"{kit}/bin")
     os.symlink(f"{KIT}/toolchain/lib", f"{kit}/toolchain/lib")
     for name in os.listdir(f"{KIT}/toolchain/bin"):

@@ -5,7 +5,7 @@
 # they say of themselves. What isn't there, as a compiler or dpkg, is left out, and the last line says what was tried.
 #
 # usage: tools/try/package_test.sh
-# CC is the compiler for C, cc where it isn't set. What isn't built yet is built first.
+# CC is the compiler for C, cc if it isn't set. Programs that aren't built yet are built first.
 set -eu
 cd "$(dirname "$0")/../.."
 top=$PWD
@@ -30,7 +30,7 @@ printf 'name;price\n\377;\351\n' > "$work/csv/bank.csv"
 printf 'name,price\n"oats,3\n' > "$work/csv/open.csv"
 : > "$work/csv/nothing"
 
-# Compares what a program writes, or says where it draws nothing, with what csvtable does, with arguments that are accepted and
+# Compares what a program writes, or says if it draws nothing, with what csvtable does, with arguments that are accepted and
 # others. What csvtable says beside a drawing has no place in a call.
 compare_csv() {
   for arguments in '' '-w 40' '-s grid -r 1' '-x --limit 2 --color always' '--markdown -e cp1252' '-t -n --rows' '-c 2,1 -m 1' \
@@ -64,7 +64,7 @@ try_csvtable() {
   "$CSVTABLE" crates/csvtable/data/ledger.csv | cmp - "$work/drawn"
 }
 
-# dpkg in an empty root, where it needs no rights of an administrator.
+# dpkg in an empty root, in which it needs no rights of an administrator.
 dpkg_in() {
   PATH=$PATH:/usr/sbin:/sbin dpkg --root="$root" --log=/dev/null --force-not-root "$@"
 }
@@ -146,7 +146,7 @@ try_refusals() {
   (cd "$work/crate" && COMFY_C="$work/csv" cargo check -q --offline && COMFY_C="$work/csv" cargo doc -q --offline)
 }
 
-# csvtable, from its archive, and from its Debian package by dpkg; where that isn't there the package is only unpacked.
+# csvtable, from its archive, and from its Debian package by dpkg; if that isn't there, the package is only unpacked.
 mkdir "$work/prefix" "$work/programs"
 tar -C "$work/prefix" --strip-components=1 -xzf "$work"/packages/csvtable-*-linux-x86_64.tar.gz
 try_csvtable "$work/prefix"
@@ -160,7 +160,7 @@ else
   try_csvtable "$work/root/usr"
 fi
 
-# C, by pkg-config where it is there.
+# C, by pkg-config if it is there.
 tar -C "$work/prefix" --strip-components=1 -xzf "$work"/packages/comfy_table-*-linux-x86_64.tar.gz
 if command -v pkg-config > /dev/null; then
   flags=$(PKG_CONFIG_PATH=$work/prefix/lib/pkgconfig pkg-config --cflags --libs comfy_table)

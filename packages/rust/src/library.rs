@@ -54,7 +54,7 @@ unsafe extern "C" {
     ) -> u32;
 }
 
-// What a call returns, beside 1 where the room was too small.
+// What a call returns, besides 1 if the room was too small.
 const DRAWN: u32 = 0;
 const INPUT_REFUSED: u32 = 2;
 const OUT_OF_MEMORY: u32 = 3;
@@ -63,7 +63,7 @@ const OUT_OF_MEMORY: u32 = 3;
 #[derive(Debug)]
 pub struct OutOfMemory;
 
-/// A table of cells: the texts of all cells, one behind another, and what is said of each cell, row and column.
+/// A table of cells: the texts of all cells, one after another, and the settings of each cell, row and column.
 #[derive(Default)]
 pub struct CellTable {
     pub texts: String,
@@ -101,7 +101,7 @@ pub fn draw_cells(table: &CellTable, indicator: &str, settings: &CellsSettings, 
     Ok(drawing)
 }
 
-/// The texts of rows, one behind another.
+/// The texts of rows, one after another.
 #[derive(Clone, Debug, Default)]
 pub struct Texts {
     pub joined: String,

@@ -557,7 +557,7 @@ impl Texts {
 struct Values<'a, V> {
     // the values and the list for their lengths, until they are printed
     left: cell::Cell<Option<(V, &'a mut Vec<usize>)>>,
-    // where the text that is printed ends
+    // the end of the text that is printed
     end: &'a cell::Cell<usize>,
 }
 
@@ -576,7 +576,7 @@ impl<V: IntoCells> Display for Values<'_, V> {
     }
 }
 
-// A text that is appended to, and where it ends.
+// A text that is appended to, and its end.
 struct Joined<'a> {
     text: &'a mut String,
     end: &'a cell::Cell<usize>,

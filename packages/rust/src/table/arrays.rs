@@ -48,7 +48,7 @@ pub fn room_for(table: &Table, cells: &CellTable, longest: usize, width: Option<
     const MOST: usize = 1 << 30;
     let columns = table.columns.len();
     let paddings: usize = table.columns.iter().map(|column| usize::from(column.padding_width())).sum();
-    // The longest texts of the columns may stand in different rows.
+    // The longest texts of the columns may be in different rows.
     let unwrapped = 2 * longest + paddings + columns + 1;
     let line = match (&table.arrangement, width) {
         (ContentArrangement::Dynamic | ContentArrangement::DynamicFullWidth, Some(width)) => {
@@ -153,7 +153,7 @@ fn of_alignment(alignment: Option<CellAlignment>) -> u32 {
     }
 }
 
-// No colour, where NO_COLOR asks for none.
+// No colour, if NO_COLOR asks for none.
 #[cfg(feature = "tty")]
 fn of_color(color: Option<Color>) -> numbers::Color {
     let of_kind = |kind| numbers::Color { kind, ..numbers::Color::default() };
