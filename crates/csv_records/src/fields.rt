@@ -57,6 +57,13 @@ impl Ends {
         if at == 0 { 0 } else { self.get(at - 1) }
     }
 
+    // Makes room for more of them.
+    fn reserve(&mut self, count: usize) -> Result<(), AllocError>
+        ensures { self.new ≡ self.old }
+    {
+        self.short.reserve(count)
+    }
+
     fn push(&mut self, end: usize) -> Result<(), AllocError>
         ensures ok { OnOk result (self.new ≡ self.old ++ end ∷ []) }
         ensures err { OnErr result (self.new ≡ self.old) }
@@ -135,6 +142,14 @@ impl Fields {
     {
         let end = self.ends.get(at);
         (&self.bytes.as_slice()[start..end], end)
+    }
+
+    /// Makes room for more fields of so many bytes in all.
+    pub(crate) fn reserve(&mut self, count: usize, bytes: usize) -> Result<(), AllocError>
+        ensures { self.new ≡ self.old }
+    {
+        self.bytes.reserve(bytes)?;
+        self.ends.reserve(count)
     }
 
     /// Appends the fields of a record.

@@ -464,8 +464,18 @@ fn fields_from(alloc: Global, texts: &[&str]) -> Result<Fields, AllocError>
     ensures text { IfOk result (λ made. AllText (fields_of made)) }
 {
     let mut made = Fields::new(alloc);
+    made.reserve(texts.len(), bytes_in(texts))?;
     for text in texts {
         made.push_field(text.as_bytes())?;
     }
     Ok(made)
+}
+
+// The bytes of some texts.
+fn bytes_in(texts: &[&str]) -> usize {
+    let mut bytes: usize = 0;
+    for text in texts {
+        bytes = bytes.saturating_add(text.len());
+    }
+    bytes
 }

@@ -5,6 +5,9 @@ use std::sync::Arc;
 
 use crate::cell::Cell;
 
+// How many cells a row has at least whose texts are joined. With fewer cells this takes more time than it saves.
+const JOINED: usize = 5;
+
 /// The text of a cell: one of its own, or a part of the texts of the row that it was made for.
 #[derive(Clone)]
 pub enum Text {
@@ -53,10 +56,10 @@ impl fmt::Debug for Text {
     }
 }
 
-/// Moves the texts of cells into one piece of memory. It is taken and freed faster than one for each cell, and the pieces that this
-/// frees are ready for the texts of the next row.
+/// Moves the texts of a row's cells into one piece of memory, unless they are few. It is taken and freed faster than one for each
+/// cell, and the pieces that this frees are ready for the texts of the next row.
 pub fn join(cells: &mut [Cell]) {
-    if cells.len() < 2 {
+    if cells.len() < JOINED {
         return;
     }
     let mut texts = String::with_capacity(cells.iter().map(|cell| cell.text.len()).sum());

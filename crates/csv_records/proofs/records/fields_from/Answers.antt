@@ -1,12 +1,14 @@
 use Rattle.std.proofs.Common.{◌≡◌, ◌+◌, ◌++◌, ◌∷◌, ◌∙◌, [], List, ℕ, ap, map, subst, sym, take}
 use Rattle.std.proofs.lemmas.List.{map-append, take_more}
 use Rattle.csv.proofs.RecordFacts.{text-more}
-use Rattle.csv.specs.Records.{AllText, fields_of}
+use Rattle.csv.specs.Records.{AllText, fields_of, partial_of}
 use Rattle.csv_records.proofs.records.fields_from.Goals as goal
 
 pub loop-text-init : goal.loop-text-init
 unfolding AllText
-loop-text-init c = (c.new-made.ensures.whole, c.new-made.ensures.fields, subst AllText (sym c.new-made.ensures.fields) tt)
+loop-text-init c =
+    let fields = ap fields_of c.reserve.ensures ∙ c.new-made.ensures.fields in
+    (ap partial_of c.reserve.ensures ∙ c.new-made.ensures.whole, fields, subst AllText (sym fields) tt)
 
 pub loop-text-preserved : goal.loop-text-preserved
 loop-text-preserved c =
