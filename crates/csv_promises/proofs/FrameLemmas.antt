@@ -2,7 +2,7 @@
 use Rattle.std.proofs.Common.{◌≡◌, ◌≤◌, ◌<◌, ◌||◌, ℕ, ◌+◌, Bool, true, false, not, List, [], ◌∷◌, Option, Some, None, flat_map, length, map, refl, sym, ap, ◌∙◌, subst, arith, sum_by}
 use Rattle.std.specs.List.{All, enumerate_from, list_any}
 use Rattle.std.specs.Prelude.{if◌then◌else◌}
-use Rattle.std.proofs.lemmas.Bool.{leb-true, or_right}
+use Rattle.std.proofs.lemmas.Bool.{or_right}
 use Rattle.std.proofs.lemmas.List.{length-map}
 use Rattle.std.proofs.lemmas.List.Elements.{All-head, All-map, All-tail, recursion_from_All}
 use Rattle.std.proofs.lemmas.List.FromFn.{length-enumerate_from}
@@ -19,10 +19,10 @@ use Rattle.csv_tables.proofs.LineLemmas.{Any, any_built, any_drawn}
 use Rattle.csv_tables.proofs.ReachedLemmas.{reached-length}
 use Rattle.csv_tables.proofs.SeparatorLemmas.{separated}
 use Rattle.csv_tables.proofs.WholeColumnLemmas.{HasTwo, IsPaddedColumn, exactly_two, pairs_are_two, pairs_have_two}
-use Rattle.csv_tables.proofs.WholeTableLemmas.{HasRoom, columns-drawn, least-fits, room_for_given}
+use Rattle.csv_tables.proofs.WholeTableLemmas.{HasRoom, columns-drawn, least-fits, most-least, room_for_given}
 use Rattle.csv_tables.specs.Cells.{cell_for, cells_for, has_field, header_for, columns_within, row_for, with_weight, Shown, counted_from, shown_in, shown_names}
-use Rattle.csv_tables.specs.Drawn.{SelectedValue, empty_table, has_room_for, headed_table, output_table, pairs_in, pairs_table, rows_table, separated_table, nowrap_in, is_aligned_in}
-use Rattle.csv_tables.specs.NoWrap.{given_in, has_room, with_min_widths, fair_level, with_lower_bounds}
+use Rattle.csv_tables.specs.Drawn.{SelectedValue, empty_table, has_room_for, headed_table, output_table, pairs_in, pairs_table, rows_table, separated_table, wanted_in, is_aligned_in}
+use Rattle.csv_tables.specs.NoWrap.{Wanted, given_in, has_room, most_wanted, with_min_widths, fair_level, with_lower_bounds}
 use Rattle.csv_tables.specs.declared.options.ColumnPlan.{ColumnPlan}
 use Rattle.csv_tables.specs.declared.options.Look.{Look}
 use Rattle.promises.proofs.FrameLemmas.{borders}
@@ -101,8 +101,8 @@ module _ (look : Look) (content : SelectedValue) (has : Bool) where
   abbrev rows : TableValue
   rows = rows_table look (is_aligned_in look content) content
 
-  abbrev whole : List Bool
-  whole = nowrap_in content
+  abbrev whole : Wanted
+  whole = wanted_in look content
 
   -- it has room for the table
   pub width_has_room : (w : ℕ) → look.width ≡ Some w → has_room_for look content (is_aligned_in look content) ≡ true → least_total (separated_table has (output_table false look content)) ≤ w
@@ -110,7 +110,7 @@ module _ (look : Look) (content : SelectedValue) (has : Bool) where
       let new = recursion_from_All IsNewColumn rows.columns (any_built false (is_aligned_in look content) look content).columns in
       let own : has_room (Some w) whole rows ≡ true = ap (λ (width : Option ℕ). has_room width whole rows) (sym wide) ∙ test in
       let made : output_table false look content ≡ with_lower_bounds (given_in w whole rows) rows = ap (λ (width : Option ℕ). with_min_widths width whole rows) wide ∙ ap (λ (b : Bool). if b then with_lower_bounds (given_in w whole rows) rows else rows) own in
-      let room : HasRoom w (separated_table has (output_table false look content)) = subst (HasRoom w) (sym (ap (separated_table has) made)) (room_for_given w (fair_level w whole rows) has whole rows new (leb-true _ w own)) in
+      let room : HasRoom w (separated_table has (output_table false look content)) = subst (HasRoom w) (sym (ap (separated_table has) made)) (room_for_given w (fair_level w (most_wanted w whole rows) rows) has (most_wanted w whole rows) rows new (most-least w whole rows own)) in
       least-fits w (separated_table has (output_table false look content)) room
 
 -- ---- columns that are drawn

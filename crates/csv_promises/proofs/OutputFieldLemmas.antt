@@ -25,7 +25,7 @@ use Rattle.csv_tables.proofs.RowLemmas.{with_rows-rows}
 use Rattle.csv_tables.specs.Cells.{Shown, cell_for, columns_within, held, pair_for, shown_cells, shown_in, with_weight, number_name, row_for, counted_from}
 use Rattle.csv_tables.specs.Columns.{ColumnsValue, name_at}
 use Rattle.csv_tables.specs.declared.selection.Noun.{Noun}
-use Rattle.csv_tables.specs.Drawn.{SelectedValue, RendersAsTable, RendersRecords, RendersTable, columns_of, drawn_fields, drawn_rows, empty_table, has_room_for, headed_table, names_of, note_for, output_table, pairs_in, record_line, record_text, rows_table, separated_table, some_lines, table_text, nowrap_in, is_aligned_in, is_table_expanded, names_or_none}
+use Rattle.csv_tables.specs.Drawn.{wanted_in, SelectedValue, RendersAsTable, RendersRecords, RendersTable, columns_of, drawn_fields, drawn_rows, empty_table, has_room_for, headed_table, names_of, note_for, output_table, pairs_in, record_line, record_text, rows_table, separated_table, some_lines, table_text, is_aligned_in, is_table_expanded, names_or_none}
 use Rattle.csv_tables.specs.NoWrap.{has_room}
 use Rattle.csv_command.specs.Drawn.{layout_with}
 use Rattle.csv_tables.specs.declared.options.ColumnPlan.{ColumnPlan}
@@ -38,7 +38,7 @@ use Rattle.std.proofs.lemmas.List.{length-map}
 use Rattle.csv_records.specs.Cleaning.{cleaned}
 use Rattle.csv_tables.specs.Fields.{field_or_blank}
 use Rattle.csv_promises.proofs.FrameLemmas.{pair_columns, places_of, reaches, row_columns}
-use Rattle.promises.specs.Headline.{IsUncoloured, widest}
+use Rattle.promises.specs.Headline.{IsUncoloured}
 use Rattle.csv_promises.proofs.ExpandedLemmas.{rows_at}
 use Rattle.csv_promises.proofs.FieldLemmas.{IsRowFor, are_pairs, are_rows, is_header, own_sides, positions_of}
 use Rattle.csv_promises.proofs.ColumnLemmas.{are_asked, are_below, some_position}
@@ -48,8 +48,8 @@ use Rattle.csv_promises.proofs.ShownTableLemmas.{HasPlainFields, HasRowsOf, has_
 use Rattle.csv_promises.proofs.LineLemmas.{may_expand, no_records, no_rows, none_below, nothing_noted}
 use Rattle.csv_promises.proofs.WrittenLemmas.{IsDrawnBy, by_extent}
 use Rattle.csv_promises.specs.Counted.{AreExpanded, IsCount, IsWrittenFor}
-use Rattle.csv_promises.specs.Fields.{AreLinedUp, IsDrawingOf, KeepsNumbers, ShowsAllFields, ShowsFields, fields_at, row_after_number, rows_from, ShowsPairs, ShowsRecords, ShowsRows, columns_asked, lined_up, mark_for, no_marks, pairs_at, all_rows, sides_after_number, whole_for, whole_pairs}
-use Rattle.csv_promises.proofs.WholeLemmas.{AreColumns, kept_whole, marks-shown, pairs_keep_numbers, pairs_kept_whole, sides-shown, nowrap-shown, widest-content}
+use Rattle.csv_promises.specs.Fields.{AreLinedUp, IsDrawingOf, KeepsNumbers, KeepsWhole, ShowsAllFields, ShowsFields, fields_at, row_after_number, rows_from, ShowsPairs, ShowsRecords, ShowsRows, columns_asked, lined_up, mark_for, no_marks, pairs_at, all_rows, sides_after_number, whole_for, whole_pairs}
+use Rattle.csv_promises.proofs.WholeLemmas.{AreColumns, kept_whole, marks-shown, pairs_keep_numbers, pairs_kept_whole, sides-shown, nowrap-shown, whole-widest}
 use Rattle.csv_promises.specs.Written.{IsWritten}
 
 -- of no rows nothing
@@ -97,7 +97,7 @@ module _ (look : Look) (all : DrawsAll look) (is_numbered : Bool) (noun : Noun) 
 
     abbrev shows : (first n : ℕ) (has_header has_names : Bool) → is_some table.header ≡ has_header → (sides : List CellAlignment) (fields : List (List Text)) → AllZip (IsRowFor sides) fields (option_to_list table.header ++ take n (drop first table.rows)) → All (λ (own : List Text). length table.columns ≡ length own) fields
         → All (HasPlainFields has_names) (take n (drop first table.rows))
-        → (whole : List Bool) → ((i : ℕ) → i < length table.columns → slice_get whole i ≡ Some true → widest (with_rows_alone first n table) i ≤ max 1 (slice_index drawn.widths i))
+        → (whole : List Bool) → KeepsWhole look whole (with_rows_alone first n table) (λ i. max 1 (slice_index drawn.widths i))
         → (has_names ≡ true → (w : ℕ) → w ≤ 65535 → look.width ≡ Some w → All (KeepsNumbers look w (max 1 (slice_index drawn.widths 1))) (take n (drop first table.rows))) → IsDrawingOf look has_header has_names sides whole fields (terminated_text_of (drawing (with_rows_alone first n table) drawn.widths))
     shows = part_shows look content is_expanded renders.has_separators all.unkept all.style lines drawn
 
@@ -115,13 +115,12 @@ module _ (look : Look) (all : DrawsAll look) (is_numbered : Bool) (noun : Noun) 
       whole : List Bool
       whole = whole_for look.width look.expansion is_numbered (positions_of columns) rows
 
-      wide : (i : ℕ) → i < length (table false text renders).columns → slice_get whole i ≡ Some true → widest (with_rows_alone 0 (length (table false text renders).rows) (table false text renders)) i ≤ max 1 (slice_index (drawn false text renders).widths i)
-      wide i below is_whole =
+      wide : KeepsWhole look whole (with_rows_alone 0 (length (table false text renders).rows) (table false text renders)) (λ i. max 1 (slice_index (drawn false text renders).widths i))
+      wide small i below is_whole =
           let made = table false text renders in
           let widths = (drawn false text renders).widths in
-          let kept = kept_whole look content are renders.has_separators widths (drawn false text renders).arranged i below is_whole in
-          let same = widest-content made (no_custom_styling look content false renders.has_separators all.unkept) i in
-          subst (λ (own : List RowValue). max 1 (greatest (map cell_content_width (filter_map (λ (row : RowValue). slice_get row.cells i) (option_to_list made.header ++ own)))) ≤ max 1 (slice_index widths i)) (sym (take-length made.rows)) (omega (arith, kept, same))
+          let kept = kept_whole look content are renders.has_separators widths (drawn false text renders).arranged small i below is_whole in
+          whole-widest look.width made (no_custom_styling look content false renders.has_separators all.unkept) i (max 1 (slice_index widths i)) (omega arith) kept
 
       fields : List (List Text)
       fields = all_rows is_numbered marks (positions_of columns) names rows
@@ -249,7 +248,7 @@ module _ (look : Look) (all : DrawsAll look) (is_numbered : Bool) (noun : Noun) 
         inr (shows true text renders first (suc n) false true (ap is_some no_header) [] fields
         (subst (λ (header : Option RowValue). AllZip (IsRowFor []) fields (option_to_list header ++ take (suc n) (drop first (table true text renders).rows))) (sym no_header) each)
         (two_columns first (suc n) fields each two) plain (whole_pairs look.width)
-        (pairs_kept_whole look content renders.has_separators (drawn true text renders).widths first (suc n) all.unkept (drawn true text renders).arranged)
+        (λ small. pairs_kept_whole look content renders.has_separators (drawn true text renders).widths first (suc n) all.unkept (drawn true text renders).arranged)
         (λ names. numbers first (suc n)))
 
     -- a name and a field are two
@@ -333,7 +332,7 @@ module _ (layout : Layout) (all : DrawsAll layout.look) (known : Option ℕ) (re
   lined : AreLinedUp look are
   lined =
       record {
-        without_width = λ none. ap (λ (width : Option ℕ). look.aligns_decimals && has_room width (nowrap_in own) (rows_table look true own)) none ∙ and_true look.aligns_decimals;
+        without_width = λ none. ap (λ (width : Option ℕ). look.aligns_decimals && has_room width (wanted_in look own) (rows_table look true own)) none ∙ and_true look.aligns_decimals;
         unasked = λ no. ap (λ (b : Bool). b && has_room_for look own true) no;
       }
     where

@@ -19,15 +19,15 @@ use Rattle.csv_tables.proofs.LineLemmas.{Any, any_built, any_drawn, kept_setting
 use Rattle.csv_tables.proofs.SeparatorLemmas.{separated}
 use Rattle.csv_tables.proofs.WholeColumnLemmas.{IsPaddedColumn, all_shown, leasts-length, leasts_on}
 use Rattle.csv_tables.proofs.WholeTableLemmas.{IsDrawn, drawn-is}
-use Rattle.csv_tables.specs.Drawn.{SelectedValue, condensed_style, empty_table, output_table, pairs_table, rows_table, separated_table, nowrap_in, is_aligned_in}
+use Rattle.csv_tables.specs.Drawn.{SelectedValue, condensed_style, empty_table, output_table, pairs_table, rows_table, separated_table, is_aligned_in, wanted_in}
 use Rattle.csv_tables.specs.NoWrap.{field_width, has_room, with_min_widths, given_in, with_min_field_width, may_break, room_beside, room_for_two, with_field_width, with_lower_bounds, with_second}
 use Rattle.csv_tables.specs.declared.options.Look.{Look}
 use Rattle.promises.proofs.KeptLemmas.{part_framed, part_plain, part_width}
-use Rattle.promises.specs.Headline.{IsUncoloured, widest}
+use Rattle.promises.specs.Headline.{IsUncoloured}
 use Rattle.csv_promises.proofs.BoldLemmas.{IsWeighted, weighted_lines}
 use Rattle.csv_promises.proofs.FieldLemmas.{IsRowFor}
 use Rattle.csv_promises.proofs.RecordLemmas.{HasColumns, table_has_columns}
-use Rattle.csv_promises.specs.Fields.{HoldsFields, IsDrawingOf, IsFieldColumn, KeepsNumbers, cells_after_name}
+use Rattle.csv_promises.specs.Fields.{HoldsFields, IsDrawingOf, IsFieldColumn, KeepsNumbers, KeepsWhole, widest_whole, cells_after_name}
 use Rattle.csv_promises.specs.Harmless.{IsInBold}
 
 -- ---- columns
@@ -114,12 +114,12 @@ module _ (look : Look) (content : SelectedValue) where
       constrained : (kept : List ℕ) → HasRowsOf rows (separated_table has (with_lower_bounds kept rows))
       constrained kept = with_columns rows has (leasts_on kept rows.columns) (leasts-length kept rows.columns) (all_shown kept rows.columns new)
 
-      by_width : (width : Option ℕ) → HasRowsOf rows (separated_table has (with_min_widths width (nowrap_in content) rows))
+      by_width : (width : Option ℕ) → HasRowsOf rows (separated_table has (with_min_widths width (wanted_in look content) rows))
       by_width None = constrained []
-      by_width (Some w) = by_room (has_room (Some w) (nowrap_in content) rows)
+      by_width (Some w) = by_room (has_room (Some w) (wanted_in look content) rows)
         where
-          by_room : (b : Bool) → HasRowsOf rows (separated_table has (if b then with_lower_bounds (given_in w (nowrap_in content) rows) rows else rows))
-          by_room true = constrained (given_in w (nowrap_in content) rows)
+          by_room : (b : Bool) → HasRowsOf rows (separated_table has (if b then with_lower_bounds (given_in w (wanted_in look content) rows) rows else rows))
+          by_room true = constrained (given_in w (wanted_in look content) rows)
           by_room false = constrained []
 
   module _ (is_expanded has : Bool) where
@@ -189,7 +189,7 @@ module _ (look : Look) (content : SelectedValue) where
       all_weighted sides (own ∷ fields) (row ∷ rows) each = All-cons (λ (r : RowValue). All IsWeighted r.cells) row rows each.0.weighted (all_weighted sides fields rows each.1)
 
       pub part_shows : (has_header has_names : Bool) → is_some made.header ≡ has_header → (sides : List CellAlignment) (fields : List (List Text)) → AllZip (IsRowFor sides) fields (header_and_rows part) → All (λ (own : List Text). length made.columns ≡ length own) fields → All (HasPlainFields has_names) alone
-          → (whole : List Bool) → ((i : ℕ) → i < length made.columns → slice_get whole i ≡ Some true → widest part i ≤ max 1 (slice_index drawn.widths i)) → (has_names ≡ true → (w : ℕ) → w ≤ 65535 → look.width ≡ Some w → All (KeepsNumbers look w (max 1 (slice_index drawn.widths 1))) alone) → IsDrawingOf look has_header has_names sides whole fields (terminated_text_of (drawing part drawn.widths))
+          → (whole : List Bool) → KeepsWhole look whole part (λ i. max 1 (slice_index drawn.widths i)) → (has_names ≡ true → (w : ℕ) → w ≤ 65535 → look.width ≡ Some w → All (KeepsNumbers look w (max 1 (slice_index drawn.widths 1))) alone) → IsDrawingOf look has_header has_names sides whole fields (terminated_text_of (drawing part drawn.widths))
       part_shows has_header has_names header sides fields each as_many uncoloured whole wide numbers =
           let plain = no_custom_styling unkept in
           let framed = part_framed made lines drawn plain alone within in
@@ -205,7 +205,7 @@ module _ (look : Look) (content : SelectedValue) where
             framed = framed;
             in_bold = subst (λ (ls : List Text). AllZip IsInBold ls (drawing part drawn.widths)) (sym (part_plain made lines drawn plain alone within)) (weighted_lines part (ap (λ (t : TableValue). t.style_text_only) looks) drawn.widths (all_weighted sides fields (header_and_rows part) each));
             unstyled = λ none. framed.unstyled (unstyled none);
-            keeps_whole = λ i below is. subst (λ (width : ℕ). widest part i ≤ width) (sym (part_width made lines drawn plain alone within i)) (wide i below is);
+            keeps_whole = λ small i below is. subst (λ (width : ℕ). widest_whole look.width part i ≤ width) (sym (part_width made lines drawn plain alone within i)) (wide small i below is);
             keeps_numbers = λ names w small is. subst (λ (width : ℕ). All (KeepsNumbers look w width) alone) (sym (part_width made lines drawn plain alone within 1)) (numbers names w small is);
           }
         where

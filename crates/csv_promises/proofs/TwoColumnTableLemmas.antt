@@ -25,10 +25,12 @@ use Rattle.csv_tables.proofs.LineLemmas.{Any, any_built, any_drawn, kept_setting
 use Rattle.csv_tables.proofs.SeparatorLemmas.{restyled, separated}
 use Rattle.csv_tables.proofs.NoWrapLemmas.{boundary-some, framed_pair, given_is_shared, kept-test, with_second-none}
 use Rattle.csv_tables.proofs.WholeColumnLemmas.{IsPaddedColumn, all_shown, both_shown, field_width-within, leasts_on, pairs_have_two}
-use Rattle.csv_tables.proofs.WholeTableLemmas.{IsDrawn, drawn-is, fewer_borders, field_separated, still_fits}
-use Rattle.csv_tables.specs.Drawn.{SelectedValue, arrangement_for, empty_table, is_aligned_in, is_expanded_for, is_expanded_in, is_table_expanded, output_table, pairs_table, rows_table, separated_table, nowrap_in}
+use Rattle.csv_tables.proofs.WholeTableLemmas.{IsDrawn, drawn-is, most-least, fewer_borders, field_separated, still_fits}
+use Rattle.csv_tables.specs.Drawn.{SelectedValue, arrangement_for, empty_table, is_aligned_in, is_expanded_for, is_expanded_in, is_table_expanded, output_table, pairs_table, rows_table, separated_table, wanted_in}
 use Rattle.csv_tables.specs.Laws.{IsDrawnTable}
-use Rattle.csv_tables.specs.NoWrap.{lower_bound, boundary_for, by_columns, field_width, framed_width, reserved_width, has_room, min_width, with_min_widths, with_min_field_width, least_width, fair_level, may_break, name_in, room_beside, room_for_two, width_at_level, wide_word, with_content, with_field_width, with_lower_bounds, word_width}
+use Rattle.csv_tables.specs.NoWrap.{Wanted, lower_bound, boundary_for, by_columns, field_width, framed_width, reserved_width, has_room, min_width, with_min_widths, with_min_field_width, least_width, fair_level, fields_need, kept_of_fields, kept_of_name, kept_of_word, most_wanted, may_break, name_in, room_beside, room_for_two, width_at_level, wide_word, with_content, with_field_width, with_lower_bounds, word_width}
+use Rattle.csv_tables.specs.declared.needs.Words.{Words}
+use Rattle.csv_tables.specs.declared.needs.Words.TheVariants.{Broken, OfFields, OfNames}
 use Rattle.csv_tables.specs.declared.options.Expansion.{Expansion}
 use Rattle.csv_tables.specs.declared.options.Expansion.TheVariants.{Always, Auto, Never}
 use Rattle.csv_tables.specs.declared.options.Look.{Look}
@@ -262,27 +264,50 @@ wide_word-two table (Some name) = by_test width (nat_lt 8 width) refl
     by_test n true test = let above = ltb-true 8 n test in inr (omega (arith, above))
     by_test n false test = inl refl
 
+-- what is kept of a name is nothing, or two at least
+name-two : (words : Words) (width : ℕ) → (width ≡ 0) ⊎ (2 ≤ width) → (kept_of_name words width ≡ 0) ⊎ (2 ≤ kept_of_name words width)
+name-two Broken width two = inl refl
+name-two OfNames width two = two
+name-two OfFields width two = two
+
+-- so is what is kept of a word of fields
+word-two : (words : Words) (width : ℕ) → (kept_of_word words width ≡ 0) ⊎ (2 ≤ kept_of_word words width)
+word-two Broken width = inl refl
+word-two OfNames width = inl refl
+word-two OfFields width = by_tests (nat_lt 8 width) (nat_lt 40 width) refl
+  where
+    by_tests : (a b : Bool) → nat_lt 8 width ≡ a → ((if a then (if b then 20 else width) else 0) ≡ 0) ⊎ (2 ≤ (if a then (if b then 20 else width) else 0))
+    by_tests true true above = inr (omega arith)
+    by_tests true false above = let more = ltb-true 8 width above in inr (omega (arith, more))
+    by_tests false b above = inl refl
+
 -- what a column keeps, and so what it is given, is nothing, or two at least, or its content
-gives_two : (level : ℕ) (whole : List Bool) (table : TableValue) (i : ℕ) → GivesTwo (column_content_width table i) (reserved_width level whole table i)
-gives_two level whole table i = by_tests (unwrap_or (slice_get whole i) false || nat_le content 8) (unwrap_or (slice_get whole i) false || nat_lt level (min_width whole table i))
+gives_two : (level : ℕ) (whole : Wanted) (table : TableValue) (i : ℕ) → GivesTwo (column_content_width table i) (reserved_width level whole table i)
+gives_two level whole table i =
+    by_tests (nat_le content 8) (unwrap_or (slice_get whole.nowrap i) false) (unwrap_or (slice_get whole.nowrap i) false || nat_lt level (min_width whole table i))
   where
     content : ℕ
     content = column_content_width table i
 
-    keeps : Bool → ℕ
-    keeps a = if a then content else min content (wide_word table (name_in table i))
+    name : ℕ
+    name = kept_of_name whole.words (wide_word table (name_in table i))
 
-    keeps_two : (a : Bool) → GivesTwo content (keeps a)
-    keeps_two true = inr (omega arith)
-    keeps_two false = ⊎_elim (λ none. inl (omega (arith, none))) (λ two. inr (omega (arith, two))) (wide_word-two table (name_in table i))
+    keeps : Bool → Bool → ℕ
+    keeps narrow nowrap = if narrow then content else min content (max name (kept_of_fields whole.words nowrap (min content (fields_need nowrap table i))))
 
-    by_tests : (a b : Bool) → GivesTwo content (if b then keeps a else 0)
-    by_tests a true = keeps_two a
-    by_tests a false = inl refl
+    keeps_two : (narrow nowrap : Bool) → GivesTwo content (keeps narrow nowrap)
+    keeps_two true nowrap = inr (omega arith)
+    keeps_two false true = inr (omega arith)
+    keeps_two false false =
+        ⊎_elim (λ none. ⊎_elim (λ also. inl (omega (arith, none, also))) (λ two. inr (omega (arith, two))) (word-two whole.words (min content (fields_need false table i)))) (λ two. inr (omega (arith, two))) (name-two whole.words (wide_word table (name_in table i)) (wide_word-two table (name_in table i)))
+
+    by_tests : (narrow nowrap b : Bool) → GivesTwo content (if b then keeps narrow nowrap else 0)
+    by_tests narrow nowrap true = keeps_two narrow nowrap
+    by_tests narrow nowrap false = inl refl
 
 module _ (base : TableValue) (new : AllByRecursion IsNewColumn base.columns) (w : ℕ) (widths : List ℕ) where
   -- with what columns are given beforehand, where there is room
-  given_has_two : (level : ℕ) (whole : List Bool) → let with : TableValue = with_lower_bounds (by_columns (reserved_width level whole base) base) base in width_kept with.arrangement (Some w) ≡ Some w → table_width with ≡ Some w → least_width whole base ≤ w → IsArranged with widths → EachHasTwo with widths
+  given_has_two : (level : ℕ) (whole : Wanted) → let with : TableValue = with_lower_bounds (by_columns (reserved_width level whole base) base) base in width_kept with.arrangement (Some w) ≡ Some w → table_width with ≡ Some w → least_width whole base ≤ w → IsArranged with widths → EachHasTwo with widths
   given_has_two level whole kept known fits arranged =
       table_two (with_lower_bounds (by_columns (reserved_width level whole base) base) base) w widths (by_columns (width_at_level 8 whole base) base) (all_shown (by_columns (reserved_width level whole base) base) base.columns new) kept known
       (given_all (with_lower_bounds (by_columns (reserved_width level whole base) base) base) (reserved_width level whole base) (width_at_level 8 whole base) (gives_two level whole base) (λ i. omega (arith, given_is_shared level 8 whole base i)) base.columns 0 new) fits arranged
@@ -330,14 +355,17 @@ module _ (w : ℕ) (look : Look) (content : SelectedValue) (wide : look.width �
   module _ (table : TableValue) (widths : List ℕ) (arranged : IsArranged table widths) where
     -- the table of rows, if a width has room
     rows_two : table ≡ separated_table has (output_table false look content)
-        → (has_room (Some w) (nowrap_in content) (rows_table look (is_aligned_in look content) content) ≡ true) ⊎ (1 + 5 * length table.columns ≤ w) → EachHasTwo table widths
-    rows_two made room = by_test (has_room (Some w) whole rows) refl
+        → (has_room (Some w) (wanted_in look content) (rows_table look (is_aligned_in look content) content) ≡ true) ⊎ (1 + 5 * length table.columns ≤ w) → EachHasTwo table widths
+    rows_two made room = by_test (has_room (Some w) wanted rows) refl
       where
         rows : TableValue
         rows = rows_table look (is_aligned_in look content) content
 
-        whole : List Bool
-        whole = nowrap_in content
+        wanted : Wanted
+        wanted = wanted_in look content
+
+        whole : Wanted
+        whole = most_wanted w wanted rows
 
         base : TableValue
         base = separated_table has rows
@@ -348,8 +376,8 @@ module _ (w : ℕ) (look : Look) (content : SelectedValue) (wide : look.width �
         keeps : (width_kept table.arrangement (Some w) ≡ Some w) × (table_width table ≡ Some w)
         keeps = drawn_keeps false table made
 
-        own : table ≡ separated_table has (with_min_widths (Some w) whole rows)
-        own = made ∙ ap (λ o. separated_table has (with_min_widths o whole rows)) wide
+        own : table ≡ separated_table has (with_min_widths (Some w) wanted rows)
+        own = made ∙ ap (λ o. separated_table has (with_min_widths o wanted rows)) wide
 
         kept_in : (h : Bool) → separated_table h (with_lower_bounds (by_columns (reserved_width level whole rows) rows) rows) ≡ with_lower_bounds (by_columns (reserved_width level whole (separated_table h rows)) (separated_table h rows)) (separated_table h rows)
         kept_in true = refl
@@ -359,14 +387,14 @@ module _ (w : ℕ) (look : Look) (content : SelectedValue) (wide : look.width �
         fits_in true fits = fits
         fits_in false fits = still_fits w false rows (by_columns (width_at_level 8 whole rows) rows) fits
 
-        by_test : (b : Bool) → has_room (Some w) whole rows ≡ b → EachHasTwo table widths
+        by_test : (b : Bool) → has_room (Some w) wanted rows ≡ b → EachHasTwo table widths
         by_test true test =
-            let is : table ≡ with_lower_bounds (by_columns (reserved_width level whole base) base) base = own ∙ ap (separated_table has) (kept-test w whole rows true test) ∙ kept_in has in
+            let is : table ≡ with_lower_bounds (by_columns (reserved_width level whole base) base) base = own ∙ ap (separated_table has) (kept-test w wanted rows true test) ∙ kept_in has in
             subst (λ (t : TableValue). EachHasTwo t widths) (sym is)
             (given_has_two base (new_columns false) w widths level whole (subst (λ (t : TableValue). width_kept t.arrangement (Some w) ≡ Some w) is keeps.0) (subst (λ (t : TableValue). table_width t ≡ Some w) is keeps.1)
-            (fits_in has (leb-true (least_width whole rows) w test)) (subst (λ (t : TableValue). IsArranged t widths) is arranged))
+            (fits_in has (most-least w wanted rows test)) (subst (λ (t : TableValue). IsArranged t widths) is arranged))
         by_test false test =
-            let is : table ≡ base = own ∙ ap (separated_table has) (kept-test w whole rows false test) in
+            let is : table ≡ base = own ∙ ap (separated_table has) (kept-test w wanted rows false test) in
             let five : 1 + 5 * length table.columns ≤ w = ⊎_elim (λ yes. absurd (cc (yes, test))) (λ enough. enough) room in
             subst (λ (t : TableValue). EachHasTwo t widths) (sym is)
             (plain_has_two base (new_columns false) w widths (subst (λ (t : TableValue). width_kept t.arrangement (Some w) ≡ Some w) is keeps.0) (subst (λ (t : TableValue). table_width t ≡ Some w) is keeps.1)
@@ -448,7 +476,7 @@ HasTwoAt table i width = (min 2 (column_content_width table i) ≤ width) ⊎ ((
 -- a width has room for a table: for five terminal columns of each column beside one border, or, for one of rows, for what its columns need
 abbrev pub HasRoomFor : ℕ → Look → SelectedValue → TableValue → Type 0
 HasRoomFor w look content table =
-    (1 + 5 * length table.columns ≤ w) ⊎ ((is_expanded_for look content ≡ false) × (has_room (Some w) (nowrap_in content) (rows_table look (is_aligned_in look content) content) ≡ true))
+    (1 + 5 * length table.columns ≤ w) ⊎ ((is_expanded_for look content ≡ false) × (has_room (Some w) (wanted_in look content) (rows_table look (is_aligned_in look content) content) ≡ true))
 
 -- there is a column at each place
 column_there : (columns : List ColumnValue) (i : ℕ) → i < length columns → (column : ColumnValue) × (slice_get columns i ≡ Some column)
@@ -497,8 +525,8 @@ room_by_expansion w all look content table plain wide most two is_drawn five =
     rows : TableValue
     rows = rows_table look (is_aligned_in look content) content
 
-    whole : List Bool
-    whole = nowrap_in content
+    whole : Wanted
+    whole = wanted_in look content
 
     expanded : is_expanded_for look content ≡ is_expanded_in look.expansion ((length content.rows == 0) || has_room (Some w) whole rows)
     expanded = ap (λ m. not m && is_table_expanded look content) plain ∙ ap (λ o. is_expanded_in look.expansion ((length content.rows == 0) || has_room o whole rows)) wide

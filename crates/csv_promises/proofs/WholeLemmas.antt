@@ -1,7 +1,8 @@
 -- Columns of a drawn table are as wide as their texts.
 use Rattle.std.proofs.Common.{◌≡◌, ◌==◌, ◌≤◌, ◌<◌, ◌&&◌, ℕ, zero, suc, ◌+◌, Bool, true, false, not, List, [], ◌∷◌, ◌++◌, Option, Some, None, drop, length, map, max, filter_map, take, refl, sym, ap, ap₂, ◌∙◌, subst, arith}
 use Rattle.std.specs.List.{All, cons_option, enumerate_from, slice_get}
-use Rattle.std.specs.Prelude.{MatchOption, if◌then◌else◌, option_to_list, slice_index, slice_index_or}
+use Rattle.std.specs.Prelude.{IfSome, MatchOption, if◌then◌else◌, option_to_list, slice_index, slice_index_or}
+use Rattle.std.proofs.Math.Seq.{take-length}
 use Rattle.std.proofs.lemmas.Bool.{ne_eqb}
 use Rattle.std.proofs.lemmas.List.Elements.{All-cons, All-head, All-nil, All-tail, All-weaker}
 use Rattle.std.proofs.lemmas.List.Sums.{sum_by-cons}
@@ -22,7 +23,7 @@ use Rattle.csv_tables.proofs.LineLemmas.{Any, any_drawn, kept_setting}
 use Rattle.csv_tables.proofs.SeparatorLemmas.{separated}
 use Rattle.csv_tables.proofs.WholeTableLemmas.{IsDrawn, drawn-is, unconstrained-drawn}
 use Rattle.csv_tables.specs.Columns.{ColumnsValue, drawn_columns, seen}
-use Rattle.csv_tables.specs.NoWrap.{framed_width, is_nowrap, needed_by_names}
+use Rattle.csv_tables.specs.NoWrap.{fields_need, framed_width, is_nowrap, needed_by_names}
 use Rattle.csv_tables.specs.Drawn.{SelectedValue, is_expanded_for, is_table_expanded, output_table, separated_table, nowrap_in}
 use Rattle.csv_tables.specs.declared.options.ColumnPlan.{ColumnPlan}
 use Rattle.csv_tables.specs.declared.options.Expansion.{Expansion}
@@ -33,12 +34,26 @@ use Rattle.promises.proofs.RowLemmas.{width_by_content}
 use Rattle.promises.specs.Headline.{widest}
 use Rattle.csv_promises.proofs.FieldLemmas.{own_sides, positions_of}
 use Rattle.csv_promises.proofs.ShownTableLemmas.{has_rows_of, no_custom_styling}
-use Rattle.csv_promises.specs.Fields.{KeepsNumbers, column_in, has_numbers, mark_for, side_for, whole_for, whole_pairs}
+use Rattle.csv_promises.specs.Fields.{KeepsNumbers, widest_whole, column_in, has_numbers, mark_for, side_for, whole_for, whole_pairs}
 
 -- the widest text of a column is its content
 pub widest-content : (table : TableValue) → table.custom_styling ≡ false → (i : ℕ) → widest table i ≡ max 1 (column_content_width table i)
 widest-content table plain i =
     ap (λ (rows : List RowValue). max 1 (greatest (map cell_content_width (filter_map (λ (row : RowValue). slice_get row.cells i) rows)))) (sym (measured_plain table plain))
+
+-- the content that is whole in a whole column: without the header if a width is kept
+abbrev pub content_whole : Option ℕ → TableValue → ℕ → ℕ
+content_whole None table i = column_content_width table i
+content_whole (Some w) table i = fields_need true table i
+
+-- as wide is the widest text that is whole in all rows
+pub whole-widest : (o : Option ℕ) (table : TableValue) → table.custom_styling ≡ false → (i w : ℕ) → 1 ≤ w → content_whole o table i ≤ w → widest_whole o (with_rows_alone 0 (length table.rows) table) i ≤ w
+whole-widest None table plain i w some kept =
+    let same = widest-content table plain i in
+    subst (λ (own : List RowValue). max 1 (greatest (map cell_content_width (filter_map (λ (row : RowValue). slice_get row.cells i) (option_to_list table.header ++ own)))) ≤ w) (sym (take-length table.rows)) (omega (arith, kept, same, some))
+whole-widest (Some v) table plain i w some kept =
+    let same = widest-content (record table { header = None }) plain i in
+    subst (λ (own : List RowValue). max 1 (greatest (map cell_content_width (filter_map (λ (row : RowValue). slice_get row.cells i) own))) ≤ w) (sym (take-length table.rows)) (omega (arith, kept, same, some))
 
 -- ---- parts of a table
 
@@ -135,13 +150,13 @@ module _ (look : Look) (content : SelectedValue) (is_expanded has : Bool) (width
 
 -- so are those of expanded records, and parts of them
 pub pairs_kept_whole : (look : Look) (content : SelectedValue) (has : Bool) (widths : List ℕ) (first n : ℕ) → look.has_sequences ≡ false → IsArranged (made look content true has widths) widths → (i : ℕ) → i < length (made look content true has widths).columns → slice_get (whole_pairs look.width) i ≡ Some true
-    → widest (with_rows_alone first n (made look content true has widths)) i ≤ max 1 (slice_index widths i)
+    → widest_whole look.width (with_rows_alone first n (made look content true has widths)) i ≤ max 1 (slice_index widths i)
 pairs_kept_whole look content has widths first n unkept arranged i below = by_width look.width refl
   where
     table : TableValue
     table = made look content true has widths
 
-    by_width : (o : Option ℕ) → look.width ≡ o → slice_get (whole_pairs o) i ≡ Some true → widest (with_rows_alone first n table) i ≤ max 1 (slice_index widths i)
+    by_width : (o : Option ℕ) → look.width ≡ o → slice_get (whole_pairs o) i ≡ Some true → widest_whole o (with_rows_alone first n table) i ≤ max 1 (slice_index widths i)
     by_width None none found =
         let own = as_wide look content true has widths none arranged i below in
         let part = part-widest i table first n in
@@ -203,23 +218,23 @@ module _ (look : Look) (content : SelectedValue) (are : AreColumns look content)
   rows_made = separated_table has (output_table false look content)
 
   -- the columns that are asked to be whole are no narrower than their contents
-  pub kept_whole : IsArranged rows_made widths → (i : ℕ) → i < length rows_made.columns → slice_get (whole_for look.width look.expansion content.is_numbered (positions_of content.columns) content.rows) i ≡ Some true → column_content_width rows_made i ≤ max 1 (slice_index widths i)
-  kept_whole arranged i below is_whole = by_width look.width refl is_whole
+  pub kept_whole : IsArranged rows_made widths → IfSome look.width (λ w. w ≤ 65535) → (i : ℕ) → i < length rows_made.columns → slice_get (whole_for look.width look.expansion content.is_numbered (positions_of content.columns) content.rows) i ≡ Some true → content_whole look.width rows_made i ≤ max 1 (slice_index widths i)
+  kept_whole arranged small i below is_whole = by_width look.width refl small is_whole
     where
       positions : List ℕ
       positions = positions_of content.columns
 
-      Kept : Type 0
-      Kept = column_content_width rows_made i ≤ max 1 (slice_index widths i)
+      Kept : Option ℕ → Type 0
+      Kept o = content_whole o rows_made i ≤ max 1 (slice_index widths i)
 
       own : is_expanded_for look content ≡ false
       own = ap (λ (m : Bool). not m && is_table_expanded look content) are.table ∙ are.kind
 
-      by_width : (o : Option ℕ) → look.width ≡ o → slice_get (whole_for o look.expansion content.is_numbered positions content.rows) i ≡ Some true → Kept
-      by_width None none found = let same = as_wide look content false has widths none arranged i below in omega (arith, same)
-      by_width (Some w) wide found = by_expansion look.expansion refl content.rows refl found
+      by_width : (o : Option ℕ) → look.width ≡ o → IfSome o (λ w. w ≤ 65535) → slice_get (whole_for o look.expansion content.is_numbered positions content.rows) i ≡ Some true → Kept o
+      by_width None none small found = let same = as_wide look content false has widths none arranged i below in omega (arith, same)
+      by_width (Some w) wide small found = by_expansion look.expansion refl content.rows refl found
         where
-          by_expansion : (e : Expansion) → look.expansion ≡ e → (rows : List (List Text)) → content.rows ≡ rows → slice_get (whole_for (Some w) e content.is_numbered positions rows) i ≡ Some true → Kept
+          by_expansion : (e : Expansion) → look.expansion ≡ e → (rows : List (List Text)) → content.rows ≡ rows → slice_get (whole_for (Some w) e content.is_numbered positions rows) i ≡ Some true → Kept (Some w)
           by_expansion e is [] empty found = absurd (cc found)
           by_expansion Always is (fields ∷ rows) some found = absurd (cc found)
           by_expansion Never is (fields ∷ rows) some found = absurd (cc found)
@@ -229,7 +244,7 @@ module _ (look : Look) (content : SelectedValue) (are : AreColumns look content)
               let same : nowrap_in content ≡ (if content.is_numbered then true ∷ [] else []) ++ map (has_numbers (fields ∷ rows)) positions =
               ap (λ (b : Bool). (if content.is_numbered then not b ∷ [] else []) ++ map (λ (column : ColumnPlan). not b && column.is_nowrap) content.columns) filled
               ∙ ap (λ (more : List Bool). (if content.is_numbered then true ∷ [] else []) ++ more) (are.unbroken ∙ ap (λ (rs : List (List Text)). map (has_numbers rs) positions) some) in
-              let kept = auto_keeps_whole w look content are.table wide is own rows_made widths i (has, ap (λ (e : Bool). separated_table has (output_table e look content)) (sym own)) arranged below (ap (λ (bs : List Bool). slice_get bs i) same ∙ found) in
+              let kept = auto_keeps_whole w look content small are.table wide is own rows_made widths i (has, ap (λ (e : Bool). separated_table has (output_table e look content)) (sym own)) arranged below (ap (λ (bs : List Bool). slice_get bs i) same ∙ found) in
               omega (arith, kept)
 
 -- ---- numbers and dates of expanded records

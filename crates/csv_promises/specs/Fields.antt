@@ -1,6 +1,6 @@
 -- Where the fields of records are in what is written of them.
 -- Source: this library's own.
-use Rattle.std.specs.Prelude.{◌≡◌, ◌<◌, ◌≤◌, ◌==◌, ℕ, ◌+◌, Bool, true, false, List, [], ◌∷◌, ◌++◌, Option, None, Some, String, All, MatchOption, decimal, drop, filter, flat_map, length, map, nat_lt, option_map, option_to_list, string_bytes, unwrap_or, IsUtf8, chars, if◌then◌else◌, is_some, ◌⊎◌, slice_get}
+use Rattle.std.specs.Prelude.{◌≡◌, ◌<◌, ◌≤◌, ◌==◌, ℕ, ◌+◌, Bool, true, false, List, [], ◌∷◌, ◌++◌, Option, None, Some, String, All, IfSome, MatchOption, decimal, drop, filter, flat_map, length, map, nat_lt, option_map, option_to_list, string_bytes, unwrap_or, IsUtf8, chars, if◌then◌else◌, is_some, ◌⊎◌, slice_get}
 use Rattle.std.specs.List.{AllZip, enumerate_from, list_all, list_any, range_with_len}
 use Rattle.comfy_parts.specs.CellValue.{CellValue, ColumnValue, RowValue, plain_cell}
 use Rattle.comfy_parts.specs.Text.{Text, measure, spaces}
@@ -88,6 +88,18 @@ KeepsNumbers look w width row =
     → All (λ line. is_nowrap line ≡ true
     → framed_width look.style (4 ∷ measure line ∷ []) ≤ w → measure line ≤ width) cell.text_lines
 
+-- the widest of the texts that are whole in a whole column, at least 1: that of the header is one
+-- of them if no width is kept
+abbrev pub widest_whole : Option ℕ → TableValue → ℕ → ℕ
+widest_whole None table i = widest table i
+widest_whole (Some width) table i = widest (record table { header = None }) i
+
+-- each whole column is at least as wide, so that each of these texts is on one line
+abbrev pub KeepsWhole : Look → List Bool → TableValue → (ℕ → ℕ) → Type 0
+KeepsWhole look whole table width =
+    IfSome look.width (λ w. w ≤ 65535) → (i : ℕ) → i < length table.columns
+    → slice_get whole i ≡ Some true → widest_whole look.width table i ≤ width i
+
 -- a text is the lines of such a table, but for bold in the pieces around texts of its header and
 -- its names, if a bold header is asked for. A list says which of its columns are whole
 pub record IsDrawingOf (look : Look) (has_header has_names : Bool) (sides : List CellAlignment)
@@ -99,9 +111,7 @@ pub record IsDrawingOf (look : Look) (has_header has_names : Bool) (sides : List
   pub framed : IsFramedTable table lines
   pub in_bold : AllZip IsInBold framed.plain lines
   pub unstyled : look.has_bold_header ≡ false → lines ≡ framed.plain
-  -- a whole column is at least as wide as its widest text, so that each of its texts is on one line
-  pub keeps_whole : (i : ℕ) → i < length table.columns → slice_get whole i ≡ Some true
-      → widest table i ≤ framed.is_plain.width i
+  pub keeps_whole : KeepsWhole look whole table framed.is_plain.width
   -- in an expanded record a number or date that has room is on one line
   pub keeps_numbers : has_names ≡ true → (w : ℕ) → w ≤ 65535 → look.width ≡ Some w
       → All (KeepsNumbers look w (framed.is_plain.width 1)) table.rows

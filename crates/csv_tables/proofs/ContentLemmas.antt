@@ -16,7 +16,7 @@ use Rattle.csv_tables.specs.Cells.{counted_from, header_for, row_for}
 use Rattle.csv_tables.proofs.DressedLemmas.{columns_dressed, grown_dressed, header_dressed, no_rows_dressed, rows_dressed}
 use Rattle.csv_tables.specs.Contents.{dressed_by, greatest_at, headed_by, made_by, measured_at, most_cells, pairs_by, rows_from, table_by}
 use Rattle.csv_tables.specs.Drawn.{SelectedValue, empty_table, headed_table, pairs_in, pairs_table, rows_of, rows_table}
-use Rattle.csv_tables.specs.NoWrap.{cell_nowrap_width, field_width}
+use Rattle.csv_tables.specs.NoWrap.{cell_need, cell_nowrap_width, field_width, fields_need, without_header}
 use Rattle.csv_tables.specs.Styled.{dressed_rows, dressed_table}
 use Rattle.csv_tables.specs.declared.options.Look.{Look}
 use Rattle.csv_tables.specs.declared.rows.RecordRows.{RecordRows}
@@ -189,6 +189,20 @@ fields_are rows t room bare none expanded =
     let each : greatest (map (of_measured whole f) (cells_at all 1)) ≡ greatest_at whole f all 1 = λ j. greatest (map (λ (cell : Option CellValue). given_same f whole cell j) (cells_at all 1)) in
     let same = ap (λ (made : List RowValue). greatest_at whole f made 1) is in
     omega (arith, own, header, each, same)
+
+-- what the fields of a column need is what the cells of rows do
+pub need_is : (is_nowrap : Bool) (t : TableValue) (all : List RowValue) (i : ℕ) → max 0 (greatest_at (with_other_rows all t) (cell_need is_nowrap) all i) ≡ fields_need is_nowrap (with_other_rows all t) i
+need_is is_nowrap t all i =
+    let table = with_other_rows all t in
+    let bare = without_header table in
+    let f = cell_need is_nowrap in
+    let own = greatest_measured bare f i in
+    let each : greatest (map (of_measured bare f) (cells_at all i)) ≡ greatest_at table f all i = λ j. greatest (map (λ (cell : Option CellValue). (given_same f bare cell ∙ bare_same f table cell) j) (cells_at all i)) in
+    omega (arith, own, each)
+  where
+    bare_same : (f : CellValue → ℕ) (table : TableValue) (cell : Option CellValue) → measured_at (without_header table) f cell ≡ measured_at table f cell
+    bare_same f table None = refl
+    bare_same f table (Some cell) = refl
 
 pub longest_same : (t : TableValue) (rows : List RowValue) (info : ColumnInfo) (made : List RowValue) (i : ℕ)
     → greatest_at t (cell_longest_line t info) made i ≡ greatest_at (with_other_rows rows t) (cell_longest_line (with_other_rows rows t) info) made i

@@ -10,7 +10,7 @@ use Rattle.std.proofs.lemmas.List.Sums.{sum_by-cons}
 use Rattle.comfy_parts.proofs.CallerLemmas.{every-weaker}
 use Rattle.comfy_parts.specs.CellValue.{CellValue, ColumnValue, RowValue}
 use Rattle.comfy_parts.specs.Text.{Text, greatest, measure}
-use Rattle.comfy_parts.specs.Wrapping.{lines_of_text, wrapped}
+use Rattle.comfy_parts.specs.Wrapping.{lines_of_text}
 use Rattle.comfy_parts.specs.declared.style.table_style.TableStyle.{TableStyle}
 use Rattle.comfy_table.proofs.BuiltTableLemmas.{IsNewColumn}
 use Rattle.comfy_table.proofs.ColumnCellLemmas.{greatest-append}
@@ -27,6 +27,7 @@ use Rattle.comfy_table.specs.Levels.{HasLevel, IsFull, IsLevelled, IsLevelledAt,
 use Rattle.comfy_table.specs.Lines.{cell_delimiter, cell_lines, longest_line}
 use Rattle.comfy_table.specs.TableValue.{TableValue, cell_content_width, column_cells, column_content_width, max_content_widths, shown_columns, table_width, with_rows}
 use Rattle.comfy_table.specs.Widths.{ColumnNeeds, even_spread, needs_of, part_of, shown_count, shown_needs}
+use Rattle.csv_tables.proofs.FieldNeedLemmas.{stands}
 use Rattle.csv_tables.proofs.KeptWidthLemmas.{IsFixedAt, fixed_is_kept, kept_arrangement, le-added}
 use Rattle.csv_tables.proofs.LineLemmas.{Any, any_built, any_drawn, kept_setting}
 use Rattle.csv_tables.proofs.SeparatorLemmas.{separated}
@@ -123,10 +124,6 @@ parts-within {X} f g (x ∷ xs) =
       omega (arith, all),
       every-weaker (λ (y : X). greatest (map f (g y)) ≤ greatest (map f (flat_map g xs))) (λ (y : X). greatest (map f (g y)) ≤ greatest (map f (flat_map g (x ∷ xs)))) xs (λ y below. omega (arith, all, below)) (parts-within f g xs),
     )
-
--- a text line that fits a width stands there as it is
-stands : (width delimiter : ℕ) (line : Text) → measure line ≤ width → lines_of_text width delimiter line ≡ line ∷ []
-stands width delimiter line short = ap (λ (b : Bool). if b then line ∷ [] else wrapped width delimiter line) (le-leb (measure line) width short)
 
 -- so the longest line of its column is no shorter
 longest-least : (table : TableValue) (i : ℕ) (delimiter : Option ℕ) (width : ℕ)

@@ -1,9 +1,9 @@
--- Columns that are as wide as their contents are drawn no narrower.
-use Rattle.std.proofs.Common.{◌≡◌, ◌==◌, ◌≤◌, ◌<◌, ◌&&◌, ◌||◌, ℕ, zero, suc, ◌+◌, Bool, true, false, not, cond, List, [], ◌∷◌, ◌++◌, Option, Some, None, find, length, map, max, min, nat_le, nat_lt, option_map, slice_index, unwrap_or, refl, sym, ap, ◌∙◌, subst, arith, eq-zero-or-pos, ⊎_elim}
-use Rattle.std.specs.List.{AllByRecursion, cons_option, enumerate_from, range_with_len, slice_get}
+-- Columns of numbers and dates are drawn no narrower than their fields.
+use Rattle.std.proofs.Common.{◌≡◌, ◌==◌, ◌≤◌, ◌<◌, ◌&&◌, ◌||◌, ℕ, zero, suc, ◌+◌, ◌-◌, Bool, true, false, not, cond, List, [], ◌∷◌, ◌++◌, Option, Some, None, find, length, map, max, min, nat_le, nat_lt, option_map, slice_index, unwrap_or, refl, sym, ap, ◌∙◌, subst, arith, eq-zero-or-pos, ⊎_elim}
+use Rattle.std.specs.List.{AllByRecursion, AllZip, slice_index_or, cons_option, enumerate_from, range_with_len, slice_get}
 use Rattle.std.specs.Prelude.{if◌then◌else◌}
 use Rattle.std.proofs.lemmas.Bool.{eq-eqb, le-leb, ne_eqb}
-use Rattle.std.proofs.lemmas.List.FromFn.{length-map-range_with_len}
+use Rattle.std.proofs.lemmas.List.FromFn.{get_or-map-range_with_len, length-map-range_with_len}
 use Rattle.std.proofs.lemmas.List.Elements.{recursion_from_All}
 use Rattle.comfy_parts.proofs.CallerLemmas.{index-places}
 use Rattle.comfy_parts.specs.CellValue.{ColumnValue, column_padding}
@@ -11,17 +11,20 @@ use Rattle.comfy_table.proofs.BudgetLemmas.{length-contents_after}
 use Rattle.comfy_table.proofs.BuiltTableLemmas.{IsNewColumn}
 use Rattle.comfy_table.proofs.DrawnWidthLemmas.{dynamic_widths}
 use Rattle.comfy_table.specs.Arrangement.{IsArranged, is_full_width, room_beside_borders, width_kept, widths_at}
-use Rattle.comfy_table.specs.Dynamic.{Claim, Steps, added, all_claims, contents_after, even_columns, fixed_claims, room_left, claim_at, widened}
+use Rattle.comfy_table.specs.Dynamic.{IsDynamicLayout, Claim, Steps, added, all_claims, contents_after, even_columns, fixed_claims, room_left, claim_at, widened}
 use Rattle.comfy_table.specs.TableValue.{TableValue, column_content_width, shown_columns, table_width}
 use Rattle.comfy_table.specs.Widths.{ColumnNeeds, even_spread, fixed_by_boundary, needs_of, part_of, shown_needs, without_padding}
+use Rattle.csv_tables.proofs.BoundaryLemmas.{KeepsBoundary, dynamic_keeps_boundaries}
+use Rattle.csv_tables.proofs.FieldNeedLemmas.{fields-longest, fields-within}
+use Rattle.csv_tables.proofs.LimitLemmas.{given_within_room}
 use Rattle.csv_tables.proofs.LineLemmas.{Any, any_built, any_drawn, kept_setting}
 use Rattle.csv_tables.proofs.SeparatorLemmas.{restyled, separated}
-use Rattle.csv_tables.proofs.NoWrapLemmas.{boundary-some, kept-test}
+use Rattle.csv_tables.proofs.NoWrapLemmas.{boundary-some, kept-test, most_nowrap}
 use Rattle.csv_tables.proofs.WholeColumnLemmas.{all_shown, leasts-length, leasts_on}
-use Rattle.csv_tables.proofs.WholeTableLemmas.{drawn-is}
-use Rattle.csv_tables.specs.Drawn.{SelectedValue, arrangement_for, empty_table, is_expanded_for, is_expanded_in, is_table_expanded, output_table, rows_table, separated_table, nowrap_in, is_aligned_in}
+use Rattle.csv_tables.proofs.WholeTableLemmas.{drawn-is, most-least}
+use Rattle.csv_tables.specs.Drawn.{SelectedValue, arrangement_for, empty_table, is_expanded_for, is_expanded_in, is_table_expanded, output_table, rows_table, separated_table, nowrap_in, is_aligned_in, wanted_in}
 use Rattle.csv_tables.specs.Laws.{IsDrawnTable}
-use Rattle.csv_tables.specs.NoWrap.{boundary_for, by_columns, reserved_width, has_room, with_min_widths, fair_level, name_in, wide_word, with_lower_bounds}
+use Rattle.csv_tables.specs.NoWrap.{Wanted, boundary_for, by_columns, fields_need, kept_of_fields, kept_of_name, lower_bound, most_wanted, reserved_width, has_room, shared_width, with_min_widths, fair_level, name_in, wide_word, with_lower_bounds}
 use Rattle.csv_tables.specs.declared.options.ColumnPlan.{ColumnPlan}
 use Rattle.csv_tables.specs.declared.options.Expansion.TheVariants.{Auto}
 use Rattle.csv_tables.specs.declared.options.Look.{Look}
@@ -89,61 +92,81 @@ fixed_is_kept room columns full steps k x at = by_test (full && (length (even_co
 
 -- ---- columns of a table
 
--- a boundary at the content is fixed at once
-fixed_whole : (content padding kept : ℕ) → padding ≡ 2 → 0 < content → kept ≡ content → fixed_by_boundary content padding (Some (boundary_for kept)) ≡ Some (max 1 content)
-fixed_whole content padding kept two some is =
-    ap (λ (l : ℕ). fixed_by_boundary content padding (Some l)) (boundary-some kept (omega (arith, some, is)))
-    ∙ ap (λ (b : Bool). if b then Some (without_padding padding (kept + 2)) else None) (le-leb (content + padding) (kept + 2) (omega (arith, two, is)))
-    ∙ ap (λ (n : ℕ). Some n) (omega (arith, two, is))
+-- the needs of a column that is given this content first
+abbrev given_needs : TableValue → ℕ → ℕ → ColumnValue → ColumnNeeds
+given_needs table i kept column = needs_of table (i, record column { constraint = Some (lower_bound kept) })
 
--- the column at a place is as wide as its content, where it keeps all of it
-whole_need : (table : TableValue) (kept : ℕ → ℕ) (columns : List ColumnValue) (n i : ℕ) → AllByRecursion IsNewColumn columns → 0 < column_content_width table (n + i) → kept (n + i) ≡ column_content_width table (n + i) → i < length columns
-    → IsFixedAt (map (needs_of table) (enumerate_from n (leasts_on (map kept (range_with_len n (length columns))) columns))) i (max 1 (column_content_width table (n + i)))
-whole_need table kept [] n i new some is below = absurd (omega (arith, below))
-whole_need table kept (c ∷ cs) n zero new some is below =
+-- the width of such a column has room for what keeps its boundary
+width_at : (table : TableValue) (kept : ℕ → ℕ) (widths : List ℕ) (columns : List ColumnValue) (n i : ℕ) → AllByRecursion IsNewColumn columns → i < length columns
+    → AllZip KeepsBoundary (map (needs_of table) (enumerate_from n (leasts_on (map kept (range_with_len n (length columns))) columns))) (map (λ (p : ℕ × ColumnValue). slice_index widths p.0) (enumerate_from n (leasts_on (map kept (range_with_len n (length columns))) columns)))
+    → (column : ColumnValue) × IsNewColumn column × KeepsBoundary (given_needs table (n + i) (kept (n + i)) column) (slice_index widths (n + i))
+width_at table kept widths [] n i new below each = absurd (omega (arith, below))
+width_at table kept widths (c ∷ cs) n zero new below each =
     let place : n ≡ n + 0 = omega arith in
-    let own : kept n ≡ column_content_width table n = ap kept place ∙ is ∙ ap (column_content_width table) (sym place) in
-    let one : c.padding.0 ≡ 1 = ap (λ (x : ℕ × ℕ). x.0) new.0.padding in
-    let other : c.padding.1 ≡ 1 = ap (λ (x : ℕ × ℕ). x.1) new.0.padding in
-    (_, refl, fixed_whole (column_content_width table n) (column_padding c) (kept n) (omega (arith, one, other)) (omega (arith, some, ap (column_content_width table) place)) own ∙ ap (λ (j : ℕ). Some (max 1 (column_content_width table j))) place)
-whole_need table kept (c ∷ cs) n (suc i) new some is below =
+    (c, new.0, subst (λ (j : ℕ). KeepsBoundary (given_needs table j (kept j) c) (slice_index widths j)) place each.0)
+width_at table kept widths (c ∷ cs) n (suc i) new below each =
     let place : (n + 1) + i ≡ n + suc i = omega arith in
-    subst (λ (j : ℕ). IsFixedAt (map (needs_of table) (enumerate_from (n + 1) (leasts_on (map kept (range_with_len (n + 1) (length cs))) cs))) i (max 1 (column_content_width table j))) place
-    (whole_need table kept cs (n + 1) i new.1 (omega (arith, some, ap (column_content_width table) place)) (ap kept place ∙ is ∙ ap (column_content_width table) (sym place)) (omega (arith, below)))
+    let own = width_at table kept widths cs (n + 1) i new.1 (omega (arith, below)) each.1 in
+    (own.0, own.1, subst (λ (j : ℕ). KeepsBoundary (given_needs table j (kept j) own.0) (slice_index widths j)) place own.2)
 
-module _ (table : TableValue) (new : AllByRecursion IsNewColumn table.columns) (whole : List Bool) (level w : ℕ) (widths : List ℕ) (i : ℕ) where
+-- what is fixed by a boundary is the boundary
+fixed-boundary : (content padding kept x : ℕ) → padding ≡ 2 → 0 < kept → fixed_by_boundary content padding (Some (boundary_for kept)) ≡ Some x → kept ≤ x
+fixed-boundary content padding kept x two some is =
+    let l = boundary-some kept some in
+    let own : (if nat_le (content + padding) (boundary_for kept) then Some (max 1 (boundary_for kept - padding)) else None) ≡ Some x = is in
+    grind (arith, own, l, two)
+
+module _ (table : TableValue) (new : AllByRecursion IsNewColumn table.columns) (whole : Wanted) (level w : ℕ) (widths : List ℕ) (i : ℕ) where
   abbrev kept_on : List ℕ
   kept_on = by_columns (reserved_width level whole table) table
 
   abbrev with : TableValue
   with = with_lower_bounds kept_on table
 
-  keeps_all : slice_get whole i ≡ Some true → reserved_width level whole table i ≡ column_content_width table i
-  keeps_all is = ap (λ (o : Option Bool). if unwrap_or o false || nat_lt level (keeps o) then keeps o else 0) is
-    where
-      keeps : Option Bool → ℕ
-      keeps o = if unwrap_or o false || nat_le (column_content_width table i) 8 then column_content_width table i else min (column_content_width table i) (wide_word table (name_in table i))
+  abbrev fields : ℕ
+  fields = fields_need true table i
 
-  some_is_kept : width_kept with.arrangement (Some w) ≡ Some w → table_width with ≡ Some w → slice_get whole i ≡ Some true → i < length table.columns → IsArranged with widths → 0 < column_content_width table i → column_content_width table i ≤ slice_index widths i
-  some_is_kept kept known is below arranged some =
+  -- a column of numbers and dates keeps as much as its widest field
+  keeps_fields : slice_get whole.nowrap i ≡ Some true → fields ≤ reserved_width level whole table i
+  keeps_fields is =
+      let narrow = fields-within table i in
+      let own : reserved_width level whole table i ≡ (if nat_le content 8 then content else min content (max (kept_of_name whole.words (wide_word table (name_in table i))) (max 8 (min content fields)))) =
+      ap (λ (o : Option Bool). if unwrap_or o false || nat_lt level (keeps o) then keeps o else 0) is in
+      by_test (nat_le content 8) own narrow
+    where
+      content : ℕ
+      content = column_content_width table i
+
+      keeps : Option Bool → ℕ
+      keeps o = if nat_le content 8 then content else min content (max (kept_of_name whole.words (wide_word table (name_in table i))) (kept_of_fields whole.words (unwrap_or o false) (min content (fields_need (unwrap_or o false) table i))))
+
+      by_test : (b : Bool) → reserved_width level whole table i ≡ (if b then content else min content (max (kept_of_name whole.words (wide_word table (name_in table i))) (max 8 (min content fields)))) → fields ≤ content → fields ≤ reserved_width level whole table i
+      by_test true own narrow = omega (arith, own, narrow)
+      by_test false own narrow = omega (arith, own, narrow)
+
+  some_is_kept : width_kept with.arrangement (Some w) ≡ Some w → table_width with ≡ Some w → slice_get whole.nowrap i ≡ Some true → i < length table.columns → IsArranged with widths → fields < 65535 → 0 < fields → fields ≤ slice_index widths i
+  some_is_kept kept known is below arranged small some =
       let columns = leasts_on kept_on table.columns in
       let all = all_shown kept_on table.columns new in
       let found = dynamic_widths with with.arrangement w widths kept refl known arranged in
+      let layout : IsDynamicLayout (room_beside_borders with w) (map (needs_of with) (enumerate_from 0 columns)) (is_full_width with.arrangement) (widths_at widths (enumerate_from 0 columns)) =
+      subst (λ (ps : List (ℕ × ColumnValue)). IsDynamicLayout (room_beside_borders with w) (map (needs_of with) ps) (is_full_width with.arrangement) (widths_at widths ps)) all found in
+      let each = dynamic_keeps_boundaries (room_beside_borders with w) (map (needs_of with) (enumerate_from 0 columns)) (is_full_width with.arrangement) (widths_at widths (enumerate_from 0 columns)) layout in
+      let own = width_at with (reserved_width level whole table) widths table.columns 0 i new below each in
       let place : 0 + i ≡ i = omega arith in
-      let own : reserved_width level whole table (0 + i) ≡ column_content_width table (0 + i) = subst (λ (j : ℕ). reserved_width level whole table j ≡ column_content_width table j) (sym place) (keeps_all is) in
-      let fixed = subst (λ (ps : List (ℕ × ColumnValue)). IsFixedAt (map (needs_of with) ps) i (max 1 (column_content_width with (0 + i)))) (sym all) (whole_need with (reserved_width level whole table) table.columns 0 i new (omega (arith, some, ap (column_content_width table) place)) own below) in
-      let room = room_beside_borders with w in
-      let full = is_full_width with.arrangement in
-      let wide : max 1 (column_content_width with (0 + i)) ≤ slice_index (widened room (shown_needs with) full found.0) i = fixed_is_kept room (shown_needs with) full found.0 i (max 1 (column_content_width with (0 + i))) fixed in
-      let drawn : slice_index (widths_at widths (shown_columns with)) i ≡ slice_index widths i =
-      ap (λ (ps : List (ℕ × ColumnValue)). slice_index (widths_at widths ps) i) all ∙ index-places (slice_index widths) 0 columns i 0 (omega (arith, below, leasts-length kept_on table.columns)) ∙ ap (slice_index widths) place in
-      let same : slice_index (widened room (shown_needs with) full found.0) i ≡ slice_index widths i = ap (λ (xs : List ℕ). slice_index xs i) (sym found.1.widths_are) ∙ drawn in
-      let content : column_content_width with (0 + i) ≡ column_content_width table i = ap (column_content_width table) place in
-      omega (arith, wide, same, content)
+      let given : fields ≤ reserved_width level whole table i = keeps_fields is in
+      let one : own.0.padding.0 ≡ 1 = ap (λ (x : ℕ × ℕ). x.0) own.1.padding in
+      let other : own.0.padding.1 ≡ 1 = ap (λ (x : ℕ × ℕ). x.1) own.1.padding in
+      let two : column_padding own.0 ≡ 2 = omega (arith, one, other) in
+      let keeps : KeepsBoundary (given_needs with i (reserved_width level whole table i) own.0) (slice_index widths i) = subst (λ (j : ℕ). KeepsBoundary (given_needs with j (reserved_width level whole table j) own.0) (slice_index widths j)) place own.2 in
+      let l = boundary-some (reserved_width level whole table i) (omega (arith, given, some)) in
+      keeps fields (boundary_for (reserved_width level whole table i)) refl refl
+      (λ x fixed. let wide = fixed-boundary (column_content_width with i) (column_padding own.0) (reserved_width level whole table i) x two (omega (arith, given, some)) fixed in omega (arith, given, wide))
+      (omega (arith, given, l, two)) (fields-within table i) (λ n enough. fields-longest table i own.0.delimiter n small enough)
 
   -- also where there is none
-  pub whole_is_kept : width_kept with.arrangement (Some w) ≡ Some w → table_width with ≡ Some w → slice_get whole i ≡ Some true → i < length table.columns → IsArranged with widths → column_content_width table i ≤ slice_index widths i
-  whole_is_kept kept known is below arranged = ⊎_elim (λ none. omega (arith, none)) (λ some. some_is_kept kept known is below arranged some) (eq-zero-or-pos (column_content_width table i))
+  pub fields_are_kept : width_kept with.arrangement (Some w) ≡ Some w → table_width with ≡ Some w → slice_get whole.nowrap i ≡ Some true → i < length table.columns → IsArranged with widths → fields < 65535 → fields ≤ slice_index widths i
+  fields_are_kept kept known is below arranged small = ⊎_elim (λ none. omega (arith, none)) (λ some. some_is_kept kept known is below arranged small some) (eq-zero-or-pos fields)
 
 pub kept_arrangement : (w : ℕ) (fills : Bool) → width_kept (arrangement_for (Some w) fills) (Some w) ≡ Some w
 kept_arrangement w true = refl
@@ -151,17 +174,17 @@ kept_arrangement w false = refl
 
 -- ---- columns of numbers and dates
 
--- those of the table that is drawn are no narrower than their contents
+-- those of the table that is drawn are no narrower than their fields
 abbrev pub NoWrapColumnsAreWhole : Look → SelectedValue → Type 0
 NoWrapColumnsAreWhole look content =
     (table : TableValue) (widths : List ℕ) (i : ℕ) → IsDrawnTable look content table
     → IsArranged table widths → i < length table.columns
     → slice_get (nowrap_in content) i ≡ Some true
-    → column_content_width table i ≤ slice_index widths i
+    → fields_need true table i ≤ slice_index widths i
 
 -- if there is room for them, they are so
-room_keeps_whole : (w : ℕ) (look : Look) (content : SelectedValue) → look.width ≡ Some w → has_room (Some w) (nowrap_in content) (rows_table look (is_aligned_in look content) content) ≡ true → is_expanded_for look content ≡ false → NoWrapColumnsAreWhole look content
-room_keeps_whole w look content wide room none table widths i is_drawn arranged below is = subst (λ (t : TableValue). column_content_width t i ≤ slice_index widths i) (sym same) kept
+room_keeps_whole : (w : ℕ) (look : Look) (content : SelectedValue) → w ≤ 65535 → look.width ≡ Some w → has_room (Some w) (wanted_in look content) (rows_table look (is_aligned_in look content) content) ≡ true → is_expanded_for look content ≡ false → NoWrapColumnsAreWhole look content
+room_keeps_whole w look content small wide room none table widths i is_drawn arranged below is = subst (λ (t : TableValue). fields_need true t i ≤ slice_index widths i) (sym same) kept
   where
     has : Bool
     has = is_drawn.0
@@ -169,8 +192,11 @@ room_keeps_whole w look content wide room none table widths i is_drawn arranged 
     rows : TableValue
     rows = rows_table look (is_aligned_in look content) content
 
-    whole : List Bool
-    whole = nowrap_in content
+    wanted : Wanted
+    wanted = wanted_in look content
+
+    whole : Wanted
+    whole = most_wanted w wanted rows
 
     drawn : TableValue
     drawn = separated_table has (output_table false look content)
@@ -189,7 +215,7 @@ room_keeps_whole w look content wide room none table widths i is_drawn arranged 
     kept_in false = refl
 
     same : table ≡ with_lower_bounds (kept_on (separated_table has rows)) (separated_table has rows)
-    same = own ∙ ap (separated_table has) (ap (λ o. with_min_widths o whole rows) wide ∙ kept-test w whole rows true room) ∙ kept_in has
+    same = own ∙ ap (separated_table has) (ap (λ o. with_min_widths o wanted rows) wide ∙ kept-test w wanted rows true room) ∙ kept_in has
 
     looks : drawn ≡ record (empty_table (separated has look)) { columns = drawn.columns; header = drawn.header; rows = drawn.rows }
     looks = drawn-is (separated has look) Any content drawn (any_drawn look content false has)
@@ -212,10 +238,36 @@ room_keeps_whole w look content wide room none table widths i is_drawn arranged 
     count : length table.columns ≡ length (separated_table has rows).columns
     count = ap (λ (t : TableValue). length t.columns) same ∙ leasts-length (kept_on (separated_table has rows)) (separated_table has rows).columns
 
-    kept : column_content_width (separated_table has rows) i ≤ slice_index widths i
+    nowrap : slice_get whole.nowrap i ≡ Some true
+    nowrap = ap (λ (own : List Bool). slice_get own i) (most_nowrap (λ (l : ℕ) (o : Wanted). nat_le (shared_width l o rows) w) w wanted) ∙ is
+
+    -- no field is too wide to count, since the width has room for it
+    few : fields_need true (separated_table has rows) i < 65535
+    few =
+        let fits = most-least w wanted rows room in
+        let all = given_within_room level whole rows (omega (arith, fits, small)) in
+        let long = length-map-range_with_len (reserved_width level whole rows) 0 (length rows.columns) in
+        let inside : i < length rows.columns = omega (arith, below, count, columns_kept has) in
+        let at : slice_index_or (by_columns (reserved_width level whole rows) rows) i 0 ≡ reserved_width level whole rows i = get_or-map-range_with_len (reserved_width level whole rows) 0 (length rows.columns) i i 0 inside (omega arith) in
+        let within = all i 0 (omega (arith, long, inside)) in
+        let keeps = keeps_fields rows new_rows whole level w widths i nowrap in
+        omega (arith, at, within, keeps, fields_same has)
+      where
+        columns_kept : (h : Bool) → length (separated_table h rows).columns ≡ length rows.columns
+        columns_kept true = refl
+        columns_kept false = refl
+
+        fields_same : (h : Bool) → fields_need true (separated_table h rows) i ≡ fields_need true rows i
+        fields_same true = refl
+        fields_same false = refl
+
+        new_rows : AllByRecursion IsNewColumn rows.columns
+        new_rows = recursion_from_All IsNewColumn _ (any_built false (is_aligned_in look content) look content).columns
+
+    kept : fields_need true (separated_table has rows) i ≤ slice_index widths i
     kept =
-        whole_is_kept (separated_table has rows) new whole level w widths i (subst (λ (t : TableValue). width_kept t.arrangement (Some w) ≡ Some w) with keeps) (subst (λ (t : TableValue). table_width t ≡ Some w) with known) is
-        (omega (arith, below, count)) (subst (λ (t : TableValue). IsArranged t widths) same arranged)
+        fields_are_kept (separated_table has rows) new whole level w widths i (subst (λ (t : TableValue). width_kept t.arrangement (Some w) ≡ Some w) with keeps) (subst (λ (t : TableValue). table_width t ≡ Some w) with known) nowrap
+        (omega (arith, below, count)) (subst (λ (t : TableValue). IsArranged t widths) same arranged) few
 
 held : (b : Bool) → not b ≡ false → b ≡ true
 held true is = refl
@@ -235,18 +287,18 @@ none_without look content empty table widths i is_drawn arranged below is =
     (subst (λ (b : Bool). slice_get ((if content.is_numbered then not b ∷ [] else []) ++ map (λ (column : ColumnPlan). not b && column.is_nowrap) content.columns) i ≡ Some true) empty is))
 
 -- under `auto` they are if records aren't expanded
-pub auto_keeps_whole : (w : ℕ) (look : Look) (content : SelectedValue) → look.is_markdown ≡ false → look.width ≡ Some w → look.expansion ≡ Auto → is_expanded_for look content ≡ false → NoWrapColumnsAreWhole look content
-auto_keeps_whole w look content table wide auto none = by_rows (length content.rows == 0) refl
+pub auto_keeps_whole : (w : ℕ) (look : Look) (content : SelectedValue) → w ≤ 65535 → look.is_markdown ≡ false → look.width ≡ Some w → look.expansion ≡ Auto → is_expanded_for look content ≡ false → NoWrapColumnsAreWhole look content
+auto_keeps_whole w look content small table wide auto none = by_rows (length content.rows == 0) refl
   where
     rows : TableValue
     rows = rows_table look (is_aligned_in look content) content
 
-    whole : List Bool
-    whole = nowrap_in content
+    whole : Wanted
+    whole = wanted_in look content
 
     test : is_expanded_for look content ≡ not ((length content.rows == 0) || has_room (Some w) whole rows)
     test = ap (λ m. not m && is_table_expanded look content) table ∙ ap (λ e. is_expanded_in e ((length content.rows == 0) || has_room look.width whole rows)) auto ∙ ap (λ o. not ((length content.rows == 0) || has_room o whole rows)) wide
 
     by_rows : (b : Bool) → (length content.rows == 0) ≡ b → NoWrapColumnsAreWhole look content
     by_rows true empty = none_without look content empty
-    by_rows false some = room_keeps_whole w look content wide (held (has_room (Some w) whole rows) (ap (λ b. not (b || has_room (Some w) whole rows)) (sym some) ∙ sym test ∙ none)) none
+    by_rows false some = room_keeps_whole w look content small wide (held (has_room (Some w) whole rows) (ap (λ b. not (b || has_room (Some w) whole rows)) (sym some) ∙ sym test ∙ none)) none

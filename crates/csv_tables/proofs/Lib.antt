@@ -1,4 +1,5 @@
 pub mod BlankLemmas
+pub mod BoundaryLemmas
 pub mod BuiltLemmas
 pub mod CleanCharacterLemmas
 pub mod ColumnLemmas
@@ -9,6 +10,7 @@ mod DressedLemmas
 mod ExpandedLemmas
 pub mod FieldControlLemmas
 pub mod FieldLemmas
+pub mod FieldNeedLemmas
 mod PairWidthLemmas
 mod PieceLemmas
 mod PlainRowLemmas

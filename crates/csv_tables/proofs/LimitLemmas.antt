@@ -2,14 +2,15 @@
 use Rattle.std.proofs.Common.{◌≡◌, ◌<◌, ◌≤◌, ◌+◌, ◌&&◌, ℕ, zero, suc, Bool, true, false, ◌==◌, List, [], ◌∷◌, Some, None, arith, get_or, nat_le, length, map, set, take, refl, ap, ap₂, ◌∙◌}
 use Rattle.std.specs.List.{All, list_all, range_with_len, sum}
 use Rattle.std.specs.Prelude.{sum_by, if◌then◌else◌}
+use Rattle.std.proofs.lemmas.Bool.{leb-true}
 use Rattle.std.proofs.lemmas.List.FromFn.{length-map-range_with_len}
 use Rattle.std.proofs.lemmas.List.Sums.{sum_by-cons}
 use Rattle.comfy_parts.specs.CellValue.{ColumnValue}
 use Rattle.comfy_table.specs.Frame.{border_count}
 use Rattle.comfy_table.specs.TableValue.{TableValue, max_content_widths}
-use Rattle.csv_tables.proofs.NoWrapLemmas.{given_is_shared, kept-test, kept_within}
-use Rattle.csv_tables.specs.Limits.{bounded_width, has_room_within, level_within, limits_at, padded, padded_at, taken, with_limits, with_own_limits, with_widths}
-use Rattle.csv_tables.specs.NoWrap.{by_columns, least_width, reserved_width, width_at_level}
+use Rattle.csv_tables.proofs.NoWrapLemmas.{given_is_shared, kept-test, kept_within, most_fit}
+use Rattle.csv_tables.specs.Limits.{bounded_width, given_with, has_room_within, most_within, limits_at, padded, padded_at, taken, with_limits, with_own_limits, with_widths}
+use Rattle.csv_tables.specs.NoWrap.{Wanted, by_columns, least_width, reserved_width, width_at_level}
 use Rattle.csv_tables.specs.declared.limits.ColumnLimits.{ColumnLimits}
 
 -- ---- paddings
@@ -53,11 +54,11 @@ sum_taken f n (suc count) =
     omega (arith, one, other, more)
 
 -- the width of a table is the same sum with limits and without
-pub bounded-width : (limits : List ColumnLimits) (level : ℕ) (nowrap : List Bool) (table : TableValue)
-    → bounded_width limits level nowrap table ≡ border_count table.style (length table.columns) + sum (by_columns (λ (i : ℕ). taken (limits_at limits i) (width_at_level level nowrap table i)) table)
-bounded-width [] level nowrap table =
-    ap₂ (λ (n s : ℕ). border_count table.style n + s) (length-map-range_with_len (width_at_level level nowrap table) 0 (length table.columns)) (sum_taken (width_at_level level nowrap table) 0 (length table.columns))
-bounded-width (own ∷ limits) level nowrap table = refl
+pub bounded-width : (limits : List ColumnLimits) (level : ℕ) (wanted : Wanted) (table : TableValue)
+    → bounded_width limits level wanted table ≡ border_count table.style (length table.columns) + sum (by_columns (λ (i : ℕ). taken (limits_at limits i) (width_at_level level wanted table i)) table)
+bounded-width [] level wanted table =
+    ap₂ (λ (n s : ℕ). border_count table.style n + s) (length-map-range_with_len (width_at_level level wanted table) 0 (length table.columns)) (sum_taken (width_at_level level wanted table) 0 (length table.columns))
+bounded-width (own ∷ limits) level wanted table = refl
 
 -- ---- tests
 
@@ -76,42 +77,46 @@ all_more f a (suc n) j is = ap (λ (b : Bool). f a && b) (all_more f (a + 1) n j
 
 -- ---- tables
 
-module _ (limits : List ColumnLimits) (width : ℕ) (nowrap : List Bool) (table : TableValue) where
-  pub room-is : nat_le (bounded_width limits 8 nowrap table) width ≡ has_room_within limits (Some width) nowrap table
+module _ (limits : List ColumnLimits) (width : ℕ) (wanted : Wanted) (table : TableValue) where
+  pub room-is : nat_le (bounded_width limits 8 wanted table) width ≡ has_room_within limits (Some width) wanted table
   room-is = by_limits limits
     where
-      by_limits : (l : List ColumnLimits) → nat_le (bounded_width l 8 nowrap table) width ≡ has_room_within l (Some width) nowrap table
+      by_limits : (l : List ColumnLimits) → nat_le (bounded_width l 8 wanted table) width ≡ has_room_within l (Some width) wanted table
       by_limits [] = refl
       by_limits (own ∷ more) = refl
 
   abbrev given : List ColumnLimits → List ℕ
-  given l = by_columns (reserved_width (level_within l width nowrap table) nowrap table) table
+  given l = given_with l width (most_within l width wanted table) table
+
+  -- the words that are kept have room too
+  pub most-room : has_room_within limits (Some width) wanted table ≡ true → bounded_width limits 8 (most_within limits width wanted table) table ≤ width
+  most-room room = leb-true _ width (most_fit (λ (level : ℕ) (own : Wanted). nat_le (bounded_width limits level own table) width) width wanted (room-is ∙ room))
 
   -- where there is room, columns are given what they need to be whole
-  pub widths_with_room : has_room_within limits (Some width) nowrap table ≡ true → with_widths limits (Some width) nowrap table ≡ with_limits limits (given limits) table
+  pub widths_with_room : has_room_within limits (Some width) wanted table ≡ true → with_widths limits (Some width) wanted table ≡ with_limits limits (given limits) table
   widths_with_room room = by_limits limits room
     where
-      by_limits : (l : List ColumnLimits) → has_room_within l (Some width) nowrap table ≡ true → with_widths l (Some width) nowrap table ≡ with_limits l (given l) table
-      by_limits [] is = kept-test width nowrap table true is
+      by_limits : (l : List ColumnLimits) → has_room_within l (Some width) wanted table ≡ true → with_widths l (Some width) wanted table ≡ with_limits l (given l) table
+      by_limits [] is = kept-test width wanted table true is
       by_limits (own ∷ more) is = ap (λ (b : Bool). with_limits (own ∷ more) (if b then given (own ∷ more) else []) table) is
 
   -- else they have their limits alone
-  pub widths_without_room : has_room_within limits (Some width) nowrap table ≡ false → with_widths limits (Some width) nowrap table ≡ with_own_limits limits table
+  pub widths_without_room : has_room_within limits (Some width) wanted table ≡ false → with_widths limits (Some width) wanted table ≡ with_own_limits limits table
   widths_without_room none = by_limits limits none
     where
-      by_limits : (l : List ColumnLimits) → has_room_within l (Some width) nowrap table ≡ false → with_widths l (Some width) nowrap table ≡ with_own_limits l table
-      by_limits [] is = kept-test width nowrap table false is
+      by_limits : (l : List ColumnLimits) → has_room_within l (Some width) wanted table ≡ false → with_widths l (Some width) wanted table ≡ with_own_limits l table
+      by_limits [] is = kept-test width wanted table false is
       by_limits (own ∷ more) is = ap (λ (b : Bool). with_limits (own ∷ more) (if b then given (own ∷ more) else []) table) is
 
 -- what is given is at most what has room
-pub given_within_room : (level : ℕ) (nowrap : List Bool) (table : TableValue) → least_width nowrap table ≤ 65535 → All (λ content. content ≤ 65533) (by_columns (reserved_width level nowrap table) table)
-given_within_room level nowrap table fits =
-    let framed : least_width nowrap table ≡ border_count table.style (length (by_columns (width_at_level 8 nowrap table) table)) + sum_by (λ content. 2 + content) (by_columns (width_at_level 8 nowrap table) table) = refl in
-    kept_within (reserved_width level nowrap table) (width_at_level 8 nowrap table) (λ i. let less = given_is_shared level 8 nowrap table i in omega (arith, less)) 0 (length table.columns) (omega (arith, fits, framed))
+pub given_within_room : (level : ℕ) (wanted : Wanted) (table : TableValue) → least_width wanted table ≤ 65535 → All (λ content. content ≤ 65533) (by_columns (reserved_width level wanted table) table)
+given_within_room level wanted table fits =
+    let framed : least_width wanted table ≡ border_count table.style (length (by_columns (width_at_level 8 wanted table) table)) + sum_by (λ content. 2 + content) (by_columns (width_at_level 8 wanted table) table) = refl in
+    kept_within (reserved_width level wanted table) (width_at_level 8 wanted table) (λ i. let less = given_is_shared level 8 wanted table i in omega (arith, less)) 0 (length table.columns) (omega (arith, fits, framed))
 
 -- ---- constraints
 
 -- columns that have limits get their contents within them, if no width is kept
-pub limited-contents : (limits : List ColumnLimits) (nowrap : List Bool) (table : TableValue) → (length limits == 0) ≡ false → with_limits limits (max_content_widths table) table ≡ with_widths limits None nowrap table
-limited-contents [] nowrap table some = absurd (cc some)
-limited-contents (own ∷ limits) nowrap table some = refl
+pub limited-contents : (limits : List ColumnLimits) (wanted : Wanted) (table : TableValue) → (length limits == 0) ≡ false → with_limits limits (max_content_widths table) table ≡ with_widths limits None wanted table
+limited-contents [] wanted table some = absurd (cc some)
+limited-contents (own ∷ limits) wanted table some = refl

@@ -10,7 +10,7 @@ use Rattle.comfy_parts.specs.Text.{Text, greatest, measure}
 use Rattle.comfy_parts.specs.VisibleText.{has_escape}
 use Rattle.comfy_table.proofs.RowCellLemmas.{clear_measured}
 use Rattle.comfy_table.specs.TableValue.{TableValue, cell_content_width, column_cells, column_content_width, measured_cell}
-use Rattle.csv_tables.specs.NoWrap.{cell_nowrap_width, field_width, is_nowrap, nowrap_width}
+use Rattle.csv_tables.specs.NoWrap.{cell_nowrap_width, cell_word_width, field_width, is_nowrap, nowrap_width, word_width}
 
 -- a text has no more characters than bytes
 few_after : (n c : ℕ) (bs : Text) → length (chars_after n c bs) ≤ 1 + length bs
@@ -40,6 +40,13 @@ pub of_one_line : (table : TableValue) (room : ℕ) (cell : CellValue) (text : T
 of_one_line table room cell text one clear =
     let measured = ap (cell_nowrap_width room) (clear_measured table cell clear) in
     let lines = ap (λ (ls : List Text). greatest (map (nowrap_width room) ls)) one in
+    omega (arith, measured, lines)
+
+-- so is its widest word
+pub words_of_one_line : (table : TableValue) (cell : CellValue) (text : Text) → cell.text_lines ≡ text ∷ [] → list_any has_escape cell.text_lines ≡ false → word_width text ≡ cell_word_width (measured_cell table cell)
+words_of_one_line table cell text one clear =
+    let measured = ap cell_word_width (clear_measured table cell clear) in
+    let lines = ap (λ (ls : List Text). greatest (map word_width ls)) one in
     omega (arith, measured, lines)
 
 -- ---- contents are no narrower than what isn't broken of them

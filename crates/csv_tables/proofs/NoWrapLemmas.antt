@@ -14,7 +14,8 @@ use Rattle.comfy_parts.specs.declared.style.table_style.TableStyle.{TableStyle}
 use Rattle.comfy_table.proofs.ColumnCellLemmas.{greatest-append}
 use Rattle.comfy_table.specs.Frame.{border_count}
 use Rattle.comfy_table.specs.TableValue.{TableValue}
-use Rattle.csv_tables.specs.NoWrap.{boundary_for, framed_width, reserved_width, given_in, greatest_level, has_room, min_width, with_min_widths, width_at_level, with_content, with_lower_bounds, with_second}
+use Rattle.csv_tables.specs.declared.needs.Words.TheVariants.{OfFields, OfNames}
+use Rattle.csv_tables.specs.NoWrap.{Wanted, boundary_for, framed_width, reserved_width, given_in, greatest_level, has_room, min_width, with_min_widths, with_most_words, with_words, width_at_level, with_content, with_lower_bounds, with_second}
 
 -- what columns keep leaves room for paddings, where what they need does
 pub kept_within : (kept needed : ℕ → ℕ) → ((i : ℕ) → kept i ≤ needed i) → (n count : ℕ) → sum_by (λ content. 2 + content) (map needed (range_with_len n count)) ≤ 65535 → All (λ content. content ≤ 65533) (map kept (range_with_len n count))
@@ -24,10 +25,10 @@ kept_within kept needed less n (suc count) within =
     let sums = sum_by-cons (λ (content : ℕ). 2 + content) (needed n) (map needed (range_with_len (n + 1) count)) in
     All-cons (λ (content : ℕ). content ≤ 65533) (kept n) (map kept (range_with_len (n + 1) count)) (omega (arith, own, sums, within)) (kept_within kept needed less (n + 1) count (omega (arith, sums, within)))
 
-pub given_is_shared : (level level2 : ℕ) (nowrap : List Bool) (table : TableValue) (i : ℕ) → max 1 (reserved_width level nowrap table i) ≤ width_at_level level2 nowrap table i
-given_is_shared level level2 nowrap table i = by_test (unwrap_or (slice_get nowrap i) false || nat_lt level (min_width nowrap table i))
+pub given_is_shared : (level level2 : ℕ) (wanted : Wanted) (table : TableValue) (i : ℕ) → max 1 (reserved_width level wanted table i) ≤ width_at_level level2 wanted table i
+given_is_shared level level2 wanted table i = by_test (unwrap_or (slice_get wanted.nowrap i) false || nat_lt level (min_width wanted table i))
   where
-    by_test : (b : Bool) → max 1 (if b then min_width nowrap table i else 0) ≤ width_at_level level2 nowrap table i
+    by_test : (b : Bool) → max 1 (if b then min_width wanted table i else 0) ≤ width_at_level level2 wanted table i
     by_test true = omega arith
     by_test false = omega arith
 
@@ -68,12 +69,35 @@ failed_level passes level some is = grind (arith, level_more passes (level - 1) 
 pub passed_level : (passes : ℕ → Bool) (level : ℕ) → 0 < level → passes level ≡ true → level ≡ greatest_level passes level
 passed_level passes level some is = grind (arith, level_more passes (level - 1) level (omega (arith, some)), levels_within passes 0 (level - 1))
 
+-- ---- words
+
+-- the words that are kept have room, if those have that are wanted
+pub most_fit : (fits : ℕ → Wanted → Bool) (width : ℕ) (wanted : Wanted) → fits 8 wanted ≡ true → fits 8 (with_most_words fits width wanted) ≡ true
+most_fit fits width wanted room = by_tests (fits width wanted) (fits 8 (with_words OfFields wanted)) (fits 8 (with_words OfNames wanted)) refl refl
+  where
+    by_tests : (a b c : Bool) → fits 8 (with_words OfFields wanted) ≡ b → fits 8 (with_words OfNames wanted) ≡ c
+        → fits 8 (if a then wanted else if b then with_words OfFields wanted else if c then with_words OfNames wanted else wanted) ≡ true
+    by_tests true b c fields names = room
+    by_tests false true c fields names = fields
+    by_tests false false true fields names = names
+    by_tests false false false fields names = room
+
+-- and other words change no columns of numbers
+pub most_nowrap : (fits : ℕ → Wanted → Bool) (width : ℕ) (wanted : Wanted) → (with_most_words fits width wanted).nowrap ≡ wanted.nowrap
+most_nowrap fits width wanted = by_tests (fits width wanted) (fits 8 (with_words OfFields wanted)) (fits 8 (with_words OfNames wanted))
+  where
+    by_tests : (a b c : Bool) → (if a then wanted else if b then with_words OfFields wanted else if c then with_words OfNames wanted else wanted).nowrap ≡ wanted.nowrap
+    by_tests true b c = refl
+    by_tests false true c = refl
+    by_tests false false true = refl
+    by_tests false false false = refl
+
 -- ---- tables
 
 -- whether there is room
-pub kept-test : (width : ℕ) (nowrap : List Bool) (table : TableValue) (b : Bool) → has_room (Some width) nowrap table ≡ b
-    → with_min_widths (Some width) nowrap table ≡ (if b then with_lower_bounds (given_in width nowrap table) table else table)
-kept-test width nowrap table b is = ap (λ b. if b then with_lower_bounds (given_in width nowrap table) table else table) is
+pub kept-test : (width : ℕ) (wanted : Wanted) (table : TableValue) (b : Bool) → has_room (Some width) wanted table ≡ b
+    → with_min_widths (Some width) wanted table ≡ (if b then with_lower_bounds (given_in width wanted table) table else table)
+kept-test width wanted table b is = ap (λ b. if b then with_lower_bounds (given_in width wanted table) table else table) is
 
 -- ---- fields of expanded records
 

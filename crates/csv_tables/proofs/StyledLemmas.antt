@@ -9,7 +9,7 @@ use Rattle.csv_tables.proofs.CountLemmas.{below_header}
 use Rattle.csv_tables.proofs.SpacedLemmas.{same_table}
 use Rattle.comfy_parts.specs.declared.style.cell.CellAlignment.TheVariants.{Center}
 use Rattle.csv_tables.specs.Decimals.{has_points}
-use Rattle.csv_tables.specs.Drawn.{RendersAnyRecords, RendersContent, RendersRecords, RendersTable, SelectedValue, count_below, nowrap_in}
+use Rattle.csv_tables.specs.Drawn.{RendersAnyRecords, RendersContent, RendersRecords, RendersTable, SelectedValue, count_below, wanted_in}
 use Rattle.csv_tables.specs.Leasts.{least_position, least_positions}
 use Rattle.csv_tables.specs.Limits.{has_room_in, has_room_within, hold_points, holds_points, is_within, limits_at, limits_of, no_limits, reached_limits, settings_at, with_paddings}
 use Rattle.csv_tables.specs.Styled.{RendersAnyStyledRecords, RendersStyledContent, RendersStyledRecords, RendersStyledTable, centered, column_limits, dressed_table, has_room_by, limits_in, styled_rows}
@@ -68,9 +68,9 @@ room_without_points settings look content none =
     let limits = limits_in settings.columns content in
     let table : TableValue = styled_rows settings look content false in
     let padded : TableValue = with_paddings limits table in
-    let room : Bool = has_room_within (reached_limits padded limits) look.width (nowrap_in content) padded in
+    let room : Bool = has_room_within (reached_limits padded limits) look.width (wanted_in look content) padded in
     let held : hold_points limits padded ≡ true = none_wrapped limits padded (in_unpointed settings.columns content none) in
-    ap (λ (t : TableValue). has_room_in limits look.width true (nowrap_in content) (dressed_table content settings.rows t)) (same_table look content none)
+    ap (λ (t : TableValue). has_room_in limits look.width true (wanted_in look content) (dressed_table content settings.rows t)) (same_table look content none)
     ∙ ap (λ (b : Bool). (b || false) && room) held ∙ sym (ap (λ (b : Bool). (b || true) && room) held)
 
 -- ---- without settings

@@ -1,5 +1,5 @@
 -- Tables that are drawn: some of their columns are as wide as their contents, where there is room for them.
-use Rattle.std.proofs.Common.{◌≡◌, ◌≤◌, ◌<◌, ◌⊎◌, ◌||◌, ℕ, ◌+◌, ◌-◌, inl, inr, Bool, true, false, max, min, not, List, [], ◌∷◌, Option, Some, None, is_some, length, map, sum_by, refl, sym, ap, ◌∙◌, subst, arith}
+use Rattle.std.proofs.Common.{◌≡◌, ◌≤◌, ◌<◌, ◌⊎◌, ◌||◌, ℕ, ◌+◌, ◌-◌, inl, inr, Bool, true, false, max, min, not, List, [], ◌∷◌, Option, Some, None, is_some, length, map, nat_le, sum_by, refl, sym, ap, ◌∙◌, subst, arith}
 use Rattle.std.specs.Prelude.{if◌then◌else◌, slice_index}
 use Rattle.std.specs.List.{All, AllByRecursion}
 use Rattle.std.proofs.lemmas.Bool.{leb-true, ltb-true}
@@ -21,10 +21,10 @@ use Rattle.comfy_table.specs.Widths.{ColumnNeeds, needs_of, shown_count, shown_n
 use Rattle.csv_tables.proofs.BuiltLemmas.{Built, plain_table}
 use Rattle.csv_tables.proofs.LeastLemmas.{least_of, steps_within}
 use Rattle.csv_tables.proofs.SeparatorLemmas.{restyled, separated}
-use Rattle.csv_tables.proofs.NoWrapLemmas.{framed_pair, given_is_shared}
+use Rattle.csv_tables.proofs.NoWrapLemmas.{framed_pair, given_is_shared, most_fit}
 use Rattle.csv_tables.proofs.WholeColumnLemmas.{AreNeeds, IsPaddedColumn, all_shown, field_width-within, leasts_on, needs, padded_columns, padded_second, pairs_have_two, second_needs}
-use Rattle.csv_tables.specs.Drawn.{SelectedValue, condensed_style, empty_table, is_aligned_in, output_table, pairs_table, rows_table, separated_table, nowrap_in}
-use Rattle.csv_tables.specs.NoWrap.{by_columns, field_width, framed_width, reserved_width, given_in, has_room, with_min_widths, with_min_field_width, least_width, fair_level, may_break, needed_by_names, room_beside, room_for_two, width_at_level, with_field_width, with_lower_bounds, with_second}
+use Rattle.csv_tables.specs.Drawn.{SelectedValue, condensed_style, empty_table, is_aligned_in, output_table, pairs_table, rows_table, separated_table, wanted_in}
+use Rattle.csv_tables.specs.NoWrap.{Wanted, by_columns, field_width, framed_width, reserved_width, given_in, has_room, with_min_widths, with_min_field_width, least_width, fair_level, most_wanted, shared_width, may_break, needed_by_names, room_beside, room_for_two, width_at_level, with_field_width, with_lower_bounds, with_second}
 use Rattle.csv_tables.specs.declared.options.Look.{Look}
 
 -- ---- room
@@ -88,12 +88,16 @@ kept_separated true kept table = refl
 kept_separated false kept table = refl
 
 -- what columns take at the least has room for what they are given beforehand, without lines between rows too
-pub room_for_given : (w level : ℕ) (has : Bool) (whole : List Bool) (table : TableValue) → AllByRecursion IsNewColumn table.columns → least_width whole table ≤ w → HasRoom w (separated_table has (with_lower_bounds (by_columns (reserved_width level whole table) table) table))
+pub room_for_given : (w level : ℕ) (has : Bool) (whole : Wanted) (table : TableValue) → AllByRecursion IsNewColumn table.columns → least_width whole table ≤ w → HasRoom w (separated_table has (with_lower_bounds (by_columns (reserved_width level whole table) table) table))
 room_for_given w level has whole table new fits = by_lines has
   where
     by_lines : (h : Bool) → HasRoom w (separated_table h (with_lower_bounds (by_columns (reserved_width level whole table) table) table))
     by_lines true = room_for w (reserved_width level whole table) (width_at_level 8 whole table) table (given_is_shared level 8 whole table) new fits
     by_lines false = room_for w (reserved_width level whole table) (width_at_level 8 whole table) (separated_table false table) (given_is_shared level 8 whole table) new (still_fits w false table (by_columns (width_at_level 8 whole table) table) fits)
+
+-- the words that are kept have room
+pub most-least : (w : ℕ) (whole : Wanted) (table : TableValue) → has_room (Some w) whole table ≡ true → least_width (most_wanted w whole table) table ≤ w
+most-least w whole table room = leb-true _ w (most_fit (λ (level : ℕ) (own : Wanted). nat_le (shared_width level own table) w) w whole room)
 
 pub field_separated : (has : Bool) (field : ℕ) (table : TableValue) → separated_table has (with_field_width field table) ≡ with_field_width field (separated_table has table)
 field_separated true field table = refl
@@ -249,8 +253,8 @@ drawn_table-is look Q content false has known = by_width look.width refl
     plain : TableValue
     plain = rows_table (separated has look) (is_aligned_in look content) content
 
-    whole : List Bool
-    whole = nowrap_in content
+    whole : Wanted
+    whole = wanted_in look content
 
     same : plain ≡ separated_table has rows
     same = restyled look content false (is_aligned_in look content) has
@@ -282,7 +286,7 @@ drawn_table-is look Q content false has known = by_width look.width refl
               is_plain = kept_separated has kept rows ∙ ap (with_lower_bounds kept) (sym same);
               padded = padded_columns kept plain.columns (recursion_from_All IsNewColumn plain.columns known.columns);
               no_width = λ none. absurd (cc (own_width has none, is));
-              room = λ v wide. inr (subst (λ n. HasRoom n (separated_table has (with_lower_bounds kept rows))) (same_width v wide) (room_for_given w (fair_level w whole rows) has whole rows new (leb-true _ w test)));
+              room = λ v wide. inr (subst (λ n. HasRoom n (separated_table has (with_lower_bounds kept rows))) (same_width v wide) (room_for_given w (fair_level w (most_wanted w whole rows) rows) has (most_wanted w whole rows) rows new (most-least w whole rows test)));
             }
           where
             own_width : (b : Bool) → {o : Option ℕ} → (separated b look).width ≡ o → look.width ≡ o

@@ -1,6 +1,6 @@
 -- What is drawn of some records, and what is written of it.
 -- Source: this library's own.
-use Rattle.std.specs.Prelude.{ℕ, zero, suc, ◌+◌, ◌==◌, Bool, true, false, not, ◌&&◌, ◌||◌, ◌≡◌, nat_lt, List, [], ◌∷◌, ◌++◌, Option, Some, None, codes, decimal, drop, flat_map, length, map, slice_get, slice_index_or, sum_by, take, unwrap_or, if◌then◌else◌}
+use Rattle.std.specs.Prelude.{ℕ, zero, suc, ◌+◌, ◌==◌, Bool, true, false, not, ◌&&◌, ◌||◌, ◌≡◌, nat_le, nat_lt, List, [], ◌∷◌, ◌++◌, Option, Some, None, codes, decimal, drop, flat_map, length, map, slice_get, slice_index_or, sum_by, take, unwrap_or, if◌then◌else◌}
 use Rattle.std.specs.List.{list_any, range_with_len}
 use Rattle.comfy_parts.specs.CellValue.{RowValue}
 use Rattle.comfy_parts.specs.Presets.{ascii_markdown}
@@ -29,7 +29,9 @@ use Rattle.csv_tables.specs.declared.options.ColumnPlan.{ColumnPlan}
 use Rattle.csv_tables.specs.declared.selection.Noun.{Noun}
 use Rattle.csv_tables.specs.declared.selection.Noun.TheVariants.{Record, Row}
 use Rattle.csv_tables.specs.declared.selection.Selection.{Selection}
-use Rattle.csv_tables.specs.NoWrap.{has_room, with_min_widths, with_min_field_width}
+use Rattle.csv_tables.specs.declared.needs.Words.{Words}
+use Rattle.csv_tables.specs.declared.needs.Words.TheVariants.{Broken, OfNames}
+use Rattle.csv_tables.specs.NoWrap.{Wanted, has_room, with_min_widths, with_min_field_width}
 
 -- ---- records
 
@@ -148,10 +150,21 @@ nowrap_in content =
     ++ map (λ (column : ColumnPlan). not (length content.rows == 0) && column.is_nowrap)
     content.columns
 
+-- the words that are kept whole, or records are expanded: those of names, but none if a row has one
+-- line at most
+abbrev pub least_words : Option ℕ → Words
+least_words None = OfNames
+least_words (Some height) = if nat_le height 1 then Broken else OfNames
+
+-- what is kept whole of a table of rows, or records are expanded
+abbrev pub wanted_in : Look → SelectedValue → Wanted
+wanted_in look content =
+    record { nowrap = nowrap_in content; words = least_words look.max_height }
+
 -- whether a width that is kept has room for the table of rows
 abbrev pub has_room_for : Look → SelectedValue → Bool → Bool
 has_room_for look content is_aligned =
-    has_room look.width (nowrap_in content) (rows_table look is_aligned content)
+    has_room look.width (wanted_in look content) (rows_table look is_aligned content)
 
 -- whether decimal marks stand below each other: where there is room for the spaces
 abbrev pub is_aligned_in : Look → SelectedValue → Bool
@@ -162,7 +175,7 @@ is_aligned_in look content = look.aligns_decimals && has_room_for look content t
 abbrev pub output_table : Bool → Look → SelectedValue → TableValue
 output_table true look content = with_min_field_width look.width (pairs_table look content)
 output_table false look content =
-    with_min_widths look.width (nowrap_in content)
+    with_min_widths look.width (wanted_in look content)
     (rows_table look (is_aligned_in look content) content)
 
 -- ---- lines between rows

@@ -10,7 +10,7 @@ use Rattle.comfy_parts.specs.declared.style.column.Width.TheVariants.{Fixed}
 use Rattle.comfy_table.specs.Frame.{border_count}
 use Rattle.comfy_table.specs.Lines.{longest_line_at}
 use Rattle.comfy_table.specs.TableValue.{TableValue, column_content_width, constrained, max_content_widths}
-use Rattle.csv_tables.specs.NoWrap.{by_columns, greatest_level, has_room, lower_bound, reserved_width, shared_width, width_at_level, with_min_widths}
+use Rattle.csv_tables.specs.NoWrap.{Wanted, by_columns, greatest_level, has_room, lower_bound, reserved_width, shared_width, width_at_level, with_min_widths, with_most_words}
 use Rattle.csv_tables.specs.declared.limits.ColumnLimits.{ColumnLimits}
 use Rattle.csv_tables.specs.declared.settings.ColumnSettings.{ColumnSettings}
 
@@ -78,32 +78,43 @@ abbrev pub taken : ColumnLimits → ℕ → ℕ
 taken limits content = both_paddings limits + bounded limits content
 
 -- the width of a table of rows whose columns share it up to a level
-abbrev pub bounded_width : List ColumnLimits → ℕ → List Bool → TableValue → ℕ
-bounded_width [] level nowrap table = shared_width level nowrap table
-bounded_width (own ∷ limits) level nowrap table =
+abbrev pub bounded_width : List ColumnLimits → ℕ → Wanted → TableValue → ℕ
+bounded_width [] level wanted table = shared_width level wanted table
+bounded_width (own ∷ limits) level wanted table =
     border_count table.style (length table.columns)
     + sum (by_columns (λ (i : ℕ).
-    taken (limits_at (own ∷ limits) i) (width_at_level level nowrap table i)) table)
+    taken (limits_at (own ∷ limits) i) (width_at_level level wanted table i)) table)
 
 -- whether a width that is kept has room for the least width of the table
-abbrev pub has_room_within : List ColumnLimits → Option ℕ → List Bool → TableValue → Bool
-has_room_within [] width nowrap table = has_room width nowrap table
-has_room_within (own ∷ limits) None nowrap table = true
-has_room_within (own ∷ limits) (Some width) nowrap table =
-    nat_le (bounded_width (own ∷ limits) 8 nowrap table) width
+abbrev pub has_room_within : List ColumnLimits → Option ℕ → Wanted → TableValue → Bool
+has_room_within [] width wanted table = has_room width wanted table
+has_room_within (own ∷ limits) None wanted table = true
+has_room_within (own ∷ limits) (Some width) wanted table =
+    nat_le (bounded_width (own ∷ limits) 8 wanted table) width
 
 -- the greatest level for which a width has room
-abbrev pub level_within : List ColumnLimits → ℕ → List Bool → TableValue → ℕ
-level_within limits width nowrap table =
-    greatest_level (λ level. nat_le (bounded_width limits level nowrap table) width) width
+abbrev pub level_within : List ColumnLimits → ℕ → Wanted → TableValue → ℕ
+level_within limits width wanted table =
+    greatest_level (λ level. nat_le (bounded_width limits level wanted table) width) width
 
--- what columns are given beforehand: their contents, if no width is kept; what they need to be
--- whole, if a width has room; else nothing
-abbrev pub given_within : List ColumnLimits → Option ℕ → List Bool → TableValue → List ℕ
-given_within limits None nowrap table = max_content_widths table
-given_within limits (Some width) nowrap table =
-    if has_room_within limits (Some width) nowrap table
-    then by_columns (reserved_width (level_within limits width nowrap table) nowrap table) table
+-- the words that are kept under a width
+abbrev pub most_within : List ColumnLimits → ℕ → Wanted → TableValue → Wanted
+most_within limits width wanted table =
+    with_most_words (λ (level : ℕ) (own : Wanted).
+    nat_le (bounded_width limits level own table) width) width wanted
+
+-- what columns are given beforehand in a width that has room: what they need to be whole
+abbrev pub given_with : List ColumnLimits → ℕ → Wanted → TableValue → List ℕ
+given_with limits width wanted table =
+    by_columns (reserved_width (level_within limits width wanted table) wanted table) table
+
+-- so they are, with the words that are kept, if a width has room, and nothing if it hasn't; their
+-- contents, if no width is kept
+abbrev pub given_within : List ColumnLimits → Option ℕ → Wanted → TableValue → List ℕ
+given_within limits None wanted table = max_content_widths table
+given_within limits (Some width) wanted table =
+    if has_room_within limits (Some width) wanted table
+    then given_with limits width (most_within limits width wanted table) table
     else []
 
 -- the width of a column whose texts have this width, at most 65535
@@ -146,10 +157,10 @@ with_own_limits [] table = table
 with_own_limits (own ∷ limits) table = with_limits (own ∷ limits) [] table
 
 -- the table with the widths that its columns may have
-abbrev pub with_widths : List ColumnLimits → Option ℕ → List Bool → TableValue → TableValue
-with_widths [] width nowrap table = with_min_widths width nowrap table
-with_widths (own ∷ limits) width nowrap table =
-    with_limits (own ∷ limits) (given_within (own ∷ limits) width nowrap table) table
+abbrev pub with_widths : List ColumnLimits → Option ℕ → Wanted → TableValue → TableValue
+with_widths [] width wanted table = with_min_widths width wanted table
+with_widths (own ∷ limits) width wanted table =
+    with_limits (own ∷ limits) (given_within (own ∷ limits) width wanted table) table
 
 -- ---- decimal points
 
@@ -186,15 +197,15 @@ reached_limits table limits =
     map (λ (i : ℕ). reached table i (limits_at limits i)) (range_with_len 0 (length limits))
 
 -- a table of rows with the paddings and the constraints of its columns
-abbrev pub limited_by : List ColumnLimits → Option ℕ → List Bool → TableValue → TableValue
-limited_by limits width nowrap table =
-    with_widths (reached_limits (with_paddings limits table) limits) width nowrap
+abbrev pub limited_by : List ColumnLimits → Option ℕ → Wanted → TableValue → TableValue
+limited_by limits width wanted table =
+    with_widths (reached_limits (with_paddings limits table) limits) width wanted
     (with_paddings limits table)
 
 -- whether there is room for such a table: for the spaces that line up decimal points, and for its
 -- width
-abbrev pub has_room_in : List ColumnLimits → Option ℕ → Bool → List Bool → TableValue → Bool
-has_room_in limits width is_aligned nowrap table =
+abbrev pub has_room_in : List ColumnLimits → Option ℕ → Bool → Wanted → TableValue → Bool
+has_room_in limits width is_aligned wanted table =
     (hold_points limits (with_paddings limits table) || not is_aligned)
-    && has_room_within (reached_limits (with_paddings limits table) limits) width nowrap
+    && has_room_within (reached_limits (with_paddings limits table) limits) width wanted
     (with_paddings limits table)

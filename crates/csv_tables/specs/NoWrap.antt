@@ -11,9 +11,11 @@ use Rattle.comfy_parts.specs.declared.style.column.ColumnConstraint.TheVariants.
 use Rattle.comfy_parts.specs.declared.style.column.Width.TheVariants.{Fixed}
 use Rattle.comfy_parts.specs.declared.style.table_style.TableStyle.{TableStyle}
 use Rattle.comfy_table.specs.Frame.{border_count}
-use Rattle.comfy_table.specs.TableValue.{TableValue, column_cells, column_content_width, constrained, max_content_widths, measured_cell}
+use Rattle.comfy_table.specs.TableValue.{TableValue, cell_content_width, column_cells, column_content_width, constrained, max_content_widths, measured_cell}
 use Rattle.csv_records.specs.Number.{is_neutral, is_number}
 use Rattle.csv_tables.specs.Decimals.{longest_kept}
+use Rattle.csv_tables.specs.declared.needs.Words.{Words}
+use Rattle.csv_tables.specs.declared.needs.Words.TheVariants.{Broken, OfFields, OfNames}
 
 -- ---- which columns
 
@@ -26,6 +28,15 @@ abbrev pub is_nowrap : Text → Bool
 is_nowrap field =
     nat_le (length (chars field)) longest_kept
     && (list_all is_of_dates field || (is_number field || is_neutral field))
+
+-- which columns hold such fields alone, and which words the others keep whole
+pub record Wanted : Type 0 where
+  pub nowrap : List Bool
+  pub words : Words
+
+-- the same with other words
+abbrev pub with_words : Words → Wanted → Wanted
+with_words words wanted = record wanted { words = words }
 
 -- ---- how wide they are
 
@@ -60,14 +71,62 @@ wide_word table (Some name) =
 abbrev pub name_in : TableValue → ℕ → Option CellValue
 name_in table i = option_and_then (λ (row : RowValue). slice_get row.cells i) table.header
 
--- how much of its content the column at a position keeps in any case: all if it isn't broken or is
--- narrow; else as much as a wide word of its name
-abbrev pub min_width : List Bool → TableValue → ℕ → ℕ
-min_width nowrap table i =
+-- what a column keeps for a wide word of its name
+abbrev pub kept_of_name : Words → ℕ → ℕ
+kept_of_name Broken width = 0
+kept_of_name OfNames width = width
+kept_of_name OfFields width = width
+
+-- a table without its header
+abbrev pub without_header : TableValue → TableValue
+without_header table = record table { header = None }
+
+-- the widest word of a cell
+abbrev pub cell_word_width : CellValue → ℕ
+cell_word_width cell = greatest (map word_width cell.text_lines)
+
+-- the terminal columns of a cell that isn't broken, or of its widest word
+abbrev pub cell_need : Bool → CellValue → ℕ
+cell_need true cell = cell_content_width cell
+cell_need false cell = cell_word_width cell
+
+-- the greatest of the fields of the column at a position, as they are drawn
+abbrev pub fields_need : Bool → TableValue → ℕ → ℕ
+fields_need is_nowrap table i =
+    greatest (map (cell_need is_nowrap) (column_cells (without_header table) i))
+
+-- how wide a word of a field is at most that is kept whole
+abbrev pub longest_whole : ℕ
+longest_whole = 40
+
+-- the width of a wide word of a field, but for a longer one that of the longest word of a name
+abbrev pub kept_word : ℕ → ℕ
+kept_word width =
+    if nat_lt least_level width
+    then (if nat_lt longest_whole width then longest_word else width)
+    else 0
+
+-- what a column of text keeps for the widest word of its fields
+abbrev pub kept_of_word : Words → ℕ → ℕ
+kept_of_word Broken width = 0
+kept_of_word OfNames width = 0
+kept_of_word OfFields width = kept_word width
+
+-- what a column keeps for what its fields need: all of it, if it isn't broken; else for a word
+abbrev pub kept_of_fields : Words → Bool → ℕ → ℕ
+kept_of_fields words is_nowrap need =
+    if is_nowrap then max least_level need else kept_of_word words need
+
+-- how much of its content the column at a position keeps in any case: all if it is narrow; else as
+-- much as its fields and its name need
+abbrev pub min_width : Wanted → TableValue → ℕ → ℕ
+min_width wanted table i =
     let content = column_content_width table i in
-    if unwrap_or (slice_get nowrap i) false || nat_le content least_level
+    let is_nowrap = unwrap_or (slice_get wanted.nowrap i) false in
+    if nat_le content least_level
     then content
-    else min content (wide_word table (name_in table i))
+    else min content (max (kept_of_name wanted.words (wide_word table (name_in table i)))
+    (kept_of_fields wanted.words is_nowrap (min content (fields_need is_nowrap table i))))
 
 -- what a column takes of its content where columns share a width up to a level: that much, but no
 -- less than it keeps
@@ -75,36 +134,36 @@ abbrev pub shared_content : ℕ → ℕ → ℕ → ℕ
 shared_content level kept content = max 1 (max kept (min level content))
 
 -- so the column at a position
-abbrev pub width_at_level : ℕ → List Bool → TableValue → ℕ → ℕ
-width_at_level level nowrap table i =
-    shared_content level (min_width nowrap table i) (column_content_width table i)
+abbrev pub width_at_level : ℕ → Wanted → TableValue → ℕ → ℕ
+width_at_level level wanted table i =
+    shared_content level (min_width wanted table i) (column_content_width table i)
 
 -- so each column
 abbrev pub by_columns : (ℕ → ℕ) → TableValue → List ℕ
 by_columns f table = map f (range_with_len 0 (length table.columns))
 
 -- the width of a table of rows whose columns share it up to a level
-abbrev pub shared_width : ℕ → List Bool → TableValue → ℕ
-shared_width level nowrap table =
-    framed_width table.style (by_columns (width_at_level level nowrap table) table)
+abbrev pub shared_width : ℕ → Wanted → TableValue → ℕ
+shared_width level wanted table =
+    framed_width table.style (by_columns (width_at_level level wanted table) table)
 
 -- its least width
-abbrev pub least_width : List Bool → TableValue → ℕ
-least_width nowrap table = shared_width least_level nowrap table
+abbrev pub least_width : Wanted → TableValue → ℕ
+least_width wanted table = shared_width least_level wanted table
 
 -- the greatest level up to another one that passes a test, 0 where none does
 abbrev pub greatest_level : (ℕ → Bool) → ℕ → ℕ
 greatest_level passes level = greatest (filter passes (range_with_len 1 level))
 
 -- the greatest level for which a width has room
-abbrev pub fair_level : ℕ → List Bool → TableValue → ℕ
-fair_level width nowrap table =
-    greatest_level (λ level. nat_le (shared_width level nowrap table) width) width
+abbrev pub fair_level : ℕ → Wanted → TableValue → ℕ
+fair_level width wanted table =
+    greatest_level (λ level. nat_le (shared_width level wanted table) width) width
 
 -- whether a width that is kept has room for that
-abbrev pub has_room : Option ℕ → List Bool → TableValue → Bool
-has_room None nowrap table = true
-has_room (Some width) nowrap table = nat_le (least_width nowrap table) width
+abbrev pub has_room : Option ℕ → Wanted → TableValue → Bool
+has_room None wanted table = true
+has_room (Some width) wanted table = nat_le (least_width wanted table) width
 
 -- the width of this content with its paddings; of none 0, which no column is narrower than
 abbrev pub boundary_for : ℕ → ℕ
@@ -121,22 +180,44 @@ with_lower_bounds kept table =
 
 -- what the column at a position is given beforehand: what it keeps, where it isn't broken, or
 -- where that is more than the level that columns share a width up to
-abbrev pub reserved_width : ℕ → List Bool → TableValue → ℕ → ℕ
-reserved_width level nowrap table i =
-    let kept = min_width nowrap table i in
-    if unwrap_or (slice_get nowrap i) false || nat_lt level kept then kept else 0
+abbrev pub reserved_width : ℕ → Wanted → TableValue → ℕ → ℕ
+reserved_width level wanted table i =
+    let kept = min_width wanted table i in
+    if unwrap_or (slice_get wanted.nowrap i) false || nat_lt level kept then kept else 0
+
+-- the words that are kept under a width: those wanted, if all contents have room; else those of
+-- names and fields, if they have room; else those of names, if they have; else those wanted
+abbrev pub with_most_words : (ℕ → Wanted → Bool) → ℕ → Wanted → Wanted
+with_most_words fits width wanted =
+    if fits width wanted
+    then wanted
+    else if fits least_level (with_words OfFields wanted)
+    then with_words OfFields wanted
+    else if fits least_level (with_words OfNames wanted)
+    then with_words OfNames wanted
+    else wanted
+
+-- so those of a table
+abbrev pub most_wanted : ℕ → Wanted → TableValue → Wanted
+most_wanted width wanted table =
+    with_most_words (λ (level : ℕ) (own : Wanted). nat_le (shared_width level own table) width)
+    width wanted
 
 -- so each column
-abbrev pub given_in : ℕ → List Bool → TableValue → List ℕ
-given_in width nowrap table =
-    by_columns (reserved_width (fair_level width nowrap table) nowrap table) table
+abbrev pub given_to : ℕ → Wanted → TableValue → List ℕ
+given_to width wanted table =
+    by_columns (reserved_width (fair_level width wanted table) wanted table) table
+
+-- with the words that are kept
+abbrev pub given_in : ℕ → Wanted → TableValue → List ℕ
+given_in width wanted table = given_to width (most_wanted width wanted table) table
 
 -- so it is where a width is kept that has room for what its columns need; else it stays
-abbrev pub with_min_widths : Option ℕ → List Bool → TableValue → TableValue
-with_min_widths None nowrap table = table
-with_min_widths (Some width) nowrap table =
-    if has_room (Some width) nowrap table
-    then with_lower_bounds (given_in width nowrap table) table
+abbrev pub with_min_widths : Option ℕ → Wanted → TableValue → TableValue
+with_min_widths None wanted table = table
+with_min_widths (Some width) wanted table =
+    if has_room (Some width) wanted table
+    then with_lower_bounds (given_in width wanted table) table
     else table
 
 -- ---- fields of expanded records

@@ -8,7 +8,7 @@ use Rattle.comfy_parts.specs.Text.{Text}
 use Rattle.comfy_table.specs.Parts.{ArrangedValue, IsArrangedTable}
 use Rattle.comfy_table.specs.TableValue.{TableValue}
 use Rattle.comfy_parts.specs.declared.style.cell.CellAlignment.TheVariants.{Center}
-use Rattle.csv_tables.specs.Drawn.{HasSeparators, RendersAsMarkdown, SelectedValue, count_below, is_expanded_in, note_for, nowrap_in, output_table, rows_table, selected_of, separated_table, separators_in, table_text}
+use Rattle.csv_tables.specs.Drawn.{HasSeparators, RendersAsMarkdown, SelectedValue, count_below, is_expanded_in, note_for, output_table, rows_table, selected_of, separated_table, separators_in, table_text, wanted_in}
 use Rattle.csv_tables.specs.Limits.{has_room_in, limited_by, limits_of, no_limits, settings_at}
 use Rattle.csv_tables.specs.Settings.{CellSettingsValue, RowSettingsValue, SettingsValue, dressed_cells}
 use Rattle.csv_tables.specs.declared.limits.ColumnLimits.{ColumnLimits}
@@ -93,7 +93,7 @@ styled_rows settings look content is_aligned =
 -- its width
 abbrev pub has_room_by : SettingsValue → Look → SelectedValue → Bool → Bool
 has_room_by settings look content is_aligned =
-    has_room_in (limits_in settings.columns content) look.width is_aligned (nowrap_in content)
+    has_room_in (limits_in settings.columns content) look.width is_aligned (wanted_in look content)
     (styled_rows settings look content is_aligned)
 
 -- whether decimal points are lined up: if there is room for the spaces
@@ -105,7 +105,7 @@ is_aligned_by settings look content =
 abbrev pub styled_table : SettingsValue → Bool → Look → SelectedValue → TableValue
 styled_table settings true look content = output_table true look content
 styled_table settings false look content =
-    limited_by (limits_in settings.columns content) look.width (nowrap_in content)
+    limited_by (limits_in settings.columns content) look.width (wanted_in look content)
     (styled_rows settings look content (is_aligned_by settings look content))
 
 -- whether records are expanded

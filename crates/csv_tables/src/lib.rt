@@ -11,6 +11,7 @@ pub mod laws;
 mod lazy_table;
 mod limits;
 mod markdown;
+mod needs;
 mod nowrap;
 mod options;
 mod output;

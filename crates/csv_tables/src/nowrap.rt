@@ -1,16 +1,16 @@
 //! Numbers and dates, which aren't broken over lines where there is room.
 
-ghost use Rattle.std.specs.Prelude.{◌≡◌, ◌||◌, ◌-◌, Bool, List, ◌≤◌, ◌^◌, All, IfOk, None, OnOk, Some, chars, false, if◌then◌else◌, length, map, min, nat_le, nat_lt, option_copied, slice_get, true, unwrap_or};
+ghost use Rattle.std.specs.Prelude.{◌≡◌, ◌||◌, ◌-◌, Bool, List, ◌≤◌, ◌^◌, All, IfOk, None, OnOk, Some, chars, false, if◌then◌else◌, length, map, max, min, nat_le, nat_lt, option_copied, slice_get, true, unwrap_or};
 ghost use Rattle.std.specs.List.{list_all};
 ghost use Rattle.csv_records.specs.Number.{is_neutral, is_number};
 ghost use Rattle.comfy_table.specs.RowCells.{cell_of};
 ghost use Rattle.comfy_table.specs.TableValue.{TableValue, constrained, measured_cell};
-ghost use Rattle.csv_tables.specs.Limits.{bounded_width, has_room_in, has_room_within, level_within, limited_by, with_own_limits, with_widths};
+ghost use Rattle.csv_tables.specs.Limits.{bounded_width, has_room_in, has_room_within, level_within, limited_by, most_within, with_own_limits, with_widths};
 ghost use Rattle.csv_tables.specs.Decimals.{longest_kept};
-ghost use Rattle.csv_tables.specs.NoWrap.{least_level, by_columns, cell_nowrap_width, field_width, reserved_width, clamped_word, is_of_dates, is_nowrap, min_width, with_min_field_width, may_break, name_in, room_beside, room_for_two, shared_content, nowrap_width, wide_word, with_content, with_field_width, word_width};
+ghost use Rattle.csv_tables.specs.NoWrap.{Wanted, least_level, kept_of_fields, kept_of_name, by_columns, cell_nowrap_width, field_width, fields_need, reserved_width, clamped_word, is_of_dates, is_nowrap, min_width, with_min_field_width, may_break, name_in, room_beside, room_for_two, shared_content, nowrap_width, wide_word, with_content, with_field_width, word_width};
 ghost use Rattle.csv_tables.specs.Cells.{cell_for};
 ghost use Rattle.csv_tables.specs.Contents.{greatest_at, pairs_by};
-ghost use Rattle.csv_tables.specs.Drawn.{nowrap_in};
+ghost use Rattle.csv_tables.specs.Drawn.{nowrap_in, wanted_in};
 ghost use Rattle.csv_tables.specs.Styled.{limits_in};
 
 use crate::decimals::LONGEST_KEPT;
@@ -18,6 +18,7 @@ use crate::lazy_table::LazyTable;
 use crate::limits::{
     ColumnLimits, hold_points, limits_for, limits_in, pad_contents, reached_limits, taken_at,
 };
+use crate::needs::{Words, kept_of_fields, kept_of_name, least_words, lines_word_width};
 use crate::selected::SelectedRecords;
 use comfy_parts::content_split::measure_text_width;
 use comfy_parts::for_tables::measured_lines;
@@ -27,29 +28,31 @@ use comfy_table::{Cell, Column, ColumnConstraint, Result, Table, Width};
 use csv_records::{is_neutral, is_number};
 use std::alloc::{AllocError, Global};
 
-// How many terminal columns a column of text needs at most for a word of its name.
-const LONGEST_WORD: u16 = 20;
+/// How many terminal columns a column needs at most for a word of its name.
+pub(crate) const LONGEST_WORD: u16 = 20;
 
-// How many of its content it needs at most, whatever its name.
-const LEAST_LEVEL: u16 = 8;
+/// How many of its content it needs at most, whatever its name.
+pub(crate) const LEAST_LEVEL: u16 = 8;
 
 // How many terminal columns the names of expanded records need at most.
 const NEEDED_NAMES: u16 = 4;
 
 /// Gives columns their paddings and their limits. If a width is kept that has room for that,
-/// columns keep what they need, those of numbers and dates their whole contents. Returns whether
+/// columns keep what they need, those of numbers and dates their whole fields. Returns whether
 /// there is room: never if decimal points are lined up in texts that are wrapped, else always if no
 /// width is kept.
 pub(crate) fn keep_nowrap(contents: &mut LazyTable) -> Result<bool>
+    requires { contents.old.rows.is_expanded ≡ false }
     ensures contents { OnOk result (contents.new ≡ record contents.old {
       table = limited_by
           (limits_in contents.old.rows.settings.columns contents.old.rows.selected)
-          contents.old.rows.look.width (nowrap_in contents.old.rows.selected) contents.old.table;
+          contents.old.rows.look.width
+          (wanted_in contents.old.rows.look contents.old.rows.selected) contents.old.table;
     }) }
     ensures has_room { IfOk result (λ has. has
         ≡ has_room_in (limits_in contents.old.rows.settings.columns contents.old.rows.selected)
         contents.old.rows.look.width contents.old.rows.is_aligned
-        (nowrap_in contents.old.rows.selected) contents.old.table) }
+        (wanted_in contents.old.rows.look contents.old.rows.selected) contents.old.table) }
 {
     let rows = &contents.rows;
     let limits = limits_in(rows.settings.of_columns(), &rows.selected)?;
@@ -62,17 +65,15 @@ pub(crate) fn keep_nowrap(contents: &mut LazyTable) -> Result<bool>
 
 // Gives columns their limits, after they have their paddings. Returns whether a width that is kept
 // has room.
-fn keep_limits(
-    contents: &mut LazyTable,
-    limits: &[ColumnLimits],
-) -> std::result::Result<bool, AllocError>
+fn keep_limits(contents: &mut LazyTable, limits: &[ColumnLimits]) -> Result<bool>
+    requires { contents.old.rows.is_expanded ≡ false }
     ensures contents { OnOk result (contents.new ≡ record contents.old {
       table = with_widths limits.now contents.old.rows.look.width
-          (nowrap_in contents.old.rows.selected) contents.old.table;
+          (wanted_in contents.old.rows.look contents.old.rows.selected) contents.old.table;
     }) }
     ensures has_room { IfOk result (λ has. has
         ≡ has_room_within limits.now contents.old.rows.look.width
-        (nowrap_in contents.old.rows.selected) contents.old.table) }
+        (wanted_in contents.old.rows.look contents.old.rows.selected) contents.old.table) }
 {
     match contents.rows.look.width {
         Some(width) => keep_within(contents, limits, width),
@@ -89,7 +90,8 @@ fn keep_contents(
     limits: &[ColumnLimits],
 ) -> std::result::Result<(), AllocError>
     ensures { OnOk result (contents.new ≡ record contents.old {
-      table = with_widths limits.now None (nowrap_in contents.old.rows.selected)
+      table = with_widths limits.now None
+          (wanted_in contents.old.rows.look contents.old.rows.selected)
           contents.old.table;
     }) }
 {
@@ -120,26 +122,25 @@ fn keep_nothing(
     Ok(())
 }
 
-fn keep_within(
-    contents: &mut LazyTable,
-    limits: &[ColumnLimits],
-    width: u16,
-) -> std::result::Result<bool, AllocError>
+fn keep_within(contents: &mut LazyTable, limits: &[ColumnLimits], width: u16) -> Result<bool>
+    requires { contents.old.rows.is_expanded ≡ false }
     ensures contents { OnOk result (contents.new ≡ record contents.old {
-      table = with_widths limits.now (Some width) (nowrap_in contents.old.rows.selected)
+      table = with_widths limits.now (Some width)
+          (wanted_in contents.old.rows.look contents.old.rows.selected)
           contents.old.table;
     }) }
     ensures has_room { IfOk result (λ has. has ≡ has_room_within limits.now (Some width)
-        (nowrap_in contents.old.rows.selected) contents.old.table) }
+        (wanted_in contents.old.rows.look contents.old.rows.selected) contents.old.table) }
 {
     let nowrap = nowrap_columns(&contents.rows.selected)?;
-    let kept = kept_contents(contents, nowrap.as_slice())?;
-    let least = bounded_width(contents, limits, kept.as_slice(), LEAST_LEVEL);
-    if least > usize::from(width) {
+    let words = least_words(contents.rows.look.max_height);
+    let least = kept_contents(contents, nowrap.as_slice(), words)?;
+    if !fits(contents, limits, least.as_slice(), LEAST_LEVEL, width) {
         keep_nothing(contents, limits)?;
         return Ok(false);
     }
     let alloc = contents.rows.selected.alloc;
+    let kept = most_contents(contents, limits, nowrap.as_slice(), least, width)?;
     let level = level_within(contents, limits, kept.as_slice(), width);
     let given = given_contents(alloc, kept.as_slice(), nowrap.as_slice(), level)?;
     let constraints = limits_for(alloc, limits, given.as_slice())?;
@@ -163,24 +164,67 @@ fn nowrap_columns(selected: &SelectedRecords) -> std::result::Result<Vec<bool>, 
 }
 
 // What the columns of a table of rows keep of their contents.
-fn kept_contents(contents: &LazyTable, nowrap: &[bool]) -> std::result::Result<Vec<u16>, AllocError>
-    ensures { IfOk result (λ kept. kept.items
-        ≡ by_columns (min_width nowrap.now contents.now.table) contents.now.table) }
+fn kept_contents(contents: &LazyTable, nowrap: &[bool], words: Words) -> Result<Vec<u16>>
+    requires { contents.now.rows.is_expanded ≡ false }
+    ensures { IfOk result (λ kept. kept.items ≡ by_columns
+        (min_width (record { nowrap = nowrap.now; words = words }) contents.now.table)
+        contents.now.table) }
 {
-    let table = &contents.table;
     let widths = contents.widths();
     let mut kept = Vec::with_capacity(contents.rows.selected.alloc, widths.len())?;
     for (at, content) in widths.iter().enumerate() {
-        kept.push(kept_content(table, may_not_break(nowrap, at), at, *content))?;
+        let is_nowrap = may_not_break(nowrap, at);
+        kept.push(kept_content(contents, words, is_nowrap, at, *content)?)?;
     }
     Ok(kept)
 }
 
+// The same with the words that are kept under a width, of which it has room for what is kept at
+// least.
+fn most_contents(
+    contents: &LazyTable,
+    limits: &[ColumnLimits],
+    nowrap: &[bool],
+    least: Vec<u16>,
+    width: u16,
+) -> Result<Vec<u16>>
+    requires { contents.now.rows.is_expanded ≡ false }
+    ensures { (words : Words) → least.items ≡ by_columns
+        (min_width (record { nowrap = nowrap.now; words = words }) contents.now.table)
+        contents.now.table
+        → IfOk result (λ kept. kept.items ≡ by_columns
+        (min_width (most_within limits.now width
+        (record { nowrap = nowrap.now; words = words }) contents.now.table) contents.now.table)
+        contents.now.table) }
+{
+    if fits(contents, limits, least.as_slice(), width, width) {
+        return Ok(least);
+    }
+    let fields = kept_contents(contents, nowrap, Words::OfFields)?;
+    if fits(contents, limits, fields.as_slice(), LEAST_LEVEL, width) {
+        return Ok(fields);
+    }
+    let names = kept_contents(contents, nowrap, Words::OfNames)?;
+    if fits(contents, limits, names.as_slice(), LEAST_LEVEL, width) {
+        return Ok(names);
+    }
+    Ok(least)
+}
+
+// Whether a width has room for columns that keep so much, and share it up to a level.
+fn fits(contents: &LazyTable, limits: &[ColumnLimits], kept: &[u16], level: u16, width: u16) -> bool
+    ensures { (wanted : Wanted)
+        → kept.now ≡ by_columns (min_width wanted contents.now.table) contents.now.table
+        → result ≡ nat_le (bounded_width limits.now level wanted contents.now.table) width }
+{
+    bounded_width(contents, limits, kept, level) <= usize::from(width)
+}
+
 // The width of the table where its columns, which keep so much, share it up to a level.
 fn bounded_width(contents: &LazyTable, limits: &[ColumnLimits], kept: &[u16], level: u16) -> usize
-    ensures { (nowrap : List Bool)
-        → kept.now ≡ by_columns (min_width nowrap contents.now.table) contents.now.table
-        → result ≡ min (2 ^ 64 - 1) (bounded_width limits.now level nowrap contents.now.table) }
+    ensures { (wanted : Wanted)
+        → kept.now ≡ by_columns (min_width wanted contents.now.table) contents.now.table
+        → result ≡ min (2 ^ 64 - 1) (bounded_width limits.now level wanted contents.now.table) }
 {
     let widths = contents.widths();
     let mut width = count_border_columns(&contents.table, widths.len());
@@ -200,9 +244,9 @@ fn shared_content(level: u16, kept: u16, content: u16) -> u16
 
 // The greatest level for which a width has room.
 fn level_within(contents: &LazyTable, limits: &[ColumnLimits], kept: &[u16], width: u16) -> u16
-    ensures { (nowrap : List Bool)
-        → kept.now ≡ by_columns (min_width nowrap contents.now.table) contents.now.table
-        → result ≡ level_within limits.now width nowrap contents.now.table }
+    ensures { (wanted : Wanted)
+        → kept.now ≡ by_columns (min_width wanted contents.now.table) contents.now.table
+        → result ≡ level_within limits.now width wanted contents.now.table }
 {
     let mut level = width;
     while level > 0 && bounded_width(contents, limits, kept, level) > usize::from(width) {
@@ -221,20 +265,31 @@ fn may_not_break(nowrap: &[bool], at: usize) -> bool
 }
 
 // What the column at a position keeps of its content.
-fn kept_content(table: &Table, is_nowrap: bool, at: usize, content: u16) -> u16
-    ensures { result ≡ (if is_nowrap || nat_le content least_level
+fn kept_content(
+    contents: &LazyTable,
+    words: Words,
+    is_nowrap: bool,
+    at: usize,
+    content: u16,
+) -> Result<u16>
+    requires { contents.now.rows.is_expanded ≡ false }
+    ensures { IfOk result (λ kept. kept ≡ (if nat_le content least_level
         then content
-        else min content (wide_word table.now (name_in table.now at))) }
+        else min content (max
+        (kept_of_name words (wide_word contents.now.table (name_in contents.now.table at)))
+        (kept_of_fields words is_nowrap
+        (min content (fields_need is_nowrap contents.now.table at)))))) }
 {
-    if is_nowrap || content <= LEAST_LEVEL {
-        content
-    } else {
-        content.min(wide_word(table, name_in(table, at)))
+    if content <= LEAST_LEVEL {
+        return Ok(content);
     }
+    let of_name = kept_of_name(&contents.table, words, at);
+    let of_fields = kept_of_fields(contents, words, is_nowrap, at, content)?;
+    Ok(of_name.max(of_fields).min(content))
 }
 
-// The name of the column at a position.
-fn name_in(table: &Table, at: usize) -> Option<&Cell>
+/// The name of the column at a position.
+pub(crate) fn name_in(table: &Table, at: usize) -> Option<&Cell>
     ensures { option_copied result ≡ name_in table.now at }
 {
     match table.header() {
@@ -243,19 +298,14 @@ fn name_in(table: &Table, at: usize) -> Option<&Cell>
     }
 }
 
-// The width of the widest word of a name, where that is wide.
-fn wide_word(table: &Table, name: Option<&Cell>) -> u16
+/// The width of the widest word of a name, where that is wide.
+pub(crate) fn wide_word(table: &Table, name: Option<&Cell>) -> u16
     ensures { result ≡ wide_word table.now (option_copied name.entry) }
 {
     let Some(name) = name else {
         return 0;
     };
-    let (lines, _) = measured_lines(name, table.has_custom_styling());
-    let mut widest = 0;
-    for line in lines {
-        widest = word_width(line.as_str()).max(widest);
-    }
-    clamped_word(widest)
+    clamped_word(lines_word_width(table, name))
 }
 
 fn clamped_word(width: usize) -> u16
@@ -268,8 +318,8 @@ fn clamped_word(width: usize) -> u16
     }
 }
 
-// The width of the widest word of a text line.
-fn word_width(line: &str) -> usize
+/// The width of the widest word of a text line.
+pub(crate) fn word_width(line: &str) -> usize
     ensures { result ≡ word_width line.now }
 {
     let mut widest = 0;
@@ -304,9 +354,10 @@ fn given_contents(
     nowrap: &[bool],
     level: u16,
 ) -> std::result::Result<Vec<u16>, AllocError>
-    ensures { IfOk result (λ given. (table : TableValue)
-        → kept.now ≡ by_columns (min_width nowrap.now table) table
-        → given.items ≡ by_columns (reserved_width level nowrap.now table) table) }
+    ensures { IfOk result (λ given. (words : Words) (table : TableValue)
+        → let wanted : Wanted = record { nowrap = nowrap.now; words = words } in
+        kept.now ≡ by_columns (min_width wanted table) table
+        → given.items ≡ by_columns (reserved_width level wanted table) table) }
 {
     let mut given = Vec::with_capacity(alloc, kept.len())?;
     for (at, keeps) in kept.iter().enumerate() {

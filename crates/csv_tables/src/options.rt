@@ -67,9 +67,10 @@ pub enum RowSeparators {
 /// When a record is drawn as a table of its own.
 #[derive(Clone, Copy, Debug, PartialEq, Eq)]
 pub enum Expansion {
-    /// Where a width is kept that has no room for a table of rows: for its columns of numbers and
-    /// dates whole, and of each other column for its content, or for as much of it as the longest
-    /// word of its name has, from 8 to 20 terminal columns.
+    /// Where a width is kept that has no room for a table of rows: for the widest field of each
+    /// column of numbers and dates, and of each column for its content, or for as much of it as the
+    /// longest word of its name has, from 8 to 20 terminal columns. If a row has one line at most,
+    /// 8 are enough, whatever the names.
     Auto,
     /// Always.
     Always,

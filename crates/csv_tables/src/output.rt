@@ -9,7 +9,7 @@ ghost use Rattle.comfy_table.specs.TableValue.{max_content_widths};
 ghost use Rattle.comfy_table.specs.Parts.{IsArrangedTable};
 ghost use Rattle.csv_tables.specs.Markdown.{rule_line};
 ghost use Rattle.csv_tables.specs.Contents.{AreContentsOf, AreDrawnAs, AreDrawnContents, rows_from, table_by};
-ghost use Rattle.csv_tables.specs.Drawn.{RendersAnyRecords, RendersAsMarkdown, RendersRecords, are_more, below_first, note_text, note_for, output_table, sides, nowrap_in};
+ghost use Rattle.csv_tables.specs.Drawn.{RendersAnyRecords, RendersAsMarkdown, RendersRecords, are_more, below_first, note_text, note_for, output_table, sides, wanted_in};
 ghost use Rattle.csv_tables.specs.Limits.{has_room_in, limited_by};
 ghost use Rattle.csv_tables.specs.Styled.{RendersAnyStyledRecords, RendersStyledRecords, has_room_by, is_aligned_by, limits_in, styled_table};
 
@@ -192,13 +192,14 @@ fn unaligned(rows: RecordRows) -> RecordRows
 
 // The table of these rows, and whether there is room for it.
 fn nowrap_contents(rows: RecordRows) -> Result<(LazyTable, bool)>
+    requires { rows.is_expanded ≡ false }
     ensures table { IfOk result (λ x. x.0.table
         ≡ limited_by (limits_in rows.settings.columns rows.selected) rows.look.width
-        (nowrap_in rows.selected) (table_by rows)) }
+        (wanted_in rows.look rows.selected) (table_by rows)) }
     ensures rows { IfOk result (λ x. x.0.rows ≡ rows) }
     ensures has_room { IfOk result (λ x. x.1
         ≡ has_room_in (limits_in rows.settings.columns rows.selected) rows.look.width
-        rows.is_aligned (nowrap_in rows.selected) (table_by rows)) }
+        rows.is_aligned (wanted_in rows.look rows.selected) (table_by rows)) }
 {
     let mut contents = LazyTable::new(rows)?;
     let has_room = keep_nowrap(&mut contents)?;

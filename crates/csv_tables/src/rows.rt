@@ -12,8 +12,10 @@ ghost use Rattle.comfy_table.specs.TableValue.{cell_content_width};
 ghost use Rattle.csv_tables.specs.Cells.{columns_within};
 ghost use Rattle.csv_tables.specs.Contents.{field_cells, greatest_at, headed_by, made_by, measured_at, plain_by, rows_at, settings_by};
 ghost use Rattle.csv_tables.specs.LazyRows.{IsFlat};
+ghost use Rattle.csv_tables.specs.NoWrap.{cell_need};
 
 use crate::cells::{field_cell, number_cell, push_field};
+use crate::needs::cell_need;
 use crate::options::{ColumnPlan, Look};
 use crate::selected::SelectedRecords;
 use crate::settings::{CellSettings, RowSettings, Settings, cell_settings, limit_by, settings_of};
@@ -168,6 +170,28 @@ impl RecordRows {
         }
         let cell = self.cell_in(at, fields, columns, position)?;
         cell.longest_line(table, info)
+    }
+
+    /// What the cell at a position of the row of the record at a place needs to be whole, or for
+    /// its widest word, in terminal columns; 0 if there is none.
+    pub fn cell_need(
+        &self,
+        table: &Table,
+        at: usize,
+        fields: &Record<'_>,
+        position: usize,
+        is_nowrap: bool,
+    ) -> Result<usize>
+        requires { self.now.is_expanded ≡ false }
+        ensures { IfOk result (λ need. need ≡ greatest_at table.now (cell_need is_nowrap)
+            (rows_at self.now at fields.now) position) }
+    {
+        let columns = self.selected.columns_within(fields);
+        if position >= self.cell_count(columns) {
+            return Ok(0);
+        }
+        let cell = self.cell_in(at, fields, columns, position)?;
+        cell_need(self.alloc(), table, &cell, is_nowrap)
     }
 
     /// The memory that is used.

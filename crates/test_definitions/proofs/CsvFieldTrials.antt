@@ -1,7 +1,7 @@
 -- Lines that show no field of a record, a wrong one, or in a wrong place.
 use Rattle.std.proofs.Common.{◌≡◌, ◌==◌, ◌&&◌, ◌⊎◌, inl, inr, ◌<◌, ◌≤◌, ◌-◌, ℕ, zero, suc, ◌+◌, Bool, true, false, List, [], ◌∷◌, ◌++◌, Option, None, Some, is_some, arith, append-nil, codes, drop, append_assoc, filter_map, flat_map, length, map, max, min, nat_le, refl, slice_index_or, sym, ap, ap₂, ◌∙◌, subst, unwrap_or}
 use Rattle.std.specs.List.{All, AllZip, cons_option, enumerate_from, join_by, slice_get, slice_split}
-use Rattle.std.specs.Prelude.{if◌then◌else◌, EachIndex, MatchOption, encode_utf8_all, option_map, option_to_list, replicate}
+use Rattle.std.specs.Prelude.{if◌then◌else◌, EachIndex, IfSome, MatchOption, encode_utf8_all, option_map, option_to_list, replicate}
 use Rattle.std.proofs.lemmas.Bool.Decides.{nat_tests}
 use Rattle.std.proofs.lemmas.List.Elements.{All-head, All-tail}
 use Rattle.std.proofs.lemmas.Str.{encode_ascii}
@@ -25,7 +25,7 @@ use Rattle.csv_tables.specs.Fields.{field_or_blank}
 use Rattle.csv_tables.specs.declared.options.Look.{Look}
 use Rattle.promises.proofs.KeptLemmas.{slices_anywhere}
 use Rattle.promises.specs.Headline.{AreContentLines, AreLinesOfCell, AreLinesOfParts, AreLinesOfRow, AreLinesOfText, IsFramedDrawing, IsPiece, IsUncoloured, framed, is_coloured, is_styled, side_in, side_of, lines_in, widths_shown, whole_width}
-use Rattle.csv_promises.specs.Fields.{HoldsField, HoldsFields, IsDrawingOf, IsFieldColumn, cells_after_name, side_at}
+use Rattle.csv_promises.specs.Fields.{HoldsField, HoldsFields, IsDrawingOf, IsFieldColumn, cells_after_name, side_at, widest_whole}
 
 -- a style with a hyphen, which no line draws where there is no header
 abbrev pub dashed : TableStyle
@@ -52,8 +52,9 @@ pub record IsOneRow (sides : List CellAlignment) (whole : List Bool) (fields : L
   pub as_many : length table.columns ≡ length fields
   pub keeps_whole : (i : ℕ) → i < length table.columns → slice_get whole i ≡ Some true → widest_of (row ∷ []) i ≤ width i
 
-pub one_row : {has_names : Bool} {sides : List CellAlignment} (look : Look) → look.style ≡ dashed → look.has_bold_header ≡ false → (whole : List Bool) (fields lines : List Text) (text : Text) → ((own : List Text) → AreLinesOf text own → own ≡ lines) → IsDrawingOf look false has_names sides whole (fields ∷ []) text → IsOneRow sides whole fields lines
-one_row {has_names} {sides} look own_style plain_header whole fields lines text cut is = by_header is.table.header is.table.rows is.is_table.header is.is_table.hold is.framed.is_plain.frame.is_header is.framed.is_plain.frame.are_rows is.framed.is_plain.are_cell_lines is.is_table.has_columns is.keeps_whole
+pub one_row : {has_names : Bool} {sides : List CellAlignment} (look : Look) → look.style ≡ dashed → look.has_bold_header ≡ false → IfSome look.width (λ w. w ≤ 65535) → (whole : List Bool) (fields lines : List Text) (text : Text) → ((own : List Text) → AreLinesOf text own → own ≡ lines) → IsDrawingOf look false has_names sides whole (fields ∷ []) text → IsOneRow sides whole fields lines
+one_row {has_names} {sides} look own_style plain_header narrow whole fields lines text cut is =
+    by_header is.table.header is.table.rows is.is_table.header is.is_table.hold is.framed.is_plain.frame.is_header is.framed.is_plain.frame.are_rows is.framed.is_plain.are_cell_lines is.is_table.has_columns (by_width look.width (is.keeps_whole narrow))
   where
     table : TableValue
     table = is.table
@@ -77,11 +78,27 @@ one_row {has_names} {sides} look own_style plain_header whole fields lines text 
         ∙ subst (λ (s : TableStyle). is.framed.plain ≡ optional_frame_line s s.top_border (widths_shown table plain.width) ++ (plain.frame.header ++ (join_by (λ (block : List Text). block) (optional_frame_line s s.row_separator (widths_shown table plain.width)) plain.frame.rows
         ++ optional_frame_line s s.bottom_border (widths_shown table plain.width)))) style plain.frame.drawn
 
+    -- the rows are whole, whatever the header is
+    by_width : (o : Option ℕ) → ((i : ℕ) → i < length table.columns → slice_get whole i ≡ Some true → widest_whole o table i ≤ plain.width i) → (i : ℕ) → i < length table.columns → slice_get whole i ≡ Some true → widest_of table.rows i ≤ plain.width i
+    by_width (Some w) wide i below is_whole = wide i below is_whole
+    by_width None wide i below is_whole = below_header table.header (wide i below is_whole)
+      where
+        cells : List RowValue → List CellValue
+        cells rows = filter_map (λ (row : RowValue). slice_get row.cells i) rows
+
+        by_cell : (o : Option CellValue) → max 1 (greatest (map cell_content_width (cons_option o (cells table.rows)))) ≤ plain.width i → widest_of table.rows i ≤ plain.width i
+        by_cell None within = within
+        by_cell (Some cell) within = omega (arith, within)
+
+        below_header : (header : Option RowValue) → widest_of (option_to_list header ++ table.rows) i ≤ plain.width i → widest_of table.rows i ≤ plain.width i
+        below_header None within = within
+        below_header (Some row) within = by_cell (slice_get row.cells i) within
+
     by_header : (header : Option RowValue) (rows : List RowValue) → is_some header ≡ false → AllZip (HoldsFields sides) (fields ∷ []) (option_to_list header ++ rows) → MatchOption header (plain.frame.header ≡ []) (λ row. (block : List Text) × AreLinesOfRow table plain.width plain.cell_lines table.style.header_lines row block × (plain.frame.header ≡ block ++ framed table plain.width table.style.header_separator))
         → AllZip (AreLinesOfRow table plain.width plain.cell_lines table.style.content_lines) rows plain.frame.rows
         → All (λ (row : RowValue). All (λ (p : ℕ × ColumnValue). (cell : CellValue) → slice_get row.cells p.0 ≡ Some cell → AreLinesOfCell (plain.width p.0) (cell_delimiter table p.1.delimiter cell) cell (plain.cell_lines p cell)) (shown_columns table)) (option_to_list header ++ rows)
         → All (λ (row : RowValue). length row.cells ≤ length table.columns) (option_to_list header ++ rows)
-        → ((i : ℕ) → i < length table.columns → slice_get whole i ≡ Some true → widest_of (option_to_list header ++ rows) i ≤ plain.width i) → IsOneRow sides whole fields lines
+        → ((i : ℕ) → i < length table.columns → slice_get whole i ≡ Some true → widest_of rows i ≤ plain.width i) → IsOneRow sides whole fields lines
     by_header (Some header) rows none hold own are texts few wide = absurd (cc none)
     by_header None [] none hold own are texts few wide = absurd hold
     by_header None (row ∷ other ∷ rows) none hold own are texts few wide = absurd hold.1

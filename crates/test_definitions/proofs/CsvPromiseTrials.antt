@@ -3,7 +3,7 @@ use Rattle.std.proofs.Common.{◌≡◌, ◌==◌, ◌&&◌, ◌||◌, zero, suc
 use Rattle.std.specs.Fmt.{digits}
 use Rattle.std.specs.List.{All, list_any, slice_get, slice_split}
 use Rattle.std.proofs.lemmas.List.Splits.{slice_split_none}
-use Rattle.std.specs.Prelude.{MatchOption, ◌<◌, encode_utf8_all, if◌then◌else◌}
+use Rattle.std.specs.Prelude.{IfSome, MatchOption, ◌<◌, encode_utf8_all, if◌then◌else◌}
 use Rattle.std.specs.Str.{NoCharPasses, NonePass, chars}
 use Rattle.std.proofs.lemmas.Bool.{or_parts, true≢false}
 use Rattle.std.proofs.lemmas.List.{append_cancel_right, reverse-append}
@@ -165,10 +165,10 @@ unfolding field_at
 second_cell blank c field fields row {sides} hold none = let gone : c ∷ field ≡ [] = subst (λ (cells : List CellValue). MatchOption (slice_get cells 1) (c ∷ field ≡ []) (HoldsField (side_at sides 1) (c ∷ field))) none (hold.each 1) in cc gone
 
 -- nothing shows no field
-nothing_shows_no_field : {has_names : Bool} {sides : List CellAlignment} (look : Look) → look.style ≡ dashed → look.has_bold_header ≡ false → (rest : List Text) → (whole : List Bool) → ¬ (ShowsRows look false has_names sides whole ((codes "a" ∷ rest) ∷ []) [])
-nothing_shows_no_field look style weight rest whole (inl none) = cc none.0
-nothing_shows_no_field look style weight rest whole (inr is) =
-    let row = one_row look style weight whole (codes "a" ∷ rest) [] [] no_text_lines is in
+nothing_shows_no_field : {has_names : Bool} {sides : List CellAlignment} (look : Look) → look.style ≡ dashed → look.has_bold_header ≡ false → IfSome look.width (λ w. w ≤ 65535) → (rest : List Text) → (whole : List Bool) → ¬ (ShowsRows look false has_names sides whole ((codes "a" ∷ rest) ∷ []) [])
+nothing_shows_no_field look style weight narrow rest whole (inl none) = cc none.0
+nothing_shows_no_field look style weight narrow rest whole (inr is) =
+    let row = one_row look style weight narrow whole (codes "a" ∷ rest) [] [] no_text_lines is in
     let some = has_line whole (codes "a") rest [] (one_text 0x61 [] refl refl) row (some_cell 0x61 [] rest row.row row.hold) (λ same. cc same) in
     absurd (omega (arith, some))
 
@@ -183,7 +183,7 @@ ShowsRow fields line = IsDrawingOf unbold false false [] [] (fields ∷ []) (lin
 -- an amount isn't shown by another one, whose hyphen a frame could have
 other_amount : ¬ (ShowsRow (codes "12.80" ∷ []) (codes " -12.80 "))
 other_amount is =
-    let row = one_row unbold refl refl [] (codes "12.80" ∷ []) (codes " -12.80 " ∷ []) (codes " -12.80 \n") (only (codes " -12.80 ") (codes " -12.80 \n") refl) is in
+    let row = one_row unbold refl refl tt [] (codes "12.80" ∷ []) (codes " -12.80 " ∷ []) (codes " -12.80 \n") (only (codes " -12.80 ") (codes " -12.80 \n") refl) is in
     let own = begins [] (codes "12.80") [] (codes " -12.80 ") [] (one_text 0x31 (codes "2.80") refl refl) row (some_cell 0x31 (codes "2.80") [] row.row row.hold) in
     by_left own.right own.others own.tail own.left own.front own.is own.fronts
   where
@@ -197,7 +197,7 @@ other_amount is =
 -- a field doesn't stand in a column to the left of its own, where the field there is blank
 wrong_column : ¬ (ShowsRow ([] ∷ codes "1280" ∷ []) (codes " 1280    "))
 wrong_column is =
-    let row = one_row unbold refl refl [] ([] ∷ codes "1280" ∷ []) (codes " 1280    " ∷ []) (codes " 1280    \n") (only (codes " 1280    ") (codes " 1280    \n") refl) is in
+    let row = one_row unbold refl refl tt [] ([] ∷ codes "1280" ∷ []) (codes " 1280    " ∷ []) (codes " 1280    \n") (only (codes " 1280    ") (codes " 1280    \n") refl) is in
     let own = begins [] [] (codes "1280" ∷ []) (codes " 1280    ") [] blank_text row (second_cell [] 0x31 (codes "280") [] row.row row.hold) in
     by_left own.right own.others own.tail own.left own.front own.is own.fronts
   where
@@ -209,7 +209,7 @@ wrong_column is =
 -- a number isn't split over lines in a whole column
 split_number : ¬ (IsDrawingOf unbold false false [] (true ∷ []) ((codes "12" ∷ []) ∷ []) (codes " 1 \n 2 \n"))
 split_number is =
-    let row = one_row unbold refl refl (true ∷ []) (codes "12" ∷ []) (codes " 1 " ∷ codes " 2 " ∷ []) (codes " 1 \n 2 \n") (λ own are. two_lines (codes " 1 ") (codes " 2 ") own (found (codes " 1 \n 2 \n") own are)) is in
+    let row = one_row unbold refl refl tt (true ∷ []) (codes "12" ∷ []) (codes " 1 " ∷ codes " 2 " ∷ []) (codes " 1 \n 2 \n") (λ own are. two_lines (codes " 1 ") (codes " 2 ") own (found (codes " 1 \n 2 \n") own are)) is in
     let own = begins (true ∷ []) (codes "12") [] (codes " 1 ") (codes " 2 " ∷ []) (one_text 0x31 (codes "2") refl refl) row (some_cell 0x31 (codes "2") [] row.row row.hold) in
     by_left own.right own.others own.left own.front own.is (own.whole_front refl short)
   where
@@ -223,7 +223,7 @@ split_number is =
 -- a number isn't at the left of a column that is at the right
 number_at_the_left : ¬ (IsDrawingOf unbold false false (Right ∷ []) [] ((codes "7" ∷ []) ∷ []) (codes " 7  \n"))
 number_at_the_left is =
-    let row = one_row unbold refl refl [] (codes "7" ∷ []) (codes " 7  " ∷ []) (codes " 7  \n") (only (codes " 7  ") (codes " 7  \n") refl) is in
+    let row = one_row unbold refl refl tt [] (codes "7" ∷ []) (codes " 7  " ∷ []) (codes " 7  \n") (only (codes " 7  ") (codes " 7  \n") refl) is in
     let own = begins [] (codes "7") [] (codes " 7  ") [] (one_text 0x37 [] refl refl) row (some_cell 0x37 [] [] row.row row.hold) in
     by_left own.left own.front own.tail own.fronts (own.is ∙ ap₂ (λ (right : ℕ) (others : Text). (spaces (suc own.left) ++ (own.front ++ spaces (suc right))) ++ others) (own.at_right refl) (own.alone refl))
   where
@@ -236,7 +236,7 @@ number_at_the_left is =
 -- nor is one without the spaces after it that line up its decimal mark
 mark_out_of_line : ¬ (IsDrawingOf unbold false false (Right ∷ []) (true ∷ []) ((codes "22  " ∷ []) ∷ []) (codes "   22 \n"))
 mark_out_of_line is =
-    let row = one_row unbold refl refl (true ∷ []) (codes "22  " ∷ []) (codes "   22 " ∷ []) (codes "   22 \n") (only (codes "   22 ") (codes "   22 \n") refl) is in
+    let row = one_row unbold refl refl tt (true ∷ []) (codes "22  " ∷ []) (codes "   22 " ∷ []) (codes "   22 \n") (only (codes "   22 ") (codes "   22 \n") refl) is in
     let own = begins (true ∷ []) (codes "22  ") [] (codes "   22 ") [] (one_text 0x32 (codes "2  ") refl refl) row (some_cell 0x32 (codes "2  ") [] row.row row.hold) in
     let four = measure-printable (codes "22  ") refl in
     by_left own.left own.right own.others (own.is ∙ ap (λ (front : Text). (spaces (suc own.left) ++ (front ++ spaces (suc own.right))) ++ own.others) (own.whole_front refl (omega (arith, four))))
@@ -298,7 +298,7 @@ whole_otherwise = refl
 -- two numbers in columns next to each other aren't joined
 joined_numbers : ¬ (ShowsRow (codes "2024" ∷ codes "123" ∷ []) (codes " 2024123 "))
 joined_numbers is =
-    let row = one_row unbold refl refl [] (codes "2024" ∷ codes "123" ∷ []) (codes " 2024123 " ∷ []) (codes " 2024123 \n") (only (codes " 2024123 ") (codes " 2024123 \n") refl) is in
+    let row = one_row unbold refl refl tt [] (codes "2024" ∷ codes "123" ∷ []) (codes " 2024123 " ∷ []) (codes " 2024123 \n") (only (codes " 2024123 ") (codes " 2024123 \n") refl) is in
     let own = begins [] (codes "2024") (codes "123" ∷ []) (codes " 2024123 ") [] (one_text 0x32 (codes "024") refl refl) row (some_cell 0x32 (codes "024") (codes "123" ∷ []) row.row row.hold) in
     by_left own.right own.tail own.others own.left own.front own.is own.fronts
   where
@@ -313,7 +313,7 @@ joined_numbers is =
 
 -- a record of one blank field has a line of its own, and no other
 blank_line_of : (lines : List Text) (text : Text) → ((own : List Text) → AreLinesOf text own → own ≡ lines) → IsDrawingOf unbold false false [] [] (([] ∷ []) ∷ []) text → length lines ≡ 1
-blank_line_of lines text cut is = blank_line [] lines (one_row unbold refl refl [] ([] ∷ []) lines text cut is)
+blank_line_of lines text cut is = blank_line [] lines (one_row unbold refl refl tt [] ([] ∷ []) lines text cut is)
 
 lost_blank_line : ¬ (ShowsRows unbold false false [] [] (([] ∷ []) ∷ []) [])
 lost_blank_line (inl none) = cc none.0
@@ -327,7 +327,7 @@ one_more_blank_line (inr is) =
 -- and gains no space
 gained_space : ¬ (ShowsRow (codes "therapist" ∷ []) (codes " the rapist "))
 gained_space is =
-    let row = one_row unbold refl refl [] (codes "therapist" ∷ []) (codes " the rapist " ∷ []) (codes " the rapist \n") (only (codes " the rapist ") (codes " the rapist \n") refl) is in
+    let row = one_row unbold refl refl tt [] (codes "therapist" ∷ []) (codes " the rapist " ∷ []) (codes " the rapist \n") (only (codes " the rapist ") (codes " the rapist \n") refl) is in
     let own = begins [] (codes "therapist") [] (codes " the rapist ") [] (one_text 0x74 (codes "herapist") refl refl) row (some_cell 0x74 (codes "herapist") [] row.row row.hold) in
     by_left own.tail own.left own.right own.front own.fronts (own.is ∙ ap (λ (t : Text). (spaces (suc own.left) ++ (own.front ++ spaces (suc own.right))) ++ t) (own.alone refl))
   where
@@ -400,7 +400,7 @@ no_name (own, rest, is, shows, more) = by_own own (ap (drop 14) is) shows
   where
     by_own : (own : Text) → ◌≡◌ {A = Text} [] (own ++ rest) → ¬ (ShowsRows unbold false true [] (true ∷ true ∷ []) ((cleaned false (codes "a") ∷ cleaned false (codes "a") ∷ []) ∷ []) own)
     by_own (b ∷ own) same shows = absurd (cc same)
-    by_own [] same shows = nothing_shows_no_field unbold refl refl (cleaned false (codes "a") ∷ []) (true ∷ true ∷ []) (subst (λ (name : Text). ShowsRows unbold false true [] (true ∷ true ∷ []) ((name ∷ cleaned false (codes "a") ∷ []) ∷ []) []) a_stays shows)
+    by_own [] same shows = nothing_shows_no_field unbold refl refl tt (cleaned false (codes "a") ∷ []) (true ∷ true ∷ []) (subst (λ (name : Text). ShowsRows unbold false true [] (true ∷ true ∷ []) ((name ∷ cleaned false (codes "a") ∷ []) ∷ []) []) a_stays shows)
 
 -- its field isn't in bold, as its name is, and without names no row is
 abbrev bold_names : Look
@@ -450,7 +450,7 @@ in_rows = record unbold { expansion = Never }
 lost_field : (columns : ColumnsValue) (selection : Selection) (count : Option ℕ) → columns.drawn ≡ 0 ∷ [] → selection.is_numbered ≡ false → ¬ (ShowsFields false in_rows selection columns None ((codes "a" ∷ []) ∷ []) count [])
 unfolding field_at
 lost_field columns selection count first unnumbered (are, lined, shows) =
-    nothing_shows_no_field in_rows refl refl [] (true ∷ [])
+    nothing_shows_no_field in_rows refl refl tt [] (true ∷ [])
     (subst (λ (field : Text). Shows false (0 ∷ []) ((field ∷ []) ∷ [])) a_stays
     (subst (λ (positions : List ℕ). Shows false positions (all_rows false no_marks positions None ((codes "a" ∷ []) ∷ []))) first
     (subst (λ (b : Bool). Shows b columns.drawn (all_rows b no_marks columns.drawn None ((codes "a" ∷ []) ∷ []))) unnumbered

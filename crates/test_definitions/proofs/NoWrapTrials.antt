@@ -1,5 +1,5 @@
 -- Which fields aren't broken over lines, and what room their columns need.
-use Rattle.std.proofs.Common.{◌≡◌, ℕ, true, false, List, [], ◌∷◌, Option, Some, None, codes, map, refl}
+use Rattle.std.proofs.Common.{◌≡◌, ℕ, Bool, true, false, List, [], ◌∷◌, Option, Some, None, codes, map, refl}
 use Prim.Native.String.{String}
 use Rattle.std.specs.List.{list_all, list_any}
 use Rattle.std.specs.Str.{chars}
@@ -16,7 +16,9 @@ use Rattle.csv_tables.specs.Summaries.{column_fields}
 use Rattle.csv_records.specs.Number.{is_neutral, is_number}
 use Rattle.comfy_table.specs.TableValue.{TableValue, new_table, with_header, with_rows}
 use Rattle.csv_tables.specs.Drawn.{is_expanded_in}
-use Rattle.csv_tables.specs.NoWrap.{by_columns, framed_width, given_in, has_room, is_nowrap, min_width, with_min_widths, with_min_field_width, least_width, fair_level, may_break, room_beside, room_for_two, width_at_level, shared_content, nowrap_width}
+use Rattle.csv_tables.specs.NoWrap.{Wanted, kept_word, most_wanted, by_columns, framed_width, given_in, has_room, is_nowrap, min_width, with_min_widths, with_min_field_width, least_width, fair_level, may_break, room_beside, room_for_two, width_at_level, shared_content, nowrap_width}
+use Rattle.csv_tables.specs.declared.needs.Words.{Words}
+use Rattle.csv_tables.specs.declared.needs.Words.TheVariants.{Broken, OfFields, OfNames}
 use Rattle.csv_tables.specs.declared.options.Expansion.TheVariants.{Always, Auto, Never}
 
 abbrev texts : List String → List Text
@@ -37,6 +39,10 @@ columns : map (λ position. list_all is_nowrap (column_fields (texts ("1" ∷ "a
 unfolding chars lib.Utf8.encode ucd_category field_at is_neutral is_number
 columns = refl
 
+-- columns of numbers and dates, and others that keep the words of their names
+abbrev whole : List Bool → Wanted
+whole nowrap = record { nowrap = nowrap; words = OfNames }
+
 -- names, and a long text below each
 abbrev names : List Text
 names = texts ("id" ∷ "id" ∷ "shipping address" ∷ "fulfillment status" ∷ "internationalization_and_more" ∷ [])
@@ -46,19 +52,42 @@ named =
     with_rows (plain_row (map (λ (name : Text). plain_cell (codes "letters and letters and letters")) names) ∷ [])
     (with_header (plain_row (map plain_cell names)) (new_table ascii_full))
 
--- all of the first content is kept; of the others a wide word of the name, up to 20 of it
-kept : by_columns (min_width (true ∷ false ∷ []) named) named ≡ 31 ∷ 0 ∷ 0 ∷ 11 ∷ 20 ∷ []
+-- all of the first field is kept; of the others a wide word of the name, up to 20 of it
+kept : by_columns (min_width (whole (true ∷ false ∷ [])) named) named ≡ 31 ∷ 0 ∷ 0 ∷ 11 ∷ 20 ∷ []
 unfolding wrapping
 kept = refl
 
 -- at least eight of it are needed
-needed : by_columns (width_at_level 8 (true ∷ false ∷ []) named) named ≡ 31 ∷ 8 ∷ 8 ∷ 11 ∷ 20 ∷ []
+needed : by_columns (width_at_level 8 (whole (true ∷ false ∷ [])) named) named ≡ 31 ∷ 8 ∷ 8 ∷ 11 ∷ 20 ∷ []
 unfolding wrapping
 needed = refl
 
 -- but no more than the content, and at least one
 needed_of_contents : map (shared_content 8 0) (0 ∷ 3 ∷ 14 ∷ []) ≡ 1 ∷ 3 ∷ 8 ∷ []
 needed_of_contents = refl
+
+-- a name of three words above a number, and a text of long words
+abbrev indicators : TableValue
+indicators =
+    with_rows (plain_row (map plain_cell (texts ("0.3" ∷ "paid to DE89370400440532013000 in May" ∷ []))) ∷ [])
+    (with_header (plain_row (map plain_cell (texts ("growth of populations" ∷ "note" ∷ [])))) (new_table ascii_full))
+
+-- the number keeps eight of its content, or the longest word of its name; the text a word, if words of fields are kept
+abbrev keeping : Words → List ℕ
+keeping words = by_columns (min_width (record { nowrap = true ∷ false ∷ []; words = words }) indicators) indicators
+
+kept_words : map keeping (Broken ∷ OfNames ∷ OfFields ∷ []) ≡ (8 ∷ 0 ∷ []) ∷ (11 ∷ 0 ∷ []) ∷ (11 ∷ 22 ∷ []) ∷ []
+unfolding wrapping
+kept_words = refl
+
+-- a word of eight is nothing, one of 40 is kept, and one of 41 counts as 20
+word_limits : map kept_word (8 ∷ 9 ∷ 40 ∷ 41 ∷ []) ≡ 0 ∷ 9 ∷ 40 ∷ 20 ∷ []
+word_limits = refl
+
+-- three borders and four paddings: words of fields are kept where they have room, and nothing is if all contents have
+words_kept : map (λ width. (most_wanted width (whole (true ∷ false ∷ [])) indicators).words) (39 ∷ 40 ∷ 64 ∷ 65 ∷ []) ≡ OfNames ∷ OfFields ∷ OfFields ∷ OfNames ∷ []
+unfolding wrapping
+words_kept = refl
 
 -- a number and two texts; the name of the first text has a wide word
 abbrev sharing : TableValue
@@ -67,12 +96,12 @@ sharing =
     (with_header (plain_row (map plain_cell (texts ("id" ∷ "responsible" ∷ "x" ∷ [])))) (new_table ascii_full))
 
 -- the texts share what borders, paddings, the number and that word leave
-levels : map (λ width. fair_level width (true ∷ false ∷ false ∷ []) sharing) (31 ∷ 33 ∷ 36 ∷ []) ≡ 8 ∷ 10 ∷ 12 ∷ []
+levels : map (λ width. fair_level width (whole (true ∷ false ∷ false ∷ [])) sharing) (31 ∷ 33 ∷ 36 ∷ []) ≡ 8 ∷ 10 ∷ 12 ∷ []
 unfolding wrapping
 levels = refl
 
 -- the word is given beforehand where it is wider than its share
-given : map (λ width. given_in width (true ∷ false ∷ false ∷ []) sharing) (33 ∷ 36 ∷ []) ≡ (2 ∷ 11 ∷ 0 ∷ []) ∷ (2 ∷ 0 ∷ 0 ∷ []) ∷ []
+given : map (λ width. given_in width (whole (true ∷ false ∷ false ∷ [])) sharing) (33 ∷ 36 ∷ []) ≡ (2 ∷ 11 ∷ 0 ∷ []) ∷ (2 ∷ 0 ∷ 0 ∷ []) ∷ []
 unfolding wrapping
 given = refl
 
@@ -85,12 +114,12 @@ abbrev text : TableValue
 text = with_rows (plain_row (plain_cell (codes "letters and letters") ∷ []) ∷ []) (new_table ascii_full)
 
 -- it is needed whole, or eight of it
-least : map (λ unbroken. least_width (unbroken ∷ []) text) (true ∷ false ∷ []) ≡ 23 ∷ 12 ∷ []
+least : map (λ unbroken. least_width (whole (unbroken ∷ [])) text) (true ∷ false ∷ []) ≡ 23 ∷ 12 ∷ []
 unfolding wrapping
 least = refl
 
 abbrev constraints : Option ℕ → List (Option ColumnConstraint)
-constraints width = map (λ (column : ColumnValue). column.constraint) (with_min_widths width (true ∷ []) text).columns
+constraints width = map (λ (column : ColumnValue). column.constraint) (with_min_widths width (whole (true ∷ [])) text).columns
 
 room : constraints (Some 23) ≡ Some (LowerBoundary (Fixed 21)) ∷ []
 unfolding wrapping
@@ -104,11 +133,11 @@ no_width : constraints None ≡ None ∷ []
 no_width = refl
 
 -- records are expanded below that width: where the column isn't broken, and where it may be
-narrow : map (λ width. is_expanded_in Auto (has_room width (true ∷ []) text)) (Some 22 ∷ Some 23 ∷ None ∷ []) ≡ true ∷ false ∷ false ∷ []
+narrow : map (λ width. is_expanded_in Auto (has_room width (whole (true ∷ [])) text)) (Some 22 ∷ Some 23 ∷ None ∷ []) ≡ true ∷ false ∷ false ∷ []
 unfolding wrapping
 narrow = refl
 
-narrower : map (λ width. is_expanded_in Auto (has_room width (false ∷ []) text)) (Some 11 ∷ Some 12 ∷ None ∷ []) ≡ true ∷ false ∷ false ∷ []
+narrower : map (λ width. is_expanded_in Auto (has_room width (whole (false ∷ [])) text)) (Some 11 ∷ Some 12 ∷ None ∷ []) ≡ true ∷ false ∷ false ∷ []
 unfolding wrapping
 narrower = refl
 

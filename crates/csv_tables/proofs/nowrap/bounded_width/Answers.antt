@@ -9,7 +9,7 @@ use Rattle.csv_tables.specs.NoWrap.{min_width, width_at_level, shared_content}
 use Rattle.csv_tables.proofs.nowrap.bounded_width.Goals as goal
 
 pub loop-at-init : goal.loop-at-init
-loop-at-init c nowrap is =
+loop-at-init c wanted is =
     let table = c.args.contents.now.table in
     let view = ap (λ v. v.table) c.contents.view_is in
     let long = ap length c.widths-widths.ensures ∙ length-map-range_with_len (column_content_width table) 0 (length table.columns) in
@@ -17,7 +17,7 @@ loop-at-init c nowrap is =
     omega (arith, count)
 
 pub loop-at-preserved : goal.loop-at-preserved
-loop-at-preserved c nowrap is =
+loop-at-preserved c wanted is =
     let table = c.args.contents.now.table in
     let limits = c.args.limits.now in
     let at : ℕ = c.loop-at.at in
@@ -26,20 +26,20 @@ loop-at-preserved c nowrap is =
     let below : at < length table.columns = omega (arith, c.loop-at-test.true, long) in
     let content : get_or widths at 0 ≡ column_content_width table at = ap (λ (ws : List ℕ). get_or ws at 0) c.widths-widths.ensures ∙ get_or-map-range_with_len (column_content_width table) 0 (length table.columns) at at 0 below (omega arith) in
     let got : c.unwrap_or-keeps.result ≡ get_or c.args.kept.now at 0 = search rules in
-    let keeps : c.unwrap_or-keeps.result ≡ min_width nowrap table at = got ∙ ap (λ (ks : List ℕ). get_or ks at 0) is ∙ get_or-map-range_with_len (min_width nowrap table) 0 (length table.columns) at at 0 below (omega arith) in
-    let shares : c.shared_content-content.result ≡ width_at_level c.args.level nowrap table at = c.shared_content-content.ensures ∙ ap₂ (shared_content c.args.level) keeps content in
-    let takes : ℕ → ℕ = λ i. taken (limits_at limits i) (width_at_level c.args.level nowrap table i) in
+    let keeps : c.unwrap_or-keeps.result ≡ min_width wanted table at = got ∙ ap (λ (ks : List ℕ). get_or ks at 0) is ∙ get_or-map-range_with_len (min_width wanted table) 0 (length table.columns) at at 0 below (omega arith) in
+    let shares : c.shared_content-content.result ≡ width_at_level c.args.level wanted table at = c.shared_content-content.ensures ∙ ap₂ (shared_content c.args.level) keeps content in
+    let takes : ℕ → ℕ = λ i. taken (limits_at limits i) (width_at_level c.args.level wanted table i) in
     let own : c.taken_at.result ≡ takes at = c.taken_at.ensures ∙ ap (taken (limits_at limits at)) shares in
     let sums = sum_by-map-range_with_len_more (λ (n : ℕ). n) takes 0 at at (omega arith) in
-    let so = c.loop-at.invariant nowrap is in
+    let so = c.loop-at.invariant wanted is in
     omega (arith, so, c.saturating_add-width.ensures, own, sums)
 
 pub returns : goal.returns
-returns c nowrap is =
+returns c wanted is =
     let table = c.args.contents.now.table in
     let limits = c.args.limits.now in
-    let takes : ℕ → ℕ = λ i. taken (limits_at limits i) (width_at_level c.args.level nowrap table i) in
+    let takes : ℕ → ℕ = λ i. taken (limits_at limits i) (width_at_level c.args.level wanted table i) in
     let long = ap length c.widths-widths.ensures ∙ length-map-range_with_len (column_content_width table) 0 (length table.columns) in
     let same : c.loop-at.at ≡ length table.columns = omega (arith, c.loop-at-test.false, c.loop-at.auto.at-end, long) in
-    c.loop-at.invariant nowrap is ∙ ap (λ (n : ℕ). min (2 ^ 64 - 1) (border_count table.style (length table.columns) + sum (map takes (range_with_len 0 n)))) same
-    ∙ ap (min (2 ^ 64 - 1)) (sym (bounded-width limits c.args.level nowrap table))
+    c.loop-at.invariant wanted is ∙ ap (λ (n : ℕ). min (2 ^ 64 - 1) (border_count table.style (length table.columns) + sum (map takes (range_with_len 0 n)))) same
+    ∙ ap (min (2 ^ 64 - 1)) (sym (bounded-width limits c.args.level wanted table))

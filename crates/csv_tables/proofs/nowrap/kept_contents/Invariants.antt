@@ -5,4 +5,4 @@ use Rattle.csv_tables.proofs.nowrap.kept_contents.Given as goal
 
 -- what the columns so far keep
 abbrev pub invariant-loop-at : goal.invariant-loop-at
-invariant-loop-at l = l.kept.items ≡ map (min_width l.nowrap l.contents.table) (range_with_len 0 l.at)
+invariant-loop-at l = l.kept.items ≡ map (min_width (record { nowrap = l.nowrap; words = l.words }) l.contents.table) (range_with_len 0 l.at)

@@ -6,7 +6,7 @@ use Rattle.csv_tables.proofs.StyledLemmas.{room_without_points}
 use Rattle.comfy_table.specs.TableValue.{TableValue}
 use Rattle.csv_tables.specs.Contents.{AreContentsOf, table_by}
 use Rattle.csv_tables.specs.Decimals.{has_points}
-use Rattle.csv_tables.specs.Drawn.{SelectedValue, nowrap_in}
+use Rattle.csv_tables.specs.Drawn.{SelectedValue, wanted_in}
 use Rattle.csv_tables.specs.LazyTableValue.{LazyTableValue}
 use Rattle.csv_tables.specs.Limits.{has_room_in, limited_by}
 use Rattle.csv_tables.specs.Settings.{SettingsValue}
@@ -45,7 +45,7 @@ returns-then-has_room-clause-table c =
       | then-has_room-via-else-has_room+then-not-is_aligned w ↦ ap₂ (λ a b. a || not b) w.if-has_room.false w.if-not-is_aligned.true
     ] in
     c.in_ok-contents.ensures.table
-    ∙ ap (λ (t : TableValue). limited_by (limits_in settings.columns selected) look.width (nowrap_in selected) (dressed_table selected settings.rows t))
+    ∙ ap (λ (t : TableValue). limited_by (limits_in settings.columns selected) look.width (wanted_in look selected) (dressed_table selected settings.rows t))
     (fits look (has_room_by settings look selected) selected c.if-look.is_aligned c.in_ok-contents.has_room aligns c.in_ok-contents.ensures.has_room drawn)
 
 pub returns-then-has_room-clause-rows : goal.returns-then-has_room-clause-rows
@@ -77,8 +77,8 @@ returns-clause-table c =
     let own : c.unaligned.result ≡ rows_by selected settings look false = c.unaligned.ensures ∙ ap (λ (r : RecordRows). record r { is_aligned = false }) (c.into_rows.ensures ∙ c.in_ok-contents.ensures.rows) in
     let none : has_room_by settings look selected true ≡ false = sym (c.in_ok-contents.ensures.has_room ∙ ap (has_room_by settings look selected) c.if-not-is_aligned.false) ∙ c.if-has_room.false in
     let same : is_aligned_by settings look selected ≡ false = without_room look (has_room_by settings look selected) none in
-    subst (λ (b : Bool). IfOk c.nowrap_contents-2.result (λ x. x.0.table ≡ limited_by limits look.width (nowrap_in selected) (styled_rows settings look selected b))) (sym same)
-    (subst (λ (r : RecordRows). IfOk c.nowrap_contents-2.result (λ x. x.0.table ≡ limited_by (limits_in r.settings.columns r.selected) r.look.width (nowrap_in r.selected) (table_by r))) own c.nowrap_contents-2.ensures.table)
+    subst (λ (b : Bool). IfOk c.nowrap_contents-2.result (λ x. x.0.table ≡ limited_by limits look.width (wanted_in look selected) (styled_rows settings look selected b))) (sym same)
+    (subst (λ (r : RecordRows). IfOk c.nowrap_contents-2.result (λ x. x.0.table ≡ limited_by (limits_in r.settings.columns r.selected) r.look.width (wanted_in r.look r.selected) (table_by r))) own c.nowrap_contents-2.ensures.table)
 
 pub returns-clause-rows : goal.returns-clause-rows
 returns-clause-rows c =
@@ -97,4 +97,4 @@ returns-clause-has_room c =
     let none : has_room_by settings look selected true ≡ false = sym (c.in_ok-contents.ensures.has_room ∙ ap (has_room_by settings look selected) c.if-not-is_aligned.false) ∙ c.if-has_room.false in
     let same : is_aligned_by settings look selected ≡ false = without_room look (has_room_by settings look selected) none in
     subst (λ (b : Bool). IfOk c.nowrap_contents-2.result (λ x. x.1 ≡ has_room_by settings look selected b)) (sym same)
-    (subst (λ (r : RecordRows). IfOk c.nowrap_contents-2.result (λ x. x.1 ≡ has_room_in (limits_in r.settings.columns r.selected) r.look.width r.is_aligned (nowrap_in r.selected) (table_by r))) own c.nowrap_contents-2.ensures.has_room)
+    (subst (λ (r : RecordRows). IfOk c.nowrap_contents-2.result (λ x. x.1 ≡ has_room_in (limits_in r.settings.columns r.selected) r.look.width r.is_aligned (wanted_in r.look r.selected) (table_by r))) own c.nowrap_contents-2.ensures.has_room)
