@@ -136,8 +136,17 @@ fn lines_of(
     )?;
     let arranged = ArrangedTable::of_contents(lent)?;
     let mut text = String::new(alloc);
+    // Most drawings have room then. If there is no memory for it, the text grows as it is needed.
+    let _ = text.reserve(room_for(texts.len(), cells.len()));
     push_table(&mut text, &arranged)?;
     Ok(text)
+}
+
+// The bytes that most drawings of so many bytes in so many cells have at most.
+fn room_for(bytes: usize, cells: usize) -> usize {
+    bytes
+        .saturating_mul(3)
+        .saturating_add(cells.saturating_mul(16))
 }
 
 // The table that numbers and texts describe. Its texts are lent.

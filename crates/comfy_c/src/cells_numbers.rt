@@ -112,6 +112,9 @@ fn attributes_of(alloc: Global, bits: u32) -> Result<Vec<Attribute>, AllocError>
     ensures { IfOk result (λ attributes. attributes.items ≡ attributes_by all_attributes bits) }
 {
     let mut attributes = Vec::new(alloc);
+    if bits == 0 {
+        return Ok(attributes);
+    }
     let mut rest = bits;
     for attribute in &ATTRIBUTES {
         if rest % 2 == 1 {

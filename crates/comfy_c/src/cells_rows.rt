@@ -1,6 +1,6 @@
 //! The rows of a table of cells, from numbers and from texts in one block of bytes.
 
-ghost use Rattle.std.specs.Prelude.{◌≡◌, All, IfErr, IfOk, IfSome, IsUtf8, length, map, option_map};
+ghost use Rattle.std.specs.Prelude.{◌≡◌, All, IfErr, IfOk, IfSome, IsUtf8, None, length, map, option_map};
 ghost use Rattle.comfy_table.specs.RowCells.{cell_of};
 ghost use Rattle.comfy_table.specs.TextStyles.{text_cell};
 ghost use Rattle.csv_records.specs.CutLists.{cut_by, total};
@@ -13,8 +13,9 @@ use crate::cells_styles::{KnownLook, style_among};
 use crate::refusal::DrawRefusal;
 use crate::rows_settings::limit_of;
 use crate::texts::texts_of;
+use comfy_parts::style::CellAlignment;
 use comfy_parts::{Cell, Cells, IntoRow, Row, TableError};
-use comfy_table::for_records::{RowCell, TextCell, TextStyle};
+use comfy_table::for_records::{LinesCell, RowCell, TextCell, TextStyle};
 use std::alloc::{AllocError, Global};
 
 /// A cell.
@@ -159,11 +160,25 @@ fn cell_of(alloc: Global, numbers: &CellNumbers, text: &str) -> Result<Cell, Tab
     if let Some(delimiter) = char_of(numbers.delimiter) {
         cell = cell.set_delimiter(delimiter);
     }
+    if numbers.look.is_plain() {
+        return Ok(aligned(cell, alignment_of(numbers.look.alignment)));
+    }
     look_settings(alloc, &numbers.look)?.dressed(cell)
 }
 
-/// The cells that have these texts. A text of one line is lent, unless it has a delimiter of its
-/// own or a look that isn't known.
+// A cell with an alignment, if there is one.
+fn aligned(cell: Cell, alignment: Option<CellAlignment>) -> Cell
+    requires { cell.alignment ≡ None }
+    ensures { result ≡ record cell { alignment = alignment } }
+{
+    match alignment {
+        Some(alignment) => cell.set_alignment(alignment),
+        None => cell,
+    }
+}
+
+/// The cells that have these texts. A text is lent, unless it has ESC, a delimiter of its own or a
+/// look that isn't known.
 pub(crate) fn lent_cells<'a>(
     alloc: Global,
     cells: &[CellNumbers],
@@ -191,7 +206,7 @@ fn row_cell<'a>(
     ensures { IfOk result (λ cell. cell_of cell ≡ cell_with numbers.now text.now) }
 {
     if let Some(cell) = lent_cell(numbers, text, looks) {
-        return Ok(RowCell::Lent(cell));
+        return Ok(cell);
     }
     made_cell(alloc, numbers, text)
 }
@@ -208,15 +223,15 @@ fn made_cell<'a>(
     Ok(RowCell::Made(Box::new(alloc, cell_of(alloc, numbers, text)?)?))
 }
 
-// The cell of a text that is lent; none for a text of several lines or with ESC, for a delimiter,
-// or for a look that isn't known.
+// The cell of a text that is lent; none for a text with ESC, for a delimiter, or for a look that
+// isn't known.
 #[inline(always)]
 fn lent_cell<'a>(
     numbers: &CellNumbers,
     text: &'a str,
     looks: &'a [KnownLook],
-) -> Option<TextCell<'a>>
-    ensures { IfSome result (λ cell. cell ≡ cell_with numbers.now text.now) }
+) -> Option<RowCell<'a>>
+    ensures { IfSome result (λ cell. cell_of cell ≡ cell_with numbers.now text.now) }
 {
     if numbers.delimiter != 0 {
         return None;
@@ -228,19 +243,23 @@ fn lent_cell<'a>(
     text_cell(numbers, text, Some(style))
 }
 
-// The cell of a text of one line without ESC in this style. Most texts are printable ASCII.
+// The cell of a text without ESC in this style. Most texts are printable ASCII.
 #[inline(always)]
 fn text_cell<'a>(
     numbers: &CellNumbers,
     text: &'a str,
     style: Option<&'a TextStyle<'a>>,
-) -> Option<TextCell<'a>>
-    ensures { IfSome result (λ cell. cell ≡ text_cell (alignment_of numbers.now.look.alignment)
+) -> Option<RowCell<'a>>
+    ensures { IfSome result (λ cell. cell_of cell
+        ≡ text_cell (alignment_of numbers.now.look.alignment)
         (option_map (λ style. style.now) style.entry) text.now) }
 {
     let alignment = alignment_of(numbers.look.alignment);
     if let Some(cell) = TextCell::of_printable(text, 0, alignment, style) {
-        return Some(cell);
+        return Some(RowCell::Lent(cell));
     }
-    TextCell::of_line(text, alignment, style)
+    if let Some(cell) = TextCell::of_line(text, alignment, style) {
+        return Some(RowCell::Lent(cell));
+    }
+    Some(RowCell::Several(LinesCell::of_lines(text, alignment, style)?))
 }

@@ -143,6 +143,31 @@ fn a_cell_without_a_column_is_left_out() {
     assert_eq!(table.to_string(), "┌───┬──────┐\n│ a ┆ late │\n└───┴──────┘");
 }
 
+// A row of five cells or more keeps their texts in one piece.
+#[test]
+fn a_long_row_has_the_texts_of_its_cells() {
+    let mut row = Row::from(["a", "", "c\nd", "é", "e"]);
+    row.add_cell(Cell::new("f"));
+    let texts: Vec<String> = row.cell_iter().map(Cell::content).collect();
+    assert_eq!(texts, ["a", "", "c\nd", "é", "e", "f"]);
+    let backwards: Vec<Cell> = row.cell_iter().rev().cloned().collect();
+    let mut table = Table::new();
+    table.load_style(ASCII_FULL_CONDENSED).add_row(row).add_row(backwards.clone());
+    assert_eq!(
+        table.to_string(),
+        "\
++---+---+---+---+---+---+
+| a |   | c | é | e | f |
+|   |   | d |   |   |   |
+| f | e | é | c |   | a |
+|   |   |   | d |   |   |
++---+---+---+---+---+---+"
+    );
+    drop(table);
+    assert_eq!(backwards[2], Cell::new("é"));
+    assert!(format!("{:?}", backwards[2]).starts_with("Cell { text: \"é\","));
+}
+
 #[test]
 fn a_shorter_header_keeps_the_columns() {
     let mut table = Table::new();
