@@ -124,7 +124,7 @@ refused 'a folder as a file' "$work: is a directory" "$work"
 chmod 000 "$work/closed"
 # The superuser can read it.
 [ -r "$work/closed" ] || refused 'a file that may not be read' "$work/closed: permission denied" "$work/closed"
-refused 'a column that is not there' "standard input: no column '09'; there are a and b" -c 09
+refused 'a column that is not there' "standard input: no column '09'; there are 'a' and 'b'" -c 09
 refused 'all columns left out' 'standard input: no column is left' --drop 1-
 refused 'a column at two sides' "standard input: column 'b' can't stand at the right and at the left" -r b --left 2
 printf 'a,b\nx,\377\n' > "$work/input"
@@ -165,7 +165,7 @@ printf '│ 1 ┆ 2 ┆ 3 │\n│ 1 ┆ 2 ┆ 3 │\n│ 1 ┆ 2 ┆ 3 │\n╰
 same 'three records of an input that never ends'
 yes 1,2 | timeout 20 "$program" --limit 3 -c 3 > "$work/out" 2> "$work/err"
 compare 'a column that is not there in an input that never ends' $? 1 \
-  "csvtable: standard input: no column '3'; there are 1 and 2"
+  "csvtable: standard input: no column '3'; there are '1' and '2'"
 yes 1,2,3 | head -n 50000 > "$work/input"
 "$program" --limit 3 --count "$work/input" | tail -n 1 > "$work/first"
 echo '3 of 49999 records' > "$work/second"

@@ -87,7 +87,7 @@ RUNS = [
     Run("sep.csv", "sep=;\na;b\n1;2\n", drawn=["│ a ┆ b │", "│ 1 ┆ 2 │"], delimiter=";"),
     Run("sep.csv", "sep=;\na;b\n1;2\n", "-d ,", drawn=["│ sep=; │"], delimiter=";"),
     Run("preamble.csv", PREAMBLE, "--skip 3", drawn=["│ date       ┆  amount │"]),
-    Run("preamble.csv", PREAMBLE, "--skip 3 -r amount --drop nothing", 1, said="preamble.csv: no column 'nothing'; there are date and amount"),
+    Run("preamble.csv", PREAMBLE, "--skip 3 -r amount --drop nothing", 1, said="preamble.csv: no column 'nothing'; there are 'date' and 'amount'"),
 ]
 
 # Files that aren't text, or not in the expected encoding, and arguments that help. The comparison doesn't use them.

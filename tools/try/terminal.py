@@ -132,7 +132,7 @@ def sizes():
     status, out, err = run("-c", "  *'$HOME", "", text=text, columns=120)
     see("an empty argument", status == 1 and err == "csvtable: : no such file\n", out + err)
     status, out, err = run("-c", "  *'$HOME", text=text, columns=120)
-    see("an argument with spaces and signs of the shell", status == 1 and err.endswith(": no column '  *'$HOME'; there are name and text\n"), out + err)
+    see("an argument with spaces and signs of the shell", status == 1 and err.endswith(": no column '  *'$HOME'; there are 'name' and 'text'\n"), out + err)
     with tempfile.TemporaryDirectory() as folder:
         prefix = os.path.join(folder, "a b")
         for part in ("bin", "libexec"):
@@ -217,9 +217,9 @@ def endings():
     status, out, err = run("--version")
     see("the version", status == 0 and out == "csvtable 0.1.0\n" and err == "", out + err)
     status, out, err = run("-c", "01,zz", text=text)
-    see("a number of no column", status == 1 and out == "" and err.endswith(": no column 'zz'; there are a and b\n"), out + err)
+    see("a number of no column", status == 1 and out == "" and err.endswith(": no column 'zz'; there are 'a' and 'b'\n"), out + err)
     status, out, err = run("-c", "09", text=text)
-    see("a number as it was typed", status == 1 and out == "" and err.endswith(": no column '09'; there are a and b\n"), out + err)
+    see("a number as it was typed", status == 1 and out == "" and err.endswith(": no column '09'; there are 'a' and 'b'\n"), out + err)
     status, out, err = run("-c", "z\x1b]0;x\x07", text=text)
     see("a name with a sequence", status == 1 and out == "" and not controls(err), repr(err))
     status, out, err = run("-r", "b", "--left", "2", text=text)

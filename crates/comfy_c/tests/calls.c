@@ -193,7 +193,7 @@ static void expect_refusals_are_said(void) {
     expect_csv("an encoding says that it is", TEXT("a\0\n"), TEXT("-sascii\0-eutf-8"), COMFY_DRAWN,
                TEXT("+----+\n| a\xef\xbf\xbd |\n+====+\n+----+\n"));
     expect_csv("a column isn't there", TEXT(CSV), TEXT("-c\0zz\0"), COMFY_INPUT_REFUSED,
-               TEXT("csvtable: standard input: no column 'zz'; there are name and days\n"));
+               TEXT("csvtable: standard input: no column 'zz'; there are 'name' and 'days'\n"));
     expect_csv("a quote isn't closed", TEXT("a\n\"b"), TEXT(""), COMFY_INPUT_REFUSED,
                TEXT("csvtable: standard input: a quote that opens in line 2 is never closed; try --no-quotes\n"));
     expect_csv("0xFF is no UTF-8 in arguments", TEXT(CSV), TEXT("-s\0\xff\0"), COMFY_SETTINGS_REFUSED, TEXT("csvtable: an argument isn't UTF-8\n"));
