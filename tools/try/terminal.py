@@ -189,6 +189,20 @@ def waits():
         os.close(theirs)
 
 
+def blank():
+    """A terminal that shows nothing gets a message, and a pipe doesn't."""
+    for arguments, text, message in (
+        ([], "", "csvtable: standard input: no records\n"),
+        ([], "\n\n", "csvtable: standard input: no records\n"),
+        (["--skip", "9"], "a,b\n", "csvtable: standard input: no records below --skip 9\n"),
+        ([], "a\n", ""),
+    ):
+        status, _, err = run(*arguments, text=text)
+        see(f"what a terminal is told of {text!r} {' '.join(arguments)}", status == 0 and err == message, err)
+        status, _, err = run(*arguments, text=text, out="pipe", err="pipe")
+        see("and a pipe", status == 0 and err == "", err)
+
+
 def bold():
     for name, arguments, variables, out, is_bold in (
         ("a terminal", [], {}, "terminal", True),
@@ -246,7 +260,7 @@ def texts():
     status, out, _ = run("-n", text=script)
     see("eight scripts", status == 0 and len({columns(line) for line in out.split("\n") if line}) == 1, out)
     status, out, err = run(text="")
-    see("an empty file", status == 0 and widest(out) <= 2 and err == "", repr(out))
+    see("an empty file", status == 0 and out == "", repr(out))
 
 
 def pages():
@@ -267,7 +281,7 @@ def main():
     PROGRAM = os.path.realpath(sys.argv[1])
     with open(PROGRAM, "rb") as file:
         is_installed = file.read(2) == b"#!"
-    for tries in (widths, *((sizes, resized) if is_installed else ()), waits, bold, endings, texts, pages):
+    for tries in (widths, *((sizes, resized) if is_installed else ()), waits, blank, bold, endings, texts, pages):
         tries()
     return failed
 
