@@ -124,12 +124,12 @@ refused 'a folder as a file' "$work: is a directory" "$work"
 chmod 000 "$work/closed"
 # The superuser can read it.
 [ -r "$work/closed" ] || refused 'a file that may not be read' "$work/closed: permission denied" "$work/closed"
-refused 'a column that is not there' "standard input: no column '09'; there are a and b" -c 09
+refused 'a column that is not there' "standard input: no column '09'; there are 'a' and 'b'" -c 09
 refused 'all columns left out' 'standard input: no column is left' --drop 1-
 refused 'a column at two sides' "standard input: column 'b' can't stand at the right and at the left" -r b --left 2
 printf 'a,b\nx,\377\n' > "$work/input"
-refused 'a line that is not UTF-8' "standard input: line 2 isn't UTF-8; try -e cp1252"
-refused 'such a line in a file' "$work/input: line 2 isn't UTF-8; try -e cp1252" "$work/input"
+refused 'a line that is not UTF-8' "standard input: line 2 isn't UTF-8; try -e cp1252, or iconv -f ENCODING FILE | csvtable"
+refused 'such a line in a file' "$work/input: line 2 isn't UTF-8; try -e cp1252, or iconv -f ENCODING FILE | csvtable" "$work/input"
 refused 'such a line with an encoding' "standard input: line 2 isn't UTF-8" -e utf-8
 printf 'a,b\nx,"\n' > "$work/input"
 refused 'a quote that is never closed' 'standard input: a quote that opens in line 2 is never closed; try --no-quotes'
@@ -165,7 +165,7 @@ printf '│ 1 ┆ 2 ┆ 3 │\n│ 1 ┆ 2 ┆ 3 │\n│ 1 ┆ 2 ┆ 3 │\n╰
 same 'three records of an input that never ends'
 yes 1,2 | timeout 20 "$program" --limit 3 -c 3 > "$work/out" 2> "$work/err"
 compare 'a column that is not there in an input that never ends' $? 1 \
-  "csvtable: standard input: no column '3'; there are 1 and 2"
+  "csvtable: standard input: no column '3'; there are '1' and '2'"
 yes 1,2,3 | head -n 50000 > "$work/input"
 "$program" --limit 3 --count "$work/input" | tail -n 1 > "$work/first"
 echo '3 of 49999 records' > "$work/second"
@@ -178,7 +178,7 @@ same 'a quote that is closed after the first 64 kB'
 "$program" --limit 2 "$work/input" | tail -n 1 > "$work/first"
 same 'a byte that is no text, after the part that is read'
 "$program" --limit 2 --count "$work/input" > "$work/out" 2> "$work/err"
-compare 'such a byte if all records are counted' $? 1 "csvtable: $work/input: line 50001 isn't UTF-8; try -e cp1252"
+compare 'such a byte if all records are counted' $? 1 "csvtable: $work/input: line 50001 isn't UTF-8; try -e cp1252, or iconv -f ENCODING FILE | csvtable"
 
 # An output that accepts no more bytes for now: a pipe in nonblocking mode that nobody reads.
 if command -v python3 > /dev/null; then

@@ -35,7 +35,8 @@ static const char WITHOUT_DAYS[] =
     "| oats |\n"
     "+------+\n";
 
-static const char NOT_UTF8[] = "csvtable: standard input: line 2 isn't UTF-8; try -e cp1252\n";
+static const char NOT_UTF8[] = "csvtable: standard input: line 2 isn't UTF-8; try -e cp1252, or iconv -f ENCODING FILE | "
+                               "csvtable\n";
 
 enum { LENGTH = sizeof DRAWING - 1, THREADS = 4, CALLS = 500 };
 
@@ -187,13 +188,13 @@ static void expect_refusals_are_said(void) {
     struct bytes bad = TEXT("name,days\noats,\xff\n");
     expect_csv("0xFF is no UTF-8 in csv", bad, TEXT(""), COMFY_INPUT_REFUSED, TEXT(NOT_UTF8));
     expect_csv("a message names the file", bad, TEXT("no/such.csv\0"), COMFY_INPUT_REFUSED,
-               TEXT("csvtable: no/such.csv: line 2 isn't UTF-8; try -e cp1252\n"));
+               TEXT("csvtable: no/such.csv: line 2 isn't UTF-8; try -e cp1252, or iconv -f ENCODING FILE | csvtable\n"));
     expect_csv("a NUL is no text", TEXT("a\0"), TEXT(""), COMFY_INPUT_REFUSED,
                TEXT("csvtable: standard input: line 1 has a NUL byte, so this isn't text; -e utf-8 reads it anyway\n"));
     expect_csv("an encoding says that it is", TEXT("a\0\n"), TEXT("-sascii\0-eutf-8"), COMFY_DRAWN,
                TEXT("+----+\n| a\xef\xbf\xbd |\n+====+\n+----+\n"));
     expect_csv("a column isn't there", TEXT(CSV), TEXT("-c\0zz\0"), COMFY_INPUT_REFUSED,
-               TEXT("csvtable: standard input: no column 'zz'; there are name and days\n"));
+               TEXT("csvtable: standard input: no column 'zz'; there are 'name' and 'days'\n"));
     expect_csv("a quote isn't closed", TEXT("a\n\"b"), TEXT(""), COMFY_INPUT_REFUSED,
                TEXT("csvtable: standard input: a quote that opens in line 2 is never closed; try --no-quotes\n"));
     expect_csv("0xFF is no UTF-8 in arguments", TEXT(CSV), TEXT("-s\0\xff\0"), COMFY_SETTINGS_REFUSED, TEXT("csvtable: an argument isn't UTF-8\n"));

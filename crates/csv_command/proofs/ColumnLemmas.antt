@@ -4,7 +4,7 @@ use Rattle.std.proofs.lemmas.List.Folds.{fold_stuck}
 use Rattle.std.specs.List.{range_with_len}
 use Rattle.std.specs.Option.{option_or}
 use Rattle.comfy_parts.specs.Text.{Text}
-use Rattle.csv_command.specs.Columns.{ColumnFault, IsColumnsRefusal, first_answer, joined, positions_of, positions_of_word}
+use Rattle.csv_command.specs.Columns.{ColumnFault, IsColumnsRefusal, first_answer, joined, positions_of_each, positions_of_word}
 use Rattle.csv_command.specs.Columns.ColumnFault.{missing, none_left, two_sided}
 use Rattle.csv_command.specs.declared.error.ColumnsError.{ColumnsError}
 use Rattle.csv_command.specs.declared.error.ColumnsError.TheVariants.{NoColumn, NoneLeft, OutOfMemory, TwoSides}
@@ -14,13 +14,13 @@ then_fault found more xs fault before at_fault = rw (before, at_fault) refl
 
 module _ {A : Type 0} (names : List Text) (count : ℕ) (words : List (String A)) (i : ℕ) (d : String A) (xs : List ℕ) where
   -- the fault of the first word that chooses nothing is that of all
-  stopped : (fault : ColumnFault) → i < length words → positions_of names count (take i words) ≡ Ok xs
-      → positions_of_word names count (string_bytes (get_or words i d)) ≡ Err fault → positions_of names count words ≡ Err fault
+  stopped : (fault : ColumnFault) → i < length words → positions_of_each names count (take i words) ≡ Ok xs
+      → positions_of_word names count (string_bytes (get_or words i d)) ≡ Err fault → positions_of_each names count words ≡ Err fault
   stopped fault within before at_fault =
-      sym (fold_stuck (λ (found : Result (List ℕ) ColumnFault) (word : String A). joined found (positions_of_word names count (string_bytes word))) (Err fault) (λ x. refl) (Ok []) words i d within (then_fault (positions_of names count (take i words)) _ xs fault before at_fault))
+      sym (fold_stuck (λ (found : Result (List ℕ) ColumnFault) (word : String A). joined found (positions_of_word names count (string_bytes word))) (Err fault) (λ x. refl) (Ok []) words i d within (then_fault (positions_of_each names count (take i words)) _ xs fault before at_fault))
 
-  pub refused_word : (e : ColumnsError) → i < length words → positions_of names count (take i words) ≡ Ok xs
-      → IsColumnsRefusal e (positions_of_word names count (string_bytes (get_or words i d))) → IsColumnsRefusal e (positions_of names count words)
+  pub refused_word : (e : ColumnsError) → i < length words → positions_of_each names count (take i words) ≡ Ok xs
+      → IsColumnsRefusal e (positions_of_word names count (string_bytes (get_or words i d))) → IsColumnsRefusal e (positions_of_each names count words)
   refused_word (NoColumn word hint) within before at_fault = stopped (missing (string_bytes word) (string_bytes hint)) within before at_fault
   refused_word NoneLeft within before at_fault = stopped none_left within before at_fault
   refused_word (TwoSides name) within before at_fault = stopped (two_sided (string_bytes name)) within before at_fault

@@ -1,8 +1,8 @@
 -- Which columns words choose.
 -- Source: this library's own.
-use Rattle.std.specs.Prelude.{ℕ, ◌≡◌, ◌+◌, ◌-◌, ◌==◌, ◌&&◌, nat_le, nat_lt, not, List, [], ◌∷◌, ◌++◌, Option, Some, None, Result, Ok, Err, String, bytes_eq, drop, find, fold, get_or, length, ok_or, option_map, string_bytes, take, if◌then◌else◌}
-use Rattle.std.specs.Option.{option_or}
-use Rattle.std.specs.List.{filter, list_any, position_from, range_with_len}
+use Rattle.std.specs.Prelude.{ℕ, ◌≡◌, ◌+◌, ◌-◌, ◌==◌, ◌&&◌, nat_le, nat_lt, not, List, [], ◌∷◌, ◌++◌, Option, Some, None, Result, Ok, Err, String, bytes_eq, codes, drop, find, fold, get_or, length, ok_or, option_map, string_bytes, take, if◌then◌else◌}
+use Rattle.std.specs.Option.{option_map_or, option_or}
+use Rattle.std.specs.List.{filter, join_by, list_any, position_from, range_with_len}
 use Rattle.comfy_parts.specs.Text.{Text}
 use Rattle.csv_records.specs.Numerals.{number_for}
 use Rattle.csv_command.specs.Hints.{hint_for}
@@ -95,12 +95,26 @@ joined (Ok xs) (Ok ys) = Ok (xs ++ ys)
 joined (Ok xs) (Err fault) = Err fault
 joined (Err fault) ys = Err fault
 
--- the positions that some words choose, in their order
-abbrev pub positions_of : {A : Type 0} → List Text → ℕ → List (String A)
+-- the positions that each of some words chooses, in their order
+abbrev pub positions_of_each : {A : Type 0} → List Text → ℕ → List (String A)
     → Result (List ℕ) ColumnFault
-positions_of {A} names count words =
+positions_of_each {A} names count words =
     fold (λ (found : Result (List ℕ) ColumnFault) (word : String A).
     joined found (positions_of_word names count (string_bytes word))) (Ok []) words
+
+-- the position of the first name that several words are, with commas between them
+abbrev pub whole_name : {A : Type 0} → List Text → List (String A) → Option ℕ
+whole_name names words =
+    if nat_lt (length words) 2
+    then None
+    else position_named (join_by string_bytes (codes ",") words) names
+
+-- the positions that some words choose: that of the name which all of them are, else those of each
+abbrev pub positions_of : {A : Type 0} → List Text → ℕ → List (String A)
+    → Result (List ℕ) ColumnFault
+positions_of names count words =
+    option_map_or (λ position. Ok (positions_between (position, position + 1)))
+    (whole_name names words) (positions_of_each names count words)
 
 -- the chosen columns: all where none is chosen
 abbrev pub chosen_columns : {A : Type 0} → List Text → ℕ → List (String A)

@@ -1,6 +1,6 @@
 -- How the program ends: its status, and what it says.
 -- Source: this library's own.
-use Rattle.std.specs.Prelude.{◌≡◌, ℕ, ◌==◌, Bool, true, false, ◌++◌, [], MatchResult, Option, Some, None, chars, codes, decimal, if◌then◌else◌, option_map, string_bytes}
+use Rattle.std.specs.Prelude.{◌≡◌, ℕ, ◌-◌, ◌==◌, ◌&&◌, ◌||◌, nat_lt, Bool, true, false, ◌++◌, [], MatchBool, MatchResult, Option, Some, None, chars, codes, decimal, if◌then◌else◌, option_map, string_bytes}
 use Rattle.std.specs.List.{list_any}
 use Rattle.std.specs.declared.io.ErrorKind.{ErrorKind as IoErrorKind}
 use Rattle.std.specs.declared.io.ErrorKind.TheVariants as io
@@ -43,9 +43,12 @@ reading_reason (Some io.IsADirectory) = codes "is a directory"
 reading_reason (Some io.PermissionDenied) = codes "permission denied"
 reading_reason _ = codes "can't be read"
 
--- what helps where no encoding was asked for, and the input may be Windows-1252
+-- what helps where no encoding was asked for
 abbrev pub encoding_hint : Option Encoding → Bool → Text
-encoding_hint None may_be_cp1252 = if may_be_cp1252 then codes "; try -e cp1252" else []
+encoding_hint None may_be_cp1252 =
+    if may_be_cp1252
+    then codes "; try -e cp1252, or iconv -f ENCODING FILE | csvtable"
+    else codes "; try iconv -f ENCODING FILE | csvtable"
 encoding_hint (Some encoding) may_be_cp1252 = []
 
 -- what an input is that is no CSV in UTF-8, and what helps
@@ -54,7 +57,7 @@ not_text_reason not_text.Gzip = codes "compressed by gzip; try zcat FILE | csvta
 not_text_reason not_text.Zip =
     codes "a zip archive; try unzip -p FILE | csvtable, or save a spreadsheet as CSV"
 not_text_reason not_text.Json =
-    codes "looks like JSON; try jq -r '.[] | [.a, .b] | @csv' FILE | csvtable -n"
+    codes "looks like JSON; try mlr --ijson --ocsv unsparsify FILE | csvtable"
     ++ codes "; -e utf-8 reads it anyway"
 not_text_reason not_text.Utf16 = codes "looks like UTF-16; try -e utf-16"
 not_text_reason (not_text.Binary number) =
@@ -132,6 +135,14 @@ longer_line file longer =
     ++ others_counted longer.others)
     ++ codes "\n"
 
+-- the line on an input without records, of which so many lines are left out
+abbrev pub blank_line : Option Text → ℕ → Text
+blank_line file skip =
+    about true file
+    ++ (if skip == 0
+    then codes "no records\n"
+    else (codes "no records below --skip " ++ decimal skip) ++ codes "\n")
+
 -- what is said before the input is read: that it's waited for, where a terminal is to give it
 abbrev pub waiting_notice : Option Text → Bool → Text
 waiting_notice None true = codes "csvtable: reading from the terminal; end with Ctrl-D\n"
@@ -202,10 +213,19 @@ IsEndOfError drawing err.OutOfMemory ending = IsLine 1 said.OutOfMemory ending
 IsEndOfError drawing e ending =
     IsMessage 1 (λ text. text ≡ message_for drawing.invocation.now drawing.fault e) ending
 
+-- the end where nothing was written to a terminal
+abbrev pub IsEndOfBlank : Invocation → Ending → Type 0
+IsEndOfBlank invocation ending =
+    IsMessage 0
+    (λ text. text ≡ blank_line (option_map string_bytes invocation.file)
+    invocation.options.input.skip)
+    ending
+
 -- the end where a drawing was written: nothing is said but of records with more fields than the
--- header
+-- header, and in a terminal that there are none
 abbrev pub IsEndOfDrawing : Outcome → Option LongRecords → Ending → Type 0
-IsEndOfDrawing drawing None ending = IsSilent 0 ending
+IsEndOfDrawing drawing None ending =
+    MatchBool drawing.is_blank (IsEndOfBlank drawing.invocation.now ending) (IsSilent 0 ending)
 IsEndOfDrawing drawing (Some longer) ending =
     IsMessage 0
     (λ text. text ≡ longer_line (option_map string_bytes drawing.invocation.now.file) longer)

@@ -1,21 +1,26 @@
 -- Hints of messages on words that choose no column.
 -- Source: this library's own.
-use Rattle.std.specs.Prelude.{ℕ, ◌+◌, ◌-◌, ◌==◌, nat_lt, List, [], ◌++◌, Option, codes, decimal, flat_map, length, min, if◌then◌else◌}
+use Rattle.std.specs.Prelude.{ℕ, Bool, ◌+◌, ◌-◌, ◌==◌, nat_lt, List, [], ◌++◌, Option, codes, decimal, flat_map, length, min, if◌then◌else◌}
 use Rattle.std.specs.List.{position_from, range_with_len}
 use Rattle.std.specs.Option.{option_map_or}
 use Rattle.comfy_parts.specs.Text.{Text}
 use Rattle.csv_records.specs.Number.{is_word}
+use Rattle.csv_records.specs.Spaces.{trimmed_line}
 use Rattle.csv_tables.specs.Fields.{field_or_blank}
 
--- the position of the first name that is this word in some case of letters
-abbrev pub position_alike : Text → List Text → Option ℕ
-position_alike word names = position_from (is_word word) 0 names
+-- two names are one in some case of letters, without white space at the ends
+abbrev pub is_alike : Text → Text → Bool
+is_alike word name = is_word (trimmed_line word) (trimmed_line name)
 
--- the name of a column, or its number if it has none
+-- the position of the first name that is like this word
+abbrev pub position_alike : Text → List Text → Option ℕ
+position_alike word names = position_from (is_alike word) 0 names
+
+-- the name of a column in quotes, or its number if it has none
 abbrev pub name_or_number : List Text → ℕ → Text
 name_or_number names position =
     if length (field_or_blank names position) == 0 then decimal (position + 1)
-    else field_or_blank names position
+    else (codes "'" ++ field_or_blank names position) ++ codes "'"
 
 -- how many names a message lists at most
 abbrev pub most_listed : ℕ
@@ -49,8 +54,8 @@ there_are names count =
     (if count == 1 then codes "there is " else codes "there are ")
     ++ (if length names == 0 then column_count count else listed_names names count)
 
--- the hint for a word that chooses no column: a name that is the word in another case of letters,
--- else the columns that there are
+-- the hint for a word that chooses no column: a name that is like it, else the columns that there
+-- are
 abbrev pub hint_for : List Text → ℕ → Text → Text
 hint_for names count word =
     option_map_or

@@ -1,4 +1,5 @@
--- Messages on words in place of a number or a delimiter, and on options that are meant otherwise.
+-- Messages on words in place of a number, an encoding or a delimiter, and on options that are meant
+-- otherwise.
 -- Source: this library's own.
 use Rattle.std.specs.Prelude.{ℕ, pos, ◌-◌, ◌^◌, Bool, false, ◌==◌, ◌||◌, ◌&&◌, nat_le, List, [], ◌∷◌, ◌++◌, Option, Some, None, bytes_eq, codes, decimal, find, length, option_and_then, unwrap_or, if◌then◌else◌}
 use Rattle.std.specs.List.{after_first, before_first, list_any}
@@ -9,7 +10,8 @@ use Rattle.clap.specs.Words.{Rule}
 use Rattle.clap.specs.declared.builder.value_parser.ValueParser.{ValueParser}
 use Rattle.clap.specs.declared.builder.value_parser.ValueParser.TheVariants as vp
 use Rattle.comfy_parts.specs.Text.{Text}
-use Rattle.csv_command.specs.Program.{csvtable_rules}
+use Rattle.csv_command.specs.Program.{csvtable_rules, encodings}
+use Rattle.csv_command.specs.Styles.{is_named}
 use Rattle.csv_records.specs.Numerals.{number_for}
 
 -- what is said of a word that is to be a delimiter and is none
@@ -77,6 +79,19 @@ abbrev pub limit_reason : Text → Text
 limit_reason word =
     codes "for the first records type --limit " ++ word ++ codes "; -n means no header"
 
+-- a name of an encoding, in any case of letters
+abbrev pub is_encoding : Text → Bool
+is_encoding word = list_any (λ name. is_named name word) encodings
+
+-- what is said of another word behind the option for encodings
+unfoldable pub encoding_reason : Text → Option Text
+encoding_reason word =
+    if length word == 0 || is_encoding word
+    then None
+    else Some
+    (codes "csvtable reads utf-8, utf-16 and cp1252; for others try iconv -f " ++ word
+    ++ codes " FILE | csvtable")
+
 -- what wraps nothing
 abbrev pub no_wrap_reason : Text
 no_wrap_reason = codes "-w 0 wraps nothing; -m 1 draws one line for each record"
@@ -90,6 +105,8 @@ abbrev pub reason_without_number : Text → Text → Option Text
 reason_without_number option word =
     if list_any (bytes_eq option) limits_elsewhere && is_number_to (2 ^ 64 - 1) word
     then Some (limit_reason word)
+    else if bytes_eq option (codes "-e") || bytes_eq option (codes "--encoding")
+    then encoding_reason word
     else if bytes_eq option (codes "--no-wrap")
     then Some no_wrap_reason
     else if bytes_eq option (codes "--sort")
@@ -116,7 +133,8 @@ abbrev pub behind_letter : Text → Option (Text × Text)
 behind_letter rest =
     option_map_or (with_value (codes "-w")) (strip_byte 0x77 rest)
     (option_map_or (with_value (codes "-m")) (strip_byte 0x6D rest)
-    (option_and_then (with_value (codes "-n")) (strip_byte 0x6E rest)))
+    (option_map_or (with_value (codes "-n")) (strip_byte 0x6E rest)
+    (option_and_then (with_value (codes "-e")) (strip_byte 0x65 rest))))
 
 -- an option and its value in one word, as `--width=5`, `-w=5` and `-w5`
 abbrev pub in_one_word : Text → Option (Text × Text)
@@ -135,9 +153,9 @@ abbrev pub given : Text → List Text → Text × Text
 given option more = unwrap_or (in_one_word option) (next_given option more)
 
 -- what is said of the first such word; behind `--` no word is an option
-abbrev pub wrong_number : List Text → Option Text
-wrong_number [] = None
-wrong_number (option ∷ more) =
+abbrev pub wrong_value : List Text → Option Text
+wrong_value [] = None
+wrong_value (option ∷ more) =
     if bytes_eq option (codes "--")
     then None
-    else option_or (reason_of (given option more).0 (given option more).1) (wrong_number more)
+    else option_or (reason_of (given option more).0 (given option more).1) (wrong_value more)

@@ -8,7 +8,7 @@ ghost use Rattle.csv_command.specs.Program.{IsCsvtable};
 ghost use Rattle.csv_command.specs.Arguments.{AreColumnsParsed, IsInputParsed, IsParsed, IsRefusedBy, IsLookParsed, AreOptionsParsed, IsSelectionParsed, delimiter_by, delimiter_for, encoding_for, expansion_for, file_for, has_end, ids_in, is_behind, is_bold_for, is_bold_there, is_given, is_given_last, is_markdown_in, is_utf16, separators_for, some_columns, some_width, terminal_width, wanted_delimiter, wants_color, width_for, words_in};
 
 use crate::columns::ColumnWords;
-use crate::mistakes::{reason_of_delimiter, reason_of_number};
+use crate::mistakes::{reason_of_delimiter, reason_of_value};
 use crate::options::command;
 use crate::styles::{is_compact, is_named, style_names, style_of};
 use clap::error::ErrorKind;
@@ -20,6 +20,9 @@ use std::alloc::{AllocError, Global};
 
 // The width of a terminal that doesn't say its own.
 const TERMINAL_WIDTH: u16 = 80;
+
+// The reason if a second file is named.
+const ONE_FILE: &str = "csvtable draws one file; try mlr --csv cat FILE FILE | csvtable";
 
 /// How an input is read, which of its records and columns are drawn, and how.
 #[derive(Debug)]
@@ -126,7 +129,8 @@ fn without_delimiter<'a>(alloc: Global, command: &mut Command<'a>, word: Option<
     }
 }
 
-// A refusal by clap, in our own words where a number is wrong.
+// A refusal by clap, in our own words if a number or an encoding is wrong, or an argument isn't
+// known.
 fn with_clearer_message<'a>(
     alloc: Global,
     command: &mut Command<'a>,
@@ -138,15 +142,39 @@ fn with_clearer_message<'a>(
     let kind = error.kind();
     if !matches!(
         kind,
-        ErrorKind::UnknownArgument | ErrorKind::ValueValidation
+        ErrorKind::UnknownArgument | ErrorKind::ValueValidation | ErrorKind::InvalidValue
     ) {
         return error;
     }
-    match reason_of_number(alloc, arguments) {
+    match reason_of_value(alloc, arguments) {
         Ok(Some(reason)) => refusal(command, kind, reason.as_str()),
-        Ok(None) => error,
+        Ok(None) => without_useless_tip(alloc, command, error),
         Err(no_memory) => Error::from(no_memory),
     }
+}
+
+// A refusal by clap without its tip on values. No clause knows clap's words.
+fn without_useless_tip<'a>(alloc: Global, command: &mut Command<'a>, error: Error) -> Error
+    ensures { (kind_of result ≢ OutOfMemory) → kind_of result ≡ kind_of error }
+{
+    match format!(in alloc; "{error}") {
+        Ok(said) => match clearer_reason(said.as_str()) {
+            Some(reason) => refusal(command, error.kind(), reason),
+            None => error,
+        },
+        Err(no_memory) => Error::from(no_memory),
+    }
+}
+
+// What is said in place of clap's text: that there is one file, if its text is on another one, or
+// what precedes its tip to pass an option as a value.
+fn clearer_reason(said: &str) -> Option<&str> {
+    let rest = said.strip_prefix("error: ")?;
+    if rest.starts_with("unexpected argument '") && !rest.starts_with("unexpected argument '-") {
+        return Some(ONE_FILE);
+    }
+    let (reason, _) = rest.split_once("\n  tip: to pass '")?;
+    Some(reason.trim_ascii_end())
 }
 
 // What the matches ask for, the delimiter being known.

@@ -2,7 +2,7 @@
 
 ghost use Rattle.std.specs.Prelude.{◌≡◌, ◌<◌, ◌≤◌, ◌-◌, ◌^◌, IfOk, IfErr, IfSome, Ok, length, string_bytes};
 ghost use Rattle.std.specs.List.{range_with_len};
-ghost use Rattle.csv_command.specs.Columns.{IsColumnsRefusal, at_two_sides, chosen_columns, column_of, columns_by, columns_chosen, end_of, kept_columns, column_numbered, position_named, positions_of, positions_of_word, range_at, range_of, without};
+ghost use Rattle.csv_command.specs.Columns.{IsColumnsRefusal, at_two_sides, chosen_columns, column_of, columns_by, columns_chosen, end_of, kept_columns, column_numbered, position_named, positions_of, positions_of_each, positions_of_word, range_at, range_of, whole_name, without};
 
 use crate::error::ColumnsError;
 use crate::hints::hint_of;
@@ -10,10 +10,11 @@ use csv_records::{Record, parse_digits};
 use csv_tables::{Columns, name_at};
 use std::alloc::{AllocError, Global};
 
-/// Columns by words. A word is the number of a column that is there, counted from 1, else a name,
-/// else a range around a hyphen. Each end of a range is such a number, else a name; nothing after
-/// the hyphen means the last column. Of several hyphens the first one counts around which both
-/// ends are there, in order.
+/// Columns by words. Several words that are a name if commas join them choose the first column of
+/// that name. Otherwise a word is the number of a column that is there, counted from 1, else a
+/// name, else a range around a hyphen. Each end of a range is such a number, else a name; nothing
+/// after the hyphen means the last column. Of several hyphens the first one counts around which
+/// both ends are there, in order.
 #[derive(Debug)]
 pub struct ColumnWords {
     /// The columns in the order in which they are drawn; an empty list means all of them.
@@ -121,7 +122,7 @@ fn chosen_columns(
     }
 }
 
-// The positions that some words choose, in their order.
+// The positions that some words choose: that of the name which all of them are, else those of each.
 fn positions_of(
     alloc: Global,
     words: &[String],
@@ -132,6 +133,40 @@ fn positions_of(
         ≡ Ok positions.items) }
     ensures refused { IfErr result (λ e.
         IsColumnsRefusal e (positions_of names.now count words.now)) }
+{
+    match whole_name(alloc, words, names)? {
+        Some(position) => Ok(positions_between(alloc, position, position + 1)?),
+        None => positions_of_each(alloc, words, names, count),
+    }
+}
+
+// The position of the first name that several words are, with commas between them.
+fn whole_name(
+    alloc: Global,
+    words: &[String],
+    names: &Record<'_>,
+) -> Result<Option<usize>, AllocError>
+    ensures value { IfOk result (λ found. found ≡ whole_name names.now words.now) }
+    ensures below { IfOk result (λ found. IfSome found (λ position. position < 2 ^ 64 - 1)) }
+{
+    if words.len() < 2 {
+        return Ok(None);
+    }
+    let name = words.join(alloc, ",")?;
+    Ok(position_named(names, name.as_str()))
+}
+
+// The positions that each of some words chooses, in their order.
+fn positions_of_each(
+    alloc: Global,
+    words: &[String],
+    names: &Record<'_>,
+    count: usize,
+) -> Result<Vec<usize>, ColumnsError>
+    ensures ok { IfOk result (λ positions. positions_of_each names.now count words.now
+        ≡ Ok positions.items) }
+    ensures refused { IfErr result (λ e.
+        IsColumnsRefusal e (positions_of_each names.now count words.now)) }
 {
     let mut positions = Vec::new(alloc);
     for word in words {

@@ -3,7 +3,7 @@
 ghost use Rattle.std.specs.Prelude.{◌≡◌, ◌++◌, IfErr, IfOk, OnOk, option_map, string_bytes, true};
 ghost use Rattle.clap.specs.Words.{kind_of};
 ghost use Rattle.csv_command.specs.declared.ending.Message.TheVariants.{OutOfMemory, Text};
-ghost use Rattle.csv_command.specs.Ending.{IsEndOfOutcome, IsEndOfRefusal, IsEndOfUnwritten, IsEndWithoutArguments, IsHarmless, IsSilent, about, columns_reason, decoding_reason, encoding_hint, is_of_input, longer_line, message_for, others_counted, reading_reason, reason_for, records_reason, text_of, not_text_reason, waiting_notice};
+ghost use Rattle.csv_command.specs.Ending.{IsEndOfBlank, IsEndOfOutcome, IsEndOfRefusal, IsEndOfUnwritten, IsEndWithoutArguments, IsHarmless, IsSilent, about, blank_line, columns_reason, decoding_reason, encoding_hint, is_of_input, longer_line, message_for, others_counted, reading_reason, reason_for, records_reason, text_of, not_text_reason, waiting_notice};
 
 use crate::arguments::Invocation;
 use crate::error::{ColumnsError, CsvError};
@@ -17,14 +17,24 @@ const FAILED: u8 = 1;
 
 const MISUSED: u8 = 2;
 
-// A command that opens compressed files.
+// Commands that open compressed files.
 const GZIP: &str = "compressed by gzip; try zcat FILE | csvtable";
+
+const XZ: &str = "compressed by xz; try xzcat FILE | csvtable";
+
+const ZSTD: &str = "compressed by zstd; try zstdcat FILE | csvtable";
+
+const BZIP2: &str = "compressed by bzip2; try bzcat FILE | csvtable";
 
 const ZIP: &str = "a zip archive; try unzip -p FILE | csvtable, or save a spreadsheet as CSV";
 
-// A command that makes CSV of JSON.
-const JSON: &str = "looks like JSON; try jq -r '.[] | [.a, .b] | @csv' FILE | csvtable -n; \
+// Commands that make text of other files.
+const PDF: &str = "a PDF document; try pdftotext -layout FILE - | csvtable -d spaces";
+
+const JSON: &str = "looks like JSON; try mlr --ijson --ocsv unsparsify FILE | csvtable; \
     -e utf-8 reads it anyway";
+
+const HTML: &str = "an HTML page, perhaps one that asks for a login; -e utf-8 reads it anyway";
 
 // Why there is no drawing if memory ran out.
 const OUT_OF_MEMORY: &str = "out of memory";
@@ -85,6 +95,8 @@ pub(crate) struct Outcome<'a> {
     pub fault: Option<io::ErrorKind>,
     /// With which error the output couldn't be written.
     pub output_fault: Option<io::ErrorKind>,
+    /// Whether nothing was written, and a terminal would have shown it.
+    pub is_blank: bool,
 }
 
 /// How the program ends after a drawing.
@@ -92,6 +104,7 @@ pub(crate) fn ending_of_outcome(alloc: Global, drawing: &Outcome<'_>) -> Ending
     ensures { IsEndOfOutcome drawing.now result }
 {
     match &drawing.result {
+        Ok(None) if drawing.is_blank => ending_of_blank(alloc, drawing.invocation),
         Ok(None) => silent(0),
         Ok(Some(longer)) => {
             let text = longer_line(alloc, &drawing.invocation.file, *longer);
@@ -104,6 +117,14 @@ pub(crate) fn ending_of_outcome(alloc: Global, drawing: &Outcome<'_>) -> Ending
             ending_with(FAILED, message_of_text(text))
         }
     }
+}
+
+// How it ends if a terminal shows nothing.
+fn ending_of_blank(alloc: Global, invocation: &Invocation) -> Ending
+    ensures { IsEndOfBlank invocation.now result }
+{
+    let text = blank_line(alloc, &invocation.file, invocation.options.input.skip);
+    ending_with(0, message_of_text(text))
 }
 
 // How it ends where the output wasn't written. Where the reader of a pipe has ended, nothing is
@@ -174,6 +195,21 @@ fn message_of_text(text: Result<String, AllocError>) -> Message
         Ok(text) => Message::Text(text),
         Err(_) => Message::OutOfMemory,
     }
+}
+
+// The line on an input without records.
+fn blank_line(alloc: Global, file: &Option<String>, skip: usize) -> Result<String, AllocError>
+    ensures { IfOk result (λ text. string_bytes text
+        ≡ blank_line (option_map string_bytes file.now) skip) }
+{
+    let mut text = about(alloc, true, file)?;
+    if skip == 0 {
+        text.push_str("no records\n")?;
+        return Ok(text);
+    }
+    let skipped = format!(in alloc; "no records below --skip {skip}\n")?;
+    text.push_str(skipped.as_str())?;
+    Ok(text)
 }
 
 // The line on records that have more fields than the header.
@@ -367,13 +403,14 @@ fn reading_reason(fault: Option<io::ErrorKind>) -> &'static str
     }
 }
 
-// The hint if no encoding was asked for, and the input may be Windows-1252.
+// The hint if no encoding was asked for.
 fn encoding_hint(encoding: Option<Encoding>, may_be_cp1252: bool) -> &'static str
     ensures { result.now ≡ encoding_hint encoding may_be_cp1252 }
 {
     match encoding {
-        None if may_be_cp1252 => "; try -e cp1252",
-        _ => "",
+        None if may_be_cp1252 => "; try -e cp1252, or iconv -f ENCODING FILE | csvtable",
+        None => "; try iconv -f ENCODING FILE | csvtable",
+        Some(_) => "",
     }
 }
 

@@ -1,7 +1,7 @@
 //! Hints of messages on words that choose no column.
 
 ghost use Rattle.std.specs.Prelude.{◌≡◌, ◌<◌, IfOk, string_bytes};
-ghost use Rattle.csv_command.specs.Hints.{column_count, hint_for, listed_names, listed_part, name_or_number, position_alike, separator_before, there_are};
+ghost use Rattle.csv_command.specs.Hints.{column_count, hint_for, is_alike, listed_names, listed_part, name_or_number, position_alike, separator_before, there_are};
 
 use csv_records::Record;
 use std::alloc::{AllocError, Global};
@@ -10,7 +10,7 @@ use std::alloc::{AllocError, Global};
 const MOST_LISTED: usize = 8;
 
 /// The hint for a word that chooses no column: the first name that differs from it in the case of
-/// ASCII letters alone, else the columns that there are.
+/// ASCII letters and in white space at the ends alone, else the columns that there are.
 pub(crate) fn hint_of(
     alloc: Global,
     names: &Record<'_>,
@@ -28,13 +28,18 @@ pub(crate) fn hint_of(
     }
 }
 
-// The position of the first name that is this word in some case of letters.
+// The position of the first name that is like this word.
 fn position_alike(names: &Record<'_>, word: &str) -> Option<usize>
     ensures { result ≡ position_alike word.now names.now }
 {
-    names
-        .iter()
-        .position(|name| name.eq_ignore_ascii_case(word))
+    names.iter().position(|name| is_alike(word, name))
+}
+
+// Whether two names are one in some case of letters, without white space at the ends.
+fn is_alike(word: &str, name: &str) -> bool
+    ensures { result ≡ is_alike word.now name.now }
+{
+    name.trim_ascii().eq_ignore_ascii_case(word.trim_ascii())
 }
 
 // The columns that there are: their names, or their number if there is no header.
@@ -107,12 +112,12 @@ fn listed_part(
     }
 }
 
-// The name of a column, or its number if it has none.
+// The name of a column in quotes, or its number if it has none.
 fn name_or_number(alloc: Global, names: &Record<'_>, position: usize) -> Result<String, AllocError>
     ensures { IfOk result (λ text. string_bytes text ≡ name_or_number names.now position) }
 {
     match names.get(position) {
-        Some(name) if !name.is_empty() => String::from_str(alloc, name),
+        Some(name) if !name.is_empty() => format!(in alloc; "'{name}'"),
         _ => format!(in alloc; "{}", position as u128 + 1),
     }
 }

@@ -1,9 +1,10 @@
-//! Messages on words in place of a number or a delimiter, and on options that are meant otherwise.
+//! Messages on words in place of a number, an encoding or a delimiter, and on options that are meant
+//! otherwise.
 
 ghost use Rattle.std.specs.Prelude.{◌≡◌, IfOk, Some, map, option_map, string_bytes};
-ghost use Rattle.csv_command.specs.Mistakes.{behind_letter, given, in_one_word, is_number_to, number_reason, reason_of, with_value, wrong_delimiter, wrong_number};
+ghost use Rattle.csv_command.specs.Mistakes.{behind_letter, encoding_reason, given, in_one_word, is_number_to, number_reason, reason_of, with_value, wrong_delimiter, wrong_value};
 
-use crate::options::greatest_number;
+use crate::options::{greatest_number, is_encoding};
 use std::alloc::{AllocError, Global};
 
 /// The message on a word in place of a delimiter.
@@ -16,13 +17,13 @@ pub(crate) fn reason_of_delimiter(alloc: Global, word: &str) -> Result<String, A
     )
 }
 
-/// The message on the first word in place of a number.
-pub(crate) fn reason_of_number(
+/// The message on the first word in place of a number or an encoding.
+pub(crate) fn reason_of_value(
     alloc: Global,
     arguments: &[&str],
 ) -> Result<Option<String>, AllocError>
     ensures { IfOk result (λ reason. option_map string_bytes reason
-        ≡ wrong_number (map (λ w. w.now) arguments.now)) }
+        ≡ wrong_value (map (λ w. w.now) arguments.now)) }
 {
     let mut rest = arguments;
     while let [option, ..] = rest {
@@ -67,11 +68,13 @@ fn behind_letter(rest: &str) -> Option<(&str, &str)>
         rest.strip_prefix('w'),
         rest.strip_prefix('m'),
         rest.strip_prefix('n'),
+        rest.strip_prefix('e'),
     ) {
-        (Some(value), _, _) => with_value("-w", value),
-        (None, Some(value), _) => with_value("-m", value),
-        (None, None, Some(value)) => with_value("-n", value),
-        (None, None, None) => None,
+        (Some(value), _, _, _) => with_value("-w", value),
+        (None, Some(value), _, _) => with_value("-m", value),
+        (None, None, Some(value), _) => with_value("-n", value),
+        (None, None, None, Some(value)) => with_value("-e", value),
+        (None, None, None, None) => None,
     }
 }
 
@@ -82,8 +85,8 @@ fn with_value<'a>(option: &'a str, value: &'a str) -> Option<(&'a str, &'a str)>
     (!value.is_empty()).then_some((option, value))
 }
 
-// The message on an option and a word after it: on a word in place of a number, on a number after
-// an option that seems to take one, and on things that `csvtable` does otherwise.
+// The message on an option and a word after it: on a word in place of a number or an encoding, on a
+// number after an option that seems to take one, and on things that `csvtable` does otherwise.
 fn reason_of(alloc: Global, option: &str, word: &str) -> Result<Option<String>, AllocError>
     ensures { IfOk result (λ reason. option_map string_bytes reason
         ≡ reason_of option.now word.now) }
@@ -98,10 +101,24 @@ fn reason_of(alloc: Global, option: &str, word: &str) -> Result<Option<String>, 
                 "for the first records type --limit {word}; -n means no header"
             )?))
         }
+        (None, "-e" | "--encoding") => reason_of_encoding(alloc, word),
         (None, "--no-wrap") => Ok(Some(String::from_str(alloc, NO_WRAP)?)),
         (None, "--sort") => Ok(Some(String::from_str(alloc, SORT)?)),
         _ => Ok(None),
     }
+}
+
+// The message on a word in place of an encoding.
+#[tactic(auto, unfolding(crate::specs::Mistakes::encoding_reason))]
+fn reason_of_encoding(alloc: Global, word: &str) -> Result<Option<String>, AllocError>
+    ensures { IfOk result (λ reason. option_map string_bytes reason ≡ encoding_reason word.now) }
+{
+    if word.is_empty() || is_encoding(word) {
+        return Ok(None);
+    }
+    Ok(Some(format!(in alloc;
+        "csvtable reads utf-8, utf-16 and cp1252; for others try iconv -f {word} FILE | csvtable"
+    )?))
 }
 
 // The message on an option that wraps nothing.

@@ -1,13 +1,15 @@
 //! The options of the program, as a table for clap.
 
 ghost use Rattle.std.specs.Prelude.{◌≡◌, IfOk, Some, map};
+ghost use Rattle.std.specs.List.{list_any};
 ghost use Rattle.clap.specs.Words.{app_of, rule_of};
 ghost use Rattle.clap.specs.declared.builder.value_parser.ValueParser.TheVariants as vp;
-ghost use Rattle.csv_command.specs.Mistakes.{greatest_number, greatest_read, greatest_within, is_called, is_long, is_name_of, is_short};
+ghost use Rattle.csv_command.specs.Mistakes.{greatest_number, greatest_read, greatest_within, is_called, is_encoding, is_long, is_name_of, is_short};
 ghost use Rattle.csv_command.specs.Program.{IsCsvtable, bare};
 ghost use Rattle.csv_command.specs.Rules.{lettered, rule_for, with_values};
-ghost use Rattle.csv_command.specs.Styles.{style_names};
+ghost use Rattle.csv_command.specs.Styles.{is_named, style_names};
 
+use crate::styles::is_named;
 use clap::{Arg, ArgAction, Command, value_parser};
 use std::alloc::{AllocError, Global};
 
@@ -123,6 +125,19 @@ static ENCODINGS: [&str; 10] = [
     "utf16",
     "utf-16le",
 ];
+
+/// Whether a word is the name of an encoding, in any case of letters.
+pub(crate) fn is_encoding(word: &str) -> bool
+    ensures { result ≡ is_encoding word.now }
+{
+    is_among_names(ENCODINGS.as_slice(), word)
+}
+
+fn is_among_names(names: &[&str], word: &str) -> bool
+    ensures { result ≡ list_any (λ name. is_named name.now word.now) names.now }
+{
+    names.iter().any(|name| is_named(name, word))
+}
 
 // The options of `csvtable`, for clap, with these names of styles.
 pub(crate) fn command<'a>(alloc: Global, styles: &'a [&'a str]) -> Result<Command<'a>, AllocError>

@@ -34,6 +34,26 @@ pub fn run_with_arguments(rt: &HostRuntime) -> ExitCode {
     end(rt, &ending)
 }
 
+// A writer that notes if something is to be written.
+#[derive(Drop)]
+struct Noting<W> {
+    writer: W,
+    is_blank: bool,
+}
+
+impl<W: Write> Write for Noting<W> {
+    ghost contents = { λ s. W.contents s.writer };
+
+    fn write(&mut self, buf: &[u8]) -> io::Result<usize> {
+        self.is_blank = false;
+        self.writer.write(buf)
+    }
+
+    fn flush(&mut self) -> io::Result<()> {
+        self.writer.flush()
+    }
+}
+
 // A sink that goes on where a signal interrupts a write.
 type WriterTo<W> = ToWriter<Uninterrupted<W>>;
 
@@ -91,9 +111,15 @@ fn variable(rt: &HostRuntime, name: &str) -> Result<Option<String>, AllocError> 
 fn run(rt: &HostRuntime, invocation: &Invocation) -> Ending {
     let said = waiting_notice(&invocation.file, rt.stdin().is_terminal());
     let _ = write_all(&mut writer_of(rt.stderr()), said.as_bytes());
-    let mut sink = writer_of(rt.stdout());
+    let mut output = Noting {
+        writer: rt.stdout(),
+        is_blank: true,
+    };
+    let mut sink = writer_of(&mut output);
     let (result, fault) = drawn(rt, &mut sink, invocation);
     let output_fault = sink.fault();
+    drop(sink);
+    let is_blank = output.is_blank && rt.stdout().is_terminal();
     ending_of_outcome(
         rt.alloc(),
         &Outcome {
@@ -101,6 +127,7 @@ fn run(rt: &HostRuntime, invocation: &Invocation) -> Ending {
             result,
             fault,
             output_fault,
+            is_blank,
         },
     )
 }
@@ -108,9 +135,9 @@ fn run(rt: &HostRuntime, invocation: &Invocation) -> Ending {
 // The outcome, and with which error the input couldn't be opened or read.
 type DrawingResult = (Result<Option<LongRecords>, CsvError>, Option<io::ErrorKind>);
 
-fn drawn(
+fn drawn<W: Write>(
     rt: &HostRuntime,
-    sink: &mut WriterTo<io::Stdout>,
+    sink: &mut WriterTo<W>,
     invocation: &Invocation,
 ) -> DrawingResult {
     let Some(path) = &invocation.file else {
@@ -122,10 +149,10 @@ fn drawn(
     }
 }
 
-fn drawn_from<R: Read + Drop>(
+fn drawn_from<R: Read + Drop, W: Write>(
     rt: &HostRuntime,
     reader: R,
-    sink: &mut WriterTo<io::Stdout>,
+    sink: &mut WriterTo<W>,
     invocation: &Invocation,
 ) -> DrawingResult {
     let mut source = FromReader::new(Uninterrupted::new(reader));

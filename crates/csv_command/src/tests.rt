@@ -42,6 +42,7 @@ fn assert_message(
         result: Err(error),
         fault,
         output_fault: None,
+        is_blank: false,
     };
     assert_says(rt, &ending_of_outcome(rt.alloc(), &drawing), 1, true, text);
 }
@@ -98,9 +99,10 @@ fn a_terminal_is_waited_for(rt: HostRuntime) {
 fn an_input_that_can_not_be_drawn(rt: HostRuntime) {
     let arguments = ["csvtable", "bank.csv"];
     let invocation = parse_by(&rt, &arguments);
-    let text = "csvtable: bank.csv: line 2 isn't UTF-8; try -e cp1252\n";
+    let text = "csvtable: bank.csv: line 2 isn't UTF-8; try -e cp1252, or iconv -f ENCODING FILE | \
+        csvtable\n";
     assert_message(&rt, &invocation, not_utf8(2, true), None, text);
-    let text = "csvtable: bank.csv: line 2 isn't UTF-8\n";
+    let text = "csvtable: bank.csv: line 2 isn't UTF-8; try iconv -f ENCODING FILE | csvtable\n";
     assert_message(&rt, &invocation, not_utf8(2, false), None, text);
     let text = "csvtable: bank.csv: line 3 isn't UTF-16\n";
     assert_message(
@@ -160,7 +162,7 @@ fn an_input_that_is_something_else(rt: HostRuntime) {
         ),
         (
             NotText::Json,
-            "csvtable: a: looks like JSON; try jq -r '.[] | [.a, .b] | @csv' FILE | csvtable -n; \
+            "csvtable: a: looks like JSON; try mlr --ijson --ocsv unsparsify FILE | csvtable; \
                 -e utf-8 reads it anyway\n",
         ),
         (
@@ -207,6 +209,7 @@ fn assert_unwritten(
         result: Err(CsvError::Write),
         fault: None,
         output_fault: Some(fault),
+        is_blank: false,
     };
     assert_says(rt, &ending_of_outcome(rt.alloc(), &drawing), 1, true, text);
 }
@@ -224,11 +227,13 @@ fn a_drawing_that_ends(rt: HostRuntime) {
     assert_unwritten(&rt, &invocation, ErrorKind::BrokenPipe, "");
 }
 
-// The message after these arguments' drawing was written, if it has these long records.
+// The message after these arguments' drawing was written, if it has these long records, or shows
+// nothing in a terminal.
 fn assert_drawn<'a>(
     rt: &(impl Abort + Alloc<A = Global>),
     arguments: &'a [&'a str],
     longer: Option<LongRecords>,
+    is_blank: bool,
     text: &str,
 ) {
     let invocation = parse_by(rt, arguments);
@@ -237,6 +242,7 @@ fn assert_drawn<'a>(
         result: Ok(longer),
         fault: None,
         output_fault: None,
+        is_blank,
     };
     assert_says(rt, &ending_of_outcome(rt.alloc(), &drawing), 0, true, text);
 }
@@ -252,14 +258,23 @@ fn a_drawing_that_was_written(rt: HostRuntime) {
     };
     let two = LongRecords { others: 1, ..one };
     let three = LongRecords { others: 2, ..one };
-    assert_drawn(&rt, &["csvtable", "a.csv"], None, "");
+    assert_drawn(&rt, &["csvtable", "a.csv"], None, false, "");
     let text = "csvtable: a.csv: line 3 has 4 fields, the header has 3\n";
-    assert_drawn(&rt, &["csvtable", "a.csv"], Some(one), text);
+    assert_drawn(&rt, &["csvtable", "a.csv"], Some(one), false, text);
     let text =
         "csvtable: standard input: line 3 has 4 fields, the header has 3 (and 1 more line)\n";
-    assert_drawn(&rt, &["csvtable", "-"], Some(two), text);
+    assert_drawn(&rt, &["csvtable", "-"], Some(two), false, text);
     let text = "csvtable: \u{fffd}[2J: line 3 has 4 fields, the header has 3 (and 2 more lines)\n";
-    assert_drawn(&rt, &["csvtable", "\u{1b}[2J"], Some(three), text);
+    assert_drawn(&rt, &["csvtable", "\u{1b}[2J"], Some(three), false, text);
+}
+
+// A terminal shows why it shows nothing.
+#[test]
+fn an_input_without_records(rt: HostRuntime) {
+    let text = "csvtable: a.csv: no records\n";
+    assert_drawn(&rt, &["csvtable", "a.csv"], None, true, text);
+    let text = "csvtable: standard input: no records below --skip 99\n";
+    assert_drawn(&rt, &["csvtable", "--skip", "99"], None, true, text);
 }
 
 // How the program ends where clap has something to say of these arguments.
@@ -303,13 +318,21 @@ fn help_is_an_output(rt: HostRuntime) {
 // An argument that isn't known, and one without its value.
 #[test]
 fn mistakes_are_messages(rt: HostRuntime) {
-    let text = "error: unexpected argument 'b.csv' found
+    let text = "error: csvtable draws one file; try mlr --csv cat FILE FILE | csvtable
 
 Usage: csvtable [OPTIONS] [FILE]
 
 For more information, try '--help'.
 ";
     let arguments = ["csvtable", "a.csv", "b.csv"];
+    assert_says(&rt, &ending_by(&rt, &arguments), 2, true, text);
+    let text = "error: unexpected argument '--json' found
+
+Usage: csvtable [OPTIONS] [FILE]
+
+For more information, try '--help'.
+";
+    let arguments = ["csvtable", "--json", "a.csv"];
     assert_says(&rt, &ending_by(&rt, &arguments), 2, true, text);
     let text = "error: a value is required for '--width <N>' but none was supplied
 
@@ -332,8 +355,8 @@ fn assert_refused<'a>(
     assert_eq!(rt; line.strip_prefix("error: ").unwrap_or(""), reason);
 }
 
-// The numbers that an option takes are named, and what to type where another one is meant. A word
-// after `--` is none of an option's.
+// The numbers and the encodings that an option takes are named, and what to type where another one
+// is meant. A word after `--` is none of an option's.
 #[test]
 fn words_that_are_no_numbers(rt: HostRuntime) {
     let cases = [
@@ -386,6 +409,25 @@ fn words_that_are_no_numbers(rt: HostRuntime) {
             "-w 0 wraps nothing; -m 1 draws one line for each record",
         ),
         (
+            ["csvtable", "-e", "cp1250"],
+            "csvtable reads utf-8, utf-16 and cp1252; for others try iconv -f cp1250 FILE | \
+                csvtable",
+        ),
+        (
+            ["csvtable", "a.csv", "--encoding=latin2"],
+            "csvtable reads utf-8, utf-16 and cp1252; for others try iconv -f latin2 FILE | \
+                csvtable",
+        ),
+        (
+            ["csvtable", "a.csv", "-esjis"],
+            "csvtable reads utf-8, utf-16 and cp1252; for others try iconv -f sjis FILE | \
+                csvtable",
+        ),
+        (
+            ["csvtable", "-eUTF-8", "--styl=x"],
+            "unexpected argument '--styl' found",
+        ),
+        (
             ["csvtable", "a.csv", "--sort=a"],
             "csvtable doesn't sort; try mlr --csv sort -nr COLUMN FILE | csvtable",
         ),
@@ -398,6 +440,9 @@ fn words_that_are_no_numbers(rt: HostRuntime) {
     assert_refused(&rt, &arguments, reason);
     let arguments = ["csvtable", "--", "-w", "-5"];
     assert_refused(&rt, &arguments, "unexpected argument '-5' found");
+    let arguments = ["csvtable", "-e", ""];
+    let reason = "a value is required for '--encoding <NAME>' but none was supplied";
+    assert_refused(&rt, &arguments, reason);
 }
 
 // A message names a word that is no delimiter.

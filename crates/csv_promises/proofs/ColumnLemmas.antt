@@ -1,7 +1,7 @@
 -- How many columns are drawn of records.
 use Rattle.std.proofs.Common.{◌≡◌, ◌≤◌, ◌<◌, ◌==◌, ◌&&◌, ℕ, ◌+◌, ◌-◌, Bool, true, false, List, [], ◌∷◌, Option, Some, None, Ok, drop, get_or, length, map, nat_le, nat_lt, option_map, string_bytes, take, unwrap_or, refl, sym, ap, ap₂, ◌∙◌, subst, arith}
 use Rattle.std.specs.List.{All, list_any, range_with_len}
-use Rattle.std.specs.Option.{option_or}
+use Rattle.std.specs.Option.{option_map_or, option_or}
 use Rattle.std.specs.Prelude.{String, if◌then◌else◌, not}
 use Rattle.std.proofs.lemmas.List.FromFn.{get_or-range_with_len, length-range_with_len}
 use Rattle.std.proofs.lemmas.List.Elements.{All-filter, All-nil}
@@ -16,7 +16,7 @@ use Rattle.csv_tables.specs.Drawn.{SelectedValue, columns_of, selected_of, drawn
 use Rattle.csv_tables.specs.declared.options.ColumnPlan.{ColumnPlan}
 use Rattle.csv_promises.proofs.DrawnColumnLemmas.{AreBelow, placed, some_drawn}
 use Rattle.csv_promises.proofs.PositionLemmas.{at_sides, chosen, found_by, kept_positions, some_kept}
-use Rattle.csv_promises.specs.Fields.{columns_asked, positions_by, positions_in}
+use Rattle.csv_promises.specs.Fields.{columns_asked, positions_by, positions_by_each, positions_in}
 use Rattle.csv_promises.specs.Width.{all_columns, columns_in}
 
 -- ---- positions
@@ -100,8 +100,15 @@ module _ (count : ℕ) where
       by_column None own = by_range (range_of [] count word) refl
       by_column (Some k) own = let below = column-below word k own in between (k, k + 1) (omega (arith, below))
 
+  each-below : {A : Type 0} (words : List (String A)) → All Below (positions_by_each [] count words)
+  each-below {A} words = All-flat_map Below (λ (word : String A). by_word (string_bytes word)) words (All-every (λ (word : String A). All Below (by_word (string_bytes word))) words (λ word. word-below (string_bytes word)))
+
   words-below : {A : Type 0} (words : List (String A)) → All Below (positions_by [] count words)
-  words-below {A} words = All-flat_map Below (λ (word : String A). by_word (string_bytes word)) words (All-every (λ (word : String A). All Below (by_word (string_bytes word))) words (λ word. word-below (string_bytes word)))
+  words-below words = by_test (nat_lt (length words) 2)
+    where
+      by_test : (b : Bool) → All Below (option_map_or (λ (position : ℕ). positions_between (position, position + 1)) (if b then None else None) (positions_by_each [] count words))
+      by_test true = each-below words
+      by_test false = each-below words
 
 -- so do options
 positions-below : (options : Options) (rows : List (List Text)) → All (Below (count_of [] rows)) (positions_in options [] rows)
@@ -132,8 +139,8 @@ module _ (options : Options) (records : List (List Text)) (own : ColumnsValue) (
   are_asked =
       let sides = at_sides names _ _ _ own found in
       let count = count_of names rows in
-      let right = found_by names count options.columns.right.items [] own.right sides.0 in
-      let left = found_by names count options.columns.left.items [] own.left sides.1 in
+      let right = found_by names count options.columns.right.items own.right sides.0 in
+      let left = found_by names count options.columns.left.items own.left sides.1 in
       ap (λ (ps : List ℕ). record { drawn = ps; right = own.right; left = own.left }) positions
       ∙ ap₂ (λ (r l : List ℕ). record { drawn = positions_in options names rows; right = r; left = l }) right left
 

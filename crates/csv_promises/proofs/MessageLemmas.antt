@@ -76,8 +76,8 @@ message invocation fault e = (about (is_of_input e) (option_map string_bytes inv
     reading _ = printable (codes "can't be read") refl
 
     hint : (encoding : Option Encoding) (may : Bool) → IsTame (encoding_hint encoding may)
-    hint None true = printable (codes "; try -e cp1252") refl
-    hint None false = printable [] refl
+    hint None true = printable (encoding_hint None true) refl
+    hint None false = printable (encoding_hint None false) refl
     hint (Some encoding) may = printable [] refl
 
     of_not_text : (f : NotText) → IsTame (not_text_reason f)

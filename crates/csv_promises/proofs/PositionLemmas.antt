@@ -1,13 +1,14 @@
 -- The positions of the columns that are drawn are those that the words of options choose.
-use Rattle.std.proofs.Common.{◌≡◌, ◌==◌, ◌≤◌, ℕ, Bool, true, false, List, [], ◌∷◌, ◌++◌, Option, Some, None, Result, Ok, Err, fold, length, sym, ap, ap₂, ◌∙◌, append-nil, append_assoc, arith, refl, subst}
+use Rattle.std.proofs.Common.{◌≡◌, ◌==◌, ◌≤◌, ◌+◌, ℕ, Bool, true, false, List, [], ◌∷◌, ◌++◌, Option, Some, None, Result, Ok, Err, fold, length, sym, ap, ap₂, ◌∙◌, append-nil, append_assoc, arith, refl, subst}
 use Rattle.std.specs.List.{range_with_len}
+use Rattle.std.specs.Option.{option_map_or}
 use Rattle.std.specs.Prelude.{String, if◌then◌else◌, ok_or, option_map, string_bytes, unwrap_or}
 use Rattle.std.proofs.lemmas.Bool.Decides.{nat_tests}
 use Rattle.comfy_parts.specs.Text.{Text}
-use Rattle.csv_command.specs.Columns.{ColumnFault, at_two_sides, chosen_columns, columns_chosen, columns_with, joined, kept_columns, less, positions_between, positions_of, placed_columns, positions_of_word, some_left, without}
+use Rattle.csv_command.specs.Columns.{ColumnFault, at_two_sides, chosen_columns, columns_chosen, columns_with, joined, kept_columns, less, positions_between, positions_of, positions_of_each, placed_columns, positions_of_word, some_left, whole_name, without}
 use Rattle.csv_command.specs.Columns.ColumnFault.{missing, none_left}
 use Rattle.csv_command.specs.Hints.{hint_for}
-use Rattle.csv_promises.specs.Fields.{positions_by}
+use Rattle.csv_promises.specs.Fields.{positions_by, positions_by_each}
 use Rattle.csv_tables.specs.Columns.{ColumnsValue}
 
 module _ {A : Type 0} (names : List Text) (count : ℕ) where
@@ -20,21 +21,29 @@ module _ {A : Type 0} (names : List Text) (count : ℕ) where
   still_faulty fault (word ∷ words) ps is = still_faulty fault words ps is
 
   -- so each word chooses columns
-  pub found_by : (words : List (String A)) (before ps : List ℕ) → fold step (Ok before) words ≡ Ok ps → ps ≡ before ++ positions_by names count words
-  found_by [] before ps is = let same : before ≡ ps = cc is in sym same ∙ sym (append-nil before)
-  found_by (word ∷ words) before ps is = by_word (option_map positions_between (columns_chosen names count (string_bytes word))) (λ own. found_by words (before ++ own) ps) is
+  each_found : (words : List (String A)) (before ps : List ℕ) → fold step (Ok before) words ≡ Ok ps → ps ≡ before ++ positions_by_each names count words
+  each_found [] before ps is = let same : before ≡ ps = cc is in sym same ∙ sym (append-nil before)
+  each_found (word ∷ words) before ps is = by_word (option_map positions_between (columns_chosen names count (string_bytes word))) (λ own. each_found words (before ++ own) ps) is
     where
-      by_word : (o : Option (List ℕ)) → ((own : List ℕ) → fold step (Ok (before ++ own)) words ≡ Ok ps → ps ≡ (before ++ own) ++ positions_by names count words)
-          → fold step (joined (Ok before) (ok_or o (missing (string_bytes word) (hint_for names count (string_bytes word))))) words ≡ Ok ps → ps ≡ before ++ (unwrap_or o [] ++ positions_by names count words)
-      by_word (Some own) more is = more own is ∙ append_assoc before own (positions_by names count words)
+      by_word : (o : Option (List ℕ)) → ((own : List ℕ) → fold step (Ok (before ++ own)) words ≡ Ok ps → ps ≡ (before ++ own) ++ positions_by_each names count words)
+          → fold step (joined (Ok before) (ok_or o (missing (string_bytes word) (hint_for names count (string_bytes word))))) words ≡ Ok ps → ps ≡ before ++ (unwrap_or o [] ++ positions_by_each names count words)
+      by_word (Some own) more is = more own is ∙ append_assoc before own (positions_by_each names count words)
       by_word None more is = absurd (still_faulty (missing (string_bytes word) (hint_for names count (string_bytes word))) words ps is)
+
+  -- or all of them choose one
+  pub found_by : (words : List (String A)) (ps : List ℕ) → positions_of names count words ≡ Ok ps → ps ≡ positions_by names count words
+  found_by words ps = by_name (whole_name names words)
+    where
+      by_name : (o : Option ℕ) → option_map_or (λ position. Ok (positions_between (position, position + 1))) o (positions_of_each names count words) ≡ Ok ps → ps ≡ option_map_or (λ position. positions_between (position, position + 1)) o (positions_by_each names count words)
+      by_name None is = each_found words [] ps is
+      by_name (Some position) is = let same : positions_between (position, position + 1) ≡ ps = cc is in sym same
 
   all_or_chosen : (words : List (String A)) (ps : List ℕ) → chosen_columns names count words ≡ Ok ps → ps ≡ (if length words == 0 then range_with_len 0 count else positions_by names count words)
   all_or_chosen words ps = by_test (length words == 0)
     where
       by_test : (b : Bool) → (if b then Ok (range_with_len 0 count) else positions_of names count words) ≡ Ok ps → ps ≡ (if b then range_with_len 0 count else positions_by names count words)
       by_test true is = let same : range_with_len 0 count ≡ ps = cc is in sym same
-      by_test false is = found_by words [] ps is
+      by_test false is = found_by words ps is
 
 -- positions that are left are these, and there is one
 left_as_they_are : (positions kept : List ℕ) → some_left positions ≡ Ok kept → (kept ≡ positions) × (1 ≤ length kept)
@@ -46,7 +55,7 @@ left_as_they_are positions kept = by_test (length positions == 0) refl
 
 pub kept_positions : {A : Type 0} (names : List Text) (count : ℕ) (words dropped : List (String A)) (kept : List ℕ) → kept_columns names count words dropped ≡ Ok kept
     → kept ≡ without (if length words == 0 then range_with_len 0 count else positions_by names count words) (positions_by names count dropped)
-kept_positions {A} names count words dropped kept is = by_lists (chosen_columns names count words) (positions_of names count dropped) (all_or_chosen names count words) (found_by names count dropped []) is
+kept_positions {A} names count words dropped kept is = by_lists (chosen_columns names count words) (positions_of names count dropped) (all_or_chosen names count words) (found_by names count dropped) is
   where
     by_lists : (chosen left : Result (List ℕ) ColumnFault) → ((ps : List ℕ) → chosen ≡ Ok ps → ps ≡ (if length words == 0 then range_with_len 0 count else positions_by names count words)) → ((ps : List ℕ) → left ≡ Ok ps → ps ≡ positions_by names count dropped) → less chosen left ≡ Ok kept
         → kept ≡ without (if length words == 0 then range_with_len 0 count else positions_by names count words) (positions_by names count dropped)

@@ -3,6 +3,7 @@
 use Rattle.std.specs.Prelude.{◌≡◌, ◌<◌, ◌≤◌, ◌==◌, ℕ, ◌+◌, Bool, true, false, List, [], ◌∷◌, ◌++◌, Option, None, Some, String, All, IfSome, MatchOption, decimal, drop, filter, flat_map, length, map, nat_lt, option_map, option_to_list, string_bytes, unwrap_or, IsUtf8, chars, if◌then◌else◌, is_some, ◌⊎◌, slice_get}
 use Rattle.std.specs.List.{AllZip, enumerate_from, list_all, list_any, range_with_len}
 use Rattle.comfy_parts.specs.CellValue.{CellValue, ColumnValue, RowValue, plain_cell}
+use Rattle.std.specs.Option.{option_map_or}
 use Rattle.comfy_parts.specs.Text.{Text, measure, spaces}
 use Rattle.comfy_parts.specs.declared.style.cell.CellAlignment.{CellAlignment}
 use Rattle.comfy_parts.specs.declared.style.cell.CellAlignment.TheVariants.{Left, Right}
@@ -14,7 +15,7 @@ use Rattle.csv_records.specs.declared.decimals.Points.{Points}
 use Rattle.csv_tables.specs.Cells.{number_name, unless_blank}
 use Rattle.csv_tables.specs.Fields.{field_or_blank}
 use Rattle.csv_tables.specs.Columns.{ColumnsValue, column_at, count_of, name_at}
-use Rattle.csv_command.specs.Columns.{columns_chosen, positions_between, without}
+use Rattle.csv_command.specs.Columns.{columns_chosen, positions_between, whole_name, without}
 use Rattle.csv_tables.specs.Drawn.{condensed_style, drawn_rows, names_of}
 use Rattle.csv_tables.specs.declared.options.ColumnPlan.{ColumnPlan}
 use Rattle.csv_tables.specs.declared.options.Layout.{Layout}
@@ -232,11 +233,18 @@ abbrev pub ShowsPairs : Look → List Text → List ℕ → List Text → Text �
 ShowsPairs look names positions fields text =
     ShowsRows look false true [] (whole_pairs look.width) (pairs_at names positions fields) text
 
--- the positions of the columns that some words choose, in their order
-abbrev pub positions_by : {A : Type 0} → List Text → ℕ → List (String A) → List ℕ
-positions_by {A} names count words =
+-- the positions of the columns that each of some words chooses, in their order
+abbrev pub positions_by_each : {A : Type 0} → List Text → ℕ → List (String A) → List ℕ
+positions_by_each {A} names count words =
     flat_map (λ (word : String A). unwrap_or
     (option_map positions_between (columns_chosen names count (string_bytes word))) []) words
+
+-- the positions of the columns that some words choose: that of the name which all of them are, with
+-- commas between them, else those of each
+abbrev pub positions_by : {A : Type 0} → List Text → ℕ → List (String A) → List ℕ
+positions_by names count words =
+    option_map_or (λ position. positions_between (position, position + 1)) (whole_name names words)
+    (positions_by_each names count words)
 
 -- the columns that options choose of a header and rows, or all if they name none, without those
 -- that they leave out

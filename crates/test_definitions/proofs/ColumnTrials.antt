@@ -2,6 +2,7 @@
 use Rattle.std.proofs.Common.{◌≡◌, List, [], ◌∷◌, Some, Ok, Err, codes, false, map, refl, true}
 use Prim.Native.String.{String}
 use Rattle.std.specs.Fmt.{digits}
+use Rattle.std.specs.Prelude.{String as Word, string_bytes}
 use Rattle.comfy_parts.specs.Text.{Text}
 use Rattle.csv.specs.Records.{field_at}
 use Rattle.ucd_category.proofs.Computing.{ucd_category}
@@ -11,7 +12,7 @@ use Rattle.csv_records.specs.declared.decimals.DecimalMark.TheVariants.{Point}
 use Rattle.csv_tables.specs.declared.options.Look.{Look}
 use Rattle.csv_tables.specs.declared.options.ColumnPlan.{ColumnPlan}
 use Rattle.csv_tables.specs.Cells.{counted_from, shown_in, shown_names}
-use Rattle.csv_command.specs.Columns.{less, positions_of_word}
+use Rattle.csv_command.specs.Columns.{less, positions_of, positions_of_word}
 use Rattle.csv_command.specs.Columns.ColumnFault.{missing, none_left}
 use Rattle.comfy_parts.specs.declared.style.cell.CellAlignment.TheVariants.{Right}
 use Rattle.csv_command.specs.Hints.{hint_for}
@@ -41,7 +42,7 @@ in_order = refl
 
 no_ranges :
     map (positions_of_word header 4) (texts ("phone-a" ∷ "3-2" ∷ "4-5" ∷ "5-" ∷ "0-" ∷ "-2" ∷ "-" ∷ "mail-" ∷ "a-b" ∷ []))
-    ≡ map (λ word. Err (missing word (codes "there are a, e, e-mail and phone"))) (texts ("phone-a" ∷ "3-2" ∷ "4-5" ∷ "5-" ∷ "0-" ∷ "-2" ∷ "-" ∷ "mail-" ∷ "a-b" ∷ []))
+    ≡ map (λ word. Err (missing word (codes "there are 'a', 'e', 'e-mail' and 'phone'"))) (texts ("phone-a" ∷ "3-2" ∷ "4-5" ∷ "5-" ∷ "0-" ∷ "-2" ∷ "-" ∷ "mail-" ∷ "a-b" ∷ []))
 unfolding field_at
 no_ranges = refl
 
@@ -51,16 +52,27 @@ numbers_as_names :
     ≡ Ok (1 ∷ []) ∷ Ok (1 ∷ []) ∷ Ok (1 ∷ 2 ∷ []) ∷ Ok (1 ∷ 2 ∷ []) ∷ Ok (1 ∷ 2 ∷ []) ∷ Ok (0 ∷ 1 ∷ []) ∷ []
 numbers_as_names = refl
 
--- hints: a name in another case of letters, or the columns that there are
+-- hints: a name in another case of letters or without spaces at its ends, or the columns that there are
 hints :
-    map (hint_for (texts ("a" ∷ "Ab" ∷ "AB" ∷ "" ∷ [])) 5) (texts ("ab" ∷ "b" ∷ []))
-    ≡ codes "did you mean Ab?" ∷ codes "there are a, Ab, AB, 4 and 5" ∷ []
+    map (hint_for (texts ("a" ∷ "Ab" ∷ "AB" ∷ "" ∷ " c d " ∷ [])) 6) (texts ("ab" ∷ " a" ∷ "C d" ∷ "cd" ∷ []))
+    ≡ texts ("did you mean 'Ab'?" ∷ "did you mean 'a'?" ∷ "did you mean ' c d '?" ∷ "there are 'a', 'Ab', 'AB', 4, ' c d ' and 6" ∷ [])
 unfolding field_at digits
 hints = refl
 
+-- several words that are a name with a comma between them, and the same in another order
+whole : {A : Type 0} (b a : Word A) → string_bytes b ≡ codes "b" → string_bytes a ≡ codes "a" → positions_of (texts ("b" ∷ "a" ∷ "b,a" ∷ [])) 3 (b ∷ a ∷ []) ≡ Ok (2 ∷ [])
+whole b a is_b is_a = rw (is_b, is_a) refl
+
+in_parts : {A : Type 0} (b a : Word A) → string_bytes b ≡ codes "b" → string_bytes a ≡ codes "a" → positions_of (texts ("b" ∷ "a" ∷ "b,a" ∷ [])) 3 (a ∷ b ∷ []) ≡ Ok (1 ∷ 0 ∷ [])
+in_parts b a is_b is_a = rw (is_b, is_a) refl
+
+-- a single word is a number before it is a name
+single : {A : Type 0} (word : Word A) → string_bytes word ≡ codes "1" → positions_of (texts ("2" ∷ "1" ∷ [])) 2 (word ∷ []) ≡ Ok (0 ∷ [])
+single word is = rw is refl
+
 columns_are_listed :
     map (λ count. hint_for (codes "a" ∷ []) count (codes "b")) (1 ∷ 2 ∷ 8 ∷ 9 ∷ 1000 ∷ [])
-    ≡ texts ("there is a" ∷ "there are a and 2" ∷ "there are a, 2, 3, 4, 5, 6, 7 and 8" ∷ "there are a, 2, 3, 4, 5, 6, 7, 8 and 1 more" ∷ "there are a, 2, 3, 4, 5, 6, 7, 8 and 992 more" ∷ [])
+    ≡ texts ("there is 'a'" ∷ "there are 'a' and 2" ∷ "there are 'a', 2, 3, 4, 5, 6, 7 and 8" ∷ "there are 'a', 2, 3, 4, 5, 6, 7, 8 and 1 more" ∷ "there are 'a', 2, 3, 4, 5, 6, 7, 8 and 992 more" ∷ [])
 unfolding field_at digits
 columns_are_listed = refl
 

@@ -166,6 +166,6 @@ names_of_inputs = refl
 reasons : map reading_reason (Some io.NotFound ∷ Some io.IsADirectory ∷ Some io.PermissionDenied ∷ Some io.TimedOut ∷ None ∷ []) ≡ texts ("no such file" ∷ "is a directory" ∷ "permission denied" ∷ "can't be read" ∷ "can't be read" ∷ [])
 reasons = refl
 
-hinted : map (λ encoding. reason_for encoding None (err.Decode (decode.NotUtf8 12 true))) (None ∷ Some Utf8 ∷ []) ≡ texts ("line 12 isn't UTF-8; try -e cp1252" ∷ "line 12 isn't UTF-8" ∷ [])
+hinted : map (λ encoding. reason_for encoding None (err.Decode (decode.NotUtf8 12 true))) (None ∷ Some Utf8 ∷ []) ≡ texts ("line 12 isn't UTF-8; try -e cp1252, or iconv -f ENCODING FILE | csvtable" ∷ "line 12 isn't UTF-8" ∷ [])
 unfolding digits
 hinted = refl

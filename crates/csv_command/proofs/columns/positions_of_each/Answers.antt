@@ -3,7 +3,7 @@ use Rattle.std.proofs.lemmas.Grind.{common_steps}
 use Rattle.csv_command.specs.Columns.{IsColumnsRefusal, positions_of_word}
 use Rattle.comfy_parts.specs.Text.{Text}
 use Rattle.csv_command.proofs.ColumnLemmas.{refused_word}
-use Rattle.csv_command.proofs.columns.positions_of.Goals as goal
+use Rattle.csv_command.proofs.columns.positions_of_each.Goals as goal
 
 pub loop-word-preserved : goal.loop-word-preserved
 loop-word-preserved c = grind (arith, common_steps)

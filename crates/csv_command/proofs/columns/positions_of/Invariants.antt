@@ -1,6 +1,0 @@
-use Rattle.std.proofs.Common.{◌≡◌, Ok, take}
-use Rattle.csv_command.specs.Columns.{positions_of}
-use Rattle.csv_command.proofs.columns.positions_of.Given as goal
-
-abbrev pub invariant-loop-word : goal.invariant-loop-word
-invariant-loop-word l = positions_of l.names l.count (take l.word-index l.words) ≡ Ok l.positions.items

@@ -1,9 +1,0 @@
-use Rattle.std.proofs.Common.{◌≡◌, length, map}
-use Rattle.csv_command.specs.Mistakes.{wrong_number}
-use Rattle.csv_command.proofs.mistakes.reason_of_number.Given as goal
-
-abbrev pub invariant-loop-rest : goal.invariant-loop-rest
-invariant-loop-rest l = wrong_number (map (λ w. w.now) l.rest) ≡ wrong_number (map (λ w. w.now) l.fn.arguments)
-
-abbrev pub decreases-loop-rest : goal.decreases-loop-rest
-decreases-loop-rest l = length l.rest
