@@ -26,7 +26,7 @@ use Rattle.csv_tables.specs.Cells.{Shown, cell_for, columns_within, held, pair_f
 use Rattle.csv_tables.specs.Columns.{ColumnsValue, name_at}
 use Rattle.csv_tables.specs.Drawn.{wanted_in, SelectedValue, RendersAsTable, RendersRecords, RendersTable, columns_of, drawn_fields, drawn_rows, empty_table, has_room_for, headed_table, names_of, note_for, output_table, pairs_in, record_line, record_text, rows_table, separated_table, some_lines, table_text, is_aligned_in, is_table_expanded, names_or_none}
 use Rattle.csv_tables.specs.NoWrap.{has_room}
-use Rattle.csv_command.specs.Drawn.{wanted_in, layout_with}
+use Rattle.csv_command.specs.Drawn.{layout_with}
 use Rattle.csv_tables.specs.declared.options.ColumnPlan.{ColumnPlan}
 use Rattle.csv_records.specs.declared.decimals.Points.{Points}
 use Rattle.csv_tables.specs.declared.options.Layout.{Layout}
