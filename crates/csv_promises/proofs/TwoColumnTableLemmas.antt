@@ -23,14 +23,12 @@ use Rattle.csv_tables.proofs.BuiltLemmas.{plain_table}
 use Rattle.csv_tables.proofs.LeastLemmas.{lower_or_one}
 use Rattle.csv_tables.proofs.LineLemmas.{Any, any_built, any_drawn, kept_setting}
 use Rattle.csv_tables.proofs.SeparatorLemmas.{restyled, separated}
-use Rattle.csv_tables.proofs.NoWrapLemmas.{boundary-some, framed_pair, given_is_shared, kept-test, with_second-none}
+use Rattle.csv_tables.proofs.NoWrapLemmas.{boundary-some, framed_pair, given_is_shared, kept-test, name-two, with_second-none, word-two}
 use Rattle.csv_tables.proofs.WholeColumnLemmas.{IsPaddedColumn, all_shown, both_shown, field_width-within, leasts_on, pairs_have_two}
 use Rattle.csv_tables.proofs.WholeTableLemmas.{IsDrawn, drawn-is, most-least, fewer_borders, field_separated, still_fits}
 use Rattle.csv_tables.specs.Drawn.{SelectedValue, arrangement_for, empty_table, is_aligned_in, is_expanded_for, is_expanded_in, is_table_expanded, output_table, pairs_table, rows_table, separated_table, wanted_in}
 use Rattle.csv_tables.specs.Laws.{IsDrawnTable}
-use Rattle.csv_tables.specs.NoWrap.{Wanted, lower_bound, boundary_for, by_columns, field_width, framed_width, reserved_width, has_room, min_width, with_min_widths, with_min_field_width, least_width, fair_level, fields_need, kept_of_fields, kept_of_name, kept_of_word, most_wanted, may_break, name_in, room_beside, room_for_two, width_at_level, wide_word, with_content, with_field_width, with_lower_bounds, word_width}
-use Rattle.csv_tables.specs.declared.needs.Words.{Words}
-use Rattle.csv_tables.specs.declared.needs.Words.TheVariants.{Broken, OfFields, OfNames}
+use Rattle.csv_tables.specs.NoWrap.{Wanted, lower_bound, boundary_for, by_columns, field_width, framed_width, reserved_width, has_room, min_width, with_min_widths, with_min_field_width, least_width, fair_level, fields_need, kept_of_fields, kept_of_name, most_wanted, may_break, name_in, room_beside, room_for_two, width_at_level, wide_word, with_content, with_field_width, with_lower_bounds, word_width}
 use Rattle.csv_tables.specs.declared.options.Expansion.{Expansion}
 use Rattle.csv_tables.specs.declared.options.Expansion.TheVariants.{Always, Auto, Never}
 use Rattle.csv_tables.specs.declared.options.Look.{Look}
@@ -263,23 +261,6 @@ wide_word-two table (Some name) = by_test width (nat_lt 8 width) refl
     by_test : (n : ℕ) (b : Bool) → nat_lt 8 n ≡ b → ((if b then min 20 n else 0) ≡ 0) ⊎ (2 ≤ (if b then min 20 n else 0))
     by_test n true test = let above = ltb-true 8 n test in inr (omega (arith, above))
     by_test n false test = inl refl
-
--- what is kept of a name is nothing, or two at least
-name-two : (words : Words) (width : ℕ) → (width ≡ 0) ⊎ (2 ≤ width) → (kept_of_name words width ≡ 0) ⊎ (2 ≤ kept_of_name words width)
-name-two Broken width two = inl refl
-name-two OfNames width two = two
-name-two OfFields width two = two
-
--- so is what is kept of a word of fields
-word-two : (words : Words) (width : ℕ) → (kept_of_word words width ≡ 0) ⊎ (2 ≤ kept_of_word words width)
-word-two Broken width = inl refl
-word-two OfNames width = inl refl
-word-two OfFields width = by_tests (nat_lt 8 width) (nat_lt 40 width) refl
-  where
-    by_tests : (a b : Bool) → nat_lt 8 width ≡ a → ((if a then (if b then 20 else width) else 0) ≡ 0) ⊎ (2 ≤ (if a then (if b then 20 else width) else 0))
-    by_tests true true above = inr (omega arith)
-    by_tests true false above = let more = ltb-true 8 width above in inr (omega (arith, more))
-    by_tests false b above = inl refl
 
 -- what a column keeps, and so what it is given, is nothing, or two at least, or its content
 gives_two : (level : ℕ) (whole : Wanted) (table : TableValue) (i : ℕ) → GivesTwo (column_content_width table i) (reserved_width level whole table i)

@@ -1,21 +1,22 @@
 -- What tables that keep numbers and dates whole are made of.
-use Rattle.std.proofs.Common.{◌≡◌, ◌<◌, ◌≤◌, ◌+◌, ℕ, zero, suc, Bool, List, [], ◌∷◌, Some, ◌-◌, ◌^◌, cond, filter, get_or, length, map, min, nat_le, set, max, nat_lt, slice_get, sum_by, unwrap_or, true, false, ◌||◌, refl, sym, ap, ◌∙◌, arith}
+use Rattle.std.proofs.Common.{◌≡◌, ◌<◌, ◌≤◌, ◌+◌, ℕ, zero, suc, Bool, List, [], ◌∷◌, Some, ◌-◌, ◌^◌, cond, filter, get_or, length, map, min, nat_le, set, max, nat_lt, slice_get, sum_by, unwrap_or, true, false, ◌||◌, refl, sym, ap, ◌∙◌, arith, inl, inr}
 use Rattle.std.specs.List.{All, range_with_len}
-use Rattle.std.proofs.lemmas.Bool.{lt-ltb}
+use Rattle.std.proofs.lemmas.Bool.{lt-ltb, ltb-true}
 use Rattle.std.proofs.lemmas.Bool.Decides.{nat_tests}
 use Rattle.std.proofs.lemmas.List.{map-id}
 use Rattle.std.proofs.lemmas.List.Elements.{All-cons, All-nil}
 use Rattle.std.proofs.lemmas.List.FromFn.{filter_of_map_range_with_len_more}
 use Rattle.std.proofs.lemmas.List.Sums.{sum_by-cons}
-use Rattle.std.specs.Prelude.{if◌then◌else◌}
+use Rattle.std.specs.Prelude.{◌⊎◌, if◌then◌else◌}
 use Rattle.comfy_parts.specs.CellValue.{ColumnValue}
 use Rattle.comfy_parts.specs.Text.{greatest}
 use Rattle.comfy_parts.specs.declared.style.table_style.TableStyle.{TableStyle}
 use Rattle.comfy_table.proofs.ColumnCellLemmas.{greatest-append}
 use Rattle.comfy_table.specs.Frame.{border_count}
 use Rattle.comfy_table.specs.TableValue.{TableValue}
-use Rattle.csv_tables.specs.declared.needs.Words.TheVariants.{OfFields, OfNames}
-use Rattle.csv_tables.specs.NoWrap.{Wanted, boundary_for, framed_width, reserved_width, given_in, greatest_level, has_room, min_width, with_min_widths, with_most_words, with_words, width_at_level, with_content, with_lower_bounds, with_second}
+use Rattle.csv_tables.specs.declared.needs.Words.{Words}
+use Rattle.csv_tables.specs.declared.needs.Words.TheVariants.{Broken, OfFields, OfNames}
+use Rattle.csv_tables.specs.NoWrap.{Wanted, boundary_for, framed_width, reserved_width, given_in, greatest_level, has_room, kept_of_name, kept_of_word, min_width, with_min_widths, with_most_words, with_words, width_at_level, with_content, with_lower_bounds, with_second}
 
 -- what columns keep leaves room for paddings, where what they need does
 pub kept_within : (kept needed : ℕ → ℕ) → ((i : ℕ) → kept i ≤ needed i) → (n count : ℕ) → sum_by (λ content. 2 + content) (map needed (range_with_len n count)) ≤ 65535 → All (λ content. content ≤ 65533) (map kept (range_with_len n count))
@@ -91,6 +92,25 @@ most_nowrap fits width wanted = by_tests (fits width wanted) (fits 8 (with_words
     by_tests false true c = refl
     by_tests false false true = refl
     by_tests false false false = refl
+
+-- ---- two terminal columns
+
+-- what is kept of a name is nothing, or two at least, if a wide word of it is
+pub name-two : (words : Words) (width : ℕ) → (width ≡ 0) ⊎ (2 ≤ width) → (kept_of_name words width ≡ 0) ⊎ (2 ≤ kept_of_name words width)
+name-two Broken width two = inl refl
+name-two OfNames width two = two
+name-two OfFields width two = two
+
+-- so is what is kept of a word of fields
+pub word-two : (words : Words) (width : ℕ) → (kept_of_word words width ≡ 0) ⊎ (2 ≤ kept_of_word words width)
+word-two Broken width = inl refl
+word-two OfNames width = inl refl
+word-two OfFields width = by_tests (nat_lt 8 width) (nat_lt 40 width) refl
+  where
+    by_tests : (a b : Bool) → nat_lt 8 width ≡ a → ((if a then (if b then 20 else width) else 0) ≡ 0) ⊎ (2 ≤ (if a then (if b then 20 else width) else 0))
+    by_tests true true above = inr (omega arith)
+    by_tests true false above = let more = ltb-true 8 width above in inr (omega (arith, more))
+    by_tests false b above = inl refl
 
 -- ---- tables
 

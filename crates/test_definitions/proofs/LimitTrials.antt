@@ -7,7 +7,7 @@ use Rattle.comfy_parts.specs.declared.style.column.ColumnConstraint.TheVariants.
 use Rattle.comfy_parts.specs.declared.style.column.Width.TheVariants.{Fixed}
 use Rattle.comfy_table.specs.TableValue.{TableValue, new_table, with_rows}
 use Rattle.csv_tables.specs.Limits.{bounded, bounded_width, has_room_within, hold_points, limit_for, limits_of, no_limits, reached_limits, taken}
-use Rattle.csv_tables.specs.declared.needs.Words.TheVariants.{OfNames}
+use Rattle.csv_tables.specs.Drawn.{least_words}
 use Rattle.csv_tables.specs.declared.settings.ColumnSettings.{ColumnSettings}
 
 -- from four to ten terminal columns, and three that are free at the right
@@ -37,11 +37,11 @@ abbrev text : TableValue
 text = with_rows (plain_row (plain_cell (codes "letters and letters") ∷ []) ∷ []) (new_table ascii_full)
 
 -- with two borders
-width : bounded_width (limits_of own false ∷ []) 8 (record { nowrap = true ∷ []; words = OfNames }) text ≡ 15
+width : bounded_width (limits_of own false ∷ []) 8 (record { nowrap = true ∷ []; words = least_words None }) text ≡ 15
 unfolding wrapping
 width = refl
 
-room : map (λ width. has_room_within (limits_of own false ∷ []) width (record { nowrap = true ∷ []; words = OfNames }) text) (Some 14 ∷ Some 15 ∷ None ∷ []) ≡ false ∷ true ∷ true ∷ []
+room : map (λ width. has_room_within (limits_of own false ∷ []) width (record { nowrap = true ∷ []; words = least_words None }) text) (Some 14 ∷ Some 15 ∷ None ∷ []) ≡ false ∷ true ∷ true ∷ []
 unfolding wrapping
 room = refl
 

@@ -15,10 +15,8 @@ use Rattle.comfy_parts.specs.declared.style.column.Width.TheVariants.{Fixed}
 use Rattle.csv_tables.specs.Summaries.{column_fields}
 use Rattle.csv_records.specs.Number.{is_neutral, is_number}
 use Rattle.comfy_table.specs.TableValue.{TableValue, new_table, with_header, with_rows}
-use Rattle.csv_tables.specs.Drawn.{is_expanded_in}
+use Rattle.csv_tables.specs.Drawn.{is_expanded_in, least_words}
 use Rattle.csv_tables.specs.NoWrap.{Wanted, kept_word, most_wanted, by_columns, framed_width, given_in, has_room, is_nowrap, min_width, with_min_widths, with_min_field_width, least_width, fair_level, may_break, room_beside, room_for_two, width_at_level, shared_content, nowrap_width}
-use Rattle.csv_tables.specs.declared.needs.Words.{Words}
-use Rattle.csv_tables.specs.declared.needs.Words.TheVariants.{Broken, OfFields, OfNames}
 use Rattle.csv_tables.specs.declared.options.Expansion.TheVariants.{Always, Auto, Never}
 
 abbrev texts : List String → List Text
@@ -41,7 +39,7 @@ columns = refl
 
 -- columns of numbers and dates, and others that keep the words of their names
 abbrev whole : List Bool → Wanted
-whole nowrap = record { nowrap = nowrap; words = OfNames }
+whole nowrap = record { nowrap = nowrap; words = least_words None }
 
 -- names, and a long text below each
 abbrev names : List Text
@@ -72,20 +70,17 @@ indicators =
     with_rows (plain_row (map plain_cell (texts ("0.3" ∷ "paid to DE89370400440532013000 in May" ∷ []))) ∷ [])
     (with_header (plain_row (map plain_cell (texts ("growth of populations" ∷ "note" ∷ [])))) (new_table ascii_full))
 
--- the number keeps eight of its content, or the longest word of its name; the text a word, if words of fields are kept
-abbrev keeping : Words → List ℕ
-keeping words = by_columns (min_width (record { nowrap = true ∷ false ∷ []; words = words }) indicators) indicators
-
-kept_words : map keeping (Broken ∷ OfNames ∷ OfFields ∷ []) ≡ (8 ∷ 0 ∷ []) ∷ (11 ∷ 0 ∷ []) ∷ (11 ∷ 22 ∷ []) ∷ []
+-- the number keeps eight of its content, or the longest word of its name
+keeping : map (λ height. by_columns (min_width (record { nowrap = true ∷ false ∷ []; words = least_words height }) indicators) indicators) (Some 1 ∷ Some 2 ∷ None ∷ []) ≡ (8 ∷ 0 ∷ []) ∷ (11 ∷ 0 ∷ []) ∷ (11 ∷ 0 ∷ []) ∷ []
 unfolding wrapping
-kept_words = refl
+keeping = refl
 
 -- a word of eight is nothing, one of 40 is kept, and one of 41 counts as 20
 word_limits : map kept_word (8 ∷ 9 ∷ 40 ∷ 41 ∷ []) ≡ 0 ∷ 9 ∷ 40 ∷ 20 ∷ []
 word_limits = refl
 
--- three borders and four paddings: words of fields are kept where they have room, and nothing is if all contents have
-words_kept : map (λ width. (most_wanted width (whole (true ∷ false ∷ [])) indicators).words) (39 ∷ 40 ∷ 64 ∷ 65 ∷ []) ≡ OfNames ∷ OfFields ∷ OfFields ∷ OfNames ∷ []
+-- three borders and four paddings: the word of a field is kept where it has room, and nothing is if all contents have
+words_kept : map (λ width. by_columns (min_width (most_wanted width (whole (true ∷ false ∷ [])) indicators) indicators) indicators) (39 ∷ 40 ∷ 64 ∷ 65 ∷ []) ≡ (11 ∷ 0 ∷ []) ∷ (11 ∷ 22 ∷ []) ∷ (11 ∷ 22 ∷ []) ∷ (11 ∷ 0 ∷ []) ∷ []
 unfolding wrapping
 words_kept = refl
 
