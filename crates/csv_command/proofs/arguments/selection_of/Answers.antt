@@ -1,4 +1,4 @@
-use Rattle.std.proofs.Common.{not, ap}
+use Rattle.std.proofs.Common.{not, ap, refl}
 use Rattle.std.specs.Str.Parse.{ParsesUnsigned, ExplainsUnsignedError, HasUnsignedDigitsIfOk}
 use Rattle.csv_command.proofs.ValueLemmas.{of_found}
 use Rattle.csv_command.proofs.arguments.selection_of.Goals as goal
