@@ -24,6 +24,9 @@ use std::mem;
 // How many records a piece has at most.
 const RECORDS: usize = 256;
 
+// The bytes that a piece has room for at first.
+const ROOM: usize = 32768;
+
 /// The drawing of some records. It is made piece by piece, so that it needs memory for few records
 /// at a time.
 #[derive(Drop)]
@@ -117,7 +120,7 @@ fn piece_of(rest: Option<Remaining>) -> Result<(Option<String>, Option<Remaining
 {
     let mut left = rest;
     while let Some(drawing) = left {
-        let mut text = String::new(*drawing.note.allocator());
+        let mut text = String::with_capacity(*drawing.note.allocator(), ROOM)?;
         left = push_next(drawing, &mut text)?;
         if !text.is_empty() {
             return Ok((Some(text), left));

@@ -252,6 +252,8 @@ impl Table {
         I: IntoIterator,
         I::Item: Into<Row>,
     {
+        let rows = rows.into_iter();
+        self.rows.reserve(rows.size_hint().0);
         for row in rows {
             self.add_row(row);
         }

@@ -11,7 +11,8 @@ returns-clause-drawn c =
     let infos = c.in_ok-arranged.arranged.infos in
     let arranged = c.in_ok-arranged.ensures.drawing c.in_ok-lent.ensures.rows in
     let text = c.push_table.new.text in
-    let empty : string_bytes c.new-text.result ≡ [] = search rules in
+    let none : string_bytes c.new-text.result ≡ [] = search rules in
+    let empty : string_bytes c.reserve.new.self ≡ [] = c.reserve.ensures.bytes ∙ none in
     let written : string_bytes text ≡ terminated_text_of (drawing_of_infos lent infos) =
     c.in_ok-push_table.ensures
     ∙ ap (λ (begun : Text). begun ++ terminated_text_of (drawing_of_infos c.in_ok-arranged.arranged.contents infos)) empty
