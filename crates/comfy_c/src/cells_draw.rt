@@ -105,6 +105,29 @@ fn cells_drawing(
     if settings.form == LINES {
         return lines_of(alloc, texts, cells, rows, columns, indicator, settings);
     }
+    other_drawing(alloc, texts, cells, rows, columns, indicator, settings)
+}
+
+// The lines of the table without the white space at their ends, or the widths of its contents. It
+// is never inlined, because each drawing would pay for the size of the table in it.
+#[inline(never)]
+fn other_drawing(
+    alloc: Global,
+    texts: &[u8],
+    cells: &[CellNumbers],
+    rows: &[RowNumbers],
+    columns: &[ColumnNumbers],
+    indicator: &[u8],
+    settings: &CellsSettings,
+) -> Result<String, DrawRefusal>
+    requires some { 0 < settings.now.form }
+    requires known { settings.now.form ≤ 2 }
+    ensures drawn { IfOk result (λ drawing.
+        IsCellsDrawing texts.now cells.now rows.now columns.now indicator.now settings.now
+        (string_bytes drawing)) }
+    ensures refused { IfErr result (λ refusal.
+        IsCellsRefusal texts.now cells.now rows.now indicator.now settings.now refusal) }
+{
     let table = table_of(alloc, texts, cells, rows, columns, indicator, settings)?;
     if settings.form == TRIMMED {
         return Ok(table.trim_fmt()?);

@@ -3,7 +3,7 @@ use Rattle.std.proofs.lemmas.Str.{IsUtf8-string_bytes}
 use Rattle.comfy_table.specs.Headline.{JoinsTrimmedLines}
 use Rattle.comfy_table.specs.TableValue.{max_content_widths}
 use Rattle.comfy_c.specs.CellCalls.{listed}
-use Rattle.comfy_c.proofs.cells_draw.cells_drawing.Goals as goal
+use Rattle.comfy_c.proofs.cells_draw.other_drawing.Goals as goal
 
 pub returns-then-settings-eq-TRIMMED-clause-drawn :
     goal.returns-then-settings-eq-TRIMMED-clause-drawn
@@ -20,7 +20,7 @@ pub returns-clause-drawn : goal.returns-clause-drawn
 returns-clause-drawn c =
     let text : string_bytes c.in_ok-listed.field-0 ≡ listed c.as_slice.result.now = search rules in
     let widths : c.in_ok-column_max_content_widths.field-0.items ≡ max_content_widths c.in_ok-table.table = search rules in
-    let form : c.args.settings.now.form ≡ 2 = omega (arith, c.if-settings-eq-LINES.false, c.if-settings-eq-TRIMMED.false, c.if-settings-gt-CONTENT_WIDTHS.false) in
+    let form : c.args.settings.now.form ≡ 2 = omega (arith, c.requires.some, c.requires.known, c.if-settings-eq-TRIMMED.false) in
     record {
       is_text = IsUtf8-string_bytes c.in_ok-listed.field-0;
       table = c.in_ok-table.table;
