@@ -1,6 +1,6 @@
 -- A column with a lower boundary is drawn no narrower than a text that fits the boundary.
-use Rattle.std.proofs.Common.{◌≡◌, ◌<◌, ◌≤◌, ◌==◌, ◌&&◌, ℕ, zero, suc, ◌+◌, ◌-◌, ◌*◌, ◌/◌, Bool, not, List, [], ◌∷◌, ◌++◌, Option, Some, None, append-nil, filter, is_none, length, max, nat_le, nat_lt, option_map, refl, sym, ap, ◌∙◌, subst, arith}
-use Rattle.std.specs.List.{AllByRecursion, AllZip, cons_option, enumerate_from}
+use Rattle.std.proofs.Common.{◌≡◌, ◌<◌, ◌≤◌, ◌==◌, ◌&&◌, ℕ, ◌+◌, ◌-◌, ◌*◌, ◌/◌, Bool, not, List, [], ◌∷◌, ◌++◌, Option, Some, None, filter, is_none, length, max, nat_le, nat_lt, option_map, refl, sym, ap, ◌∙◌, subst, arith}
+use Rattle.std.specs.List.{AllByRecursion, AllZip, cons_option}
 use Rattle.std.specs.Prelude.{if◌then◌else◌}
 use Rattle.std.proofs.lemmas.Bool.{cond_both}
 use Rattle.std.proofs.lemmas.List.Sums.{sum_by-cons}
@@ -14,7 +14,7 @@ use Rattle.comfy_table.proofs.StepLemmas.{among_settled, count_at-all_claims, le
 use Rattle.comfy_table.proofs.TakenClaimLemmas.{HasRoom, HasShrunk, every_stands, shrunk_where, taken_ends}
 use Rattle.comfy_table.proofs.TakingLemmas.{every-claims_of, next_taken-where}
 use Rattle.comfy_table.proofs.UnconstrainedLemmas.{IsColumnAt, every_column_at}
-use Rattle.comfy_table.specs.Dynamic.{Claim, IsArrangedBy, IsDynamicLayout, IsLevel, IsTakenAfter, Positioned, Steps, added, all_claims, average, content_room, contents_after, even_columns, even_shares, fit_at, fixed_claims, lower_of_boundary, lower_offer, others, places_of, room_left, room_of_others, room_of_unsettled, settled_at, settled_claims, total, undecided, unsettled, upper_at, without_claims}
+use Rattle.comfy_table.specs.Dynamic.{Claim, IsArrangedBy, IsDynamicLayout, IsLevel, IsTakenAfter, Positioned, Steps, added, all_claims, average, content_room, contents_after, even_columns, even_shares, fit_at, fixed_claims, lower_of_boundary, lower_offer, others, places_of, room_left, room_of_others, room_of_unsettled, settled_at, settled_claims, total, undecided, unsettled, upper_at}
 use Rattle.comfy_table.specs.Widths.{ColumnNeeds, even_spread}
 
 -- ---- what is kept

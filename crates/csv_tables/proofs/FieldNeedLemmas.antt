@@ -1,5 +1,5 @@
 -- The fields of a column below its name, and how wide they are.
-use Rattle.std.proofs.Common.{◌≡◌, ◌<◌, ◌≤◌, ℕ, Bool, true, false, List, [], ◌∷◌, ◌++◌, Option, Some, None, flat_map, filter_map, map, max, min, option_map, arith, ap, ◌∙◌}
+use Rattle.std.proofs.Common.{◌≡◌, ◌<◌, ◌≤◌, ℕ, Bool, true, false, List, [], ◌∷◌, ◌++◌, Option, Some, None, flat_map, filter_map, map, max, option_map, arith, ap, ◌∙◌}
 use Rattle.std.specs.List.{cons_option, slice_get}
 use Rattle.std.specs.Prelude.{if◌then◌else◌, option_to_list}
 use Rattle.std.proofs.lemmas.Bool.{le-leb}

@@ -2,7 +2,7 @@
 use Rattle.std.proofs.Common.{◌≡◌, ◌==◌, ◌≤◌, ◌<◌, ◌&&◌, ◌||◌, ℕ, zero, suc, ◌+◌, ◌-◌, Bool, true, false, not, cond, List, [], ◌∷◌, ◌++◌, Option, Some, None, find, length, map, max, min, nat_le, nat_lt, option_map, slice_index, unwrap_or, refl, sym, ap, ◌∙◌, subst, arith, eq-zero-or-pos, ⊎_elim}
 use Rattle.std.specs.List.{AllByRecursion, AllZip, slice_index_or, cons_option, enumerate_from, range_with_len, slice_get}
 use Rattle.std.specs.Prelude.{if◌then◌else◌}
-use Rattle.std.proofs.lemmas.Bool.{eq-eqb, le-leb, ne_eqb}
+use Rattle.std.proofs.lemmas.Bool.{eq-eqb, ne_eqb}
 use Rattle.std.proofs.lemmas.List.FromFn.{get_or-map-range_with_len, length-map-range_with_len}
 use Rattle.std.proofs.lemmas.List.Elements.{recursion_from_All}
 use Rattle.comfy_parts.proofs.CallerLemmas.{index-places}
@@ -12,8 +12,8 @@ use Rattle.comfy_table.proofs.BuiltTableLemmas.{IsNewColumn}
 use Rattle.comfy_table.proofs.DrawnWidthLemmas.{dynamic_widths}
 use Rattle.comfy_table.specs.Arrangement.{IsArranged, is_full_width, room_beside_borders, width_kept, widths_at}
 use Rattle.comfy_table.specs.Dynamic.{IsDynamicLayout, Claim, Steps, added, all_claims, contents_after, even_columns, fixed_claims, room_left, claim_at, widened}
-use Rattle.comfy_table.specs.TableValue.{TableValue, column_content_width, shown_columns, table_width}
-use Rattle.comfy_table.specs.Widths.{ColumnNeeds, even_spread, fixed_by_boundary, needs_of, part_of, shown_needs, without_padding}
+use Rattle.comfy_table.specs.TableValue.{TableValue, column_content_width, table_width}
+use Rattle.comfy_table.specs.Widths.{ColumnNeeds, even_spread, fixed_by_boundary, needs_of, part_of}
 use Rattle.csv_tables.proofs.BoundaryLemmas.{KeepsBoundary, dynamic_keeps_boundaries}
 use Rattle.csv_tables.proofs.FieldNeedLemmas.{fields-longest, fields-within}
 use Rattle.csv_tables.proofs.LimitLemmas.{given_within_room}

@@ -1,4 +1,4 @@
-use Rattle.std.proofs.Common.{◌≡◌, ◌+◌, ◌-◌, ◌^◌, ℕ, Bool, List, length, map, min}
+use Rattle.std.proofs.Common.{◌≡◌, ◌+◌, ◌-◌, ◌^◌, ℕ, length, map, min}
 use Rattle.std.specs.List.{range_with_len, sum}
 use Rattle.comfy_table.specs.Frame.{border_count}
 use Rattle.csv_tables.specs.Limits.{limits_at, taken}

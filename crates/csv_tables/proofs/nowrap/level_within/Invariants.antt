@@ -1,4 +1,4 @@
-use Rattle.std.proofs.Common.{◌≡◌, Bool, List, nat_le}
+use Rattle.std.proofs.Common.{◌≡◌, nat_le}
 use Rattle.csv_tables.specs.Limits.{bounded_width, level_within}
 use Rattle.csv_tables.specs.NoWrap.{Wanted, by_columns, greatest_level, min_width}
 use Rattle.csv_tables.proofs.nowrap.level_within.Given as goal

@@ -1,9 +1,8 @@
-use Rattle.std.proofs.Common.{◌≡◌, ◌∙◌, Bool, List, ap, ap₂, false, nat_le, sym, true, ℕ}
+use Rattle.std.proofs.Common.{◌≡◌, ◌∙◌, Bool, List, ap, ap₂, false, nat_le, sym, ℕ}
 use Rattle.std.specs.Prelude.{if◌then◌else◌}
 use Rattle.comfy_table.specs.TableValue.{TableValue}
-use Rattle.csv_tables.specs.Limits.{bounded_width, most_within}
+use Rattle.csv_tables.specs.Limits.{bounded_width}
 use Rattle.csv_tables.specs.NoWrap.{Wanted, by_columns, min_width, with_words}
-use Rattle.csv_tables.specs.declared.needs.Words.{Words}
 use Rattle.csv_tables.specs.declared.needs.Words.TheVariants.{OfFields, OfNames}
 use Rattle.csv_tables.proofs.nowrap.most_contents.Goals as goal
 
