@@ -24,10 +24,28 @@ abbrev pub is_of_dates : ℕ → Bool
 is_of_dates c = is_ascii_digit c || list_any (λ mark. mark == c) (codes "-/:.TZ+ ")
 
 -- a number, a field that says nothing, or such characters alone, if it is short
-abbrev pub is_nowrap : Text → Bool
-is_nowrap field =
+abbrev pub is_short_value : Text → Bool
+is_short_value field =
     nat_le (length (chars field)) longest_kept
     && (list_all is_of_dates field || (is_number field || is_neutral field))
+
+-- the longest time stamps have nanoseconds and a zone: `2026-05-02T12:30:00.123456789+01:00`
+abbrev pub longest_stamp : ℕ
+longest_stamp = 35
+
+-- a time stamp may also have the letters of `UTC`, `AM` and `PM`
+abbrev pub is_of_stamps : ℕ → Bool
+is_of_stamps c = is_of_dates c || list_any (λ letter. letter == c) (codes "UCAPM")
+
+-- a time stamp has a colon, and such characters alone
+abbrev pub is_stamp : Text → Bool
+is_stamp field =
+    nat_le (length field) longest_stamp
+    && (list_any (λ c. c == 0x3A) field && list_all is_of_stamps field)
+
+-- a field that isn't broken
+abbrev pub is_nowrap : Text → Bool
+is_nowrap field = is_short_value field || is_stamp field
 
 -- which columns hold such fields alone, and which words the others keep whole
 pub record Wanted : Type 0 where

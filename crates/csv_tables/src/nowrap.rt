@@ -1,13 +1,13 @@
 //! Numbers and dates, which aren't broken over lines where there is room.
 
-ghost use Rattle.std.specs.Prelude.{◌≡◌, ◌||◌, ◌-◌, Bool, List, ◌≤◌, ◌^◌, All, IfOk, None, OnOk, Some, chars, false, if◌then◌else◌, length, map, max, min, nat_le, nat_lt, option_copied, slice_get, true, unwrap_or};
-ghost use Rattle.std.specs.List.{list_all};
+ghost use Rattle.std.specs.Prelude.{◌≡◌, ◌==◌, ◌||◌, ◌-◌, Bool, List, ◌≤◌, ◌^◌, All, IfOk, None, OnOk, Some, chars, false, if◌then◌else◌, length, map, max, min, nat_le, nat_lt, option_copied, slice_get, true, unwrap_or};
+ghost use Rattle.std.specs.List.{list_all, list_any};
 ghost use Rattle.csv_records.specs.Number.{is_neutral, is_number};
 ghost use Rattle.comfy_table.specs.RowCells.{cell_of};
 ghost use Rattle.comfy_table.specs.TableValue.{TableValue, constrained, measured_cell};
 ghost use Rattle.csv_tables.specs.Limits.{bounded_width, has_room_in, has_room_within, level_within, limited_by, most_within, with_own_limits, with_widths};
 ghost use Rattle.csv_tables.specs.Decimals.{longest_kept};
-ghost use Rattle.csv_tables.specs.NoWrap.{Wanted, least_level, kept_of_fields, kept_of_name, by_columns, cell_nowrap_width, field_width, fields_need, reserved_width, clamped_word, is_of_dates, is_nowrap, min_width, with_min_field_width, may_break, name_in, room_beside, room_for_two, shared_content, nowrap_width, wide_word, with_content, with_field_width, word_width};
+ghost use Rattle.csv_tables.specs.NoWrap.{Wanted, least_level, kept_of_fields, kept_of_name, by_columns, cell_nowrap_width, field_width, fields_need, reserved_width, clamped_word, is_of_dates, is_of_stamps, is_nowrap, is_short_value, is_stamp, min_width, with_min_field_width, may_break, name_in, room_beside, room_for_two, shared_content, nowrap_width, wide_word, with_content, with_field_width, word_width};
 ghost use Rattle.csv_tables.specs.Cells.{cell_for};
 ghost use Rattle.csv_tables.specs.Contents.{greatest_at, pairs_by};
 ghost use Rattle.csv_tables.specs.Drawn.{nowrap_in, wanted_in};
@@ -33,6 +33,9 @@ pub(crate) const LONGEST_WORD: u16 = 20;
 
 /// How many of its content it needs at most, whatever its name.
 pub(crate) const LEAST_LEVEL: u16 = 8;
+
+// How many characters a time stamp has at most.
+const LONGEST_STAMP: usize = 35;
 
 // How many terminal columns the names of expanded records need at most.
 const NEEDED_NAMES: u16 = 4;
@@ -539,12 +542,44 @@ fn set_content(column: &mut Column, content: u16)
     column.set_constraint(ColumnConstraint::Absolute(Width::Fixed(content + 2)));
 }
 
-/// Whether a field is short, and a number, one that says nothing, or of the characters of dates and
-/// times.
+/// Whether a field isn't broken: it is a short value, or a time stamp.
 pub(crate) fn is_nowrap(field: &str) -> bool
     ensures { result ≡ is_nowrap field.now }
 {
+    is_short_value(field) || is_stamp(field.as_bytes())
+}
+
+// Whether a field is short, and a number, neutral, or of the characters of dates and times.
+fn is_short_value(field: &str) -> bool
+    ensures { result ≡ is_short_value field.now }
+{
     is_short(field) && (are_of_dates(field.as_bytes()) || is_numeric(field))
+}
+
+/// Whether a field is a time stamp, by its characters: one of them is a colon.
+pub(crate) fn is_stamp(field: &[u8]) -> bool
+    ensures { result ≡ is_stamp field.now }
+{
+    field.len() <= LONGEST_STAMP && has_colon(field) && are_of_stamps(field)
+}
+
+fn has_colon(bytes: &[u8]) -> bool
+    ensures { result ≡ list_any (λ c. c == 0x3A) bytes.now }
+{
+    bytes.iter().any(|byte| *byte == b':')
+}
+
+fn are_of_stamps(bytes: &[u8]) -> bool
+    ensures { result ≡ list_all is_of_stamps bytes.now }
+{
+    bytes.iter().all(|byte| is_of_stamps(*byte))
+}
+
+// A character of dates, or a letter of `UTC`, `AM` and `PM`.
+fn is_of_stamps(byte: u8) -> bool
+    ensures { result ≡ is_of_stamps byte }
+{
+    is_of_dates(byte) || matches!(byte, b'U' | b'C' | b'A' | b'P' | b'M')
 }
 
 // A number, or a field that says nothing in a column of numbers.

@@ -12,7 +12,7 @@ ghost use Rattle.csv_tables.specs.Summaries.{AreSummaries, summary_of};
 
 use crate::columns::seen_text;
 use crate::decimals::is_narrow;
-use crate::nowrap::{is_nowrap, is_short};
+use crate::nowrap::{is_nowrap, is_short, is_stamp};
 use csv_records::{ColumnMarks, FieldNumber, Record, Rows, is_neutral, number_in};
 use std::alloc::{AllocError, Global};
 
@@ -187,13 +187,14 @@ fn widen(summaries: &mut Vec<ColumnSummary>, position: usize) -> Result<(), Allo
 
 // ---- one field more
 
-// Whether a field isn't broken. One that is a number or neutral only has to be short.
+// Whether a field isn't broken. One that is a number or neutral only has to be short, or a time
+// stamp.
 fn is_nowrap_of(kind: FieldKind, field: &str) -> bool
     ensures { kind ≡ kind_of field.now → result ≡ is_nowrap field.now }
 {
     match kind {
         FieldKind::Other => is_nowrap(field),
-        _ => is_short(field),
+        _ => is_short(field) || is_stamp(field.as_bytes()),
     }
 }
 

@@ -27,8 +27,13 @@ unbroken : list_all is_nowrap (texts ("" ∷ "2026-05-02" ∷ "02.05.2026" ∷ "
 unfolding chars lib.Utf8.encode ucd_category is_neutral is_number
 unbroken = refl
 
--- words, and digits of 26 characters
-broken : list_any is_nowrap (texts ("none" ∷ "2026-W18" ∷ "2 May" ∷ "2026-05-02T12:30:00.5+01:00" ∷ "12345678901234567890123456" ∷ [])) ≡ false
+-- time stamps, the longest of 35 characters
+stamps : list_all is_nowrap (texts ("2026-05-02T12:30:00.123456789+01:00" ∷ "2026-05-02 12:30:00.123456 UTC" ∷ "12/31/2026 12:30:00.000 PM" ∷ [])) ≡ true
+unfolding chars lib.Utf8.encode ucd_category is_neutral is_number
+stamps = refl
+
+-- words, digits of 26 characters, and a time stamp of 36
+broken : list_any is_nowrap (texts ("word" ∷ "2026-W18" ∷ "2 May" ∷ "12345678901234567890123456" ∷ "2026-05-02T12:30:00.1234567890+01:00" ∷ [])) ≡ false
 unfolding chars lib.Utf8.encode ucd_category is_neutral is_number
 broken = refl
 

@@ -4,7 +4,7 @@ use Rattle.std.specs.Str.{chars}
 use Rattle.csv_tables.proofs.NoWrapFieldLemmas.{first-two, last, none}
 use Rattle.csv_records.specs.Number.{is_neutral, is_number}
 use Rattle.csv_tables.specs.NoWrap.{is_of_dates}
-use Rattle.csv_tables.proofs.nowrap.is_nowrap.Goals as goal
+use Rattle.csv_tables.proofs.nowrap.is_short_value.Goals as goal
 
 pub returns-then-are_of_dates : goal.returns-then-are_of_dates
 returns-then-are_of_dates c =
