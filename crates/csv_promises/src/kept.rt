@@ -24,12 +24,12 @@ use std::alloc::Global;
 /// width. The fields of expanded records are at the left.
 ///
 /// Under `--expanded auto` no number and no date is split over lines, if records aren't expanded. A
-/// column is at least as wide as its widest field if all of its fields are neutral, numbers or dates
-/// of at most 25 characters, or time stamps of at most 35. So is the column of record numbers. If
-/// no width is kept to, every column is at least as wide as its widest text, that of the header
-/// included, under each expansion. A text of more than 65535 terminal columns counts as one of 65535. In an expanded
-/// record a number or date isn't split if the width has room for it beside borders, paddings and
-/// four terminal columns for names.
+/// column is at least as wide as its widest field if all of its fields are neutral, numbers or
+/// dates of at most 25 characters, or time stamps of at most 35. So is the column of record
+/// numbers. If no width is kept to, every column is at least as wide as its widest text, that of
+/// the header included, under each expansion. A text of more than 65535 terminal columns counts as
+/// one of 65535. In an expanded record a number or date isn't split if the width has room for it
+/// beside borders, paddings and four terminal columns for names.
 ///
 /// It is `None` if the arguments ask for `--ansi`, Markdown, a height or no drawing, if the whole
 /// input can't be read or drawn so, or if memory runs out.
