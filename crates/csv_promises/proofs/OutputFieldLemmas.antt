@@ -1,18 +1,18 @@
 -- What is written of records shows all of their fields.
-use Rattle.std.proofs.Common.{◌≡◌, ◌≤◌, ◌<◌, ◌==◌, decimal, filter, is_some, ◌||◌, ◌&&◌, inl, inr, ℕ, zero, suc, ◌+◌, Bool, true, false, List, [], ◌∷◌, ◌++◌, Option, Some, None, drop, filter_map, flat_map, length, map, max, nat_lt, take, refl, sym, ap, ap₂, ◌∙◌, subst, arith, append_assoc, length-append, slice_index_or, unwrap_or}
+use Rattle.std.proofs.Common.{◌≡◌, ◌≤◌, ◌==◌, decimal, filter, is_some, ◌||◌, ◌&&◌, inl, inr, ℕ, zero, suc, ◌+◌, Bool, true, false, List, [], ◌∷◌, ◌++◌, Option, Some, None, drop, flat_map, length, map, max, nat_lt, take, refl, sym, ap, ap₂, ◌∙◌, subst, arith, append_assoc, length-append, slice_index_or, unwrap_or}
 use Rattle.std.specs.List.{All, AllZip, range_with_len}
 use Rattle.std.specs.Prelude.{if◌then◌else◌, option_to_list, slice_get, slice_index, sum_by}
 use Rattle.std.specs.Str.{IsUtf8}
 use Rattle.std.proofs.Math.Seq.{drop-nil, take-length, take-nil}
 use Rattle.std.proofs.lemmas.List.Elements.{All-cons, All-drop, All-head, All-map, All-nil, All-tail, All-take, All-weaker}
 use Rattle.comfy_parts.specs.CellValue.{RowValue}
-use Rattle.comfy_parts.specs.Text.{Text, greatest}
+use Rattle.comfy_parts.specs.Text.{Text}
 use Rattle.comfy_parts.specs.declared.style.cell.CellAlignment.{CellAlignment}
 use Rattle.comfy_table.specs.Drawing.{drawing, drawing_of_infos, infos_of, terminated_text_of}
 use Rattle.comfy_table.specs.Headline.{IsTableDrawing}
 use Rattle.comfy_table.specs.Laws.{IsStyleWithout}
 use Rattle.comfy_table.specs.Parts.{ArrangedValue, with_rows_alone}
-use Rattle.comfy_table.specs.TableValue.{TableValue, cell_content_width, header_and_rows}
+use Rattle.comfy_table.specs.TableValue.{TableValue, header_and_rows}
 use Rattle.csv.specs.Records.{AllText}
 use Rattle.csv_command.proofs.StyleLemmas.{parsed_style_without_controls}
 use Rattle.csv_command.specs.declared.arguments.Invocation.{Invocation}

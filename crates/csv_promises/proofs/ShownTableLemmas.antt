@@ -1,7 +1,7 @@
 -- The table that is drawn of records, and what its parts show.
-use Rattle.std.proofs.Common.{◌≡◌, ◌≤◌, ◌<◌, ◌⊎◌, inl, inr, is_some, ◌||◌, ℕ, Bool, true, false, not, List, [], ◌∷◌, ◌++◌, Option, Some, None, drop, filter, length, max, take, refl, sym, ap, ◌∙◌, subst, arith}
+use Rattle.std.proofs.Common.{◌≡◌, ◌≤◌, ◌⊎◌, inl, inr, is_some, ◌||◌, ℕ, Bool, true, false, not, List, [], ◌∷◌, ◌++◌, Option, Some, None, drop, filter, length, max, take, refl, sym, ap, ◌∙◌, subst, arith}
 use Rattle.std.specs.List.{All, AllByRecursion, AllZip, enumerate_from}
-use Rattle.std.specs.Prelude.{Contains, if◌then◌else◌, option_to_list, slice_get, slice_index}
+use Rattle.std.specs.Prelude.{Contains, if◌then◌else◌, option_to_list, slice_index}
 use Rattle.std.proofs.lemmas.List.Elements.{All-append, All-cons, All-nil, All-contains, All-contains_itself, All-drop, All-from_recursion, All-take, All-weaker, recursion_from_All}
 use Rattle.comfy_parts.proofs.CallerLemmas.{every-parts, every-places, filter_all}
 use Rattle.comfy_parts.specs.CellValue.{ColumnValue, RowValue, is_hidden_column, is_hidden_constraint}
