@@ -35,6 +35,7 @@ sys.path.append(f"{TOP}/tools/make")
 from doc_examples import wrong_examples
 from gallery import is_wrong
 from manual import wrong_files
+from pages import dead_links
 from pictures import wrong_pictures
 
 LAWS_ALONE = ["cluster_width"]  # libraries without code
@@ -221,25 +222,10 @@ def without_source():
     return [it for it in paths if not it.endswith("/Lib.antt") and not re.match(source, text_of(it))]
 
 
-def anchor_of(heading):
-    """The name of a heading in a link."""
-    return re.sub(r"[^\w\- ]", "", heading.lower()).replace(" ", "-")
-
-
 def wrong_links():
     """The links of the pages to files or headings that don't exist."""
-    wrong = []
-    for page in (it for pattern in LINKED for it in glob.glob(pattern, root_dir=TOP)):
-        for link in re.findall(r"\]\(([^)\s]+)\)", text_of(page)):
-            if link.startswith("https://"):
-                continue
-            path, _, anchor = link.partition("#")
-            target = os.path.normpath(os.path.join(os.path.dirname(page), path)) if path else page
-            if not os.path.exists(f"{TOP}/{target}"):
-                wrong.append(f"{page} links to {link}, which doesn't exist")
-            elif anchor and anchor not in map(anchor_of, re.findall(r"^#+ (.*)$", text_of(target), re.M)):
-                wrong.append(f"{page} links to {link}, which isn't a heading")
-    return wrong
+    pages = (it for pattern in LINKED for it in glob.glob(pattern, root_dir=TOP))
+    return [f"{page} links to {link}, which {fault}" for page in pages for link, fault in dead_links(page, TOP)]
 
 
 def main():

@@ -1,5 +1,6 @@
 #!/usr/bin/env python3
 """Makes csvtable's man page, its completions for bash and zsh, and the list of options in docs/CSVTABLE.md, from its options.
+The man page also has the sections of docs/CSVTABLE.md, and one of SECURITY.md.
 
     tools/make/manual.py
 
@@ -10,6 +11,7 @@ import re
 import sys
 import textwrap
 
+from pages import with_links
 from project import TOP, text_of
 
 SPEC = r'^    "\w+", "(.+?)", (?:None|Some\(\'(.)\'\)), (\w+), "(.*?)",\s+"((?:[^"\\]|\\[\s\S])*)";'
@@ -50,16 +52,55 @@ SPECS = [Option(*it) for it in re.findall(SPEC, SOURCE, re.M)]
 OPTIONS = [it for it in SPECS if it.kind != "File"]
 
 
+ESCAPES = {"\\": "\\e", "-": "\\-", "'": "\\(aq", '"': "\\(dq", "`": "\\(ga", "^": "\\(ha", "~": "\\(ti"}
+
+
+def literal(text):
+    """A text for man as it is, in ASCII, with the hyphens of terminals."""
+    return "".join(ESCAPES.get(it, it if it.isascii() else f"\\[u{ord(it):04X}]") for it in text)
+
+
+def bold(text):
+    return f"\\fB{literal(text)}\\fR"
+
+
 def escaped(text):
-    """A text for man, with the hyphens of terminals, and with code in bold."""
-    text = text.replace("\\", "\\e").replace("-", "\\-").replace("'", "\\(aq").replace("…", "\\[u2026]")
-    text = re.sub(r"`(.+?)`", r"\\fB\1\\fR", text)
-    return "\n".join(textwrap.wrap(text, 78, break_long_words=False, break_on_hyphens=False))
+    """A text of a page for man: code and what is bold in bold, in lines of the source of at most 78 characters."""
+    made = ""
+    for part in re.split(r"(`` ` ``|`[^`]*`)", text):
+        if part.startswith("`"):
+            made += bold("`" if part == "`` ` ``" else part[1:-1])
+        else:
+            made += re.sub(r"\*(.+?)\*", r"\\fI\1\\fR", re.sub(r"\*\*(.+?)\*\*", r"\\fB\1\\fR", literal(part)))
+    return "\n".join(textwrap.wrap(made, 78, break_long_words=False, break_on_hyphens=False))
 
 
-def command(text):
-    """A command for man, on one line. Quotes are escaped, because they would end the argument of a macro."""
-    return "\\fB" + text.replace("\\", "\\e").replace("-", "\\-").replace("'", "\\(aq").replace('"', "\\(dq") + "\\fR"
+def page_for_man(path):
+    """A page without links. What is installed beside the man page has its place there."""
+
+    def link_to(target, _, text):
+        return text if target == path else f"`share/doc/csvtable/{text}`" if target == "docs/PROVED.md" else None
+
+    return with_links(path, link_to)
+
+
+def blocks(text):
+    """The paragraphs, lists and examples of a text, for man."""
+    for block in re.findall(r"```.*?```|(?:(?!\n\n).)+", text, re.S):
+        block = block.strip("\n")
+        if block.startswith("```"):
+            yield from [".PP", ".EX", literal("\n".join(block.split("\n")[1:-1])), ".EE"]
+        elif block.startswith("- "):
+            for item in block.split("\n"):
+                yield from [".IP \\(bu 2", escaped(item[2:])]
+        elif block:
+            yield from [".PP", escaped(block)]
+
+
+def section(path, heading, name=None):
+    """A section of a page for man, under its heading or another name."""
+    text = re.search(rf"^## {heading}\n(.*?)(?=^## |\Z)", page_for_man(path), re.M | re.S)[1]
+    return [f".SH {literal((name or heading).upper())}", *blocks(text)]
 
 
 def examples():
@@ -69,29 +110,28 @@ def examples():
 
 
 def man_page():
+    before, after = re.search(r"^# csvtable\n(.*?)<!-- options -->.*<!-- end of options -->\n(.*?)^## ", page_for_man(PAGE), re.M | re.S).groups()
     lines = [f'.TH CSVTABLE 1 {DATE} "csvtable {VERSION}" "User Commands"']
     lines += [".SH NAME", f"csvtable \\- {ABOUT[0].lower()}{ABOUT[1:]}"]
     lines += [".SH SYNOPSIS", ".B csvtable", "[\\fIoptions\\fR]", "[\\fIFILE\\fR]"]
-    lines += [".SH DESCRIPTION", "Each record is a row.", "Columns of numbers are right-aligned."]
-    lines += [escaped("In a terminal the table is at most as wide as the terminal. If columns would be too narrow, each record is drawn as names and fields.")]
-    lines += [escaped("Without FILE, or with `-`, it reads standard input. If that is a terminal, a line on standard error says so.")]
-    lines += [escaped("No control character of a file is sent to the terminal, except in the colours that `--ansi` keeps.")]
-    lines += [".SH OPTIONS"]
+    lines += [".SH DESCRIPTION", *blocks(before)]
+    lines += [".SH OPTIONS", *blocks(after)]
     for option in OPTIONS:
         value = f" \\fI{option.value}\\fR" if option.value else ""
-        lines += [".TP", ", ".join(f"\\fB{escaped(it)}\\fR" for it in option.forms()) + value, escaped(option.help)]
+        lines += [".TP", ", ".join(map(bold, option.forms())) + value, escaped(option.help)]
         if option.kind == "Style":
             lines += [".br", escaped(", ".join(option.values))]
     lines += [".TP", "\\fB\\-h\\fR, \\fB\\-\\-help\\fR", "Print help", ".TP", "\\fB\\-V\\fR, \\fB\\-\\-version\\fR", "Print version"]
-    lines += [".SH EXIT STATUS", ".TP", "0", "The drawing was written.", ".TP", "1"]
-    lines += [escaped("The input or the output failed, the input isn't text, isn't in its encoding or has a quote that is never closed, a column doesn't exist, or memory ran out.")]
-    lines += [".TP", "2", escaped("The arguments are unknown.")]
-    lines += [".SH ENVIRONMENT", ".TP", ".B COLUMNS"]
-    lines += ["The width of a terminal.", escaped("If it isn't set, csvtable asks the terminal by stty. If stty has no answer, the width is 80.")]
+    for heading in ("Input", "Columns", "Width", "Expanded records", "Frame", "Numbers", "Markdown"):
+        lines += section(PAGE, heading)
+    lines += section(PAGE, "Errors and status", "Exit status")
+    lines += [".SH ENVIRONMENT", ".TP", ".B COLUMNS", "The width of a terminal, as WIDTH says."]
     lines += [".TP", ".B NO_COLOR", escaped("If it is set and isn't empty, the header isn't bold unless `--color always` is given.")]
     lines += [".SH EXAMPLES"]
     for example, purpose in examples():
-        lines += [".TP", command(example), escaped(purpose[0].upper() + purpose[1:])]
+        lines += [".TP", bold(example), escaped(purpose[0].upper() + purpose[1:])]
+    lines += section(PAGE, "Files of strangers")
+    lines += section("SECURITY.md", "Reporting a fault", "Reporting bugs")
     lines += [".SH SEE ALSO", ".BR column (1),", ".BR iconv (1),", ".BR less (1),", ".BR mlr (1)"]
     return "\n".join(lines) + "\n"
 

@@ -1,0 +1,88 @@
+#!/usr/bin/env python3
+"""Writes pages of this repository into the folder of a package, so that no link of them is dead.
+
+    tools/make/pages.py FOLDER SOURCE=PLACE..
+
+SOURCE is a path of this repository, and PLACE its path in FOLDER. Pages are written there. Other files and folders are only named
+here, and the caller puts them there. A link to one of these paths leads to its place. In place of any other link, the page says
+that the file is in the sources.
+"""
+import os
+import posixpath
+import re
+import sys
+
+from project import text_of
+
+LINK = r"\[([^\[\]\n]*)\]\(([^)\s]+)\)"
+
+
+def anchor_of(heading):
+    """The name of a heading in a link."""
+    return re.sub(r"[^\w\- ]", "", heading.lower()).replace(" ", "-")
+
+
+def dead_links(page, folder):
+    """The links of a page to files or headings that a folder doesn't have, and what is wrong with each."""
+    with open(f"{folder}/{page}", encoding="utf-8") as file:
+        text = file.read()
+    for _, link in re.findall(LINK, text):
+        path, _, anchor = link.partition("#")
+        target = posixpath.normpath(posixpath.join(posixpath.dirname(page), path)) if path else page
+        if link.startswith("https://"):
+            continue
+        if target.startswith("../") or not os.path.exists(f"{folder}/{target}"):
+            yield link, "doesn't exist"
+        elif anchor:
+            with open(f"{folder}/{target}", encoding="utf-8") as file:
+                if anchor not in map(anchor_of, re.findall(r"^#+ (.*)$", file.read(), re.M)):
+                    yield link, "isn't a heading"
+
+
+def without_link(text, path, before):
+    """What a page says in place of a link with this text, to a file that isn't there, after the text before it."""
+    name, line = f"`{path}` of the sources", before.rpartition("\n")[2]
+    if path.removesuffix(".md").endswith(text.strip("`").removesuffix(".md")):
+        return name
+    return f"{text}: {name}" if line.count("(") > line.count(")") else f"{text} ({name})"
+
+
+def with_links(page, link_to):
+    """A page of the sources with other links. `link_to(path, anchor, text)` returns one, or None for a file that isn't there."""
+    whole = text_of(page)
+
+    def replaced(found):
+        text, (path, _, anchor) = found[1], found[2].partition("#")
+        if found[2].startswith("https://"):
+            return found[0]
+        path = posixpath.normpath(posixpath.join(posixpath.dirname(page), path)) if path else page
+        return link_to(path, anchor, text) or without_link(text, path, whole[: found.start()])
+
+    return re.sub(LINK, replaced, whole)
+
+
+def page_in(page, places):
+    """A page as a package has it, with the places of sources in the package."""
+
+    def link_to(path, anchor, text):
+        for source, place in places.items():
+            if path == source or path.startswith(f"{source}/"):
+                target = posixpath.relpath(place + path[len(source) :], posixpath.dirname(places[page]) or ".")
+                return f"[{text}]({'' if path == page else target}{'#' + anchor if anchor else ''})"
+
+    return with_links(page, link_to)
+
+
+def main():
+    if len(sys.argv) < 3:
+        sys.exit(__doc__)
+    folder, places = sys.argv[1], dict(it.split("=") for it in sys.argv[2:])
+    for page, place in places.items():
+        if page.endswith(".md"):
+            os.makedirs(os.path.dirname(f"{folder}/{place}"), exist_ok=True)
+            with open(f"{folder}/{place}", "w", encoding="utf-8") as file:
+                file.write(page_in(page, places))
+
+
+if __name__ == "__main__":
+    main()
