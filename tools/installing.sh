@@ -26,9 +26,10 @@ put_library() {
   put 644 crates/comfy_c/out/libcomfy_c.a lib
   put 644 "$(dirname "$(rt doc)")/c/liblibc_c.a" lib
   put 644 packages/c/comfy_table.pc lib/pkgconfig
+  tools/make/pages.py "$prefix" docs/PROVED.md=share/doc/comfy_table/PROVED.md docs/DIFFERENCES.md=share/doc/comfy_table/DIFFERENCES.md
 }
 
-# The program csvtable with its page and its completions. It is in libexec/, and bin/csvtable is a script that runs it with
+# The program csvtable with its pages and its completions. It is in libexec/, and bin/csvtable is a script that runs it with
 # the width of the terminal.
 put_csvtable() {
   build csvtable csvtable rt run -- --version
@@ -37,4 +38,5 @@ put_csvtable() {
   put 644 share/csvtable.1 share/man/man1
   put 644 share/csvtable.bash share/bash-completion/completions csvtable
   put 644 share/_csvtable share/zsh/site-functions
+  tools/make/pages.py "$prefix" docs/CSVTABLE.md=share/doc/csvtable/CSVTABLE.md docs/PROVED.md=share/doc/csvtable/PROVED.md
 }

@@ -1,6 +1,6 @@
 #!/bin/sh
 # Makes all that a release has in a folder: a crate for Rust, for each target a wheel for Python and an archive with the library
-# for C, its header and its file for pkg-config, and of the program csvtable, with its page and its completions, a Debian package
+# for C, its header and its file for pkg-config, and of the program csvtable, with its pages and its completions, a Debian package
 # and an archive. For a browser it makes the page csvtable.html. If a program for a file isn't there, the file is left out, and
 # the last line says so.
 # No network is needed. What isn't built yet is built first, which proves it. Equal files make equal packages.
@@ -78,6 +78,8 @@ END
 name=comfy_table_proved-$version
 mkdir "$work/$name"
 cp -r packages/rust/* LICENSE "$work/$name"
+tools/make/pages.py "$work/$name" packages/rust/README.md=README.md packages/rust/examples=examples docs/PROVED.md=docs/PROVED.md \
+  docs/DIFFERENCES.md=docs/DIFFERENCES.md > /dev/null
 for folder in "$work"/lib/*; do
   system=$(basename "$folder") archive=comfy_table-$version-$(basename "$folder")
   cp -r "$prefix" "$work/$archive"
@@ -91,14 +93,14 @@ for folder in "$work"/lib/*; do
     cp -r packages/python "$work/python"
     cp LICENSE "$work/python"
     cp "$shared" "$work/python/src/comfy_table_proved"
+    # The wheel's description has no links, and the package has the pages in its folder docs.
+    tools/make/pages.py "$work/python" packages/python/README.md=README.md > /dev/null
+    tools/make/pages.py "$work/python/src/comfy_table_proved" packages/python/README.md=docs/README.md \
+      packages/python/TABULATE.md=docs/TABULATE.md docs/PROVED.md=docs/PROVED.md > /dev/null
     (cd "$work/python" && python3 build_wheel.py "$out" > /dev/null)
     rm -r "$work/python"
   done
 done
-# The pages that its README names are in the crate too.
-mkdir "$work/$name/docs"
-cp docs/DIFFERENCES.md docs/PROVED.md "$work/$name/docs"
-sed -i 's|](../../docs/|](docs/|g' "$work/$name/README.md"
 packed "$work" "$name" | gzip -9n > "$out/$name.crate"
 
 # The page for a browser is one file.

@@ -14,7 +14,7 @@
  *    COMFY_OUT_OF_MEMORY isn't proved.
  *  - The drawing, the message about an input, *needed and the bytes that stay unchanged are as its comment says.
  *  - Texts are split by their lengths, and arguments at zero bytes. Both mean what the comment says.
- *  - The lines that comfy_cells_draw writes keep all promises on a table's lines in docs/PROVED.md of the sources. With
+ *  - The lines that comfy_cells_draw writes keep all promises on a table's lines in share/doc/comfy_table/PROVED.md. With
  *    COMFY_FORM_TRIMMED this holds before the white space at the ends of lines is removed, so they aren't equally wide.
  *  - The table that comfy_rows_draw writes keeps all promises on rows there: no text is lost, edges are straight, and a width
  *    holds, under the conditions of that page. This is proved without looks and heights, and for columns whose only settings are
@@ -42,7 +42,7 @@
  * and no zero byte follows.
  *
  * Link libcomfy_c.a, and after it liblibc_c.a, through which it allocates memory. For Linux on x86-64 the second file is one of the
- * Rattle toolchain; docs/PROVED.md of the sources says where it comes from elsewhere.
+ * Rattle toolchain; share/doc/comfy_table/PROVED.md says where it comes from elsewhere.
  */
 #ifndef COMFY_TABLE_H
 #define COMFY_TABLE_H
@@ -399,7 +399,7 @@ struct comfy_cells_settings {
 
 /*
  * Draws a table of cells, rows and columns into the caller's buffer, as comfy-table 8.0.1 does, except for the differences that
- * docs/DIFFERENCES.md of the sources lists.
+ * share/doc/comfy_table/DIFFERENCES.md lists.
  *
  * texts has the texts of all cells in order, without anything between them. cells has the length and the settings of each text,
  * rows the number of cells of each row, and columns the settings of each column. A cell without a column isn't drawn. indicator is

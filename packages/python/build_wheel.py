@@ -17,7 +17,7 @@ _LIBRARIES = (".so", ".dylib", ".dll")
 
 
 def build_wheel(wheel_directory, config_settings=None, metadata_directory=None):
-    """Writes the wheel to a folder, and returns its name. tools/package.sh puts the shared library and the licence there first."""
+    """Writes the wheel to a folder, and returns its name. tools/package.sh first puts the library, the pages and the licence there."""
     project = tomllib.loads((_HERE / "pyproject.toml").read_text())["project"]
     name = f"{project['name']}-{project['version']}"
     files = _package(project["name"])
@@ -64,7 +64,7 @@ def _tags(tag):
 def _package(name):
     """The files of the package by their paths in the wheel."""
     source = _HERE / "src"
-    paths = [path for path in sorted((source / name).rglob("*")) if path.is_file() and path.name.endswith((".py", ".typed", *_LIBRARIES))]
+    paths = [path for path in sorted((source / name).rglob("*")) if path.is_file() and path.name.endswith((".py", ".typed", ".md", *_LIBRARIES))]
     if not any(path.name.endswith(_LIBRARIES) for path in paths):
         sys.exit("the shared library isn't there; tools/package.sh puts it into the package's folder")
     return {path.relative_to(source).as_posix(): path.read_bytes() for path in paths}

@@ -3,9 +3,9 @@
 
     tools/make/pages.py FOLDER SOURCE=PLACE..
 
-SOURCE is a path of this repository, and PLACE its path in FOLDER. Pages are written there. Other files and folders are only named
-here, and the caller puts them there. A link to one of these paths leads to its place. In place of any other link, the page says
-that the file is in the sources.
+SOURCE is a path of this repository, and PLACE its path in FOLDER. Pages are written there, and their paths are printed. The caller
+puts other files and folders there. A link to one of these paths leads to its place. In place of any other link, the page says that
+the file is one of the sources.
 """
 import os
 import posixpath
@@ -79,9 +79,12 @@ def main():
     folder, places = sys.argv[1], dict(it.split("=") for it in sys.argv[2:])
     for page, place in places.items():
         if page.endswith(".md"):
-            os.makedirs(os.path.dirname(f"{folder}/{place}"), exist_ok=True)
-            with open(f"{folder}/{place}", "w", encoding="utf-8") as file:
+            path = os.path.join(folder, place)
+            os.makedirs(os.path.dirname(path), exist_ok=True)
+            with open(path, "w", encoding="utf-8") as file:
                 file.write(page_in(page, places))
+            os.chmod(path, 0o644)
+            print(path)
 
 
 if __name__ == "__main__":

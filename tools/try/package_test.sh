@@ -18,6 +18,7 @@ tools/package.sh "$work/packages"
 tools/package.sh "$work/again" > /dev/null
 diff -r "$work/packages" "$work/again"
 DPKG_DEB= tools/package.sh "$work/without_dpkg" > /dev/null
+tools/try/package_links.py "$work/packages"
 export CSVTABLE="$top/crates/csvtable/out/csvtable" PYTHONDONTWRITEBYTECODE=1
 tried="csvtable, C"
 
@@ -197,9 +198,6 @@ END
   "$work/project/target/debug/boats" | sed 's/.\[[0-9;]*m//g' | cmp "$work/wanted" -
   compare_csv "$work/project/target/debug/csv"
   try_in_terminal "$work/project/target/debug/bikes"
-  for page in $(grep -o '](docs/[A-Za-z.]*' "$work/crate/README.md" | cut -c 3-); do
-    [ -e "$work/crate/$page" ]
-  done
   try_patch
   try_targets
   try_refusals
