@@ -16,7 +16,7 @@ PAGE = "docs/GALLERY.md"
 
 # The names of the styles, each with what its lines are for.
 STYLES = {
-    "rounded": "the style without `-s`. It has lines between rows if a row has several lines",
+    "rounded": "the style if `-s` isn't given. It has lines between rows if a row has several lines",
     "box": "the same, with square corners",
     "grid": "lines between all rows",
     "ascii": "the same, with ASCII characters",
@@ -103,7 +103,7 @@ def page():
     ledger = block(text_of("crates/csvtable/stdout").splitlines())
     return f"""# Gallery
 
-Each drawing on this page is a stored output, with which a test compares what is drawn. `tools/make/gallery.py` makes the page.
+Each drawing on this page is stored, and a test compares it with what is drawn. `tools/make/gallery.py` makes the page.
 
 ## A ledger
 
