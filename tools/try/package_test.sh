@@ -80,6 +80,7 @@ try_debian() {
   dpkg_in --install "$1" > /dev/null
   try_csvtable "$root/usr"
   zcat "$root/usr/share/man/man1/csvtable.1.gz" | cmp - share/csvtable.1
+  ! command -v groff > /dev/null || [ -z "$(groff -man -Tutf8 -ww share/csvtable.1 2>&1 > /dev/null)" ]
   cmp share/csvtable.bash "$root/usr/share/bash-completion/completions/csvtable"
   cmp share/_csvtable "$root/usr/share/zsh/vendor-completions/_csvtable"
   cmp LICENSE "$root/usr/share/doc/csvtable/copyright"
