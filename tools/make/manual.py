@@ -11,7 +11,7 @@ import re
 import sys
 import textwrap
 
-from pages import with_links
+from pages import in_words, with_links
 from project import TOP, text_of
 
 SPEC = r'^    "\w+", "(.+?)", (?:None|Some\(\'(.)\'\)), (\w+), "(.*?)",\s+"((?:[^"\\]|\\[\s\S])*)";'
@@ -79,7 +79,7 @@ def page_for_man(path):
     """A page without links. What is installed beside the man page has its place there."""
 
     def link_to(target, _, text):
-        return text if target == path else f"`share/doc/csvtable/{text}`" if target == "docs/PROVED.md" else None
+        return text if target == path else in_words(text, "share/doc/csvtable/PROVED.md") if target == "docs/PROVED.md" else None
 
     return with_links(path, link_to)
 

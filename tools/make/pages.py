@@ -26,7 +26,7 @@ def dead_links(page, folder):
     """The links of a page to files or headings that a folder doesn't have, and what is wrong with each."""
     with open(f"{folder}/{page}", encoding="utf-8") as file:
         text = file.read()
-    for _, link in re.findall(LINK, text):
+    for link in re.findall(r"\]\(([^)\s]+)\)", text):
         path, _, anchor = link.partition("#")
         target = posixpath.normpath(posixpath.join(posixpath.dirname(page), path)) if path else page
         if link.startswith("https://"):
@@ -39,9 +39,9 @@ def dead_links(page, folder):
                     yield link, "isn't a heading"
 
 
-def without_link(text, path, before):
-    """What a page says in place of a link with this text, to a file that isn't there, after the text before it."""
-    name, line = f"`{path}` of the sources", before.rpartition("\n")[2]
+def in_words(text, path, whose="", before=""):
+    """What a page says in place of a link: its text and the path, and whose it is. The text before it decides on parentheses."""
+    name, line = f"`{path}`{whose}", before.rpartition("\n")[2]
     if path.removesuffix(".md").endswith(text.strip("`").removesuffix(".md")):
         return name
     return f"{text}: {name}" if line.count("(") > line.count(")") else f"{text} ({name})"
@@ -56,7 +56,7 @@ def with_links(page, link_to):
         if found[2].startswith("https://"):
             return found[0]
         path = posixpath.normpath(posixpath.join(posixpath.dirname(page), path)) if path else page
-        return link_to(path, anchor, text) or without_link(text, path, whole[: found.start()])
+        return link_to(path, anchor, text) or in_words(text, path, " of the sources", whole[: found.start()])
 
     return re.sub(LINK, replaced, whole)
 
