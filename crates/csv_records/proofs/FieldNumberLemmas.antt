@@ -15,7 +15,7 @@ use Rattle.std.specs.Str.{IsAscii, chars}
 use Rattle.comfy_parts.specs.Text.{Text, is_printable_ascii}
 use Rattle.csv_records.proofs.FigureLemmas.{by_end, to_other-stops}
 use Rattle.csv_records.specs.Decimals.{digits_in, fraction_of, number_of, number_with}
-use Rattle.csv_records.specs.Number.{back_of, figure_of, from_other, front_of, halves, is_decimal, is_digits, is_enclosed, is_figure, is_fraction, is_inner, is_name, is_number, is_outer, is_scientific, is_sign, is_signed, is_space, is_written, to_other, trimmed, unsigned, without_first, without_spaces_before, is_amount, before, begins}
+use Rattle.csv_records.specs.Number.{back_of, figure_of, from_other, front_of, halves, is_decimal, is_digits, is_enclosed, is_figure, is_fraction, is_inner, is_name, is_number, is_outer, is_scientific, is_sign, is_signed, is_signed_later, is_space, is_written, to_other, trimmed, unsigned, without_first, without_spaces_before, is_amount, begins}
 use Rattle.csv_records.specs.declared.field_number.FieldNumber.{FieldNumber}
 use Rattle.csv_records.specs.declared.field_number.Fraction.{Fraction}
 
@@ -115,7 +115,7 @@ a_sign b is =
     let own : chars (b ∷ []) ≡ b ∷ [] = characters (b ∷ []) (rw written refl) in
     let begins_so : begins is_sign (chars (b ∷ [])) ≡ true = ap (begins is_sign) own ∙ sign in
     let none : without_first (b ∷ []) ≡ [] = ap (λ (cs : List ℕ). encode_utf8_all (drop 1 cs)) own in
-    ap (λ (t : Bool). if t then is_amount (without_first (b ∷ [])) [] else is_amount (before is_sign (b ∷ [])) []) begins_so
+    ap (λ (t : Bool). if t then is_amount (without_first (b ∷ [])) [] else is_signed_later (b ∷ []) []) begins_so
     ∙ ap (λ (t : Text). is_amount t []) none
 
 has_figure : (field : Text) → list_all is_inner (unsigned field) ≡ true → HasFigure field

@@ -196,9 +196,11 @@ is_one p [] = false
 is_one p (c ∷ []) = p c
 is_one p (c ∷ d ∷ cs) = false
 
--- a currency: its character or its code
+-- a currency: its character, its code or its name
 abbrev pub is_money : Text → Bool
-is_money text = is_one is_currency (chars text) || is_code text
+is_money text =
+    is_one is_currency (chars text)
+    || (is_code text || is_among (codes "R$" ∷ codes "kr" ∷ []) text)
 
 -- a unit of sizes: a byte, or a multiple of it
 abbrev pub is_size : Text → Bool
@@ -261,12 +263,20 @@ is_amount front back =
     then is_end back
     else (length back == 0) && is_money (before is_blank front)
 
--- around one with a sign or without: it stands in front, or behind the currency
+-- around one without a sign in front: a minus may directly follow it, as in `1.250,00-`, or a sign
+-- stands behind the currency
+abbrev pub is_signed_later : Text → Text → Bool
+is_signed_later front back =
+    if begins (λ c. c == 0x2D) (chars back)
+    then is_amount front (without_first back)
+    else is_amount (before is_sign front) back
+
+-- around one with a sign or without
 abbrev pub is_signed : Text → Text → Bool
 is_signed front back =
     if begins is_sign (chars front)
     then is_amount (without_first front) back
-    else is_amount (before is_sign front) back
+    else is_signed_later front back
 
 -- around one in parentheses
 abbrev pub is_enclosed : Text → Text → Bool
@@ -293,12 +303,23 @@ is_word word text = bytes_eq (map to_ascii_lowercase text) (map to_ascii_lowerca
 abbrev pub is_missing : Text → Bool
 is_missing text =
     list_any (λ word. is_word word text)
-    (codes "n/a" ∷ codes "na" ∷ codes "null" ∷ codes "nan" ∷ codes "inf" ∷ [])
+    (
+    codes "n/a" ∷ codes "na" ∷ codes "null" ∷ codes "nan" ∷ codes "inf" ∷ codes "none"
+    ∷ codes "#n/a" ∷ (0x5C ∷ codes "n") ∷ codes "(null)" ∷ codes "<null>" ∷ []
+    )
 
--- nothing, a hyphen, or a word for a missing value behind a sign or without one
+-- a hyphen, two points, U+2013 or U+2014
+abbrev pub dashes : List Text
+dashes =
+    codes "-" ∷ codes ".." ∷ encode_utf8_all (0x2013 ∷ []) ∷ encode_utf8_all (0x2014 ∷ []) ∷ []
+
+abbrev pub is_dash : Text → Bool
+is_dash text = is_among dashes text
+
+-- nothing, a dash, or a word for a missing value behind a sign or without one
 abbrev pub is_bare_neutral : Text → Bool
 is_bare_neutral text =
-    ((length text == 0) || bytes_eq text (codes "-")) || is_missing (behind is_sign text)
+    ((length text == 0) || is_dash text) || is_missing (behind is_sign text)
 
 unfoldable pub is_neutral : Text → Bool
 is_neutral field = is_bare_neutral (trimmed field)

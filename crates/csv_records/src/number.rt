@@ -4,7 +4,7 @@ ghost use Rattle.std.specs.Prelude.{◌≡◌, ◌∷◌, ◌++◌, ◌-◌, ◌
 ghost use Rattle.std.specs.List.{list_any, position, prefix_len, suffix_len};
 ghost use Rattle.std.specs.Char.{is_ascii_digit, is_ascii_uppercase};
 ghost use Rattle.std.specs.Str.{IsCharBoundary};
-ghost use Rattle.csv_records.specs.Number.{are_parted_digits, back_of, before, begins, behind, ends, figure_of, from_other, front_of, halves, has_groups, has_groups_before, is_address, is_amount, is_bare_neutral, is_bare_number, is_blank, is_code, is_currency, is_decimal, is_digits, is_enclosed, is_end, is_exponent, is_figure, is_fraction, is_group_len, is_grouped, is_inner, is_missing, is_money, is_name, is_neutral, is_number, is_octet, is_one, is_outer, is_scientific, is_sign, is_signed, is_size, is_space, is_time, is_unit, is_word, to_other, trimmed, without_first, without_last, without_spaces_before, without_spaces_behind};
+ghost use Rattle.csv_records.specs.Number.{are_parted_digits, back_of, before, begins, behind, ends, figure_of, from_other, front_of, halves, has_groups, has_groups_before, is_address, is_amount, is_bare_neutral, is_bare_number, is_blank, is_code, is_currency, is_dash, is_decimal, is_digits, is_enclosed, is_end, is_exponent, is_figure, is_fraction, is_group_len, is_grouped, is_inner, is_missing, is_money, is_name, is_neutral, is_number, is_octet, is_one, is_outer, is_scientific, is_sign, is_signed, is_signed_later, is_size, is_space, is_time, is_unit, is_word, to_other, trimmed, without_first, without_last, without_spaces_before, without_spaces_behind};
 
 use crate::characters::split_first;
 use crate::digits::parse_digits;
@@ -18,6 +18,12 @@ const GROUP_MARKS: [char; 7] = [',', '.', '_', '\'', ' ', '\u{a0}', '\u{202f}'];
 const TIMES: [&str; 9] = [
     "ns", "us", "\u{b5}s", "\u{3bc}s", "ms", "s", "min", "h", "d",
 ];
+
+// Names of currencies that are no character and no code.
+const CURRENCY_NAMES: [&str; 2] = ["R$", "kr"];
+
+// Texts without a letter or a digit for a missing value.
+const DASHES: [&str; 4] = ["-", "..", "\u{2013}", "\u{2014}"];
 
 // The codes of ISO 4217 of currencies in use.
 const CURRENCY_CODES: [&str; 161] = [
@@ -128,6 +134,16 @@ fn is_signed(front: &str, back: &str) -> bool
 {
     match split_first(front) {
         Some((c, rest)) if is_sign(c) => is_amount(rest, back),
+        _ => is_signed_later(front, back),
+    }
+}
+
+// The same without a sign in front: it may be directly after the figure or before it.
+fn is_signed_later(front: &str, back: &str) -> bool
+    ensures { result ≡ is_signed_later front.now back.now }
+{
+    match split_first(back) {
+        Some((c, rest)) if c == '-' => is_amount(front, rest),
         _ => is_amount(before_sign(front), back),
     }
 }
@@ -198,11 +214,11 @@ fn is_time(text: &str) -> bool
     is_among(&TIMES, text)
 }
 
-// A currency: its character or its code.
+// A currency: its character, its code or its name.
 fn is_money(text: &str) -> bool
     ensures { result ≡ is_money text.now }
 {
-    is_currency_character(text) || is_code(text)
+    is_currency_character(text) || is_code(text) || is_among(&CURRENCY_NAMES, text)
 }
 
 fn is_currency_character(text: &str) -> bool
@@ -479,8 +495,8 @@ pub(crate) fn is_digits(bytes: &[u8]) -> bool
     !bytes.is_empty() && are_digits(bytes)
 }
 
-/// Whether a field says nothing of its column: it is empty, a hyphen, or a word for a missing
-/// value. Spaces around it don't count.
+/// Whether a field says nothing of its column: it is empty, a dash, two points, or a word for a
+/// missing value. Spaces around it don't count.
 pub fn is_neutral(field: &str) -> bool
     ensures { result ≡ is_neutral field.now }
 {
@@ -490,7 +506,14 @@ pub fn is_neutral(field: &str) -> bool
 pub(crate) fn is_bare_neutral(text: &str) -> bool
     ensures { result ≡ is_bare_neutral text.now }
 {
-    text.is_empty() || text == "-" || is_missing(behind_sign(text))
+    text.is_empty() || is_dash(text) || is_missing(behind_sign(text))
+}
+
+// A dash, or two points.
+fn is_dash(text: &str) -> bool
+    ensures { result ≡ is_dash text.now }
+{
+    is_among(&DASHES, text)
 }
 
 // A word for a missing value.
@@ -502,6 +525,11 @@ fn is_missing(text: &str) -> bool
         || is_word(text, "null")
         || is_word(text, "nan")
         || is_word(text, "inf")
+        || is_word(text, "none")
+        || is_word(text, "#n/a")
+        || is_word(text, "\\n")
+        || is_word(text, "(null)")
+        || is_word(text, "<null>")
 }
 
 // The same word, in any case of letters.
