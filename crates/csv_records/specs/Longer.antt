@@ -1,6 +1,6 @@
 -- Records that have more fields than the first one.
 -- Source: this library's own.
-use Rattle.std.specs.Prelude.{ℕ, zero, suc, ◌-◌, nat_lt, Bool, List, [], Option, None, drop, length, option_map, slice_get, take, unwrap_or}
+use Rattle.std.specs.Prelude.{ℕ, zero, suc, ◌-◌, ◌==◌, nat_lt, Bool, List, [], Option, None, drop, length, option_map, slice_get, take, unwrap_or}
 use Rattle.std.specs.List.{count_by, position, prefix_len}
 use Rattle.std.specs.Option.{option_map_or}
 use Rattle.comfy_parts.specs.Text.{Text}
@@ -50,8 +50,8 @@ field_count records at = length (unwrap_or (slice_get records at) [])
 abbrev pub is_longer : List (List Text) → List Text → Bool
 is_longer records fields = nat_lt (field_count records 0) (length fields)
 
--- those records: the line and the fields of the first of them, and how many others there
--- are
+-- those records: the line and the fields of the first of them, how many others there are, and
+-- whether these are all that follow
 abbrev pub longer_at : (ℕ → ℕ) → List (List Text) → ℕ → LongRecords
 longer_at line_of records at =
     record {
@@ -59,6 +59,7 @@ longer_at line_of records at =
       fields = field_count records at;
       first_fields = field_count records 0;
       others = count_by (is_longer records) records - 1;
+      lasts = count_by (is_longer records) records - 1 == (length records - at) - 1;
     }
 
 abbrev pub longer_by : (ℕ → ℕ) → List (List Text) → Option LongRecords

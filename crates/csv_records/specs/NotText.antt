@@ -1,23 +1,37 @@
 -- Signs that an input is another thing than CSV in UTF-8.
--- Source: this library's own; RFC 1952 for gzip, PKWARE's APPNOTE for zip.
-use Rattle.std.specs.Prelude.{ℕ, Bool, false, ◌==◌, ◌&&◌, ◌||◌, [], ◌∷◌, Option, Some, None, bytes_eq, drop, is_some, map, option_map, take, if◌then◌else◌}
+-- Source: this library's own; RFC 1952 (gzip), RFC 8878 (zstd), PKWARE's APPNOTE, ISO 32000 (PDF).
+use Rattle.std.specs.Prelude.{ℕ, Bool, false, ◌==◌, ◌&&◌, ◌||◌, [], ◌∷◌, Option, Some, None, bytes_eq, codes, drop, is_some, length, map, option_map, take, if◌then◌else◌}
 use Rattle.std.specs.Char.{is_ascii_whitespace}
 use Rattle.std.specs.List.{position, prefix_len}
+use Rattle.std.specs.Option.{option_or}
 use Rattle.comfy_parts.specs.Text.{Text}
 use Rattle.csv_records.specs.Lines.{below_lines}
 use Rattle.csv_records.specs.Encoding.{marked_order}
 use Rattle.csv_records.specs.Input.{line_number}
+use Rattle.csv_records.specs.Number.{is_word}
 use Rattle.csv_records.specs.declared.encoding.Encoding.{Encoding}
 use Rattle.csv_records.specs.declared.not_text.NotText.{NotText}
-use Rattle.csv_records.specs.declared.not_text.NotText.TheVariants.{Binary, Gzip, Json, Utf16, Zip}
+use Rattle.csv_records.specs.declared.not_text.NotText.TheVariants.{Binary, Bzip2, Gzip, Html, Json, Pdf, Utf16, Xz, Zip, Zstd}
 
--- a file of gzip begins so
-abbrev pub is_gzip : Text → Bool
-is_gzip input = bytes_eq (take 2 input) (0x1F ∷ 0x8B ∷ [])
+-- these bytes are in front of others
+abbrev pub begins_with : Text → Text → Bool
+begins_with front bytes = bytes_eq (take (length front) bytes) front
 
--- and a zip archive so: `PK`, 3, 4
-abbrev pub is_zip : Text → Bool
-is_zip input = bytes_eq (take 4 input) (0x50 ∷ 0x4B ∷ 0x03 ∷ 0x04 ∷ [])
+-- a word is in front, in any case of letters
+abbrev pub begins_with_word : Text → Text → Bool
+begins_with_word word bytes = is_word word (take (length word) bytes)
+
+-- what an input is that begins as files of some kinds do; those of bzip2 do so if their blocks have
+-- the usual size
+abbrev pub not_text_by_front : Text → Option NotText
+not_text_by_front input =
+    if begins_with (0x1F ∷ 0x8B ∷ []) input then Some Gzip
+    else if begins_with (0x50 ∷ 0x4B ∷ 0x03 ∷ 0x04 ∷ []) input then Some Zip
+    else if begins_with (0xFD ∷ 0x37 ∷ 0x7A ∷ 0x58 ∷ 0x5A ∷ 0x00 ∷ []) input then Some Xz
+    else if begins_with (0x28 ∷ 0xB5 ∷ 0x2F ∷ 0xFD ∷ []) input then Some Zstd
+    else if begins_with (codes "BZh91AY&SY") input then Some Bzip2
+    else if begins_with (codes "%PDF-") input then Some Pdf
+    else None
 
 -- of the first four bytes every second one is NUL and no other, as where UTF-16 has two characters
 -- below U+0100
@@ -53,17 +67,23 @@ is_like_json text =
     let first = without_front text in
     begins_json first (without_front (drop 1 first))
 
+-- an HTML page begins so, perhaps below white space
+abbrev pub is_html : Text → Bool
+is_html text =
+    begins_with_word (codes "<!doctype html") (without_front text)
+    || begins_with_word (codes "<html") (without_front text)
+
 -- what bytes below so many lines are
 abbrev pub not_text_below : ℕ → Text → Option NotText
 not_text_below above bytes =
-    if is_like_json bytes then Some Json else not_text_by_nuls above bytes
+    if is_like_json bytes then Some Json
+    else if is_html bytes then Some Html
+    else not_text_by_nuls above bytes
 
 -- what an input is by its first bytes, or by what stands below the lines that are left out
 abbrev pub not_text_in : ℕ → Text → Option NotText
 not_text_in skip input =
-    if is_gzip input then Some Gzip
-    else if is_zip input then Some Zip
-    else not_text_below skip (below_lines skip input)
+    option_or (not_text_by_front input) (not_text_below skip (below_lines skip input))
 
 -- what it is for all that is asked for: such signs count where no encoding is asked for, and no
 -- mark says that it is UTF-16

@@ -23,6 +23,8 @@ pub struct LongRecords {
     pub first_fields: usize,
     /// How many others have more than the first.
     pub others: usize,
+    /// Whether the others are all that follow.
+    pub lasts: bool,
 }
 
 /// Those of these records of a text, which follow its line that names the delimiter.
@@ -44,11 +46,13 @@ pub(crate) fn longer_records(
     let before = first_longer(records, first_fields)?;
     let unmarked = without_utf8_mark(rest).as_bytes();
     let from = skip_records(unmarked, before, delimiter, options.has_quotes);
+    let others = count_longer(records, first_fields).saturating_sub(1);
     Some(LongRecords {
         line: line_before(options.skip, text, from.len()),
         fields: fields_at(records, before),
         first_fields,
-        others: count_longer(records, first_fields).saturating_sub(1),
+        others,
+        lasts: others == records.len().saturating_sub(before).saturating_sub(1),
     })
 }
 

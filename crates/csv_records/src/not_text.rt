@@ -2,7 +2,7 @@
 
 ghost use Rattle.std.specs.Prelude.{◌≡◌, ◌==◌};
 ghost use Rattle.std.specs.List.{position};
-ghost use Rattle.csv_records.specs.NotText.{not_text_below, not_text_by_nuls, not_text_for, not_text_in, begins_json, is_gzip, is_like_json, is_like_utf16, is_zip, nul_line, without_front};
+ghost use Rattle.csv_records.specs.NotText.{begins_json, begins_with, begins_with_word, is_html, is_like_json, is_like_utf16, not_text_below, not_text_by_front, not_text_by_nuls, not_text_for, not_text_in, nul_line, without_front};
 
 use crate::encoding::{Encoding, is_marked};
 use crate::lines::below_lines;
@@ -19,9 +19,25 @@ pub enum NotText {
     /// A zip archive, as many spreadsheets are: it begins with `PK` and the bytes 3 and 4.
     #[error("a zip archive")]
     Zip,
+    /// A file of xz: it begins with the byte 0xFD, `7zXZ` and NUL.
+    #[error("compressed by xz")]
+    Xz,
+    /// A file of zstd: it begins with the bytes 0x28, 0xB5, 0x2F and 0xFD.
+    #[error("compressed by zstd")]
+    Zstd,
+    /// A file of bzip2 with blocks of the usual size: it begins with `BZh91AY&SY`.
+    #[error("compressed by bzip2")]
+    Bzip2,
+    /// A PDF document: it begins with `%PDF-`.
+    #[error("a PDF document")]
+    Pdf,
     /// JSON: the first two bytes that are no white space are `{"`, `[{`, `[[` or `["`.
     #[error("JSON")]
     Json,
+    /// An HTML page: it begins with `<!doctype html` or `<html` in any case of letters, perhaps
+    /// after white space.
+    #[error("an HTML page")]
+    Html,
     /// UTF-16 without a byte-order mark: of the first four bytes every second one is NUL, and no
     /// other.
     #[error("UTF-16 without a mark")]
@@ -47,13 +63,38 @@ pub(crate) fn not_text_for(encoding: Option<Encoding>, skip: usize, input: &[u8]
 fn not_text_in(skip: usize, input: &[u8]) -> Option<NotText>
     ensures { result ≡ not_text_in skip input.now }
 {
-    if is_gzip(input) {
-        Some(NotText::Gzip)
-    } else if is_zip(input) {
-        Some(NotText::Zip)
-    } else {
-        not_text_below(skip, below_lines(input, skip))
+    match not_text_by_front(input) {
+        Some(kind) => Some(kind),
+        None => not_text_below(skip, below_lines(input, skip)),
     }
+}
+
+// The kind of an input that begins as files of that kind do.
+fn not_text_by_front(input: &[u8]) -> Option<NotText>
+    ensures { result ≡ not_text_by_front input.now }
+{
+    if begins_with(input, b"\x1F\x8B") {
+        Some(NotText::Gzip)
+    } else if begins_with(input, b"PK\x03\x04") {
+        Some(NotText::Zip)
+    } else if begins_with(input, b"\xFD7zXZ\0") {
+        Some(NotText::Xz)
+    } else if begins_with(input, b"\x28\xB5\x2F\xFD") {
+        Some(NotText::Zstd)
+    } else if begins_with(input, b"BZh91AY&SY") {
+        Some(NotText::Bzip2)
+    } else if begins_with(input, b"%PDF-") {
+        Some(NotText::Pdf)
+    } else {
+        None
+    }
+}
+
+// Whether these bytes are in front of others.
+fn begins_with(bytes: &[u8], front: &[u8]) -> bool
+    ensures { result ≡ begins_with front.now bytes.now }
+{
+    &bytes[..front.len().min(bytes.len())] == front
 }
 
 // The kind of bytes below this many lines.
@@ -62,6 +103,9 @@ fn not_text_below(above: usize, bytes: &[u8]) -> Option<NotText>
 {
     if is_like_json(bytes) {
         return Some(NotText::Json);
+    }
+    if is_html(bytes) {
+        return Some(NotText::Html);
     }
     not_text_by_nuls(above, bytes)
 }
@@ -90,16 +134,19 @@ fn begins_json(first: &[u8], second: &[u8]) -> bool
     )
 }
 
-fn is_gzip(input: &[u8]) -> bool
-    ensures { result ≡ is_gzip input.now }
+// Whether an HTML page begins so.
+fn is_html(bytes: &[u8]) -> bool
+    ensures { result ≡ is_html bytes.now }
 {
-    matches!(input, [0x1F, 0x8B, ..])
+    let first = without_front(bytes);
+    begins_with_word(first, "<!doctype html") || begins_with_word(first, "<html")
 }
 
-fn is_zip(input: &[u8]) -> bool
-    ensures { result ≡ is_zip input.now }
+// Whether a word is in front, in any case of letters.
+fn begins_with_word(bytes: &[u8], word: &str) -> bool
+    ensures { result ≡ begins_with_word word.now bytes.now }
 {
-    matches!(input, [b'P', b'K', 3, 4, ..])
+    bytes[..word.len().min(bytes.len())].eq_ignore_ascii_case(word.as_bytes())
 }
 
 // The kind of bytes below this many lines, by their NULs.

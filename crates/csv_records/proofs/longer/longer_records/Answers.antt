@@ -20,8 +20,9 @@ returns c =
     let line : c.line_before.result ≡ line_of_record options text before =
     c.line_before.ensures ∙ ap (λ (n : ℕ). line_number options.skip (take (length text - n) text)) rest ∙ line_is options text other c.args.delimiter c.args.rest.now before c.requires.byte c.requires.behind in
     let counted = c.count_longer.ensures ∙ ap (λ (n : ℕ). count_by (λ (fields : List Text). nat_lt n (length fields)) records) first in
-    let others : c.saturating_sub.result ≡ count_by (is_longer records) records - 1 = c.saturating_sub.ensures ∙ ap (λ (n : ℕ). n - 1) counted in
-    rw (line, c.fields_at.ensures, first, others) (some_longer options text other records before found)
+    let others : c.saturating_sub-others.result ≡ count_by (is_longer records) records - 1 = c.saturating_sub-others.ensures ∙ ap (λ (n : ℕ). n - 1) counted in
+    let left : c.saturating_sub-2.result ≡ (length records - before) - 1 = search rules in
+    rw (line, c.fields_at.ensures, first, others, left) (some_longer options text other records before found)
 
 pub returns-in_err-before : goal.returns-in_err-before
 returns-in_err-before c =
