@@ -1,5 +1,5 @@
-//! Messages on words in place of a number, an encoding or a delimiter, and on options that are meant
-//! otherwise.
+//! Messages on words in place of a number, an encoding or a delimiter, and on options that are
+//! meant otherwise.
 
 ghost use Rattle.std.specs.Prelude.{◌≡◌, IfOk, Some, map, option_map, string_bytes};
 ghost use Rattle.csv_command.specs.Mistakes.{behind_letter, encoding_reason, given, in_one_word, is_number_to, number_reason, reason_of, with_value, wrong_delimiter, wrong_value};
