@@ -124,7 +124,8 @@ fn ending_of_blank(alloc: Global, invocation: &Invocation) -> Ending
     ensures { IsEndOfBlank invocation.now result }
 {
     let text = blank_line(alloc, &invocation.file, invocation.options.input.skip);
-    ending_with(0, message_of_text(text))
+    let said = message_of_text(text);
+    ending_with(0, said)
 }
 
 // How it ends where the output wasn't written. Where the reader of a pipe has ended, nothing is
