@@ -122,7 +122,7 @@ are_narrow =
 -- all lines are drawn ones if no row is left out
 drawn_lines : (P : Text → Type 0) (width : ℕ) (bytes : Text) → EachRowsLine P (the_layout width all) the_rows bytes → HasEachLine P bytes
 drawn_lines P width bytes is =
-    subst (HasEachLine P) (sym (is.joined ∙ append-nil is.drawn)) (subst (λ (b : Bool). DrawsLines P (drawn_rows (the_layout width all).selection the_rows) b is.count is.drawn) is.expansion is.draws)
+    subst (HasEachLine P) (sym (is.joined ∙ append-nil is.drawn)) (subst (λ (b : Bool). DrawsLines P Row (drawn_rows (the_layout width all).selection the_rows) b is.count is.drawn) is.expansion is.draws)
 
 -- the lines of a text are the parts between its line feeds
 found : (text : Text) (lines : List Text) → AreLinesOf text lines → slice_split (λ b. b == 0x0A) text ≡ lines ++ [] ∷ []

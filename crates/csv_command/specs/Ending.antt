@@ -56,9 +56,16 @@ abbrev pub not_text_reason : NotText → Text
 not_text_reason not_text.Gzip = codes "compressed by gzip; try zcat FILE | csvtable"
 not_text_reason not_text.Zip =
     codes "a zip archive; try unzip -p FILE | csvtable, or save a spreadsheet as CSV"
+not_text_reason not_text.Xz = codes "compressed by xz; try xzcat FILE | csvtable"
+not_text_reason not_text.Zstd = codes "compressed by zstd; try zstdcat FILE | csvtable"
+not_text_reason not_text.Bzip2 = codes "compressed by bzip2; try bzcat FILE | csvtable"
+not_text_reason not_text.Pdf =
+    codes "a PDF document; try pdftotext -layout FILE - | csvtable -d spaces"
 not_text_reason not_text.Json =
     codes "looks like JSON; try mlr --ijson --ocsv unsparsify FILE | csvtable"
     ++ codes "; -e utf-8 reads it anyway"
+not_text_reason not_text.Html =
+    codes "an HTML page, perhaps one that asks for a login; -e utf-8 reads it anyway"
 not_text_reason not_text.Utf16 = codes "looks like UTF-16; try -e utf-16"
 not_text_reason (not_text.Binary number) =
     (codes "line " ++ decimal number)
@@ -126,13 +133,29 @@ others_counted others =
     else if others == 1 then codes " (and 1 more line)"
     else (codes " (and " ++ decimal others) ++ codes " more lines)"
 
+-- other lines are above a table that begins with these records: all that follow have more fields
+-- than the header, and not only one for a delimiter at their ends
+abbrev pub is_below_preamble : LongRecords → Bool
+is_below_preamble longer =
+    longer.lasts
+    && ((longer.first_fields == 1) || nat_lt 1 (longer.fields - longer.first_fields))
+
+-- how to leave out the lines above one
+abbrev pub skip_hint : ℕ → Text
+skip_hint line = codes "; try --skip " ++ decimal (line - 1)
+
+-- what helps then: to leave out the lines above the first of them
+abbrev pub preamble_hint : LongRecords → Text
+preamble_hint longer = if is_below_preamble longer then skip_hint longer.line else []
+
 -- the line on records that have more fields than the header
 abbrev pub longer_line : Option Text → LongRecords → Text
 longer_line file longer =
-    ((about true file
+    (((about true file
     ++ (((codes "line " ++ decimal longer.line) ++ (codes " has " ++ decimal longer.fields))
     ++ (codes " fields, the header has " ++ decimal longer.first_fields)))
     ++ others_counted longer.others)
+    ++ preamble_hint longer)
     ++ codes "\n"
 
 -- the line on an input without records, of which so many lines are left out

@@ -3,7 +3,7 @@
 ghost use Rattle.std.specs.Prelude.{◌≡◌, ◌++◌, IfErr, IfOk, OnOk, option_map, string_bytes, true};
 ghost use Rattle.clap.specs.Words.{kind_of};
 ghost use Rattle.csv_command.specs.declared.ending.Message.TheVariants.{OutOfMemory, Text};
-ghost use Rattle.csv_command.specs.Ending.{IsEndOfBlank, IsEndOfOutcome, IsEndOfRefusal, IsEndOfUnwritten, IsEndWithoutArguments, IsHarmless, IsSilent, about, blank_line, columns_reason, decoding_reason, encoding_hint, is_of_input, longer_line, message_for, others_counted, reading_reason, reason_for, records_reason, text_of, not_text_reason, waiting_notice};
+ghost use Rattle.csv_command.specs.Ending.{IsEndOfBlank, IsEndOfOutcome, IsEndOfRefusal, IsEndOfUnwritten, IsEndWithoutArguments, IsHarmless, IsSilent, about, blank_line, columns_reason, decoding_reason, encoding_hint, is_below_preamble, is_of_input, longer_line, message_for, others_counted, preamble_hint, reading_reason, reason_for, records_reason, skip_hint, text_of, not_text_reason, waiting_notice};
 
 use crate::arguments::Invocation;
 use crate::error::{ColumnsError, CsvError};
@@ -124,7 +124,8 @@ fn ending_of_blank(alloc: Global, invocation: &Invocation) -> Ending
     ensures { IsEndOfBlank invocation.now result }
 {
     let text = blank_line(alloc, &invocation.file, invocation.options.input.skip);
-    ending_with(0, message_of_text(text))
+    let said = message_of_text(text);
+    ending_with(0, said)
 }
 
 // How it ends where the output wasn't written. Where the reader of a pipe has ended, nothing is
@@ -226,6 +227,7 @@ fn longer_line(
         fields,
         first_fields,
         others,
+        lasts: _,
     } = longer;
     let mut text = about(alloc, true, file)?;
     let counts = format!(in alloc;
@@ -233,8 +235,41 @@ fn longer_line(
     )?;
     text.push_str(counts.as_str())?;
     push_others(alloc, &mut text, others)?;
+    push_preamble_hint(alloc, &mut text, longer)?;
     text.push('\n')?;
     Ok(text)
+}
+
+// Appends what to type if other lines are above a table.
+fn push_preamble_hint(
+    alloc: Global,
+    text: &mut String,
+    longer: LongRecords,
+) -> Result<(), AllocError>
+    ensures { OnOk result (string_bytes text.new
+        ≡ string_bytes text.old ++ preamble_hint longer) }
+{
+    if !is_below_preamble(longer) {
+        return Ok(());
+    }
+    let hint = skip_hint(alloc, longer.line)?;
+    text.push_str(hint.as_str())
+}
+
+// How to leave out the lines above one.
+fn skip_hint(alloc: Global, line: u64) -> Result<String, AllocError>
+    ensures { IfOk result (λ text. string_bytes text ≡ skip_hint line) }
+{
+    format!(in alloc; "; try --skip {}", line.saturating_sub(1))
+}
+
+// Whether other lines are above a table that begins with these records: all that follow have more
+// fields, and not only one for a delimiter at their ends.
+fn is_below_preamble(longer: LongRecords) -> bool
+    ensures { result ≡ is_below_preamble longer }
+{
+    let more = longer.fields.saturating_sub(longer.first_fields);
+    longer.lasts && (longer.first_fields == 1 || more > 1)
 }
 
 // Appends how many other records have more.
@@ -349,6 +384,11 @@ fn not_text_reason(alloc: Global, other: NotText) -> Result<String, AllocError>
     match other {
         NotText::Gzip => String::from_str(alloc, GZIP),
         NotText::Zip => String::from_str(alloc, ZIP),
+        NotText::Xz => String::from_str(alloc, XZ),
+        NotText::Zstd => String::from_str(alloc, ZSTD),
+        NotText::Bzip2 => String::from_str(alloc, BZIP2),
+        NotText::Pdf => String::from_str(alloc, PDF),
+        NotText::Html => String::from_str(alloc, HTML),
         NotText::Json => String::from_str(alloc, JSON),
         NotText::Utf16 => String::from_str(alloc, "looks like UTF-16; try -e utf-16"),
         NotText::Binary(line) => {

@@ -166,6 +166,27 @@ fn an_input_that_is_something_else(rt: HostRuntime) {
                 -e utf-8 reads it anyway\n",
         ),
         (
+            NotText::Html,
+            "csvtable: a: an HTML page, perhaps one that asks for a login; \
+                -e utf-8 reads it anyway\n",
+        ),
+        (
+            NotText::Pdf,
+            "csvtable: a: a PDF document; try pdftotext -layout FILE - | csvtable -d spaces\n",
+        ),
+        (
+            NotText::Xz,
+            "csvtable: a: compressed by xz; try xzcat FILE | csvtable\n",
+        ),
+        (
+            NotText::Zstd,
+            "csvtable: a: compressed by zstd; try zstdcat FILE | csvtable\n",
+        ),
+        (
+            NotText::Bzip2,
+            "csvtable: a: compressed by bzip2; try bzcat FILE | csvtable\n",
+        ),
+        (
             NotText::Utf16,
             "csvtable: a: looks like UTF-16; try -e utf-16\n",
         ),
@@ -255,6 +276,7 @@ fn a_drawing_that_was_written(rt: HostRuntime) {
         fields: 4,
         first_fields: 3,
         others: 0,
+        lasts: true,
     };
     let two = LongRecords { others: 1, ..one };
     let three = LongRecords { others: 2, ..one };
@@ -266,6 +288,36 @@ fn a_drawing_that_was_written(rt: HostRuntime) {
     assert_drawn(&rt, &["csvtable", "-"], Some(two), false, text);
     let text = "csvtable: \u{fffd}[2J: line 3 has 4 fields, the header has 3 (and 2 more lines)\n";
     assert_drawn(&rt, &["csvtable", "\u{1b}[2J"], Some(three), false, text);
+}
+
+// Lines above a table are left out by --skip: if the first of them has a field, or at least two
+// fewer than each record of the table.
+#[test]
+fn a_table_below_other_lines(rt: HostRuntime) {
+    let below = LongRecords {
+        line: 3,
+        fields: 3,
+        first_fields: 1,
+        others: 2,
+        lasts: true,
+    };
+    let text = "csvtable: a.csv: line 3 has 3 fields, the header has 1 (and 2 more lines); \
+        try --skip 2\n";
+    assert_drawn(&rt, &["csvtable", "a.csv"], Some(below), false, text);
+    let text = "csvtable: a.csv: line 3 has 4 fields, the header has 2 (and 2 more lines); \
+        try --skip 2\n";
+    let longer = LongRecords {
+        fields: 4,
+        first_fields: 2,
+        ..below
+    };
+    assert_drawn(&rt, &["csvtable", "a.csv"], Some(longer), false, text);
+    let text = "csvtable: a.csv: line 3 has 3 fields, the header has 1 (and 2 more lines)\n";
+    let among = LongRecords {
+        lasts: false,
+        ..below
+    };
+    assert_drawn(&rt, &["csvtable", "a.csv"], Some(among), false, text);
 }
 
 // A terminal shows why it shows nothing.

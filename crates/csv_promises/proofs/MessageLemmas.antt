@@ -84,6 +84,11 @@ message invocation fault e = (about (is_of_input e) (option_map string_bytes inv
     of_not_text not_text.Gzip = printable (not_text_reason not_text.Gzip) refl
     of_not_text not_text.Zip = printable (not_text_reason not_text.Zip) refl
     of_not_text not_text.Json = printable (not_text_reason not_text.Json) refl
+    of_not_text not_text.Xz = printable (not_text_reason not_text.Xz) refl
+    of_not_text not_text.Zstd = printable (not_text_reason not_text.Zstd) refl
+    of_not_text not_text.Bzip2 = printable (not_text_reason not_text.Bzip2) refl
+    of_not_text not_text.Pdf = printable (not_text_reason not_text.Pdf) refl
+    of_not_text not_text.Html = printable (not_text_reason not_text.Html) refl
     of_not_text not_text.Utf16 = printable (not_text_reason not_text.Utf16) refl
     of_not_text (not_text.Binary n) = both _ (codes " has a NUL byte, so this isn't text; -e utf-8 reads it anyway") (both (codes "line ") (decimal n) (printable (codes "line ") refl) (number n)) (printable (codes " has a NUL byte, so this isn't text; -e utf-8 reads it anyway") refl)
 

@@ -23,7 +23,7 @@ use Rattle.csv_records.specs.declared.delimiter.Delimiter.{Delimiter}
 use Rattle.csv_records.specs.declared.delimiter.Delimiter.TheVariants.{Auto, Byte, NamedOrTab}
 use Rattle.csv_records.specs.declared.encoding.Encoding.TheVariants.{Cp1252, Utf16, Utf8}
 use Rattle.csv_records.specs.declared.error.DecodeError.TheVariants as decode
-use Rattle.csv_records.specs.declared.not_text.NotText.TheVariants.{Binary, Gzip, Json, Utf16 as UnmarkedUtf16, Zip}
+use Rattle.csv_records.specs.declared.not_text.NotText.TheVariants.{Binary, Bzip2, Gzip, Html, Json, Pdf, Utf16 as UnmarkedUtf16, Xz, Zip, Zstd}
 use Rattle.csv_records.specs.declared.options.InputOptions.{InputOptions}
 use Rattle.csv_command.specs.declared.error.CsvError.TheVariants as err
 
@@ -70,10 +70,11 @@ none_found = refl
 abbrev below_two : InputOptions
 below_two = record { encoding = None; skip = 2; delimiter = Auto; has_quotes = true }
 
--- of the first of them the line, also behind quoted lines and empty ones, and how many others there are
+-- of the first of them the line, also behind quoted lines and empty ones, how many others there are, and whether these are all that follow
 longer_ones : map (λ (input : String). longer_records below_two (codes input) (records_from (config_for 0x2C true) 9 st.StartRecord (strip_bom (codes input))))
-    ("a,b\n\"x\ny\",1\n\r\n2,b,c\n" ∷ "a,b\n1\n2,3\n" ∷ "a\r\n1\r\n2,3\r\n4,5,6" ∷ "" ∷ [])
-    ≡ Some (record { line = 7; fields = 3; first_fields = 2; others = 0 }) ∷ None ∷ Some (record { line = 5; fields = 2; first_fields = 1; others = 1 }) ∷ None ∷ []
+    ("a,b\n\"x\ny\",1\n\r\n2,b,c\n" ∷ "a,b\n1\n2,3\n" ∷ "a\r\n1\r\n2,3\r\n4,5,6" ∷ "a\n1,2\n3\n4,5\n" ∷ "a\n1,2\n3\n" ∷ "" ∷ [])
+    ≡ Some (record { line = 7; fields = 3; first_fields = 2; others = 0; lasts = true }) ∷ None ∷ Some (record { line = 5; fields = 2; first_fields = 1; others = 1; lasts = true })
+    ∷ Some (record { line = 4; fields = 2; first_fields = 1; others = 1; lasts = false }) ∷ Some (record { line = 4; fields = 2; first_fields = 1; others = 0; lasts = false }) ∷ None ∷ []
 unfolding strip_bom records_from next_record
 longer_ones = refl
 
@@ -125,11 +126,25 @@ unfolding chars lib.Utf8.encode ucd_category is_neutral is_number
 unbroken = refl
 
 -- words, and what is longer than 25 characters
-broken : list_any is_nowrap (texts ("none" ∷ "May 2" ∷ "1.2.3b" ∷ "12345678901234567890123456" ∷ [])) ≡ false
+broken : list_any is_nowrap (texts ("no" ∷ "May 2" ∷ "1.2.3b" ∷ "12345678901234567890123456" ∷ [])) ≡ false
 unfolding chars lib.Utf8.encode ucd_category is_neutral is_number
 broken = refl
 
 -- ---- signs that an input is no text in UTF-8
+
+-- by the first bytes, and nearly so
+fronts :
+    map (not_text_for None 1)
+    (
+    (0xFD ∷ 0x37 ∷ 0x7A ∷ 0x58 ∷ 0x5A ∷ 0 ∷ 1 ∷ []) ∷ (0x28 ∷ 0xB5 ∷ 0x2F ∷ 0xFD ∷ []) ∷ codes "BZh91AY&SY" ∷ codes "%PDF-1.7" ∷ codes "BZh11AY&SY" ∷ codes "%PDF" ∷ codes "\n%PDF-1.7" ∷ []
+    )
+    ≡ Some Xz ∷ Some Zstd ∷ Some Bzip2 ∷ Some Pdf ∷ None ∷ None ∷ None ∷ []
+fronts = refl
+
+-- a page below a line that is left out, and a word that begins nearly so
+html_inputs : map (λ (input : String). not_text_for None 1 (codes input)) ("\n <!DOCTYPE HTML>" ∷ "\n<html lang=\"en\">" ∷ "<html>\na,b" ∷ "\n<htm>" ∷ "\na<html>" ∷ [])
+    ≡ Some Html ∷ Some Html ∷ None ∷ None ∷ None ∷ []
+html_inputs = refl
 
 -- where no encoding is asked for: gzip, zip, NULs at every second byte, in either order, and other NULs
 not_text_inputs :

@@ -63,8 +63,17 @@ no_numbers : list_any is_number (texts ("" ∷ "-" ∷ "." ∷ "$" ∷ "%" ∷ "
 unfolding chars lib.Utf8.encode ucd_category is_number
 no_numbers = refl
 
--- currencies by their codes, and units of sizes and times
-coded_numbers : list_all is_number (texts ("USD 12.50" ∷ "12.50 EUR" ∷ "EUR12" ∷ "-5 CHF" ∷ "USD -5" ∷ "USD-5" ∷ "-USD 5" ∷ "(JPY 100)" ∷ "(100 JPY)" ∷ [])) ≡ true
+-- a minus directly behind the figure
+later_signs : list_all is_number (texts ("1.250,00-" ∷ "5-" ∷ "EUR 5-" ∷ "5- EUR" ∷ "5-%" ∷ [])) ≡ true
+unfolding chars lib.Utf8.encode ucd_category is_number
+later_signs = refl
+
+no_later_signs : list_any is_number (texts ("-5-" ∷ "5+" ∷ "5 -" ∷ "5--" ∷ "(5-)" ∷ "EUR -5-" ∷ [])) ≡ false
+unfolding chars lib.Utf8.encode ucd_category is_number
+no_later_signs = refl
+
+-- currencies by their codes and names, and units of sizes and times
+coded_numbers : list_all is_number (texts ("USD 12.50" ∷ "12.50 EUR" ∷ "EUR12" ∷ "-5 CHF" ∷ "USD -5" ∷ "USD-5" ∷ "-USD 5" ∷ "(JPY 100)" ∷ "(100 JPY)" ∷ "R$ 1.250,00" ∷ "-R$5" ∷ "99 kr" ∷ "kr 5" ∷ [])) ≡ true
 unfolding chars lib.Utf8.encode ucd_category is_number
 coded_numbers = refl
 
@@ -78,7 +87,7 @@ unfolding chars lib.Utf8.encode ucd_category is_number
 millionths = refl
 
 -- no code or unit of these rules, or more than one, or two spaces
-no_units : list_any is_number (texts ("usd 5" ∷ "5 XXX" ∷ "5 XAU" ∷ "5 ABC" ∷ "EURO 5" ∷ "EUR5EUR" ∷ "5 m" ∷ "5kb" ∷ "5 KIB" ∷ "5iB" ∷ "5 kBB" ∷ "kB 5" ∷ "5 hr" ∷ "5 D" ∷ "$5K" ∷ "5K%" ∷ "EUR 5 kB" ∷ "USD  5" ∷ "5  kB" ∷ "1e" ∷ [])) ≡ false
+no_units : list_any is_number (texts ("usd 5" ∷ "5 XXX" ∷ "5 XAU" ∷ "5 ABC" ∷ "EURO 5" ∷ "EUR5EUR" ∷ "5 m" ∷ "5kb" ∷ "5 KIB" ∷ "5iB" ∷ "5 kBB" ∷ "kB 5" ∷ "5 hr" ∷ "5 D" ∷ "$5K" ∷ "5K%" ∷ "EUR 5 kB" ∷ "USD  5" ∷ "5  kB" ∷ "1e" ∷ "5 KR" ∷ "r$ 5" ∷ "R 5" ∷ [])) ≡ false
 unfolding chars lib.Utf8.encode ucd_category is_number
 no_units = refl
 
@@ -101,16 +110,16 @@ other_digits : list_any is_number (texts ("0042" ∷ "-007" ∷ "$0042" ∷ "USD
 unfolding chars lib.Utf8.encode ucd_category is_number
 other_digits = refl
 
-neutral_fields : list_all is_neutral (texts ("" ∷ "-" ∷ "n/a" ∷ "N/A" ∷ "na" ∷ "Null" ∷ "NaN" ∷ "-inf" ∷ "+INF" ∷ " " ∷ " - " ∷ " n/a " ∷ [])) ≡ true
+neutral_fields : list_all is_neutral (texts ("" ∷ "-" ∷ "n/a" ∷ "N/A" ∷ "na" ∷ "Null" ∷ "NaN" ∷ "-inf" ∷ "+INF" ∷ " " ∷ " - " ∷ " n/a " ∷ "None" ∷ "#N/A" ∷ "(null)" ∷ "<NULL>" ∷ ".." ∷ [])) ≡ true
 unfolding chars lib.Utf8.encode is_neutral
 neutral_fields = refl
 
--- so are spaces and line breaks alone
-blank_fields : list_all is_neutral (map encode_utf8_all ((0x20 ∷ 0x0A ∷ []) ∷ (0x0D ∷ 0x0A ∷ 0x09 ∷ []) ∷ (0xA0 ∷ 0x202F ∷ []) ∷ [])) ≡ true
+-- so are `\N`, two dashes, and spaces and line breaks alone
+blank_fields : list_all is_neutral (map encode_utf8_all ((0x5C ∷ 0x4E ∷ []) ∷ (0x2013 ∷ []) ∷ (0x20 ∷ 0x2014 ∷ []) ∷ (0x20 ∷ 0x0A ∷ []) ∷ (0x0D ∷ 0x0A ∷ 0x09 ∷ []) ∷ (0xA0 ∷ 0x202F ∷ []) ∷ [])) ≡ true
 unfolding chars lib.Utf8.encode is_neutral
 blank_fields = refl
 
-telling_fields : list_any is_neutral (texts ("0" ∷ "--" ∷ "+" ∷ "none" ∷ "n / a" ∷ "infinity" ∷ "- -" ∷ [])) ≡ false
+telling_fields : list_any is_neutral (texts ("0" ∷ "--" ∷ "+" ∷ "." ∷ "..." ∷ "nones" ∷ "n / a" ∷ "infinity" ∷ "- -" ∷ [])) ≡ false
 unfolding chars lib.Utf8.encode is_neutral
 telling_fields = refl
 
