@@ -821,7 +821,7 @@ class Interface(unittest.TestCase):
             self.assertEqual(run("-c", "name", file, "-s", "ascii", "--drop", "price").stdout.count(b"|"), 4)
             second = run(file, "-s", "ascii", file)
             self.assertEqual((second.returncode, second.stdout), (1, b""))
-            self.assertIn(b"unexpected argument", second.stderr)
+            self.assertIn(b"draws one file", second.stderr)
         for arguments in ["-", "-s", "ascii"], ["-s", "ascii", "-"], ["-s", "ascii"]:
             self.assertEqual(run(*arguments, given=b"name,price\noats,3\n").stdout, wanted)
         refused = run("no/such.csv")
@@ -930,7 +930,8 @@ class RandomRows(unittest.TestCase):
             else:
                 drawing, words = tabulate(rows, **settings), [*words, "-n"]
             text = csv_of([[text_of(value) for value in row] for row in rows])
-            wanted = by_csvtable(text, words).replace(" records\n", " rows\n")
+            counted = by_csvtable(text, words).replace(" records\n", " rows\n")
+            wanted = re.sub(r"^record (?=\d+ of \d+$)", "row ", counted, flags=re.MULTILINE)
             self.assertEqual(drawing + "\n" if drawing else "", wanted, (seed, rows, settings))
 
     def test_colours_are_sequences_in_fields(self):
