@@ -202,7 +202,7 @@ static void expect_refusals_are_said(void) {
     expect_said("the version is said", TEXT("--version"), "csvtable ");
     expect_said("help is said", TEXT("-h\0"), "Usage: csvtable [OPTIONS] [FILE]\n");
     expect_said("an unknown argument is said", TEXT("--nope\0"), "'--nope'");
-    expect_said("two files are too many", TEXT("a\0b\0"), "'b'");
+    expect_said("two files are too many", TEXT("a\0b\0"), "csvtable draws one file");
     expect_said("a width is a number", TEXT("-w\0wide\0"), "'wide'");
     expect_said("ESC in an argument isn't said", TEXT("--\x1b[31m"), "error: ");
 }
