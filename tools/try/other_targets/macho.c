@@ -1,5 +1,5 @@
 /*
- * Takes the three functions of comfy_table.h from a shared library for macOS, which this loads on Linux on the same processor. It
+ * Takes the functions of comfy_table.h from a shared library for macOS, which this loads on Linux on the same processor. It
  * tests the code in the file, and nothing of macOS. MACHO is the file's path.
  */
 #include <fcntl.h>
@@ -33,6 +33,8 @@ enum { SYMBOLS = 2, SEGMENT = 0x19, FIXUPS = 0x80000034, NO_FIXUP = 0xffff };
 TAKEN(comfy_csv_draw)
 TAKEN(comfy_rows_draw)
 TAKEN(comfy_cells_draw)
+TAKEN(comfy_rows_refused)
+TAKEN(comfy_cells_refused)
 
 static void fail(const char *what) {
     fprintf(stderr, "macho: %s\n", what);
@@ -119,4 +121,6 @@ __attribute__((constructor)) static void load(void) {
     comfy_csv_draw_at = address_of(file, base, symbols, "_comfy_csv_draw");
     comfy_rows_draw_at = address_of(file, base, symbols, "_comfy_rows_draw");
     comfy_cells_draw_at = address_of(file, base, symbols, "_comfy_cells_draw");
+    comfy_rows_refused_at = address_of(file, base, symbols, "_comfy_rows_refused");
+    comfy_cells_refused_at = address_of(file, base, symbols, "_comfy_cells_refused");
 }
