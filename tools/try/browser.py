@@ -247,8 +247,8 @@ def try_edges(page):
 
 
 def try_large(page, program):
-    """A file of 200,000 records: the page answers while the worker draws, and shows each of the lines."""
-    text = "name,place,amount,note\n" + "".join(f"n{at},京都,{at * 7919 % 100000}.50,text {at % 97}\n" for at in range(200_000))
+    """A file of 400,000 records, 11 MB: the page answers while the worker draws, and shows each of the lines."""
+    text = "name,place,amount,note\n" + "".join(f"n{at},京都,{at * 7919 % 100000}.50,text {at % 97}\n" for at in range(400_000))
     page.run("(text) => { window.given = new Blob([text]); }", text)
     page.value("document.getElementById('fits').checked = false")
     longest = page.value("""(async () => {
