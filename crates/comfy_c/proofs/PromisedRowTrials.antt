@@ -209,6 +209,16 @@ three_rows is =
     let letter : ◌≡◌ {A = ℕ} 0x33 0x32 = ap (λ (t : Text). slice_index_or t 6 0) (ap reverse made ∙ reverse-append noted.drawn (note_for Row false (Some 1) (Some 2))) in
     absurd (omega (arith, letter))
 
+-- nor a line that calls them records
+called_records : ¬ (Drawn no_width 1 (codes " a \n1 of 2 records\n"))
+unfolding digits
+called_records is =
+    let kept = subst (λ (layout : Layout). AreStraightLines layout the_rows (codes " a \n1 of 2 records\n")) (is_asked no_width 1 refl (codes " a \n1 of 2 records\n") is) ((is.keep refl).straight (harmless no_width 1) (narrow no_width 1)) (record { unmarked = refl; unkept = refl }) (inl (inl (inl are_narrow))) in
+    let noted = kept.1 in
+    let made : codes " a \n1 of 2 records\n" ≡ noted.drawn ++ note_for Row false (Some 1) (Some 2) = noted.joined ∙ ap (λ (count : Option ℕ). noted.drawn ++ note_for Row false (Some 1) count) noted.is_count in
+    let letter : ◌≡◌ {A = ℕ} 0x64 0x77 = ap (λ (t : Text). slice_index_or t 2 0) (ap reverse made ∙ reverse-append noted.drawn (note_for Row false (Some 1) (Some 2))) in
+    absurd (omega (arith, letter))
+
 -- ---- the same rows, in a column with paddings of two
 
 abbrev wide_column : RowsColumn
@@ -229,6 +239,17 @@ padded_three_rows is =
     let kept = subst (λ (layout : Layout). KeepTablePromises own layout the_rows bytes) (padded_layout 1 refl bytes is) (is.keep_table refl (omega arith)) in
     let made : bytes ≡ terminated_text_of kept.lines ++ note_for Row false (Some 1) (Some 2) = kept.written in
     let letter : ◌≡◌ {A = ℕ} 0x33 0x32 = ap (λ (t : Text). slice_index_or t 6 0) (ap reverse made ∙ reverse-append (terminated_text_of kept.lines) (note_for Row false (Some 1) (Some 2))) in
+    absurd (omega (arith, letter))
+
+-- nor a line that calls them records
+padded_called_records : ¬ (Padded 1 (codes "  a  \n1 of 2 records\n"))
+unfolding digits
+padded_called_records is =
+    let bytes = codes "  a  \n1 of 2 records\n" in
+    let own = table_settings false (1 ∷ 1 ∷ []) [] [] (wide_column ∷ []) in
+    let kept = subst (λ (layout : Layout). KeepTablePromises own layout the_rows bytes) (padded_layout 1 refl bytes is) (is.keep_table refl (omega arith)) in
+    let made : bytes ≡ terminated_text_of kept.lines ++ note_for Row false (Some 1) (Some 2) = kept.written in
+    let letter : ◌≡◌ {A = ℕ} 0x64 0x77 = ap (λ (t : Text). slice_index_or t 2 0) (ap reverse made ∙ reverse-append (terminated_text_of kept.lines) (note_for Row false (Some 1) (Some 2))) in
     absurd (omega (arith, letter))
 
 -- lines of a table end with a line feed

@@ -165,7 +165,7 @@ fn lines_of(
     Ok(text)
 }
 
-// The bytes that most drawings of so many bytes in so many cells have at most.
+// The bytes that most drawings of texts of these bytes, in this number of cells, have at most.
 fn room_for(bytes: usize, cells: usize) -> usize {
     bytes
         .saturating_mul(3)

@@ -515,6 +515,22 @@ three_records options is = neither 0x33 (λ same. absurd (omega (arith, same))) 
 no_line_below : (options : Options) → ¬ (first_of_two options (codes " a \n"))
 no_line_below options is = neither 0 (λ same. absurd (omega (arith, same))) (λ same. absurd (omega (arith, same))) (counts_two options (codes " a \n") is)
 
+-- nor are records called rows: before the last two characters is `d` of `records`, or `r` of `more`
+called_so : (options : Options) (text : Text) → first_of_two options text → (slice_index_or (reverse text) 2 0 ≡ 0x64) ⊎ (slice_index_or (reverse text) 2 0 ≡ 0x72)
+unfolding digits
+called_so options text is = by_count is.count is.is_count is.joined
+  where
+    by_count : (count : Option ℕ) → MatchOption count ((options.counts_all ≡ false) × (1 < 2)) (λ n. n ≡ 2) → text ≡ is.drawn ++ note_for Record false (Some 1) count → (slice_index_or (reverse text) 2 0 ≡ 0x64) ⊎ (slice_index_or (reverse text) 2 0 ≡ 0x72)
+    by_count None more made = inr (ap (λ (t : Text). slice_index_or t 2 0) (ap reverse made ∙ reverse-append is.drawn (note_for Record false (Some 1) None)))
+    by_count (Some n) two made = inl (ap (λ (t : Text). slice_index_or t 2 0) (ap reverse (made ∙ ap (λ (m : ℕ). is.drawn ++ note_for Record false (Some 1) (Some m)) two) ∙ reverse-append is.drawn (note_for Record false (Some 1) (Some 2))))
+
+neither_noun : (n : ℕ) → ¬ (n ≡ 0x64) → ¬ (n ≡ 0x72) → ¬ ((n ≡ 0x64) ⊎ (n ≡ 0x72))
+neither_noun n one other (inl is) = one is
+neither_noun n one other (inr is) = other is
+
+called_rows : (options : Options) → ¬ (first_of_two options (codes " a \n1 of 2 rows\n"))
+called_rows options is = neither_noun 0x77 (λ same. absurd (omega (arith, same))) (λ same. absurd (omega (arith, same))) (called_so options (codes " a \n1 of 2 rows\n") is)
+
 -- a record isn't one of two
 -- false: csv_promises::output_with_all_fields
 another_count : (options : Options) → ¬ (ShowsRecords (expanded options) ((codes "a" ∷ []) ∷ []) (codes "record 1 of 2\n 1  a \n"))

@@ -42,7 +42,7 @@ fn bytes_in(row: &Row) -> usize {
 
 /// How many bytes the drawing of a table within a width has at most, in most cases: far too many cost nothing, and too few a
 /// second drawing. For each row it counts the lines that its texts may take, one of the frame, and sequences of its cells. The
-/// longest row has so many bytes.
+/// longest row has `longest` bytes.
 pub fn room_for(table: &Table, cells: &CellTable, longest: usize, width: Option<u16>) -> usize {
     const SEQUENCES: usize = 64;
     const MOST: usize = 1 << 30;
