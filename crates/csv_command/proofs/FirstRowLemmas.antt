@@ -14,7 +14,7 @@ use Rattle.csv_records.specs.Reading.{AreRecordsFor, AreRecordsIn, IsDecodedBy}
 use Rattle.csv_records.specs.declared.encoding.Encoding.{Encoding}
 use Rattle.csv_command.specs.Columns.{ColumnFault, IsColumnsRefusal, columns_by, columns_for}
 use Rattle.csv_tables.specs.Drawn.{SelectedValue, selected_of, drawn_rows, limited, names_of, records_below}
-use Rattle.csv_tables.specs.Columns.{ColumnsValue, count_of, drawn_columns, seen}
+use Rattle.csv_tables.specs.Columns.{ColumnsValue, count_of, drawn_columns, filled_count, seen}
 use Rattle.csv_tables.specs.declared.selection.Selection.{Selection}
 use Rattle.csv_tables.proofs.CountLemmas.{below_header}
 use Rattle.csv_command.specs.Drawn.{AreEnough, HasLimit, IsNotEnough, RendersBeginning, RendersChosen, RendersCounted, layout_with, most_drawn}
@@ -54,7 +54,7 @@ pub record AreDrawnAlike (selection : Selection) (first all : List (List Text)) 
 module _ (options : Options) (first all : List (List Text)) (alike : AreDrawnAlike options.selection first all) where
   -- words choose the same columns of both
   same_columns : columns_for options first ≡ columns_for options all
-  same_columns = ap₂ (λ (n : Option (List Text)) (rs : List (List Text)). columns_by options.columns (unwrap_or n []) (count_of (unwrap_or n []) rs)) alike.names alike.rows
+  same_columns = ap₂ (λ (n : Option (List Text)) (rs : List (List Text)). columns_by options.columns (unwrap_or n []) (record { all = count_of (unwrap_or n []) rs; filled = filled_count (unwrap_or n []) rs })) alike.names alike.rows
 
   -- so what is drawn of them is the same
   same_content : (count : Option ℕ) (columns : ColumnsValue) → selected_of count (layout_with options columns) first ≡ selected_of count (layout_with options columns) all

@@ -205,6 +205,7 @@ pub record IsInputParsed (found : Found) (input : InputOptions) : Type 0 where
   pub encoding : input.encoding ≡ encoding_for (first_value found (codes "encoding"))
   pub skip : input.skip ≡ unwrap_or (number_found 64 found (codes "skip")) 0
   pub delimiter : wanted_delimiter found ≡ Some input.delimiter
+  pub header : input.has_header ≡ not (is_given found (codes "no-header"))
   pub quotes : input.has_quotes ≡ not (is_given found (codes "no-quotes"))
 
 -- which records are drawn

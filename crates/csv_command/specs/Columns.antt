@@ -8,10 +8,11 @@ use Rattle.csv_records.specs.Numerals.{number_for}
 use Rattle.csv_command.specs.Hints.{hint_for}
 use Rattle.csv_command.specs.declared.arguments.Options.{Options}
 use Rattle.csv_command.specs.declared.columns.ColumnWords.{ColumnWords}
+use Rattle.csv_command.specs.declared.columns.Counts.{Counts}
 use Rattle.csv_command.specs.declared.error.ColumnsError.{ColumnsError}
 use Rattle.csv_command.specs.declared.error.ColumnsError.TheVariants.{NoColumn, NoneLeft, OutOfMemory, TwoSides}
 use Rattle.csv_tables.specs.Columns.{ColumnsValue, name_at}
-use Rattle.csv_tables.specs.Drawn.{column_count, names_or_none}
+use Rattle.csv_tables.specs.Drawn.{column_count, filled_columns, names_or_none}
 
 -- the position of the first field that is this text
 abbrev pub position_named : Text → List Text → Option ℕ
@@ -116,11 +117,13 @@ positions_of names count words =
     option_map_or (λ position. Ok (positions_between (position, position + 1)))
     (whole_name names words) (positions_of_each names count words)
 
--- the chosen columns: all where none is chosen
-abbrev pub chosen_columns : {A : Type 0} → List Text → ℕ → List (String A)
+-- the chosen columns; if none is chosen, the first ones
+abbrev pub chosen_columns : {A : Type 0} → List Text → Counts → List (String A)
     → Result (List ℕ) ColumnFault
-chosen_columns names count words =
-    if length words == 0 then Ok (range_with_len 0 count) else positions_of names count words
+chosen_columns names counts words =
+    if length words == 0
+    then Ok (range_with_len 0 counts.filled)
+    else positions_of names counts.all words
 
 -- the positions of one list that aren't in another
 abbrev pub without : List ℕ → List ℕ → List ℕ
@@ -139,10 +142,10 @@ less (Ok positions) (Err fault) = Err fault
 less (Err fault) dropped = Err fault
 
 -- those of the columns that are drawn: the chosen ones, less those that are left out; there is one
-abbrev pub kept_columns : {A : Type 0} → List Text → ℕ → List (String A) → List (String A)
+abbrev pub kept_columns : {A : Type 0} → List Text → Counts → List (String A) → List (String A)
     → Result (List ℕ) ColumnFault
-kept_columns names count words dropped =
-    less (chosen_columns names count words) (positions_of names count dropped)
+kept_columns names counts words dropped =
+    less (chosen_columns names counts words) (positions_of names counts.all dropped)
 
 -- the first column at the right that is at the left too
 abbrev pub at_two_sides : List ℕ → List ℕ → Option ℕ
@@ -164,17 +167,21 @@ columns_with names (Ok positions) (Ok right) (Err fault) = Err fault
 columns_with names (Ok positions) (Err fault) left = Err fault
 columns_with names (Err fault) right left = Err fault
 
--- those that words choose of so many columns
-abbrev pub columns_by : ColumnWords → List Text → ℕ → Result ColumnsValue ColumnFault
-columns_by words names count =
-    columns_with names (kept_columns names count words.chosen.items words.dropped.items)
-    (positions_of names count words.right.items) (positions_of names count words.left.items)
+-- the columns that words choose of a header and rows that have this many
+abbrev pub columns_by : ColumnWords → List Text → Counts → Result ColumnsValue ColumnFault
+columns_by words names counts =
+    columns_with names (kept_columns names counts words.chosen.items words.dropped.items)
+    (positions_of names counts.all words.right.items)
+    (positions_of names counts.all words.left.items)
 
 -- those that are drawn of some records
 abbrev pub columns_for : Options → List (List Text) → Result ColumnsValue ColumnFault
 columns_for options records =
     columns_by options.columns (names_or_none options.selection records)
-    (column_count options.selection records)
+    (record {
+      all = column_count options.selection records;
+      filled = filled_columns options.selection records;
+    })
 
 -- why there are no columns: a fault of the lists, or there is no memory
 abbrev pub IsColumnsRefusal : {A : Type 0} → ColumnsError → Result A ColumnFault → Type 0

@@ -344,6 +344,7 @@ fn input_of<'a>(matches: &ArgMatches<'a>, delimiter: Delimiter) -> InputOptions
         encoding: encoding_of(matches.get_str("encoding")),
         skip: matches.get_one::<usize>("skip").unwrap_or(0),
         delimiter,
+        has_header: !is_given(matches, "no-header"),
         has_quotes: !is_given(matches, "no-quotes"),
     }
 }

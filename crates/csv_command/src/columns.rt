@@ -17,7 +17,8 @@ use std::alloc::{AllocError, Global};
 /// both ends are there, in order.
 #[derive(Debug)]
 pub struct ColumnWords {
-    /// The columns in the order in which they are drawn; an empty list means all of them.
+    /// The columns in the order in which they are drawn. If there are none, all are drawn up to the
+    /// last that has a name or a field that isn't empty.
     pub chosen: Vec<String>,
     /// Columns that aren't drawn.
     pub dropped: Vec<String>,
@@ -38,6 +39,15 @@ impl Drop for ColumnWords {
     }
 }
 
+/// How many columns a header and rows have.
+#[derive(Clone, Copy)]
+pub(crate) struct Counts {
+    pub(crate) all: usize,
+    /// How many there are up to the last that has a name or a field that isn't empty. These are
+    /// drawn if none is chosen.
+    pub(crate) filled: usize,
+}
+
 /// The columns that words choose of this many under these names. `NoColumn` has the first word that
 /// chooses no column that is there, in the list of columns, then in those of the dropped ones, of
 /// the right and of the left. `NoneLeft` comes before those of the right. `TwoSides` has the first
@@ -45,16 +55,16 @@ impl Drop for ColumnWords {
 pub(crate) fn columns_of(
     alloc: Global,
     names: &Record<'_>,
-    count: usize,
+    counts: Counts,
     words: &ColumnWords,
 ) -> Result<Columns, ColumnsError>
-    ensures ok { IfOk result (λ columns. columns_by words.now names.now count ≡ Ok columns) }
+    ensures ok { IfOk result (λ columns. columns_by words.now names.now counts ≡ Ok columns) }
     ensures refused { IfErr result (λ e.
-        IsColumnsRefusal e (columns_by words.now names.now count)) }
+        IsColumnsRefusal e (columns_by words.now names.now counts)) }
 {
-    let drawn = kept_columns(alloc, words, names, count)?;
-    let right = positions_of(alloc, words.right.as_slice(), names, count)?;
-    let left = positions_of(alloc, words.left.as_slice(), names, count)?;
+    let drawn = kept_columns(alloc, words, names, counts)?;
+    let right = positions_of(alloc, words.right.as_slice(), names, counts.all)?;
+    let left = positions_of(alloc, words.left.as_slice(), names, counts.all)?;
     if let Some(position) = at_two_sides(right.as_slice(), left.as_slice()) {
         let name = name_at(alloc, names, position)?;
         return Err(ColumnsError::TwoSides(String::from_str(alloc, name.as_str())?));
@@ -77,15 +87,15 @@ fn kept_columns(
     alloc: Global,
     words: &ColumnWords,
     names: &Record<'_>,
-    count: usize,
+    counts: Counts,
 ) -> Result<Vec<usize>, ColumnsError>
-    ensures ok { IfOk result (λ positions. kept_columns names.now count
+    ensures ok { IfOk result (λ positions. kept_columns names.now counts
         words.now.chosen.items words.now.dropped.items ≡ Ok positions.items) }
-    ensures refused { IfErr result (λ e. IsColumnsRefusal e (kept_columns names.now count
+    ensures refused { IfErr result (λ e. IsColumnsRefusal e (kept_columns names.now counts
         words.now.chosen.items words.now.dropped.items)) }
 {
-    let chosen = chosen_columns(alloc, words.chosen.as_slice(), names, count)?;
-    let dropped = positions_of(alloc, words.dropped.as_slice(), names, count)?;
+    let chosen = chosen_columns(alloc, words.chosen.as_slice(), names, counts)?;
+    let dropped = positions_of(alloc, words.dropped.as_slice(), names, counts.all)?;
     let kept = without(alloc, chosen.as_slice(), dropped.as_slice())?;
     if kept.is_empty() {
         return Err(ColumnsError::NoneLeft);
@@ -103,22 +113,23 @@ fn without(alloc: Global, positions: &[usize], dropped: &[usize]) -> Result<Vec<
         .collect(alloc)
 }
 
-// The positions of the chosen columns; all of them if none is chosen.
+// The positions of the chosen columns. If none is chosen, a last column without name and field, as
+// a delimiter at the end of each line makes it, isn't drawn.
 fn chosen_columns(
     alloc: Global,
     words: &[String],
     names: &Record<'_>,
-    count: usize,
+    counts: Counts,
 ) -> Result<Vec<usize>, ColumnsError>
-    ensures ok { IfOk result (λ positions. chosen_columns names.now count words.now
+    ensures ok { IfOk result (λ positions. chosen_columns names.now counts words.now
         ≡ Ok positions.items) }
     ensures refused { IfErr result (λ e.
-        IsColumnsRefusal e (chosen_columns names.now count words.now)) }
+        IsColumnsRefusal e (chosen_columns names.now counts words.now)) }
 {
     if words.is_empty() {
-        Ok(positions_between(alloc, 0, count)?)
+        Ok(positions_between(alloc, 0, counts.filled)?)
     } else {
-        positions_of(alloc, words, names, count)
+        positions_of(alloc, words, names, counts.all)
     }
 }
 

@@ -9,7 +9,7 @@ ghost use Rattle.devices.specs.Outcome.{Between};
 ghost use Rattle.devices.specs.Run.{AreFindings};
 
 use crate::arguments::Options;
-use crate::columns::columns_of;
+use crate::columns::{Counts, columns_of};
 use crate::error::{ColumnsError, CsvError};
 use comfy_parts::pieces::joined;
 use csv_records::{
@@ -132,10 +132,13 @@ fn output_of(
 {
     let selection = options.selection;
     let rows = records.rows();
-    let (names, columns) = (selection.names(&rows), selection.column_count(&rows));
+    let counts = Counts {
+        all: selection.column_count(&rows),
+        filled: selection.filled_columns(&rows),
+    };
     let layout = Layout {
         selection,
-        columns: columns_of(alloc, &names, columns, &options.columns)?,
+        columns: columns_of(alloc, &selection.names(&rows), counts, &options.columns)?,
         look: options.look,
     };
     Ok(drawn_records(alloc, records, count, &layout)?)

@@ -11,7 +11,7 @@ use Rattle.csv_command.specs.Columns.{column_by, column_of, columns_chosen, colu
 use Rattle.csv_command.specs.Drawn.{layout_with}
 use Rattle.csv_command.specs.declared.arguments.Options.{Options}
 use Rattle.csv_records.specs.Numerals.{number_for}
-use Rattle.csv_tables.specs.Columns.{ColumnsValue, count_of}
+use Rattle.csv_tables.specs.Columns.{ColumnsValue, count_of, filled_count}
 use Rattle.csv_tables.specs.Drawn.{SelectedValue, columns_of, selected_of, drawn_rows, names_or_none}
 use Rattle.csv_tables.specs.declared.options.ColumnPlan.{ColumnPlan}
 use Rattle.csv_promises.proofs.DrawnColumnLemmas.{AreBelow, placed, some_drawn}
@@ -118,8 +118,8 @@ positions-below options rows =
     count : ℕ
     count = count_of [] rows
 
-    by_words : (b : Bool) → All (Below count) (if b then range_with_len 0 count else positions_by [] count options.columns.chosen.items)
-    by_words true = range_below count 0 count (omega arith)
+    by_words : (b : Bool) → All (Below count) (if b then range_with_len 0 (filled_count [] rows) else positions_by [] count options.columns.chosen.items)
+    by_words true = range_below count 0 (filled_count [] rows) (omega arith)
     by_words false = words-below count options.columns.chosen.items
 
 -- ---- contents
@@ -132,7 +132,7 @@ module _ (options : Options) (records : List (List Text)) (own : ColumnsValue) (
   rows = drawn_rows options.selection records
 
   pub positions : own.drawn ≡ positions_in options names rows
-  positions = kept_positions names (count_of names rows) options.columns.chosen.items options.columns.dropped.items own.drawn (chosen names _ _ _ own found)
+  positions = kept_positions names (record { all = count_of names rows; filled = filled_count names rows }) options.columns.chosen.items options.columns.dropped.items own.drawn (chosen names _ _ _ own found)
 
   -- they and their sides are those that options ask for
   pub are_asked : own ≡ columns_asked options names rows
@@ -145,7 +145,7 @@ module _ (options : Options) (records : List (List Text)) (own : ColumnsValue) (
       ∙ ap₂ (λ (r l : List ℕ). record { drawn = positions_in options names rows; right = r; left = l }) right left
 
   pub some_position : 1 ≤ length own.drawn
-  some_position = some_kept names (count_of names rows) options.columns.chosen.items options.columns.dropped.items own.drawn (chosen names _ _ _ own found)
+  some_position = some_kept names (record { all = count_of names rows; filled = filled_count names rows }) options.columns.chosen.items options.columns.dropped.items own.drawn (chosen names _ _ _ own found)
 
   pub are_below : AreBelow names rows own.drawn
   are_below unnamed = subst (All (Below (count_of [] rows))) (sym (positions ∙ ap (λ (ns : List Text). positions_in options ns rows) unnamed)) (positions-below options rows)

@@ -7,6 +7,7 @@ use Rattle.std.proofs.lemmas.Bool.Decides.{nat_tests}
 use Rattle.comfy_parts.specs.Text.{Text}
 use Rattle.csv_command.specs.Columns.{ColumnFault, at_two_sides, chosen_columns, columns_chosen, columns_with, joined, kept_columns, less, positions_between, positions_of, positions_of_each, placed_columns, positions_of_word, some_left, whole_name, without}
 use Rattle.csv_command.specs.Columns.ColumnFault.{missing, none_left}
+use Rattle.csv_command.specs.declared.columns.Counts.{Counts}
 use Rattle.csv_command.specs.Hints.{hint_for}
 use Rattle.csv_promises.specs.Fields.{positions_by, positions_by_each}
 use Rattle.csv_tables.specs.Columns.{ColumnsValue}
@@ -38,11 +39,11 @@ module _ {A : Type 0} (names : List Text) (count : ℕ) where
       by_name None is = each_found words [] ps is
       by_name (Some position) is = let same : positions_between (position, position + 1) ≡ ps = cc is in sym same
 
-  all_or_chosen : (words : List (String A)) (ps : List ℕ) → chosen_columns names count words ≡ Ok ps → ps ≡ (if length words == 0 then range_with_len 0 count else positions_by names count words)
-  all_or_chosen words ps = by_test (length words == 0)
+  all_or_chosen : (filled : ℕ) (words : List (String A)) (ps : List ℕ) → chosen_columns names (record { all = count; filled = filled }) words ≡ Ok ps → ps ≡ (if length words == 0 then range_with_len 0 filled else positions_by names count words)
+  all_or_chosen filled words ps = by_test (length words == 0)
     where
-      by_test : (b : Bool) → (if b then Ok (range_with_len 0 count) else positions_of names count words) ≡ Ok ps → ps ≡ (if b then range_with_len 0 count else positions_by names count words)
-      by_test true is = let same : range_with_len 0 count ≡ ps = cc is in sym same
+      by_test : (b : Bool) → (if b then Ok (range_with_len 0 filled) else positions_of names count words) ≡ Ok ps → ps ≡ (if b then range_with_len 0 filled else positions_by names count words)
+      by_test true is = let same : range_with_len 0 filled ≡ ps = cc is in sym same
       by_test false is = found_by words ps is
 
 -- positions that are left are these, and there is one
@@ -53,12 +54,12 @@ left_as_they_are positions kept = by_test (length positions == 0) refl
     by_test true test is = absurd (cc is)
     by_test false test is = let same : positions ≡ kept = cc is in (sym same, subst (λ (own : List ℕ). 1 ≤ length own) same (grind (arith, nat_tests, test)))
 
-pub kept_positions : {A : Type 0} (names : List Text) (count : ℕ) (words dropped : List (String A)) (kept : List ℕ) → kept_columns names count words dropped ≡ Ok kept
-    → kept ≡ without (if length words == 0 then range_with_len 0 count else positions_by names count words) (positions_by names count dropped)
-kept_positions {A} names count words dropped kept is = by_lists (chosen_columns names count words) (positions_of names count dropped) (all_or_chosen names count words) (found_by names count dropped) is
+pub kept_positions : {A : Type 0} (names : List Text) (counts : Counts) (words dropped : List (String A)) (kept : List ℕ) → kept_columns names counts words dropped ≡ Ok kept
+    → kept ≡ without (if length words == 0 then range_with_len 0 counts.filled else positions_by names counts.all words) (positions_by names counts.all dropped)
+kept_positions {A} names counts words dropped kept is = by_lists (chosen_columns names counts words) (positions_of names counts.all dropped) (all_or_chosen names counts.all counts.filled words) (found_by names counts.all dropped) is
   where
-    by_lists : (chosen left : Result (List ℕ) ColumnFault) → ((ps : List ℕ) → chosen ≡ Ok ps → ps ≡ (if length words == 0 then range_with_len 0 count else positions_by names count words)) → ((ps : List ℕ) → left ≡ Ok ps → ps ≡ positions_by names count dropped) → less chosen left ≡ Ok kept
-        → kept ≡ without (if length words == 0 then range_with_len 0 count else positions_by names count words) (positions_by names count dropped)
+    by_lists : (chosen left : Result (List ℕ) ColumnFault) → ((ps : List ℕ) → chosen ≡ Ok ps → ps ≡ (if length words == 0 then range_with_len 0 counts.filled else positions_by names counts.all words)) → ((ps : List ℕ) → left ≡ Ok ps → ps ≡ positions_by names counts.all dropped) → less chosen left ≡ Ok kept
+        → kept ≡ without (if length words == 0 then range_with_len 0 counts.filled else positions_by names counts.all words) (positions_by names counts.all dropped)
     by_lists (Ok ps) (Ok qs) all some is = (left_as_they_are (without ps qs) kept is).0 ∙ ap₂ (λ (a b : List ℕ). without a b) (all ps refl) (some qs refl)
     by_lists (Ok ps) (Err fault) all some is = absurd (cc is)
     by_lists (Err fault) left all some is = absurd (cc is)
@@ -69,8 +70,8 @@ some_are_left (Err fault) dropped kept is = absurd (cc is)
 some_are_left (Ok ps) (Err fault) kept is = absurd (cc is)
 some_are_left (Ok ps) (Ok qs) kept is = (left_as_they_are (without ps qs) kept is).1
 
-pub some_kept : {A : Type 0} (names : List Text) (count : ℕ) (words dropped : List (String A)) (kept : List ℕ) → kept_columns names count words dropped ≡ Ok kept → 1 ≤ length kept
-some_kept names count words dropped kept is = some_are_left (chosen_columns names count words) (positions_of names count dropped) kept is
+pub some_kept : {A : Type 0} (names : List Text) (counts : Counts) (words dropped : List (String A)) (kept : List ℕ) → kept_columns names counts words dropped ≡ Ok kept → 1 ≤ length kept
+some_kept names counts words dropped kept is = some_are_left (chosen_columns names counts words) (positions_of names counts.all dropped) kept is
 
 placed : (names : List Text) (made columns : ColumnsValue) (fault : Option ℕ) → placed_columns names made fault ≡ Ok columns → made ≡ columns
 placed names made columns (Some p) is = absurd (cc is)

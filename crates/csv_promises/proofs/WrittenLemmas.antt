@@ -14,7 +14,7 @@ use Rattle.csv_records.proofs.BeginningLemmas.{first_records_stay}
 use Rattle.csv_records.proofs.OneRecordLemmas.{read_is_one}
 use Rattle.csv_records.specs.Beginning.{whole_lines}
 use Rattle.csv_records.specs.Reading.{AreRecordsFor}
-use Rattle.csv_tables.specs.Columns.{count_of, drawn_columns, seen}
+use Rattle.csv_tables.specs.Columns.{count_of, drawn_columns, filled_count, seen}
 use Rattle.csv_tables.specs.Drawn.{SelectedValue, count_below, drawn_rows, limited, names_of, records_below, selected_of}
 use Rattle.devices.specs.Outcome.{asked_front}
 use Rattle.csv_promises.proofs.LineLemmas.{nothing_written}
@@ -91,7 +91,7 @@ module _ (is_markdown : Bool) (arguments : List Text) (context : OutputContext) 
     -- the same columns are chosen of those that are drawn and of all records, and the same is drawn of them
     pub same_columns : columns_for options records ≡ columns_for options rs
     same_columns =
-        ap₂ (λ (names : Option (List Text)) (rows : List (List Text)). columns_by options.columns (unwrap_or names []) (count_of (unwrap_or names []) rows)) (sym by.names) (sym by.rows)
+        ap₂ (λ (names : Option (List Text)) (rows : List (List Text)). columns_by options.columns (unwrap_or names []) (record { all = count_of (unwrap_or names []) rows; filled = filled_count (unwrap_or names []) rows })) (sym by.names) (sym by.rows)
 
     pub same_content : selected_of known (layout_with options by.made.columns) records ≡ selected_of known (layout_with options by.made.columns) rs
     same_content =

@@ -14,7 +14,7 @@ use Rattle.csv_records.specs.Decimals.{spaces_behind}
 use Rattle.csv_records.specs.declared.decimals.Points.{Points}
 use Rattle.csv_tables.specs.Cells.{number_name, unless_blank}
 use Rattle.csv_tables.specs.Fields.{field_or_blank}
-use Rattle.csv_tables.specs.Columns.{ColumnsValue, column_at, count_of, name_at}
+use Rattle.csv_tables.specs.Columns.{ColumnsValue, column_at, count_of, filled_count, name_at}
 use Rattle.csv_command.specs.Columns.{columns_chosen, positions_between, whole_name, without}
 use Rattle.csv_tables.specs.Drawn.{condensed_style, drawn_rows, names_of}
 use Rattle.csv_tables.specs.declared.options.ColumnPlan.{ColumnPlan}
@@ -246,13 +246,13 @@ positions_by names count words =
     option_map_or (λ position. positions_between (position, position + 1)) (whole_name names words)
     (positions_by_each names count words)
 
--- the columns that options choose of a header and rows, or all if they name none, without those
--- that they leave out
+-- the columns that options choose of a header and rows, without those that they leave out. If they
+-- choose none, those are drawn up to the last that has a name or a field that isn't empty.
 abbrev pub positions_in : Options → List Text → List (List Text) → List ℕ
 positions_in options names rows =
     without
     (if length options.columns.chosen.items == 0
-    then range_with_len 0 (count_of names rows)
+    then range_with_len 0 (filled_count names rows)
     else positions_by names (count_of names rows) options.columns.chosen.items)
     (positions_by names (count_of names rows) options.columns.dropped.items)
 

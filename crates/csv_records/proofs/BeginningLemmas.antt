@@ -497,13 +497,13 @@ first_records_stay options most beginning behind records all enough known =
     plain : (rows : List (List Text)) (text : Text) → AreRecords (config_for (parted options text).0 (reads_quotes options)) st.StartRecord (strip_bom (parted options text).1) rows
         → AreRecords (config_for (delimited d q text).0 q) st.StartRecord (strip_bom (delimited d q text).1) rows
     plain rows text are =
-        subst (λ (t : Text). AreRecords (config_for (delimited d q t).0 q) st.StartRecord (strip_bom (delimited d q t).1) rows) (plain_text d text other)
-        (subst (λ (b : Bool). AreRecords (config_for (delimited d b (read_text d text)).0 b) st.StartRecord (strip_bom (delimited d b (read_text d text)).1) rows) (plain_quotes d q other) are)
+        subst (λ (t : Text). AreRecords (config_for (delimited d q t).0 q) st.StartRecord (strip_bom (delimited d q t).1) rows) (plain_text options.has_header d text other)
+        (subst (λ (b : Bool). AreRecords (config_for (delimited d b (read_text options.has_header d text)).0 b) st.StartRecord (strip_bom (delimited d b (read_text options.has_header d text)).1) rows) (plain_quotes d q other) are)
 
     closed : q ≡ true → state_after (delimited d q enough.text).0 (strip_bom (delimited d q enough.text).1) ≢ st.InQuoted
     closed =
-        subst (λ (t : Text). q ≡ true → state_after (delimited d q t).0 (strip_bom (delimited d q t).1) ≢ st.InQuoted) (plain_text d enough.text other)
-        (subst (λ (b : Bool). b ≡ true → state_after (delimited d b (read_text d enough.text)).0 (strip_bom (delimited d b (read_text d enough.text)).1) ≢ st.InQuoted) (plain_quotes d q other) enough.are_records.is_closed)
+        subst (λ (t : Text). q ≡ true → state_after (delimited d q t).0 (strip_bom (delimited d q t).1) ≢ st.InQuoted) (plain_text options.has_header d enough.text other)
+        (subst (λ (b : Bool). b ≡ true → state_after (delimited d b (read_text options.has_header d enough.text)).0 (strip_bom (delimited d b (read_text options.has_header d enough.text)).1) ≢ st.InQuoted) (plain_quotes d q other) enough.are_records.is_closed)
 
     by_text : (more : Text) × (known.text ≡ enough.text ++ more) → EndsWithLine enough.text → Goal
     by_text (rest, is) ends =

@@ -8,11 +8,11 @@ use Rattle.csv_records.specs.declared.delimiter.Delimiter.{Delimiter}
 use Rattle.csv_records.specs.declared.delimiter.Delimiter.TheVariants.{Auto, Byte, NamedOrTab, Spaces}
 use Rattle.csv_records.specs.declared.options.InputOptions.{InputOptions}
 
-pub plain_text : (d : Delimiter) (text : Text) → d ≢ Spaces → read_text d text ≡ text
-plain_text (Byte b) text other = refl
-plain_text Auto text other = refl
-plain_text NamedOrTab text other = refl
-plain_text Spaces text other = absurd (other refl)
+pub plain_text : (h : Bool) (d : Delimiter) (text : Text) → d ≢ Spaces → read_text h d text ≡ text
+plain_text h (Byte b) text other = refl
+plain_text h Auto text other = refl
+plain_text h NamedOrTab text other = refl
+plain_text h Spaces text other = absurd (other refl)
 
 pub plain_quotes : (d : Delimiter) (q : Bool) → d ≢ Spaces → counts_quotes d q ≡ q
 plain_quotes (Byte b) q other = refl
@@ -24,8 +24,8 @@ plain_quotes Spaces q other = absurd (other refl)
 pub plain_parted : (options : InputOptions) (text : Text) → options.delimiter ≢ Spaces → parted options text ≡ delimited options.delimiter options.has_quotes text
 plain_parted options text other =
     let d = options.delimiter in
-    ap (λ (q : Bool). delimited d q (read_text d text)) (plain_quotes d options.has_quotes other)
-    ∙ ap (λ (t : Text). delimited d options.has_quotes t) (plain_text d text other)
+    ap (λ (q : Bool). delimited d q (read_text options.has_header d text)) (plain_quotes d options.has_quotes other)
+    ∙ ap (λ (t : Text). delimited d options.has_quotes t) (plain_text options.has_header d text other)
 
 pub plain_longer : {T : Type 0} (d : Delimiter) (longer : Option T) → d ≢ Spaces → unless_spaces d longer ≡ longer
 plain_longer (Byte b) longer other = refl

@@ -1,7 +1,7 @@
 -- Records that have more fields than the first one.
 -- Source: this library's own.
 use Rattle.std.specs.Prelude.{ℕ, zero, suc, ◌-◌, ◌==◌, nat_lt, Bool, List, [], Option, None, drop, length, option_map, slice_get, take, unwrap_or}
-use Rattle.std.specs.List.{count_by, position, prefix_len}
+use Rattle.std.specs.List.{count_by, position, prefix_len, suffix_len}
 use Rattle.std.specs.Option.{option_map_or}
 use Rattle.comfy_parts.specs.Text.{Text}
 use Rattle.csv.specs.Machine.{next_record}
@@ -46,9 +46,13 @@ line_of_record options text before =
 abbrev pub field_count : List (List Text) → ℕ → ℕ
 field_count records at = length (unwrap_or (slice_get records at) [])
 
--- a record has more fields than the first of some
+-- how many fields a record has up to the last that isn't empty
+abbrev pub filled_len : List Text → ℕ
+filled_len fields = length fields - suffix_len (λ field. length field == 0) fields
+
+-- a record has more fields than the first of some, also without the empty ones at its end
 abbrev pub is_longer : List (List Text) → List Text → Bool
-is_longer records fields = nat_lt (field_count records 0) (length fields)
+is_longer records fields = nat_lt (field_count records 0) (filled_len fields)
 
 -- those records: the line and the fields of the first of them, how many others there are, and
 -- whether these are all that follow

@@ -1,7 +1,7 @@
 -- Which fields are numbers.
 -- Source: this library's own; ISO 4217 and Unicode's category Sc for currencies.
 use Prim.Native.String.{String}
-use Rattle.std.specs.Prelude.{ℕ, Bool, true, false, ◌+◌, ◌-◌, ◌==◌, ◌&&◌, ◌||◌, not, nat_lt, List, [], ◌∷◌, length, map, take, drop, Option, Some, None, option_map, bytes_eq, chars, codes, is_some, if◌then◌else◌}
+use Rattle.std.specs.Prelude.{ℕ, Bool, true, false, ◌+◌, ◌-◌, ◌==◌, ◌&&◌, ◌||◌, not, nat_le, nat_lt, List, [], ◌∷◌, length, map, take, drop, Option, Some, None, option_map, bytes_eq, chars, codes, is_some, if◌then◌else◌}
 use Rattle.std.specs.Char.{is_ascii_digit, to_ascii_lowercase}
 use Rattle.std.specs.List.{list_all, list_any, position, prefix_len, slice_split, suffix_len}
 use Rattle.std.specs.Str.{encode_utf8_all}
@@ -84,27 +84,36 @@ halves mark text =
 abbrev pub is_digits : Text → Bool
 is_digits text = nat_lt 0 (length text) && list_all is_ascii_digit text
 
--- how many digits a group may have: the first one to three, each other three
-abbrev pub is_group_len : Bool → ℕ → Bool
-is_group_len is_first count = if is_first then nat_lt 0 count && nat_lt count 4 else count == 3
+-- a group of a size has this many digits, the first one also fewer
+abbrev pub is_group_len : ℕ → Bool → ℕ → Bool
+is_group_len size is_first count =
+    if is_first then nat_lt 0 count && nat_le count size else count == size
 
-abbrev pub is_group : Bool → List ℕ → Bool
-is_group is_first digits = is_group_len is_first (length digits) && list_all is_ascii_digit digits
+abbrev pub is_group : ℕ → Bool → List ℕ → Bool
+is_group size is_first digits =
+    is_group_len size is_first (length digits) && list_all is_ascii_digit digits
 
-abbrev pub are_groups : List (List ℕ) → Bool
-are_groups [] = false
-are_groups (first ∷ others) = is_group true first && list_all (is_group false) others
+abbrev pub are_groups : ℕ → List (List ℕ) → Bool
+are_groups size [] = false
+are_groups size (first ∷ others) =
+    is_group size true first && list_all (is_group size false) others
 
--- digits in groups by a character
-abbrev pub is_grouped : ℕ → Text → Bool
-is_grouped mark text = are_groups (slice_split (λ c. c == mark) (chars text))
+-- digits in groups of a size, separated by a character
+abbrev pub is_grouped : ℕ → ℕ → Text → Bool
+is_grouped size mark text = are_groups size (slice_split (λ c. c == mark) (chars text))
+
+-- Indian groups, as in `12,34,567`: all digits except the last are in groups of two
+abbrev pub has_indian_groups : Text → Bool
+has_indian_groups text =
+    ends is_ascii_digit (chars text) && is_grouped 2 0x2C (without_last text)
 
 -- the characters that part groups: `,`, `.`, `_`, `'`, a space, U+00A0 and U+202F
 abbrev pub group_marks : List ℕ
 group_marks = 0x2C ∷ 0x2E ∷ 0x5F ∷ 0x27 ∷ 0x20 ∷ 0xA0 ∷ 0x202F ∷ []
 
 abbrev pub has_groups : Text → Bool
-has_groups text = list_any (λ mark. is_grouped mark text) group_marks
+has_groups text =
+    list_any (λ mark. is_grouped 3 mark text) group_marks || has_indian_groups text
 
 -- a number of at most 255
 abbrev pub is_octet : Text → Bool

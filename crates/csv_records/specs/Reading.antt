@@ -31,12 +31,13 @@ IsWithoutText options input e =
     (IsRefusedIn (encoding_of options.encoding input) options.skip input e)
     (λ what. e ≡ decode.NotText what)
 
--- what is read of a text: with TABs between fields, where spaces stand there
-abbrev pub read_text : Delimiter → Text → Text
-read_text (Byte b) text = text
-read_text Auto text = text
-read_text NamedOrTab text = text
-read_text Spaces text = tabbed_text text
+-- a text as it is read, of which the first line may be a header: with TABs between fields, if spaces
+-- separate them
+abbrev pub read_text : Bool → Delimiter → Text → Text
+read_text has_header (Byte b) text = text
+read_text has_header Auto text = text
+read_text has_header NamedOrTab text = text
+read_text has_header Spaces text = tabbed_text has_header text
 
 -- whether quotes count: not where spaces stand between fields
 abbrev pub counts_quotes : Delimiter → Bool → Bool
@@ -51,7 +52,8 @@ reads_quotes options = counts_quotes options.delimiter options.has_quotes
 -- the byte between the fields of a text, and what holds its records: not a line that names the byte
 abbrev pub parted : InputOptions → Text → ℕ × Text
 parted options text =
-    delimited options.delimiter (reads_quotes options) (read_text options.delimiter text)
+    delimited options.delimiter (reads_quotes options)
+    (read_text options.has_header options.delimiter text)
 
 -- these are the records of a text, and where quotes count, it doesn't end within them
 pub record AreRecordsIn (options : InputOptions) (text : Text) (records : List

@@ -1,6 +1,6 @@
 -- Texts whose fields stand between runs of spaces and TABs.
 -- Source: this library's own.
-use Rattle.std.specs.Prelude.{ℕ, zero, suc, ◌+◌, ◌-◌, ◌==◌, ◌&&◌, ◌||◌, not, nat_le, Bool, false, List, [], ◌∷◌, ◌++◌, Option, Some, None, bytes_eq, codes, drop, flat_map, map, max, min, take, if◌then◌else◌, length}
+use Rattle.std.specs.Prelude.{ℕ, zero, suc, ◌+◌, ◌-◌, ◌==◌, ◌&&◌, ◌||◌, not, nat_le, Bool, true, false, List, [], ◌∷◌, ◌++◌, Option, Some, None, bytes_eq, codes, drop, flat_map, fold, map, max, min, take, if◌then◌else◌, length}
 use Rattle.std.specs.List.{filter, list_any, position_or_len, prefix_len, slice_split, suffix_len}
 use Rattle.std.specs.Char.{is_ascii_whitespace}
 use Rattle.comfy_parts.specs.Text.{Text}
@@ -45,11 +45,6 @@ abbrev pub is_total : Text → Bool
 is_total line =
     bytes_eq (first_field line) (codes "total") && begins_with_digit (behind_field line)
 
--- lines without such a first one
-abbrev pub below_total : List Text → List Text
-below_total [] = []
-below_total (line ∷ lines) = if is_total line then lines else line ∷ lines
-
 -- how many gaps a line has
 abbrev pub line_gaps : Text → ℕ
 line_gaps line = gaps_from false (trimmed_line line)
@@ -58,6 +53,11 @@ line_gaps line = gaps_from false (trimmed_line line)
 abbrev pub most_gaps : List Text → ℕ
 most_gaps [] = 0
 most_gaps (line ∷ lines) = max (line_gaps line) (most_gaps lines)
+
+-- how many gaps the line of some lines has that has the fewest
+abbrev pub fewest_gaps : List Text → ℕ
+fewest_gaps [] = 0
+fewest_gaps (line ∷ lines) = fold min (line_gaps line) (map line_gaps lines)
 
 -- a line begins with a gap
 abbrev pub is_indented : Text → Bool
@@ -97,18 +97,37 @@ tabbed_line (suc gaps) line =
     then spaced line
     else first_field line ++ 0x09 ∷ tabbed_line gaps (behind_field line)
 
--- lines with TABs for these gaps
-abbrev pub gaps_text : List Text → Text
-gaps_text lines =
-    name_gap lines
-    ++ flat_map (λ line. tabbed_line (column_gaps lines) (trimmed_line line) ++ 0x0A ∷ []) lines
+-- lines with TABs for their first gaps
+abbrev pub lines_text : ℕ → List Text → Text
+lines_text gaps lines = flat_map (λ line. tabbed_line gaps (trimmed_line line) ++ 0x0A ∷ []) lines
 
--- a text with TABs between its fields: below the names of its first line, where all stand there
-abbrev pub tabbed_by : Option (List ℕ) → List Text → Text
-tabbed_by (Some starts) lines = columns_text starts lines
-tabbed_by None lines = gaps_text lines
+-- below names there are as many columns as the names say; without names, as many as the line with
+-- the fewest fields has, and at least two
+abbrev pub gaps_text : Bool → List Text → Text
+gaps_text true lines = name_gap lines ++ lines_text (column_gaps lines) lines
+gaps_text false lines = lines_text (max 1 (fewest_gaps lines)) lines
 
-abbrev pub tabbed_text : Text → Text
-tabbed_text text =
-    let lines = below_total (filled_lines text) in
-    tabbed_by (name_starts lines) lines
+-- lines with TABs between their fields: at the places of the first line's names, if all fields are
+-- below these
+abbrev pub tabbed_by : Bool → Option (List ℕ) → List Text → Text
+tabbed_by has_names (Some starts) lines = columns_text starts lines
+tabbed_by has_names None lines = gaps_text has_names lines
+
+abbrev pub tabbed_lines : Bool → List Text → Text
+tabbed_lines has_names lines = tabbed_by has_names (name_starts lines) lines
+
+-- a first line like `total 92` is the header, so that no line below it is one; without a header it
+-- is left out
+abbrev pub total_text : Bool → Text → Text
+total_text has_header line = if has_header then lines_text 0 (line ∷ []) else []
+
+abbrev pub tabbed_by_total : Bool → List Text → Text
+tabbed_by_total has_header [] = []
+tabbed_by_total has_header (line ∷ lines) =
+    if is_total line
+    then total_text has_header line ++ tabbed_lines false lines
+    else tabbed_lines has_header (line ∷ lines)
+
+-- a text with TABs between its fields; its first line may be a header
+abbrev pub tabbed_text : Bool → Text → Text
+tabbed_text has_header text = tabbed_by_total has_header (filled_lines text)

@@ -1,10 +1,10 @@
-//! Records that have more fields than the first one.
+//! Records that have more fields than the first one. Empty fields at the end of a record don't count.
 
-ghost use Rattle.std.specs.Prelude.{◌≡◌, ◌≢◌, length, nat_lt};
+ghost use Rattle.std.specs.Prelude.{◌≡◌, ◌≢◌, nat_lt};
 ghost use Rattle.std.specs.List.{count_by, position};
 ghost use Rattle.csv_records.specs.Delimiter.{delimited};
 ghost use Rattle.csv_records.specs.Input.{config_for};
-ghost use Rattle.csv_records.specs.Longer.{skip_record, skip_newlines, field_count, skip_records, longer_records};
+ghost use Rattle.csv_records.specs.Longer.{skip_record, skip_newlines, field_count, filled_len, skip_records, longer_records};
 ghost use Rattle.csv_records.specs.declared.delimiter.Delimiter.TheVariants.{Spaces};
 
 use crate::counting::first_count;
@@ -68,16 +68,16 @@ fn fields_at(records: &Rows<'_>, position: usize) -> usize
 
 // How many records are before the first that has more fields than this many.
 fn first_longer(records: &Rows<'_>, most: usize) -> Option<usize>
-    ensures { result ≡ position (λ fields. nat_lt most (length fields)) records.now }
+    ensures { result ≡ position (λ fields. nat_lt most (filled_len fields)) records.now }
 {
-    records.iter().position(|record| record.len() > most)
+    records.iter().position(|record| record.has_more(most))
 }
 
 // How many records have more fields than this many.
 fn count_longer(records: &Rows<'_>, most: usize) -> usize
-    ensures { result ≡ count_by (λ fields. nat_lt most (length fields)) records.now }
+    ensures { result ≡ count_by (λ fields. nat_lt most (filled_len fields)) records.now }
 {
-    records.iter().filter(|record| record.len() > most).count()
+    records.iter().filter(|record| record.has_more(most)).count()
 }
 
 // These bytes from the record on before which this many are.

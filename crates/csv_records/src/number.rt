@@ -4,7 +4,7 @@ ghost use Rattle.std.specs.Prelude.{◌≡◌, ◌∷◌, ◌++◌, ◌-◌, ◌
 ghost use Rattle.std.specs.List.{list_any, position, prefix_len, suffix_len};
 ghost use Rattle.std.specs.Char.{is_ascii_digit, is_ascii_uppercase};
 ghost use Rattle.std.specs.Str.{IsCharBoundary};
-ghost use Rattle.csv_records.specs.Number.{are_parted_digits, back_of, before, begins, behind, ends, figure_of, from_other, front_of, halves, has_groups, has_groups_before, is_address, is_amount, is_bare_neutral, is_bare_number, is_blank, is_code, is_currency, is_dash, is_decimal, is_digits, is_enclosed, is_end, is_exponent, is_figure, is_fraction, is_group_len, is_grouped, is_inner, is_missing, is_money, is_name, is_neutral, is_number, is_octet, is_one, is_outer, is_scientific, is_sign, is_signed, is_signed_later, is_size, is_space, is_time, is_unit, is_word, to_other, trimmed, without_first, without_last, without_spaces_before, without_spaces_behind};
+ghost use Rattle.csv_records.specs.Number.{are_parted_digits, back_of, before, begins, behind, ends, figure_of, from_other, front_of, group_marks, halves, has_groups, has_groups_before, has_indian_groups, is_address, is_amount, is_bare_neutral, is_bare_number, is_blank, is_code, is_currency, is_dash, is_decimal, is_digits, is_enclosed, is_end, is_exponent, is_figure, is_fraction, is_group_len, is_grouped, is_inner, is_missing, is_money, is_name, is_neutral, is_number, is_octet, is_one, is_outer, is_scientific, is_sign, is_signed, is_signed_later, is_size, is_space, is_time, is_unit, is_word, to_other, trimmed, without_first, without_last, without_spaces_before, without_spaces_behind};
 
 use crate::characters::split_first;
 use crate::digits::parse_digits;
@@ -435,39 +435,55 @@ fn is_octet(text: &str) -> bool
 pub(crate) fn has_groups(text: &str) -> bool
     ensures { result ≡ has_groups text.now }
 {
-    GROUP_MARKS.iter().any(|mark| is_grouped(text, *mark))
+    has_groups_of_three(text) || has_indian_groups(text)
 }
 
-// Digits in groups by a character: one to three in the first, three in each other.
-fn is_grouped(text: &str, mark: char) -> bool
-    ensures { result ≡ is_grouped mark text.now }
+fn has_groups_of_three(text: &str) -> bool
+    ensures { result ≡ list_any (λ mark. is_grouped 3 mark text.now) group_marks }
+{
+    GROUP_MARKS.iter().any(|mark| is_grouped(text, 3, *mark))
+}
+
+// Commas in digits as in India: without the last digit, groups have two.
+fn has_indian_groups(text: &str) -> bool
+    ensures { result ≡ has_indian_groups text.now }
+{
+    match split_last(text) {
+        Some((rest, c)) => c.is_ascii_digit() && is_grouped(rest, 2, ','),
+        None => false,
+    }
+}
+
+// Digits in groups of a size, separated by a character. The first group may be smaller.
+fn is_grouped(text: &str, size: usize, mark: char) -> bool
+    ensures { result ≡ is_grouped size mark text.now }
 {
     let mut is_first = true;
     let mut count = 0;
     for c in text.chars() {
         if c == mark {
-            if !is_group_len(is_first, count) {
+            if !is_group_len(size, is_first, count) {
                 return false;
             }
             is_first = false;
             count = 0;
-        } else if c.is_ascii_digit() && count < 3 {
+        } else if c.is_ascii_digit() && count < size {
             count += 1;
         } else {
             return false;
         }
     }
-    is_group_len(is_first, count)
+    is_group_len(size, is_first, count)
 }
 
-// Whether a group may have this many digits.
-fn is_group_len(is_first: bool, count: usize) -> bool
-    ensures { result ≡ is_group_len is_first count }
+// True if a group of a size may have this many digits.
+fn is_group_len(size: usize, is_first: bool, count: usize) -> bool
+    ensures { result ≡ is_group_len size is_first count }
 {
     if is_first {
-        count > 0 && count < 4
+        count > 0 && count <= size
     } else {
-        count == 3
+        count == size
     }
 }
 

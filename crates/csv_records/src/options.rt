@@ -14,6 +14,9 @@ pub struct InputOptions {
     pub skip: usize,
     /// The delimiter between fields.
     pub delimiter: Delimiter,
+    /// Whether the first line is a header. It only counts if spaces separate fields, which are then
+    /// parted as the header's names are.
+    pub has_header: bool,
     /// Whether quotes around a field aren't part of it. A quote that opens one and is never closed
     /// is refused then.
     pub has_quotes: bool,

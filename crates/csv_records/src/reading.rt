@@ -50,7 +50,7 @@ pub fn read_first_records(
     ensures refused { IfErr result (λ e. IsTextWithoutRecords options.now text.now e) }
 {
     if let Delimiter::Spaces = options.delimiter {
-        let tabbed = tabbed_text(alloc, text)?;
+        let tabbed = tabbed_text(alloc, text, options.has_header)?;
         return first_records_of(alloc, tabbed.as_str(), b'\t', false, most);
     }
     let (delimiter, rest) = delimited(alloc, text, options.delimiter, options.has_quotes)?;

@@ -1,11 +1,12 @@
 //! The records of a text.
 
-ghost use Rattle.std.specs.Prelude.{◌≡◌, ◌≢◌, ◌<◌, ◌≤◌, ◌==◌, ◌-◌, ◌^◌, ◌∷◌, ◌++◌, [], All, IfErr, IfNone, IfOk, IfSome, IsTrue, None, OnOk, drop, false, length, map, option_map, slice_get, take};
+ghost use Rattle.std.specs.Prelude.{◌≡◌, ◌≢◌, ◌<◌, ◌≤◌, ◌==◌, ◌-◌, ◌^◌, ◌∷◌, ◌++◌, [], All, IfErr, IfNone, IfOk, IfSome, IsTrue, None, OnOk, drop, false, get_or, length, map, nat_lt, option_map, slice_get, take};
 ghost use Rattle.std.specs.Iterator.{YieldsFirstBy, item_count};
 ghost use Rattle.csv.specs.Records.{AllText, field_at, fields_of, partial_of};
 ghost use Rattle.csv_records.specs.CutLists.{cut_by, total};
 ghost use Rattle.csv_records.specs.First.{AreFirst};
 ghost use Rattle.csv_records.specs.Input.{AreRecordsOf, IsReadingRefusal};
+ghost use Rattle.csv_records.specs.Longer.{filled_len};
 ghost use Rattle.csv_records.specs.Places.{IsWithin, fields_at, places_for};
 ghost use Rattle.csv_records.specs.Started.{IsStarted};
 
@@ -244,6 +245,35 @@ impl<'a> Record<'a> {
         ensures { result ≡ length self.now }
     {
         self.place.end - self.place.start
+    }
+
+    /// How many fields there are up to the last that isn't empty.
+    pub fn filled_len(&self) -> usize
+        ensures { result ≡ filled_len self.now }
+    {
+        let mut len = self.len();
+        while len > 0 && self.is_empty_at(len - 1) {
+            len -= 1;
+        }
+        len
+    }
+
+    // True if there are more than this many fields, without the empty ones at the end.
+    pub(crate) fn has_more(&self, most: usize) -> bool
+        ensures { result ≡ nat_lt most (filled_len self.now) }
+    {
+        self.len() > most && self.filled_len() > most
+    }
+
+    // True if the field at a position is empty.
+    fn is_empty_at(&self, position: usize) -> bool
+        requires { position < length self.now }
+        ensures { result ≡ (length (get_or self.now position []) == 0) }
+    {
+        match self.get(position) {
+            Some(field) => field.is_empty(),
+            None => true,
+        }
     }
 
     /// The field at a position, which is counted from 0; none after the last.

@@ -1,43 +1,80 @@
 //! Texts whose fields are between spaces, as `df -h` and `ls -l` write them.
 
-ghost use Rattle.std.specs.Prelude.{◌≡◌, ◌++◌, IfOk, OnOk, false, length, map, max, option_map, string_bytes};
+ghost use Rattle.std.specs.Prelude.{◌≡◌, ◌++◌, ◌∷◌, [], IfOk, OnOk, false, length, map, max, option_map, string_bytes};
 ghost use Rattle.std.specs.List.{list_any, position_or_len, prefix_len};
 ghost use Rattle.csv_records.specs.Number.{halves};
-ghost use Rattle.csv_records.specs.Spaces.{begins_with_digit, below_total, column_gaps, filled_lines, behind_field, first_field, gaps_from, is_gap, is_indented, gaps_text, is_total, lacks_name, line_gaps, most_gaps, name_gap, spaced, tabbed_line, tabbed_text, trimmed_line};
+ghost use Rattle.csv_records.specs.Spaces.{begins_with_digit, column_gaps, fewest_gaps, filled_lines, behind_field, first_field, gaps_from, is_gap, is_indented, is_total, lacks_name, line_gaps, lines_text, most_gaps, name_gap, spaced, tabbed_line, tabbed_lines, tabbed_text, trimmed_line};
 
 use crate::below_names::{columns_text, name_starts};
 use std::alloc::{AllocError, Global};
 
-/// The text with TABs between its fields. A blank line is left out, as is a first one like
-/// `total 92`. If all fields are below the names of the first line (`name_starts`), they are cut
-/// there. Otherwise runs of spaces and TABs part them; white space of ASCII at the ends of a line
-/// doesn't count. There are as many columns as the first line has fields, and no more than the
-/// fullest line below it. The last one takes all that is left of a line, with a space for each TAB.
-/// Where the first line alone begins with a gap and has one field less than that fullest line, its
-/// first field is empty.
-pub(crate) fn tabbed_text(alloc: Global, text: &str) -> Result<String, AllocError>
-    ensures { IfOk result (λ tabbed. string_bytes tabbed ≡ tabbed_text text.now) }
+/// The text with TABs between its fields. A blank line is left out. A first line like `total 92` is
+/// the header, or is left out if there is no header.
+pub(crate) fn tabbed_text(
+    alloc: Global,
+    text: &str,
+    has_header: bool,
+) -> Result<String, AllocError>
+    ensures { IfOk result (λ tabbed. string_bytes tabbed ≡ tabbed_text has_header text.now) }
 {
     let filled = filled_lines(alloc, text)?;
-    let lines = below_total(filled.as_slice());
-    match name_starts(alloc, lines)? {
-        Some(starts) => columns_text(alloc, lines, starts.as_slice()),
-        None => gaps_text(alloc, lines),
+    match filled.as_slice() {
+        [first, lines @ ..] if is_total(first) => {
+            let mut tabbed = String::new(alloc);
+            if has_header {
+                push_line(&mut tabbed, first, 0)?;
+            }
+            tabbed.push_str(tabbed_lines(alloc, lines, false)?.as_str())?;
+            Ok(tabbed)
+        }
+        lines => tabbed_lines(alloc, lines, has_header),
     }
 }
 
-// Lines with TABs for the gaps that part columns.
-fn gaps_text(alloc: Global, lines: &[&str]) -> Result<String, AllocError>
+/// Lines with TABs between their fields. If all fields are below the names of the first line
+/// (`name_starts`), they are cut there. Otherwise runs of spaces and TABs part them; white space of
+/// ASCII at the ends of a line doesn't count. The last column takes all that is left of a line, with
+/// a space for each TAB.
+///
+/// Below names there are as many columns as the first line has fields, and no more than the fullest
+/// line below it. If the first line alone begins with a gap and has one field less than that
+/// fullest line, its first field is empty. Without names there are as many columns as the line with
+/// the fewest fields has, and at least two.
+fn tabbed_lines(alloc: Global, lines: &[&str], has_names: bool) -> Result<String, AllocError>
     ensures { IfOk result (λ tabbed. string_bytes tabbed
-        ≡ gaps_text (map (λ line. line.now) lines.now)) }
+        ≡ tabbed_lines has_names (map (λ line. line.now) lines.now)) }
 {
-    let gaps = column_gaps(lines);
-    let mut tabbed = String::from_str(alloc, name_gap(lines))?;
-    for line in lines {
-        push_tabbed(&mut tabbed, trimmed_line(line), gaps)?;
-        tabbed.push('\n')?;
+    match name_starts(alloc, lines)? {
+        Some(starts) => columns_text(alloc, lines, starts.as_slice()),
+        None if has_names => lines_text(alloc, name_gap(lines), lines, column_gaps(lines)),
+        None => lines_text(alloc, "", lines, fewest_gaps(lines).max(1)),
     }
-    Ok(tabbed)
+}
+
+// Lines with TABs for their first gaps, after a first text.
+fn lines_text(
+    alloc: Global,
+    first: &str,
+    lines: &[&str],
+    gaps: usize,
+) -> Result<String, AllocError>
+    ensures { IfOk result (λ text. string_bytes text
+        ≡ first.now ++ lines_text gaps (map (λ line. line.now) lines.now)) }
+{
+    let mut text = String::from_str(alloc, first)?;
+    for line in lines {
+        push_line(&mut text, line, gaps)?;
+    }
+    Ok(text)
+}
+
+// Appends a line with TABs for its first gaps, and a line feed.
+fn push_line(text: &mut String, line: &str, gaps: usize) -> Result<(), AllocError>
+    ensures { OnOk result (string_bytes text.new
+        ≡ string_bytes text.old ++ lines_text gaps (line.now ∷ [])) }
+{
+    push_tabbed(text, trimmed_line(line), gaps)?;
+    text.push('\n')
 }
 
 // The lines of a text that aren't blank.
@@ -53,17 +90,7 @@ fn filled_lines(alloc: Global, text: &str) -> Result<Vec<&str>, AllocError>
     Ok(lines)
 }
 
-// These lines without a first one like `total 92`.
-fn below_total<'a>(lines: &'a [&'a str]) -> &'a [&'a str]
-    ensures { map (λ line. line.now) result.now
-        ≡ below_total (map (λ line. line.now) lines.now) }
-{
-    match lines {
-        [first, others @ ..] if is_total(first) => others,
-        _ => lines,
-    }
-}
-
+// True for a line like `total 92`, which `ls -l` writes above its list.
 fn is_total(line: &str) -> bool
     ensures { result ≡ is_total line.now }
 {
@@ -146,6 +173,20 @@ fn most_gaps(lines: &[&str]) -> usize
         most = most.max(line_gaps(line));
     }
     most
+}
+
+// How many gaps the line has that has the fewest.
+fn fewest_gaps(lines: &[&str]) -> usize
+    ensures { result ≡ fewest_gaps (map (λ line. line.now) lines.now) }
+{
+    let [first, others @ ..] = lines else {
+        return 0;
+    };
+    let mut fewest = line_gaps(first);
+    for line in others {
+        fewest = fewest.min(line_gaps(line));
+    }
+    fewest
 }
 
 // How many gaps a line has.

@@ -1,6 +1,6 @@
 -- Which columns are drawn, and how their cells are aligned.
 -- Source: this library's own.
-use Rattle.std.specs.Prelude.{ℕ, Bool, ◌+◌, ◌==◌, List, Option, Some, None, decimal, fold, length, map, max, unwrap_or, if◌then◌else◌}
+use Rattle.std.specs.Prelude.{ℕ, Bool, ◌+◌, ◌==◌, List, Option, Some, None, decimal, fold, length, map, max, min, unwrap_or, if◌then◌else◌}
 use Rattle.std.specs.List.{list_any}
 use Rattle.comfy_parts.specs.Text.{Text}
 use Rattle.comfy_parts.specs.declared.style.cell.CellAlignment.{CellAlignment}
@@ -14,6 +14,7 @@ use Rattle.csv_tables.specs.Markdown.{is_right}
 use Rattle.csv_tables.specs.Summaries.{column_fields, summary_of}
 use Rattle.csv_tables.specs.declared.summary.ColumnSummary.{ColumnSummary}
 use Rattle.csv_records.specs.Cleaning.{visible_of}
+use Rattle.csv_records.specs.Longer.{filled_len}
 use Rattle.csv_tables.specs.declared.options.ColumnPlan.{ColumnPlan}
 
 -- positions of columns, counted from 0: those that are drawn, in their order, and those that stand
@@ -27,6 +28,13 @@ pub record ColumnsValue : Type 0 where
 abbrev pub count_of : List Text → List (List Text) → ℕ
 count_of names rows =
     fold (λ (n : ℕ) (fields : List Text). max n (length fields)) (length names) rows
+
+-- how many of these columns are drawn if none is chosen: those up to the last that has a name or a
+-- field that isn't empty, and at least one
+abbrev pub filled_count : List Text → List (List Text) → ℕ
+filled_count names rows =
+    min (count_of names rows)
+    (max 1 (fold (λ (n : ℕ) (fields : List Text). max n (filled_len fields)) (filled_len names) rows))
 
 -- what is seen of a record's fields: where sequences are kept, they aren't
 abbrev pub seen : Bool → List Text → List Text

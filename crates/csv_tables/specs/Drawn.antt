@@ -17,7 +17,7 @@ use Rattle.comfy_table.specs.Pieces.{row_height}
 use Rattle.comfy_table.specs.TableValue.{TableValue, max_content_widths, new_table, with_header, with_rows}
 use Rattle.csv_tables.specs.Cells.{counted_from, header_for, held, pair_for, row_for}
 use Rattle.csv_tables.specs.Fields.{field_or_blank}
-use Rattle.csv_tables.specs.Columns.{count_of, drawn_columns, name_at, seen}
+use Rattle.csv_tables.specs.Columns.{count_of, filled_count, drawn_columns, name_at, seen}
 use Rattle.csv_tables.specs.Markdown.{rule_line}
 use Rattle.csv_tables.specs.declared.options.Expansion.{Expansion}
 use Rattle.csv_tables.specs.declared.options.Expansion.TheVariants.{Always, Auto, Never as NeverExpanded}
@@ -61,6 +61,11 @@ drawn_rows selection records =
 abbrev pub column_count : Selection → List (List Text) → ℕ
 column_count selection records =
     count_of (names_or_none selection records) (drawn_rows selection records)
+
+-- how many are drawn if none is chosen
+abbrev pub filled_columns : Selection → List (List Text) → ℕ
+filled_columns selection records =
+    filled_count (names_or_none selection records) (drawn_rows selection records)
 
 -- ---- contents
 

@@ -1,8 +1,9 @@
 //! Which records and columns are drawn.
 
-ghost use Rattle.std.specs.Prelude.{◌≡◌, ◌==◌, length};
+ghost use Rattle.std.specs.Prelude.{◌≡◌, ◌==◌, fold, length, max};
+ghost use Rattle.csv_records.specs.Longer.{filled_len};
 ghost use Rattle.csv_tables.specs.Columns.{ColumnsValue, count_of};
-ghost use Rattle.csv_tables.specs.Drawn.{column_count, drawn_rows, limited, names_of, names_or_none, one_of, records_below, several_of};
+ghost use Rattle.csv_tables.specs.Drawn.{column_count, drawn_rows, filled_columns, limited, names_of, names_or_none, one_of, records_below, several_of};
 
 use csv_records::{Record, Rows};
 use std::marker::Model;
@@ -74,6 +75,15 @@ impl Selection {
     {
         count_of(&self.names(records), &self.rows(records))
     }
+
+    /// How many columns there are up to the last that has a name or a field that isn't empty; at
+    /// least one, unless there are no columns.
+    pub fn filled_columns(&self, records: &Rows<'_>) -> usize
+        ensures { result ≡ filled_columns self.now records.now }
+    {
+        let filled = filled_len(&self.names(records), &self.rows(records));
+        filled.max(1).min(self.column_count(records))
+    }
 }
 
 /// Which columns are drawn, by their positions, which are counted from 0.
@@ -95,7 +105,8 @@ impl Drop for Columns {
 }
 
 impl Model for Columns {
-    ghost use Rattle.csv_tables.specs.Columns.{ColumnsValue};
+    ghost use Rattle.csv_records.specs.Longer.{filled_len};
+ghost use Rattle.csv_tables.specs.Columns.{ColumnsValue};
 
     ghost Value = { ColumnsValue };
 
@@ -152,6 +163,20 @@ fn count_of(names: &Record<'_>, rows: &Rows<'_>) -> usize
         count = count.max(row.len());
     }
     count
+}
+
+// How many fields a record has at most up to the last that isn't empty.
+fn filled_len(names: &Record<'_>, rows: &Rows<'_>) -> usize
+    ensures { result ≡ fold (λ n fields. max n (filled_len fields)) (filled_len names.now)
+        rows.now }
+{
+    let mut filled = names.filled_len();
+    for row in rows.iter() {
+        if row.len() > filled {
+            filled = row.filled_len().max(filled);
+        }
+    }
+    filled
 }
 
 /// The header, if there is one.

@@ -4,7 +4,7 @@ use Rattle.comfy_parts.specs.Text.{Text}
 use Rattle.csv.specs.Reading.{strip_bom}
 use Rattle.csv_records.proofs.LongerLemmas.{line_is, none_longer, some_longer}
 use Rattle.csv_records.specs.Input.{config_for, line_number}
-use Rattle.csv_records.specs.Longer.{field_count, skip_records, is_longer, line_of_record}
+use Rattle.csv_records.specs.Longer.{field_count, filled_len, skip_records, is_longer, line_of_record}
 use Rattle.csv_records.proofs.longer.longer_records.Goals as goal
 
 pub returns : goal.returns
@@ -19,7 +19,7 @@ returns c =
     let rest : length c.skip_records-from.result.now ≡ length (skip_records (config_for c.args.delimiter options.has_quotes) before (strip_bom c.args.rest.now)) = search rules in
     let line : c.line_before.result ≡ line_of_record options text before =
     c.line_before.ensures ∙ ap (λ (n : ℕ). line_number options.skip (take (length text - n) text)) rest ∙ line_is options text other c.args.delimiter c.args.rest.now before c.requires.byte c.requires.behind in
-    let counted = c.count_longer.ensures ∙ ap (λ (n : ℕ). count_by (λ (fields : List Text). nat_lt n (length fields)) records) first in
+    let counted = c.count_longer.ensures ∙ ap (λ (n : ℕ). count_by (λ (fields : List Text). nat_lt n (filled_len fields)) records) first in
     let others : c.saturating_sub-others.result ≡ count_by (is_longer records) records - 1 = c.saturating_sub-others.ensures ∙ ap (λ (n : ℕ). n - 1) counted in
     let left : c.saturating_sub-2.result ≡ (length records - before) - 1 = search rules in
     rw (line, c.fields_at.ensures, first, others, left) (some_longer options text other records before found)
