@@ -15,7 +15,7 @@ use Rattle.std.specs.Str.{IsAscii, chars}
 use Rattle.comfy_parts.specs.Text.{Text, is_printable_ascii}
 use Rattle.csv_records.proofs.FigureLemmas.{by_end, to_other-stops}
 use Rattle.csv_records.specs.Decimals.{digits_in, fraction_of, number_of, number_with}
-use Rattle.csv_records.specs.Number.{back_of, figure_of, from_other, front_of, halves, is_decimal, is_digits, is_enclosed, is_figure, is_fraction, is_inner, is_name, is_number, is_outer, is_scientific, is_sign, is_signed, is_signed_later, is_space, is_written, to_other, trimmed, unsigned, without_first, without_spaces_before, is_amount, begins}
+use Rattle.csv_records.specs.Number.{back_of, figure_of, from_other, front_of, halves, has_indian_groups, is_decimal, is_digits, is_enclosed, is_figure, is_fraction, is_inner, is_name, is_number, is_outer, is_scientific, is_sign, is_signed, is_signed_later, is_space, is_written, to_other, trimmed, unsigned, without_first, without_spaces_before, is_amount, begins}
 use Rattle.csv_records.specs.declared.field_number.FieldNumber.{FieldNumber}
 use Rattle.csv_records.specs.declared.field_number.Fraction.{Fraction}
 
@@ -282,7 +282,7 @@ decimal_of is_number is_bare point comma =
     record { is_number = is_number; is_decimal = is_number; is_bare = is_bare; point = point; comma = comma }
 
 empty_figure : is_figure [] ≡ false
-unfolding chars
+unfolding chars has_indian_groups
 empty_figure = refl
 
 or_inside : (a b c d : Bool) → (b || c) ≡ true → ((a || (b || c)) || d) ≡ true

@@ -103,7 +103,7 @@ abbrev pub is_grouped : ℕ → ℕ → Text → Bool
 is_grouped size mark text = are_groups size (slice_split (λ c. c == mark) (chars text))
 
 -- Indian groups, as in `12,34,567`: all digits except the last are in groups of two
-abbrev pub has_indian_groups : Text → Bool
+unfoldable pub has_indian_groups : Text → Bool
 has_indian_groups text =
     ends is_ascii_digit (chars text) && is_grouped 2 0x2C (without_last text)
 

@@ -445,6 +445,7 @@ fn has_groups_of_three(text: &str) -> bool
 }
 
 // Commas in digits as in India: without the last digit, groups have two.
+#[tactic(auto, unfolding(crate::specs::Number::has_indian_groups))]
 fn has_indian_groups(text: &str) -> bool
     ensures { result ≡ has_indian_groups text.now }
 {

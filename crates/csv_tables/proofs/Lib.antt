@@ -46,3 +46,4 @@ pub mod NoWrapLemmas
 pub mod WholeColumnLemmas
 pub mod WholeRowLemmas
 pub mod WholeTableLemmas
+mod WordLemmas

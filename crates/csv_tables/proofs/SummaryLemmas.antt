@@ -12,7 +12,7 @@ use Rattle.csv_records.proofs.DecimalLemmas.{empty_is_plain, empty_says_nothing 
 use Rattle.csv_records.proofs.FieldNumberLemmas.{bare_characters, bare_is_printable}
 use Rattle.csv_records.specs.Cleaning.{visible_of}
 use Rattle.csv_records.specs.Decimals.{is_plain, marks_of}
-use Rattle.csv_records.specs.Number.{is_neutral, is_number, is_written}
+use Rattle.csv_records.specs.Number.{has_indian_groups, is_neutral, is_number, is_written}
 use Rattle.csv_records.specs.declared.decimals.ColumnMarks.{ColumnMarks}
 use Rattle.csv_tables.proofs.ColumnLemmas.{seen_at}
 use Rattle.csv_tables.specs.Columns.{seen}
@@ -155,7 +155,7 @@ or_false true = refl
 or_false false = refl
 
 empty_kind : kind_of [] ≡ Neutral
-unfolding chars is_neutral is_number
+unfolding chars is_neutral is_number has_indian_groups
 empty_kind = refl
 
 empty_unbroken : is_nowrap [] ≡ true

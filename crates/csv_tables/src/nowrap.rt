@@ -1,7 +1,8 @@
 //! Numbers and dates, which aren't broken over lines where there is room.
 
 ghost use Rattle.std.specs.Prelude.{◌≡◌, ◌==◌, ◌||◌, ◌-◌, Bool, List, ◌≤◌, ◌^◌, All, IfOk, None, OnOk, Some, chars, false, if◌then◌else◌, length, map, max, min, nat_le, nat_lt, option_copied, slice_get, true, unwrap_or};
-ghost use Rattle.std.specs.List.{list_all, list_any};
+ghost use Rattle.std.specs.List.{list_all, list_any, slice_split};
+ghost use Rattle.comfy_parts.specs.Text.{greatest};
 ghost use Rattle.csv_records.specs.Number.{is_neutral, is_number};
 ghost use Rattle.comfy_table.specs.RowCells.{cell_of};
 ghost use Rattle.comfy_table.specs.TableValue.{TableValue, constrained, measured_cell};
@@ -20,7 +21,7 @@ use crate::limits::{
 };
 use crate::needs::{Words, kept_of_fields, kept_of_name, least_words, lines_word_width};
 use crate::selected::SelectedRecords;
-use comfy_parts::content_split::measure_text_width;
+use comfy_parts::content_split::{is_printable, measure_text_width};
 use comfy_parts::for_tables::measured_lines;
 use comfy_table::for_records::{LinesCell, RowCell, TextCell};
 use comfy_table::utils::arrangement::helper::count_border_columns;
@@ -325,11 +326,32 @@ fn clamped_word(width: usize) -> u16
 pub(crate) fn word_width(line: &str) -> usize
     ensures { result ≡ word_width line.now }
 {
+    if is_printable(line.as_bytes()) {
+        return longest_word(line.as_bytes());
+    }
     let mut widest = 0;
     for word in line.split(' ') {
         widest = measure_text_width(word).max(widest);
     }
     widest
+}
+
+// The bytes of the longest word of a text line. In printable ASCII they are its terminal columns,
+// and counting them is faster than measuring each word.
+fn longest_word(line: &[u8]) -> usize
+    ensures { result ≡ greatest (map length (slice_split (λ b. b == 0x20) line.now)) }
+{
+    let mut longest = 0;
+    let mut len = 0;
+    for byte in line {
+        if *byte == b' ' {
+            longest = len.max(longest);
+            len = 0;
+        } else {
+            len += 1;
+        }
+    }
+    len.max(longest)
 }
 
 fn constrain_contents(contents: &mut LazyTable, constraints: Vec<ColumnConstraint>)

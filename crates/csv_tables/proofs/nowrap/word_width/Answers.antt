@@ -1,12 +1,19 @@
-use Rattle.std.proofs.Common.{ap, arith, map, ◌∙◌, lit<}
+use Rattle.std.proofs.Common.{◌≡◌, ap, arith, length, map, rules, true, ◌∙◌, lit<}
 use Rattle.std.proofs.lemmas.Grind.{common_steps}
 use Rattle.std.proofs.lemmas.List.{map-append}
 use Rattle.std.specs.Str.Iter.{split_text, split_has_more, split_pattern}
 use Rattle.std.proofs.lemmas.Iterator.Consumers.{YieldsList-end}
 use Rattle.std.proofs.lemmas.Iterator.Splits.{YieldsList-from_str_split}
-use Rattle.comfy_parts.specs.Text.{greatest, measure}
+use Rattle.comfy_parts.specs.Text.{greatest, is_printable_ascii, measure}
 use Rattle.comfy_table.proofs.ColumnCellLemmas.{greatest-append}
+use Rattle.csv_tables.proofs.WordLemmas.{widest_is_longest, words}
 use Rattle.csv_tables.proofs.nowrap.word_width.Goals as goal
+
+pub returns-then-is_printable : goal.returns-then-is_printable
+returns-then-is_printable c =
+    let printable : is_printable_ascii c.args.line.now ≡ true = search rules in
+    let longest : c.longest_word.result ≡ greatest (map length (words c.args.line.now)) = search rules in
+    longest ∙ widest_is_longest c.args.line.now printable
 
 pub loop-word-preserved : goal.loop-word-preserved
 loop-word-preserved c = grind (arith, common_steps, map-append, greatest-append)
