@@ -20,13 +20,16 @@ pub fn wrapped_lines_are_one_list()
     ensures some { (w d : ℕ) (text : Text) → WrappedIsWrapped w d text }
 {}
 
-/// The end of a line, stated by sums over the elements of its text. If the first element is at most
-/// `w` wide, the line ends after the first element for which one of these holds: the line then
-/// fills more than `w - 2` terminal columns, no element is left, or the next one has no room after
-/// one terminal column for the delimiter. If that next element is wider than `w`, and four terminal
-/// columns are free, the line also takes the delimiter and the head of the element for all free
-/// columns except one. If the first element is wider than `w`, the line is the head of that
-/// element, or its first character if the head is empty.
+/// The end of a line, stated by sums over the elements of its text. If the first element is wider
+/// than `w`, the line is the head of that element, or its first character if the head is empty.
+/// Otherwise the line ends after the first element for which one of these holds:
+///
+/// - more than `w - 2` terminal columns are filled
+/// - no element is left
+/// - the next element has no room after one terminal column for the delimiter
+///
+/// If this next element is wider than `w`, and four terminal columns are free, the line also takes
+/// the delimiter, and the head of the element for all free columns except one.
 pub fn lines_end_at_the_first_full_element()
     ensures fitting { (w d : ℕ) (text : Text) → FittingLinesEndAtFirst w d text }
     ensures wide { (w d : ℕ) (text : Text) → WideElementsAreCut w d text }
@@ -171,7 +174,7 @@ pub fn cells_are_equal_by_their_values()
     ensures hash { EqHashesAlike cell_eq cell_hash }
 {}
 
-/// Attributes are equal under `==`, and in their order, only if they are the same. The order is
+/// Attributes are equal under `==`, and in their order, exactly if they are the same. The order is
 /// total and transitive, and is that of their declaration. Equal attributes hash alike.
 pub fn attributes_are_ordered()
     ensures eq { EqIsSame attribute_eq }
@@ -181,7 +184,7 @@ pub fn attributes_are_ordered()
     ensures hash { EqHashesAlike attribute_eq attribute_hash }
 {}
 
-/// Colours are equal under `==`, and in their order, only if they are the same. The order is total
+/// Colours are equal under `==`, and in their order, exactly if they are the same. The order is total
 /// and transitive, and is that of their declaration. Equal colours hash alike.
 pub fn colors_are_ordered()
     ensures eq { EqIsSame color_eq }

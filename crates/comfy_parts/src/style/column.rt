@@ -1,6 +1,6 @@
 //! Widths of columns, and constraints on them.
 
-/// A whole width of a column, with its paddings.
+/// The width of a whole column, paddings included.
 ///
 /// ```
 /// let third = ColumnConstraint::UpperBoundary(Width::Percentage(33));
