@@ -75,7 +75,6 @@ pub fn needs_no_rewrite(text: &str) -> bool
 /// width. A line's text begins with the sequences that are open at its start, and keeps those
 /// between its visible characters. It ends with `ESC[0m` if a sequence is then open. Sequences stay
 /// open into later text lines. The only error is `OutOfMemory`.
-/// earlier text lines stay active.
 pub fn written_lines(cell: &Cell, info: &ColumnDisplayInfo, delimiter: char) -> Result<Vec<String>>
     ensures { IfOk result (λ texts. map string_bytes texts.items
         ≡ map (λ (line : CellLine). line.written)

@@ -20,10 +20,11 @@ use std::alloc::Global;
 ///
 /// # Errors
 ///
-/// - `Read`: a call of the source failed. Nothing was written. - `Write`: a call of the sink
-/// failed. A beginning of the drawing was written, perhaps no byte, but not all of the drawing. -
-/// `NotUtf8`: the input isn't UTF-8. No device failed, and nothing was written. - `Table`: memory
-/// ran out. No device failed, and nothing was written.
+/// - `Read`: a call of the source failed. Nothing was written.
+/// - `Write`: a call of the sink failed. A beginning of the drawing was written, perhaps no byte,
+///   but not all of the drawing.
+/// - `NotUtf8`: the input isn't UTF-8. No device failed, and nothing was written.
+/// - `Table`: memory ran out. No device failed, and nothing was written.
 ///
 /// After `Ok` no device failed, and the end of the source was read.
 ///
