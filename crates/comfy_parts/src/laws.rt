@@ -184,8 +184,8 @@ pub fn attributes_are_ordered()
     ensures hash { EqHashesAlike attribute_eq attribute_hash }
 {}
 
-/// Colours are equal under `==`, and in their order, exactly if they are the same. The order is total
-/// and transitive, and is that of their declaration. Equal colours hash alike.
+/// Colours are equal under `==`, and in their order, exactly if they are the same. The order is
+/// total and transitive, and is that of their declaration. Equal colours hash alike.
 pub fn colors_are_ordered()
     ensures eq { EqIsSame color_eq }
     ensures equal { EqualIsSame color_cmp }
