@@ -79,14 +79,14 @@ opens-clear (b ∷ bs) clear =
     let both = or_parts (b == 0x1B) (list_any (λ x. x == 0x1B) bs) clear in
     record { none = λ rest. ap open_after (parts-visible b (bs ++ rest) (no_sequence b (bs ++ rest) both.0)) ∙ (opens-clear bs both.1).none rest }
 
--- a text that can't continue an unfinished sequence is scanned after the sequences that are open before it
+-- a text that can't continue an unfinished sequence goes on with the sequences that the text before it leaves open
 open-before : (text other : Text) → Stops other → open_after (parts (text ++ other)) ≡ opened (open_after (parts text)) (parts other)
 open-before text other stops =
     ap (λ t. open_after (parts (t ++ other))) (sym (scan text).bytes)
     ∙ ap open_after (parts-scanned (parts text) other (scanned-stops (parts text) [] other stops (scan text).scanned))
     ∙ opened-append [] (parts text) (parts other)
 
--- a text after which none is open opens none together with a space and a text that opens none
+-- a text after which none is open opens none, if a space follows and the rest from the space on opens none
 pub opens-spaced : (text more : Text) → open_after (parts text) ≡ [] → OpensNone (0x20 ∷ more) → OpensNone (text ++ 0x20 ∷ more)
 opens-spaced text more ends own =
     record { none = λ rest. ap (λ t. open_after (parts t)) (append_assoc text (0x20 ∷ more) rest) ∙ open-before text (0x20 ∷ (more ++ rest)) (record { no_end = refl; no_start = refl }) ∙ ap (λ ss. opened ss (parts (0x20 ∷ (more ++ rest)))) ends ∙ own.none rest }
