@@ -30,12 +30,12 @@ module _ (w d : ℕ) where
       → filled_to filled (next ∷ others) (suc j) ≡ filled_to (filled + measure next + measure (encode_utf8 d)) others j
   filled_more filled next others j = let sums = sum_by-cons measure next (take j others) in omega (arith, sums)
 
-  -- a line ends after j + 1 further elements if it ends after j of them, counted from the next one on
+  -- a line ends after j + 1 further elements exactly if it ends after j of them, counted from the next one on
   ends_more : (filled : ℕ) (next : Text) (others : List Text) (j : ℕ)
       → ends_at filled (next ∷ others) (suc j) ≡ ends_at (filled + measure next + measure (encode_utf8 d)) others j
   ends_more filled next others j = let more = filled_more filled next others j in grind (arith, nat_tests, more)
 
-  -- no further elements fill no further columns
+  -- zero further elements fill no terminal column
   none_more : (filled : ℕ) (others : List Text) → filled_to filled others 0 ≡ filled
   none_more filled others = omega arith
 

@@ -9,8 +9,8 @@ use crate::device::{DeviceFault, Sink, Source};
 use std::io::{self, ErrorKind, Read, Write};
 use std::marker::Model;
 
-/// A source over a reader. Every error of the reader is a failure. Over `Uninterrupted` a signal is
-/// no error.
+/// A source over a reader. Every error of the reader is a failure. Put the reader in
+/// `Uninterrupted`, so that calls that a signal interrupts are repeated.
 #[derive(Drop)]
 pub struct FromReader<R> {
     reader: R,
@@ -92,7 +92,8 @@ impl<R: Read> Source for FromReader<R> {
 }
 
 /// A sink over a writer. Every error of the writer is a failure. If the writer takes nothing of a
-/// piece that isn't empty, that is a failure too. Over `Uninterrupted` a signal is no error.
+/// piece that isn't empty, that is a failure too. Put the writer in `Uninterrupted`, so that calls
+/// that a signal interrupts are repeated.
 #[derive(Drop)]
 pub struct ToWriter<W> {
     writer: W,

@@ -45,7 +45,7 @@ pub enum Stop<E> {
     OutOfMemory,
     /// Memory ran out for a piece of the output, so only a part of the output was written.
     Unfinished,
-    /// The whole input was read, and it has no output.
+    /// The input has no output. It was read as a whole, or its beginning was enough to refuse it.
     Refused(E),
 }
 
