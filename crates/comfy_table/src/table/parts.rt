@@ -20,7 +20,7 @@ pub struct TableParts {
     pub rows: Vec<Row>,
     /// The characters of the frame.
     pub style: TableStyle,
-    /// How the widths of the columns are found.
+    /// The rule by which the widths of the columns are found.
     pub arrangement: ContentArrangement,
     /// The character at which texts may break; `None` for a space.
     pub delimiter: Option<char>,
