@@ -135,8 +135,8 @@ pub fn dynamic_widths_are_levelled()
     ensures full { (table : TableValue) (w : ℕ) (widths : List ℕ) → TableIsFull table w widths }
 {}
 
-/// Under `Dynamic` and without constraints the level is the best one: no widths within the room
-/// give each column its content or one more than the level.
+/// Under `Dynamic` and without constraints the level is the best one: if a content is above it, no
+/// widths within the room give each column its content or one more than the level.
 #[tactic(auto, using(crate::proofs::TableLemmas::table_level_is_best))]
 pub fn the_level_is_the_best()
     ensures { (table : TableValue) (w level : ℕ) (widths : List ℕ)
