@@ -57,7 +57,7 @@ abbrev first : List RattleType → RattleType
 first [] = table.the_row
 first (R ∷ Rs) = R
 
--- what `into_reference` takes, and what it returns
+-- the parameter of `into_reference`, which is also the result of the first function
 abbrev pub held : (m : ℕ) → Slot (suc m)
 held m = plain (λ κs. first (types_at h.signature.params (κs.0, tt)))
 

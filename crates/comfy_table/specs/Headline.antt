@@ -134,7 +134,7 @@ pub record AddsNoControls (table : TableValue) (lines : List Text) : Type 0 wher
 -- All promises of a drawing. The headline of docs/PROVED.md is in these fields:
 --
 -- Every table is drawn as frame lines and rows of padded pieces (`drawn`). Until `max_height` cuts
--- them (in `drawing`), the pieces are, in order, slices of the cells' texts that leave out only
+-- them (in `drawing`), the pieces are, in order, slices of cells' text lines that leave out only
 -- delimiters (`texts.slices`). Let the width w be known, and let no column have a constraint except
 -- `Hidden` (`known_width`). Under `Dynamic` each frame line (`frame_lines`) has at most max(w,
 -- borders + paddings + shown columns) characters (`keeps_to_width`), and under `DynamicFullWidth`
