@@ -54,7 +54,7 @@ opens_spaces n = keeps_spaces HasNoEscape (λ shown text. OpensNone text) opens_
 abbrev EndsInside : ColumnInfo → Text → Type 0
 EndsInside info text = (1 ≤ info.padding.1) ⊎ OpensNone text
 
--- a text that leaves none open opens no sequence before spaces
+-- a text that leaves no sequence open opens none before spaces
 opens-spaces : (text : Text) (n : ℕ) → open_after (parts text) ≡ [] → 1 ≤ n → OpensNone (text ++ spaces n)
 opens-spaces text zero ends some = absurd (omega (arith, some))
 opens-spaces text (suc n) ends some = opens-spaced text (spaces n) ends (opens_spaces (suc n))

@@ -29,7 +29,7 @@ pub record HasCount (n : ℕ) (text : Text) : Type 0 where
 pub count-is : (n : ℕ) (text : Text) → HasCount n text → count text ≡ n
 count-is n text has = grind (arith, chars-nil, append-nil)
 
--- the same for a number that equals n
+-- a number that equals n serves as n
 pub HasCount-same : (m n : ℕ) (text : Text) → m ≡ n → HasCount m text → HasCount n text
 HasCount-same m n text same has = subst (λ k. HasCount k text) same has
 

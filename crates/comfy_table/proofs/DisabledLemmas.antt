@@ -23,7 +23,7 @@ visible_from-count n (column ∷ columns) = grind (arith, visible_from-count (n 
 pub shown_count-among : (table : TableValue) → shown_count table ≡ shown_among table.columns
 shown_count-among table = visible_from-count 0 table.columns
 
--- the elements of the list of g's numbers at the columns that pass a test are f's numbers, if both agree there
+-- at the positions of the columns that pass a test, g's numbers are f's numbers, if both agree there
 picked : (g f : ℕ × ColumnValue → ℕ) (test : ColumnValue → Bool) → ((p : ℕ × ColumnValue) → test p.1 ≡ true → g p ≡ f p)
     → (all : List ℕ) (at : ℕ) (columns : List ColumnValue)
     → ((i : ℕ) → slice_index all (at + i) ≡ slice_index (map g (enumerate_from at columns)) i)
@@ -44,7 +44,7 @@ picked g f test same all at (column ∷ columns) each =
     by_test true is rest = ap₂ (λ (x : ℕ) (xs : List ℕ). x ∷ xs) (here ∙ same (at, column) is) rest
     by_test false is rest = rest
 
--- the same for the widths by content
+-- at the positions of the columns that pass a test, the widths by content are f's numbers, if both agree there
 picked_by_content : (table : TableValue) (f : ℕ × ColumnValue → ℕ) (test : ColumnValue → Bool) → ((p : ℕ × ColumnValue) → test p.1 ≡ true → width_by_content table p ≡ f p)
     → widths_at (widths_by_content table) (filter (λ (p : ℕ × ColumnValue). test p.1) (enumerate_from 0 table.columns))
     ≡ map f (filter (λ (p : ℕ × ColumnValue). test p.1) (enumerate_from 0 table.columns))

@@ -55,7 +55,7 @@ module _ (table : TableValue) (row : RowValue) (info : ColumnInfo) (cell : CellV
   pub as_many : length whole ≡ length measured
   as_many = grind (arith, whole-measured, length-map)
 
-  -- without sequences, the drawn lines are the measured ones
+  -- without sequences or without custom styling, the drawn lines are the measured ones
   pub drawn-measured : (table.custom_styling && list_any has_escape cell.text_lines) ≡ false → map drawn_text measured ≡ map drawn_line whole
   drawn-measured none = grind (arith, without_custom_styling, map-map)
 

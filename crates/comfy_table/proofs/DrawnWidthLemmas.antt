@@ -71,7 +71,7 @@ sum-drawn_from widths n (column ∷ more) (w ∷ ws) same at each =
           sum_by-cons (λ (x : ℕ). x) (get_or widths n 0) (widths_from widths (n + 1) more),
         )
 
--- the same for a table whose shown widths are at least 1
+-- the whole widths of a table add up in this way, if its shown widths are at least 1
 pub sum-outer_widths : (table : TableValue) (widths : List ℕ) → length widths ≡ length table.columns → AllByRecursion (λ (w : ℕ). 1 ≤ w) (widths_at widths (shown_columns table))
     → sum (outer_widths (infos_of table widths)) ≡ sum_by (λ (p : ℕ × ColumnValue). column_padding p.1) (shown_columns table) + sum (widths_at widths (shown_columns table))
 sum-outer_widths table widths same each =
@@ -103,7 +103,7 @@ paddings_of_needs table (p ∷ more) =
 
 -- ---- each width is at least 1
 
--- an even share is at least the level, and so at least 1
+-- each content width of columns without constraints is at least 1
 some_content : (room : ℕ) (columns : List ColumnNeeds) → AllByRecursion IsUnconstrained columns → (full : Bool) (lower : List Claim) (level : Option ℕ) (shrunk : List Claim) (widths : List ℕ)
     → IsArrangedBy room columns full (steps_with lower level shrunk) widths → AllZip (λ (column : ColumnNeeds) (width : ℕ). 1 ≤ width) columns (contents_after room columns (steps_with lower level shrunk))
 some_content room columns plain full lower None shrunk widths arranged =

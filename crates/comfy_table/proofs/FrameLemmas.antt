@@ -7,7 +7,7 @@ use Rattle.comfy_parts.specs.declared.style.table_style.TableStyle.{TableStyle}
 use Rattle.comfy_parts.proofs.CallerLemmas.{join_by-map}
 use Rattle.comfy_table.specs.Frame.{character, draws_left_border, draws_right_border, draws_vertical_lines, between_borders}
 
--- appending the left border, the pieces with the junctions between them, and the right border gives a text and the line
+-- appending the left border, the pieces with junctions between them, and the right border to a text appends the line
 pub between_borders-behind : {X : Type 0} (style : TableStyle) (left junction right : Option ℕ) (f : X → Text) (xs : List X) (l v r : Bool) (start before inside whole : Text)
     → l ≡ draws_left_border style → v ≡ draws_vertical_lines style → r ≡ draws_right_border style
     → before ≡ start ++ (if l then character left else [])

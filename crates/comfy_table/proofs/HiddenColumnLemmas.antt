@@ -33,22 +33,22 @@ abbrev IsMoved : List ColumnValue → ℕ → ℕ → Type 1
 IsMoved columns i j = (X : Type 0) (xs : List X) → slice_get (beside_shown columns xs) j ≡ slice_get xs i
 
 module _ (column : ColumnValue) (columns : List ColumnValue) where
-  -- if the first column is shown, its element stays first
+  -- a first column that is shown keeps position 0
   stays_first : is_hidden_column column ≡ false → IsMoved (column ∷ columns) 0 0
   stays_first is X [] = refl
   stays_first is X (x ∷ xs) = grind arith
 
-  -- if the first column is shown, later positions count it too
+  -- after a first column that is shown, both positions are one further
   moves_on : (i j : ℕ) → is_hidden_column column ≡ false → IsMoved columns i j → IsMoved (column ∷ columns) (suc i) (suc j)
   moves_on i j is at X [] = refl
   moves_on i j is at X (x ∷ xs) = grind arith
 
-  -- if the first column is hidden, later positions don't count it
+  -- after a first column that is hidden, only the position before the removal is one further
   moves_up : (i j : ℕ) → is_hidden_column column ≡ true → IsMoved columns i j → IsMoved (column ∷ columns) (suc i) j
   moves_up i j is at X [] = refl
   moves_up i j is at X (x ∷ xs) = grind arith
 
--- the same for a number
+-- a number at position i is at position j after the removal; 0 after the end of the list
 index_moved : (columns : List ColumnValue) (i j : ℕ) → IsMoved columns i j → (ws : List ℕ) → slice_index (beside_shown columns ws) j ≡ slice_index ws i
 index_moved columns i j at ws = sym (unwrap_or-slice_get (beside_shown columns ws) j 0) ∙ ap (λ (o : Option ℕ). unwrap_or o 0) (at ℕ ws) ∙ unwrap_or-slice_get ws i 0
 
@@ -82,7 +82,7 @@ from_columns {X} f g n m (column ∷ columns) same = by_test (is_hidden_column c
         ap (λ k. f (k, c)) there ∙ same (suc i) (suc j) c (moves_on column columns i j is at) ∙ ap (λ k. g (k, c)) then))
         ∙ ap (λ (b : Bool). map g (cond (not b) ((m, column) ∷ others) others)) (sym is)
 
--- the same for all shown columns of a table
+-- the results for all shown columns of a table are the same, if they are the same at both positions
 pub shown_same : {X : Type 0} (table : TableValue) (f g : ℕ × ColumnValue → X)
     → ((i j : ℕ) (column : ColumnValue) → IsMoved table.columns i j → f (i, column) ≡ g (j, column))
     → map f (shown_columns table) ≡ map g (shown_columns (without_hidden table))
@@ -244,7 +244,7 @@ module _ (table : TableValue) (widths : List ℕ) (long : length widths ≡ leng
 
 -- ---- both directions
 
--- widths of the table, made from the widths of the table without hidden columns
+-- a table whose shown columns may have these widths has widths for all of its columns
 has_widths : (table : TableValue) (widths : List ℕ) (o : Option ℕ) → width_kept table.arrangement (table_width table) ≡ o → AreShownWidths table widths → (all : List ℕ) × IsArranged table all
 has_widths table widths None none are = (widths_by_content table, arranged_by_content table none)
 has_widths table widths (Some w) kept are = (

@@ -42,7 +42,7 @@ Fronts Follows text = (rest : Text) → Follows rest → Follows (text ++ rest)
 pub measure-is : (Follows : Text → Type 0) (n : ℕ) (text : Text) → IsFollowing Follows → HasMeasure Follows n text → measure text ≡ n
 measure-is Follows n text follows has = grind (arith, measure-nil, append-nil)
 
--- the same for a number that equals n
+-- a number that equals n serves as n
 pub HasMeasure-same : (Follows : Text → Type 0) (m n : ℕ) (text : Text) → m ≡ n → HasMeasure Follows m text → HasMeasure Follows n text
 HasMeasure-same Follows m n text same has = subst (λ k. HasMeasure Follows k text) same has
 

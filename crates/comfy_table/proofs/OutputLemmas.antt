@@ -26,7 +26,7 @@ pub with_lines-listed : (lines : List Text) → with_lines (λ (line : Text). li
 with_lines-listed [] = refl
 with_lines-listed (line ∷ lines) = ap (λ (more : List Text). line ∷ more) (with_lines-listed lines)
 
--- a list that begins with a longer list begins with the front of that
+-- a list that begins with two joined lists begins with the first of them
 pub begins-before : {A : Type 0} (front more list : List A) → BeginsWith list (front ++ more) → BeginsWith list front
 begins-before front more list known =
     let rest = drop (length (front ++ more)) list in

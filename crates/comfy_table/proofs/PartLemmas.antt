@@ -25,13 +25,13 @@ module _ {X Y : Type 0} (P : Y → Type 0) (f : X → List Y) (separator : List 
       let both = every-parts P (separator ++ f y) (flat_map (λ z. separator ++ f z) ys) others in
       every-append P (f y) (flat_map (λ z. separator ++ f z) ys) (every-parts P separator (f y) both.0).1 both.1
 
-  -- the same from a list on
+  -- a property of each element of joined lists holds from a list on
   joined_from : (n : ℕ) (xs : List X) → AllByRecursion P (join_by f separator xs) → AllByRecursion P (join_by f separator (drop n xs))
   joined_from zero xs each = each
   joined_from (suc n) [] each = tt
   joined_from (suc n) (x ∷ xs) each = joined_from n xs (without_first x xs each)
 
-  -- the same up to a list
+  -- a property of each element of joined lists holds up to a list
   front_of : (g : X → List Y) (n : ℕ) (xs : List X) → AllByRecursion P (flat_map g xs) → AllByRecursion P (flat_map g (take n xs))
   front_of g zero xs each = tt
   front_of g (suc n) [] each = tt

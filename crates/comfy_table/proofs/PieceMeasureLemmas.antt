@@ -48,7 +48,7 @@ Fronts-spaces : (Follows : Text → Type 0) (n : ℕ) → IsFollowing Follows �
 Fronts-spaces Follows zero follows rest may = may
 Fronts-spaces Follows (suc n) follows rest may = follows.spaced (spaces n ++ rest)
 
--- spaces may follow, if there is at least one
+-- a text that begins with at least one space may follow
 pub spaced-blank : (Follows : Text → Type 0) (n : ℕ) (rest : Text) → IsFollowing Follows → 1 ≤ n → Follows (spaces n ++ rest)
 spaced-blank Follows zero rest follows some = absurd (omega (arith, some))
 spaced-blank Follows (suc n) rest follows some = follows.spaced (spaces n ++ rest)
@@ -57,7 +57,7 @@ pub spaced-front : (Follows : Text → Type 0) (n : ℕ) (more rest : Text) → 
 spaced-front Follows zero more rest follows some = absurd (omega (arith, some))
 spaced-front Follows (suc n) more rest follows some = follows.spaced ((spaces n ++ more) ++ rest)
 
--- spaces at the end of a piece stay apart from any text before them, if there is one
+-- a text that begins with at least one space can't join a text before it
 spaced-end : (a n : ℕ) (rest : Text) → 1 ≤ n → IsApart ((spaces a ++ spaces n) ++ rest)
 spaced-end zero zero rest some = absurd (omega (arith, some))
 spaced-end zero (suc n) rest some = apart_follows.spaced (spaces n ++ rest)
@@ -70,7 +70,7 @@ behind cell info line = spaces_after cell info (measure line) ++ spaces info.pad
 HasMeasure-behind_line : (cell : CellValue) (info : ColumnInfo) (line : Text) → HasMeasure IsAny ((free_places info (measure line) - free_before (cell_alignment cell info) (free_places info (measure line))) + info.padding.1) (behind cell info line)
 HasMeasure-behind_line cell info line = HasMeasure-behind IsAny _ _ _ _ (HasMeasure-spaces _) (HasMeasure-spaces info.padding.1)
 
--- a padded line measures its whole width, if its line and the text after it do
+-- a piece is as wide as its column, if its line and the text after it are as wide as they should be together
 HasMeasure-padded : (Follows : Text → Type 0) (cell : CellValue) (info : ColumnInfo) (line : Text) → IsFittingLine info.content_width line
     → HasMeasure Follows (measure line + ((free_places info (measure line) - free_before (cell_alignment cell info) (free_places info (measure line))) + info.padding.1)) (line ++ behind cell info line)
     → HasMeasure Follows (info_width info) (unstyled_piece cell info line)

@@ -41,7 +41,7 @@ module _ (p : ℕ → Bool) where
   one_none : (c : ℕ) → p c ≡ false → NoCharPasses p (encode_utf8 c)
   one_none c fails = (c ∷ [], append-nil (encode_utf8 c), (fails, tt))
 
-  -- a text of encoded characters, and the text after them
+  -- if no character of a text passes the test, none of its front and none of the rest does
   parts_none : (front cs : List ℕ) (back : Text) → encode_utf8_all cs ≡ encode_utf8_all front ++ back → NonePass p cs → NonePass p front × NoCharPasses p back
   parts_none [] cs back is none = (tt, (cs, is, none))
   parts_none (c ∷ front) cs back is none =

@@ -40,7 +40,7 @@ undecided_set widths t (p ∷ more) = grind (arith, is_undecided-set, undecided_
 pub undecided_among-set : (needs : List ColumnNeeds) (widths : List (Option ℕ)) (t : Claim) → undecided_among needs (slice_set widths t.0 (Some t.1)) ≡ without_claims (t ∷ []) (undecided_among needs widths)
 undecided_among-set needs widths t = undecided_set widths t (places_of needs)
 
--- the same for several claims
+-- after several claims, the undecided columns are those without a claim
 pub undecided_among-with_claims : (needs : List ColumnNeeds) (order : List Claim) (widths : List (Option ℕ)) → undecided_among needs (with_claims order widths) ≡ without_claims order (undecided_among needs widths)
 undecided_among-with_claims needs [] widths = sym (without_claims-nil (undecided_among needs widths))
 undecided_among-with_claims needs (t ∷ more) widths =
