@@ -1,4 +1,4 @@
--- The text lines of a text whose characters fit.
+-- The text lines of a text whose characters fit a column.
 use Rattle.std.proofs.Common.{◌≡◌, ◌==◌, ◌&&◌, ℕ, Bool, true, false, List, [], ◌∷◌, ◌++◌, arith, chars, encode_utf8, encode_utf8_all, eqb-true, length, map, refl, sym, ap, ap₂, ◌∙◌, subst}
 use Rattle.std.proofs.Math.Utf8.{scalar as scalar_of}
 use Rattle.std.proofs.lemmas.Bool.{and_parts, or_parts}
@@ -18,7 +18,7 @@ use Rattle.comfy_parts.specs.Text.{HasNo, Text}
 abbrev is_feed : ℕ → Bool
 is_feed c = c == 0x0A
 
--- a front without a line feed goes on with the first part
+-- a front without a line feed joins the first part of the text after it
 onto_front : (front text first : Text) (others : List Text) → HasNo 0x0A front → slice_split is_feed text ≡ first ∷ others → slice_split is_feed (front ++ text) ≡ (front ++ first) ∷ others
 onto_front [] text first others clear are = are
 onto_front (b ∷ front) text first others clear are =
