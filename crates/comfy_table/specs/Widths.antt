@@ -73,8 +73,8 @@ fixed_width table p =
     fixed_by_constraint table (shown_count table) (column_content_width table p.0)
     (column_padding p.1) p.1.constraint
 
--- the width of the content, but at most the upper boundary less the paddings if the content is
--- wider than that boundary
+-- the upper boundary less the paddings, if the content alone is wider than the boundary; otherwise
+-- the width of the content, at least 1
 abbrev pub capped_content : ℕ → ℕ → Option ℕ → ℕ
 capped_content content padding None = max 1 content
 capped_content content padding (Some u) =

@@ -533,8 +533,8 @@ fn cut_text<'a>(table: &'a Table, line: &'a str, info: &ColumnDisplayInfo) -> (&
     (head, indicator)
 }
 
-// The terminal columns of two texts, one after the other. They are joined for this only if the
-// second may join the last character of the first.
+// The terminal columns of two texts, one after the other. Only if the second may join the end of
+// the first, both are measured as one text.
 fn joined_width(alloc: Global, text: &str, end: &str) -> Result<usize>
     ensures { IfOk result (λ columns. columns ≡ measure (text.now ++ end.now)) }
 {

@@ -56,8 +56,8 @@ fn widened(budget: &Budget, alloc: Global) -> Result<Vec<u16>>
     Ok(widths)
 }
 
-// One of `count` even parts of a room. The first parts are one larger, if the room can't be divided
-// evenly.
+// The part at an index of a room in `count` even parts. The first parts are one larger, if the room
+// can't be divided evenly.
 fn even_part(room: usize, count: usize, index: usize) -> u16
     requires some { 0 < count }
     requires fits { room ≤ max 65535 count }
