@@ -1,5 +1,5 @@
--- Tables with widths for their columns, and their parts: some of the rows, drawn at the widths of the
--- whole table.
+-- Tables with widths for their columns, and their parts: some of the rows, drawn at the widths of
+-- the whole table.
 -- Source: this library's own.
 use Rattle.std.specs.Prelude.{◌≡◌, ◌≤◌, ℕ, List, All, Contains, drop, length, take}
 use Rattle.comfy_parts.specs.CellValue.{ColumnInfo}
