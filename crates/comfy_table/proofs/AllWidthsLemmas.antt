@@ -98,7 +98,7 @@ shown_given table all widths at (column ∷ columns) each enough =
 
 -- ---- a dynamic arrangement
 
--- from the first position on a list is itself
+-- the elements of a list from position 0 on are the whole list
 pub from_start : (all : List ℕ) → AreFrom all 0 all
 from_start all i = let moved : 0 + i ≡ i = omega arith in ap (slice_index all) moved
 

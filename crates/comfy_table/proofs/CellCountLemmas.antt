@@ -24,7 +24,7 @@ pub record IsCountedLine (w : ℕ) (line : Text) : Type 0 where
   pub fits : measure line ≤ w
   pub counted : HasCount (measure line) line
 
--- a printable line is counted
+-- a printable line that fits is such a line
 counted-printable : (w : ℕ) (line : Text) → IsPrintableLine w line → IsCountedLine w line
 counted-printable w line plain =
     record { fits = plain.fits; counted = HasCount-same (length line) (measure line) line (sym (measure-printable line plain.printable)) (HasCount-printable line plain.printable) }
@@ -43,7 +43,7 @@ cell_lines-printable table delimiter w cell places plain =
 fitting_indicator-utf8 : (w : ℕ) (indicator : Text) → IsUtf8 indicator → IsUtf8 (fitting_indicator w indicator)
 fitting_indicator-utf8 w indicator utf8 = cond_both (nat_lt w (measure indicator)) [] indicator IsUtf8 (λ _. IsUtf8-nil) (λ _. utf8)
 
--- an indicator that is written, and adds one column for each character, measures at most w
+-- the indicator that is written measures at most w, if it adds one terminal column for each of its characters
 fitting_indicator-le : (w : ℕ) (indicator : Text) → AddsOneColumnEach (fitting_indicator w indicator) → measure (fitting_indicator w indicator) ≤ w
 fitting_indicator-le w indicator =
     cond_both (nat_lt w (measure indicator)) [] indicator (λ (text : Text). AddsOneColumnEach text → measure text ≤ w)

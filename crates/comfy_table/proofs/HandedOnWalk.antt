@@ -1,4 +1,5 @@
--- The proof of a function that calls another one with its parameters, and then `into_reference` with its result, under the same clauses. Assumes `Logic`.
+-- The proof of a function that calls another one with its parameters, and then `into_reference` with its result,
+-- under the same clauses. Assumes `Logic`.
 use Rattle.std.proofs.Common.{◌≡◌, ℕ, zero, suc, List, [], ◌∷◌, refl, sym}
 pub use Rattle.std.proofs.raw_atomic.Walks.{proved_at, leaves}
 pub use mathlib.Core.Path.{subst}

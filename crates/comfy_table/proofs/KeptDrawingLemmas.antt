@@ -75,12 +75,12 @@ record IsClearRow (C : Text → Type 0) (infos : List ColumnInfo) (row : RowValu
   whole : IsRowOf IsUtf8 row
 
 module _ (C : Text → Type 0) (R : Text → Text → Type 0) (joins : KeptByJoining C R) where
-  -- a text that is written only if `written` is true
+  -- R holds of a text that is written only if `written` is true
   keeps_when : (written : Bool) (text : Text) → R text text → R (if written then text else []) (if written then text else [])
   keeps_when true text own = own
   keeps_when false text own = keeps_nothing C R joins
 
-  -- a text that is repeated
+  -- R holds of a text that is repeated
   keeps_repeat : (n : ℕ) (text : Text) → R text text → R (repeat n text) (repeat n text)
   keeps_repeat zero text own = keeps_nothing C R joins
   keeps_repeat (suc n) text own = joins.of_both text (repeat n text) text (repeat n text) own (keeps_repeat n text own)

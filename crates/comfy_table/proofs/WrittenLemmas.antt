@@ -103,7 +103,7 @@ module _ (table : TableValue) (row : RowValue) (info : ColumnInfo) (cell : CellV
     own_lines custom own =
         measured_each Own custom (λ text is k default below. (lines_of_text-utf8 w d text is.0 k default below, lines-kept C kept.joins.kind w d text is.0 is.1 k default below)) own
 
-    -- the lines that aren't cut
+    -- R holds of the measured and the written text of each line before the cut
     keeps_whole : (custom : Bool) → All Own (cell_measured custom cell).text_lines → All (λ (line : CellLine). R line.measured line.written) (uncut_lines custom w d cell)
     keeps_whole true own =
         λ k default below.
@@ -114,12 +114,12 @@ module _ (table : TableValue) (row : RowValue) (info : ColumnInfo) (cell : CellV
     keeps_whole false own =
         All-map (λ (line : CellLine). R line.measured line.written) as_measured (cell_lines w d cell) (All-weaker Own (λ line. R line line) (λ line is. kept.joins.of_kind line is.1) (cell_lines w d cell) (own_lines false own))
 
-    -- a line that is cut
+    -- R holds of both texts of a line that is cut
     keeps_cut : (custom : Bool) (line : CellLine) → C (cut_text w table.indicator line.measured) → R (cut_text w table.indicator line.measured) (cut_line custom w table.indicator line).written
     keeps_cut true line own = kept.of_closed (cut_text w table.indicator line.measured) own
     keeps_cut false line own = kept.joins.of_kind (cut_text w table.indicator line.measured) own
 
-    -- all lines
+    -- R holds of both texts of all lines of the cell in its row
     pub keeps_lines : (custom : Bool) → C table.indicator → All IsUtf8 (cell_measured custom cell).text_lines → All C (cell_measured custom cell).text_lines → All (λ (line : CellLine). R line.measured line.written) (lines_with custom)
     keeps_lines custom mark utf8 clear =
         All-cut (λ line. R line.measured line.written × Own line.measured) (λ line. R line.measured line.written) (cut_line custom w table.indicator) row.max_height (uncut_lines custom w d cell)

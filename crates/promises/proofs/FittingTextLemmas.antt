@@ -25,7 +25,7 @@ onto_front (b ∷ front) text first others clear are =
     let each = or_parts (b == 0x0A) (list_any is_feed front) clear in
     slice_split-cons_no is_feed b (front ++ text) each.0 ∙ ap (onto_first b) (onto_front front text first others each.1 are)
 
--- the parts of a text are the texts of its characters' parts
+-- splitting a text at line feeds splits the list of its characters there
 split : (cs : List ℕ) → slice_split is_feed (encode_utf8_all cs) ≡ map encode_utf8_all (slice_split is_feed cs)
 split [] = refl
 split (c ∷ cs) = by_test (c == 0x0A) refl (split cs)

@@ -1,4 +1,4 @@
--- The written lines of a cell resume its sequences, in order.
+-- The written lines of a cell resume its sequences, from top to bottom.
 use Rattle.std.proofs.Common.{◌≡◌, ◌<◌, ◌≤◌, ◌⊎◌, inl, inr, ℕ, zero, suc, ◌+◌, ◌-◌, Bool, true, false, List, [], ◌∷◌, ◌++◌, append_assoc, length, length-append, map, nat_le, take, refl, sym, ap, ◌∙◌, arith}
 use Rattle.std.specs.List.{AllByRecursion, AllZip}
 use Rattle.std.specs.Prelude.{encode_utf8, if◌then◌else◌, zip}
