@@ -1,4 +1,4 @@
--- The characters of all presets add one column wherever they stand.
+-- The characters of all presets add one terminal column between any texts.
 use Rattle.std.proofs.Common.{◌≡◌, ℕ, ◌+◌, ◌-◌, ◌≤◌, ◌==◌, ◌&&◌, ◌||◌, nat_le, Bool, true, false, cond, not, None, refl, sym, ap, ap₂, ◌∙◌, subst, arith}
 use Rattle.std.specs.Int.{is_in_range}
 use Rattle.std.proofs.lemmas.Bool.{and_parts, cond_both, not-true}
@@ -20,7 +20,7 @@ use Rattle.cluster_width.proofs.SpaceMeasureLemmas.{Seals}
 abbrev is_keycap : ℕ → Bool
 is_keycap c = (c == 0x23) || ((c == 0x2A) || is_in_range 0x30 0x39 c)
 
--- no other character of printable ASCII can become an emoji
+-- no other printable ASCII character can become an emoji
 low_are_no_bases : all_below (λ c. is_keycap c || not (is_emoji_variation_base c)) 0x7F ≡ true
 unfolding unicode_width all_below
 low_are_no_bases = refl
@@ -29,7 +29,8 @@ not_base : (c : ℕ) → is_in_range 0x20 0x7E c ≡ true → is_keycap c ≡ fa
 not_base c printable plain =
     not-true _ (ap (λ b. b || not (is_emoji_variation_base c)) (sym plain) ∙ all_below-at (λ k. is_keycap k || not (is_emoji_variation_base k)) 0x7F c low_are_no_bases (grind (arith, nat_tests, printable)))
 
--- a character that isn't a variation base adds one column, whatever was read after it, where it does with the emoji rules passed
+-- a character that isn't a variation base adds one terminal column before any text, if it does so under the rules after
+-- those for emoji
 flag_seals : (c n : ℕ) (s : State) → is_emoji_variation_base c ≡ false → ((t : State) → past_emoji false c n t ≡ (n + 1, plain)) → step false c (n, s) ≡ (n + 1, plain)
 unfolding step
 flag_seals c n s base past = by_flag s.emoji s
@@ -44,24 +45,24 @@ low_seals c printable other n s = flag_seals c n s (not_base c printable other) 
 
 -- ---- box and block characters
 
--- one column wide, and joined with nothing
+-- the character is one terminal column wide, and joins no other
 abbrev pub is_narrow_kind : Kind → Bool
 is_narrow_kind kinds.Narrow = true
 is_narrow_kind kinds.Ambiguous = true
 is_narrow_kind _ = false
 
--- no rule speaks of the character: the numbers that the rules name are lower or higher, but for one
+-- no rule names the character: the numbers in the rules are lower or higher, except one
 abbrev is_lone : ℕ → Bool
 is_lone c =
     (is_in_range 0x2026 0x259F c && not (c == 0x20E3))
     && (is_narrow_kind (kind c) && (not (is_emoji_variation_base c) && (not (is_ligature_transparent c) && (not (is_lam c) && not (is_emoji_modifier_base c)))))
 
--- so it is with all box and block characters, U+2500 to U+259F
+-- no rule names a box or block character, U+2500 to U+259F
 boxes_are_lone : all_below (λ k. is_lone (0x2500 + k)) 160 ≡ true
 unfolding unicode_width all_below
 boxes_are_lone = refl
 
--- what is known of such a character
+-- the properties of such a character
 record IsLone (c : ℕ) : Type 0 where
   low : 0x2026 ≤ c
   high : c ≤ 0x259F
@@ -109,7 +110,7 @@ lone_parts c test =
       not_modifier_base = not-true _ fourth.1;
     }
 
--- nothing is joined with what follows it
+-- such a character isn't joined to the text after it
 joins_none : (c : ℕ) → 0x2026 ≤ c → c ≤ 0x259F → (c == 0x20E3) ≡ false → IsLone c → (after : After) → joins false after c ≡ None
 unfolding joins before_alef
 joins_none c low high keycap _ Nothing = refl
@@ -189,11 +190,11 @@ past_emoji-lone c n s lone =
     rw (feed, return, high)
     (cond_both (is_plain s) _ _ (λ next. next ≡ (n + 1, plain)) (λ _. ap (λ (own : ℕ × State). (n + own.0, own.1)) lone.alone) (λ _. in_context-lone c n s lone))
 
--- so each such character adds one column
+-- each such character adds one terminal column
 lone_seals : (c : ℕ) → IsLone c → Seals c
 lone_seals c lone n s = flag_seals c n s lone.not_variation_base (λ t. past_emoji-lone c n t lone)
 
--- as each box or block character
+-- each box or block character adds one terminal column
 pub box_seals : (c : ℕ) → is_in_range 0x2500 0x259F c ≡ true → Seals c
 box_seals c box = lone_seals c lone
   where
@@ -202,7 +203,7 @@ box_seals c box = lone_seals c lone
         let here : 0x2500 + (c - 0x2500) ≡ c = grind (arith, nat_tests, box) in
         lone_parts c (subst (λ x. is_lone x ≡ true) here (all_below-at (λ k. is_lone (0x2500 + k)) 160 (c - 0x2500) boxes_are_lone (grind (arith, nat_tests, box))))
 
--- and `…`
+-- no rule names `…`
 ellipsis_is_lone : is_lone 0x2026 ≡ true
 unfolding unicode_width
 ellipsis_is_lone = refl

@@ -1,4 +1,5 @@
--- Classes of characters: what the width of a text and the boundaries of its clusters ask of a character. `examples` has a character of each class.
+-- Classes of characters, by the properties that widths and cluster boundaries depend on. `examples` has one character
+-- of each class.
 use Rattle.std.proofs.Common.{◌<◌, ◌*◌, ◌≤◌, ◌+◌, ◌≡◌, ◌⊎◌, inl, inr, ⊎_elim, ℕ, suc, Bool, true, false, ◌&&◌, ◌||◌, ◌==◌, nat_le, List, [], ◌∷◌, refl, sym, ap, ◌∙◌, arith}
 use Rattle.std.specs.Int.{is_in_range}
 use Rattle.std.specs.List.{list_all, list_any}
@@ -31,7 +32,7 @@ use Rattle.unicode_width.specs.Width.{is_lam}
 use Rattle.unicode_width.proofs.Computing.{unicode_width}
 use Rattle.unicode_width.proofs.KindLemmas.{is_ligature_transparent_stepped, is_text_presentation_base_stepped, kind_stepped}
 
--- a consonant may be joined to it, where others stand before it
+-- a consonant may be joined to this character, if others come before it
 abbrev pub may_link : IndicConjunctBreak → Bool
 may_link InCb.Linker = true
 may_link InCb.Extend = true
@@ -42,7 +43,7 @@ abbrev pub are_linkable : ℕ → ℕ → Bool
 are_linkable d c =
     (may_link (indic_conjunct_break d) && is_consonant (indic_conjunct_break c)) || (is_zwj (grapheme_cluster_break d) && is_extended_pictographic c)
 
--- ---- what is asked of a character, and the steps of each answer
+-- ---- tests of a character, and the steps of each
 
 pub at_least : (n c : ℕ) → nat_le n c ≡ step_value true ((n, false) ∷ []) c
 unfolding step_value
@@ -65,16 +66,16 @@ within a z = zip_stepped ◌&&◌ (nat_le a) (λ c. nat_le c z) (record { defaul
 abbrev one : (n : ℕ) → Stepped (λ c. c == n)
 one n = let s = within n n in record { default = s.default; steps = s.steps; gives = λ c. is_one n c ∙ s.gives c }
 
--- the steps of one answer more
+-- the steps of one more test
 infixr 5 ◌and◌
 abbrev ◌and◌ : {p : ℕ → Bool} {f : ℕ → List Bool} → Stepped p → Stepped f → Stepped (λ c. p c ∷ f c)
 ◌and◌ {p} {f} s t = zip_stepped (λ b bs. b ∷ bs) p f s t
 
--- of no answer
+-- the steps of no test
 abbrev nothing : Stepped {V = List Bool} (λ c. [])
 nothing = record { default = []; steps = []; gives = λ c. sym (step_value-nil [] c) }
 
--- which of the named characters and ranges it is, and which properties it has
+-- the results of all tests: the named characters and ranges, and the properties
 abbrev pub answers : ℕ → List Bool
 answers c =
     (c == 0x000A) ∷ (c == 0x000D) ∷ (c == 0x05D0) ∷ (c == 0x05DC) ∷ (c == 0x17D2) ∷ (c == 0x17D8) ∷ (c == 0x1A10) ∷ (c == 0x1A15) ∷ (c == 0x1A17)
@@ -85,7 +86,7 @@ answers c =
     ∷ is_emoji_variation_base c ∷ is_emoji_modifier_base c ∷ is_text_presentation_base c ∷ is_extended_pictographic c ∷ is_ligature_transparent c
     ∷ is_lam c ∷ joining_type_eq (joining_type c) Transparent ∷ is_consonant (indic_conjunct_break c) ∷ may_link (indic_conjunct_break c) ∷ []
 
--- the steps of all answers, in the same order
+-- the steps of all tests, in the same order
 unfoldable answers_stepped : Stepped answers
 answers_stepped =
     one 0x000A and one 0x000D and one 0x05D0 and one 0x05DC and one 0x17D2 and one 0x17D8 and one 0x1A10 and one 0x1A15 and one 0x1A17
@@ -99,7 +100,7 @@ answers_stepped =
     and map_stepped is_consonant indic_conjunct_break indic_conjunct_break_stepped
     and map_stepped may_link indic_conjunct_break indic_conjunct_break_stepped and nothing
 
--- the answers as one number
+-- the results as one number
 abbrev number : List Bool → ℕ
 number [] = 1
 number (true ∷ bs) = suc (2 * number bs)
@@ -121,11 +122,11 @@ number-injective (false ∷ xs) (false ∷ ys) e = ap (λ bs. false ∷ bs) (num
 number-injective (true ∷ xs) (false ∷ ys) e = absurd (omega arith)
 number-injective (false ∷ xs) (true ∷ ys) e = absurd (omega arith)
 
--- what is asked of a character, as one number
+-- the results for a character as one number
 unfoldable code : ℕ → ℕ
 code c = number_of_kind (kind c) + 12 * (grapheme_cluster_break_number (grapheme_cluster_break c) + 14 * number (answers c))
 
--- the steps of the number
+-- the steps of this number
 unfoldable code_stepped : Stepped code
 unfolding code answers_stepped
 code_stepped =
@@ -145,7 +146,7 @@ examples =
     ∷ 0x16D63 ∷ 0x16D67 ∷ 0x16D68 ∷ 0x16D69 ∷ 0x16D6A ∷ 0x1E94B ∷ 0x1F02C ∷ 0x1F0CF ∷ 0x1F1E6 ∷ 0x1F21A ∷ 0x1F385 ∷ 0x1F3F4 ∷ 0x1F3FB ∷ 0xE0030
     ∷ 0xE0061 ∷ 0xE007F ∷ []
 
--- each character has the number of an example, computed over all of Unicode
+-- each character has the number of an example; computed over all of Unicode
 has_example : (c : ℕ) → list_any (λ d. code c == code d) examples ≡ true
 unfolding unicode_segmentation unicode_width examples code code_stepped ends_by
 has_example = Stepped-everywhere (λ c. list_any (λ d. code c == code d) examples) (map_stepped (λ n. list_any (λ d. n == code d) examples) code code_stepped) refl
@@ -160,7 +161,7 @@ same [] ys e = tt
 same (a ∷ xs) [] e = tt
 same (a ∷ xs) (b ∷ ys) e = (cc e, same xs ys (cc e))
 
--- the two are of one class
+-- the two characters are of one class
 pub record IsLike (c d : ℕ) : Type 0 where
   pub kind : kind c ≡ kind d
   pub breaks : grapheme_cluster_break c ≡ grapheme_cluster_break d
@@ -191,7 +192,7 @@ like c d e =
 
 -- ---- members of lists
 
--- x is one of the list
+-- x is a member of the list
 abbrev pub IsIn : {X : Type 0} → List X → X → Type 0
 IsIn [] x = ⊥
 IsIn (y ∷ ys) x = (x ≡ y) ⊎ IsIn ys x
@@ -205,6 +206,6 @@ each p [] h x none = absurd none
 each p (y ∷ ys) h x (inl same) = ap p same ∙ (and_parts (p y) (list_all p ys) h).0
 each p (y ∷ ys) h x (inr later) = each p ys (and_parts (p y) (list_all p ys) h).1 x later
 
--- each character is like an example
+-- each character is of the class of an example
 pub example_of : (c : ℕ) → (d : ℕ) × IsIn examples d × IsLike c d
 example_of c = let it = found (λ d. code c == code d) examples (has_example c) in (it.0, it.1, like c it.0 (eqb-true _ _ it.2))

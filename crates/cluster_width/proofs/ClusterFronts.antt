@@ -1,4 +1,4 @@
--- A front of a cluster measures at most two columns more than the cluster.
+-- A prefix of a cluster measures at most two terminal columns more than the cluster.
 use Rattle.std.proofs.Common.{◌≡◌, ◌≤◌, ℕ, ◌+◌, Bool, true, false, not, ◌&&◌, ◌||◌, ◌==◌, List, [], ◌∷◌, ◌++◌, Option, Some, None, slice_index_or, unwrap_or, refl, sym, ap, ◌∙◌, subst, arith, append-nil}
 use Rattle.std.specs.List.{list_all}
 use Rattle.std.specs.Prelude.{encode_utf8_all, if◌then◌else◌}
@@ -25,7 +25,7 @@ abbrev joins_first : ℕ → List ℕ → Bool
 joins_first d [] = true
 joins_first d (c ∷ cs) = may_join d c
 
--- each two neighbours may be joined
+-- any two neighbours may be joined
 abbrev chained : List ℕ → Bool
 chained [] = true
 chained (c ∷ cs) = joins_first c cs && chained cs
@@ -35,7 +35,7 @@ joins-by (Some x) a b p h = ap not h
 joins-by None true b p h = ap (λ t. not (not t)) (p refl)
 joins-by None false b p h = absurd (cc h)
 
--- where there is no boundary, the two may be joined
+-- if there is no boundary between two characters, they may be joined
 may-join : (before : List ℕ) (d c : ℕ) (cs : List ℕ) → is_break (d ∷ before) (c ∷ cs) ≡ false → may_join d c ≡ true
 unfolding is_grapheme_break ends_in_half_flag
 may-join before d c cs =
@@ -62,7 +62,7 @@ chained-put false d [] each h = refl
 chained-put false d (p ∷ ps) each h =
     let parts = and_parts (chained p) (list_all chained ps) each in and_from _ _ (and_from _ _ (h refl) parts.0) parts.1
 
--- so it is in each cluster
+-- any two neighbours in a cluster may be joined
 chained-cut : (before cs after : List ℕ) → list_all chained (cut is_break before cs after) ≡ true
 unfolding cut
 chained-cut before [] after = refl
@@ -73,7 +73,7 @@ chained-cut before (d ∷ (c ∷ cs)) after =
 
 -- ---- the relation
 
--- a cluster from c on, and a front of it there; `inside` says that c is within the front, and else the front is empty
+-- a cluster from c on, and a prefix of it there; if `inside` is false, c is after the prefix, which is then empty
 record IsFront (inside : Bool) (front : List ℕ) (c : ℕ) (rest : List ℕ) : Type 0 where
   pair : Pair
   known : IsIn pairs pair
@@ -102,7 +102,7 @@ ended c =
 join-like : (d e c x : ℕ) → IsLike d e → IsLike c x → may_join d c ≡ may_join e x
 join-like d e c x l m = cc
 
--- one character more before it
+-- one more character before c
 module _ (inside : Bool) (front : List ℕ) (d c : ℕ) (rest : List ℕ) (r : IsFront inside front c rest) (joined : may_join d c ≡ true) where
   arriving : (b : Bool) → (not inside || b) ≡ true → (e : ℕ) → IsIn examples e → IsLike d e → (z : Pair) × IsIn pairs z × Covers z (reached r.pair e b)
   arriving b may e known like =
@@ -158,7 +158,7 @@ no_width : str_width false [] ≡ 0
 unfolding str_width
 no_width = refl
 
--- the characters of a front of a cluster
+-- the characters of a prefix of a cluster measure at most two more than those of the cluster
 front_bound : (front back : List ℕ) → chained (front ++ back) ≡ true → str_width false front ≤ str_width false (front ++ back) + 2
 front_bound [] back chain = let none = no_width in omega (arith, none)
 front_bound (c ∷ front) [] chain = let same = ap (str_width false) (append-nil (c ∷ front)) in omega (arith, same)

@@ -1,4 +1,4 @@
--- Whole clusters at the front of a text measure at most what they measure by themselves.
+-- Whole clusters at the front of a text measure at most as much as they do by themselves.
 use Rattle.std.proofs.Common.{◌≡◌, ℕ, zero, suc, ◌+◌, Bool, true, false, not, List, [], ◌∷◌, ◌++◌, map, take, drop, sum_by, refl, sym, ap, ap₂, ◌∙◌, arith, append_assoc}
 use Rattle.std.specs.Prelude.{encode_utf8_all, if◌then◌else◌}
 use Rattle.std.specs.List.{concat, list_all}
@@ -15,9 +15,9 @@ use Rattle.unicode_width.specs.Width.{str_width}
 use Rattle.cluster_width.specs.ClusterSums.{ClustersBoundTheMeasure, FrontsBoundTheMeasure, Text, clash, clusters, measure, selectors_agree}
 use Rattle.cluster_width.proofs.Sums.{pieces_bound}
 
--- ---- the pieces of a front
+-- ---- the pieces of a prefix
 
--- a character before pieces, as a piece of its own or as the front of the first
+-- a character before pieces, as a piece of its own or at the front of the first piece
 abbrev pub put : Bool → ℕ → List (List ℕ) → List (List ℕ)
 put b c ps = if b then (c ∷ []) ∷ ps else prepend (c ∷ []) ps
 
@@ -35,11 +35,11 @@ concat-cut rule before (c ∷ cs) after =
 concat-parts : (n : ℕ) (ps : List (List ℕ)) → concat (take n ps) ++ concat (drop n ps) ≡ concat ps
 concat-parts n ps = sym (concat-append (take n ps) (drop n ps)) ∙ ap concat (take-append-drop n ps)
 
--- what follows a front of the pieces
+-- the text after the first n pieces
 abbrev follows : ℕ → List (List ℕ) → List ℕ → List ℕ
 follows n ps after = concat (drop n ps) ++ after
 
--- the front of pieces, cut again
+-- the first pieces of a text, cut again
 module _ (rule : Rule) (before : List ℕ) (c : ℕ) (cs after : List ℕ) where
   one : (b : Bool) → put b c [] ≡ (c ∷ []) ∷ []
   one true = refl
@@ -115,7 +115,7 @@ agree-front (x ∷ []) ys h = refl
 agree-front (x ∷ (y ∷ xs)) ys h =
     let parts = and_parts (not (clash x y)) (selectors_agree ((y ∷ xs) ++ ys)) h in and_from _ _ parts.0 (agree-front (y ∷ xs) ys parts.1)
 
--- the first n clusters measure at most what they measure by themselves
+-- the first n clusters measure at most as much as they do by themselves
 pub fronts_bound : (text : Text) (n : ℕ) → FrontsBoundTheMeasure text n
 unfolding segments
 fronts_bound text n utf8 agree =
@@ -135,7 +135,7 @@ fronts_bound text n utf8 agree =
     let right : sum_by measure (take n (clusters text)) ≡ sum_by (str_width false) qs = ap (sum_by measure) (take-map encode_utf8_all n ps) ∙ sum-encoded qs each in
     omega (arith, bound, pieces, left, right)
 
--- and so does the whole text
+-- the whole text measures at most as much as its clusters together
 pub clusters_bound : (text : Text) → ClustersBoundTheMeasure text
 unfolding segments
 clusters_bound text utf8 agree =

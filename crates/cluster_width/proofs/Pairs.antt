@@ -1,4 +1,5 @@
--- Two readings from the end, of which the one is to be at most the other: the pairs of states that they reach together.
+-- Two readings from the end of a text, of which one has to be at most the other: the pairs of states that they reach
+-- together.
 use Rattle.std.proofs.Common.{◌≡◌, ◌≤◌, ℕ, zero, suc, ◌+◌, Bool, true, false, ◌&&◌, ◌==◌, nat_le, List, [], ◌∷◌, ◌++◌, inl, inr, slice_index_or, refl, sym, ap, ap₂, ◌∙◌, subst}
 use Rattle.std.specs.Bool.{beq}
 use Rattle.std.specs.Prelude.{if◌then◌else◌}
@@ -11,18 +12,19 @@ use Rattle.unicode_width.specs.declared.state.State.{State}
 use Rattle.unicode_width.specs.Width.{Reading, step}
 use Rattle.cluster_width.proofs.Classes.{IsIn, each, examples, found}
 
--- a character like the one at the right, and a mark; each reading counts from what it had where the pairs begin, and 1 more for each character
+-- two readings, a character of the class of the next character, and a mark; each reading counts from its total where
+-- the pairs begin, and 1 more for each character
 pub record Pair : Type 0 where
   pub less : Reading
   pub more : Reading
   pub right : ℕ
   pub mark : Bool
 
--- the reading with the character before it
+-- the reading with one more character at the front
 abbrev pub on : ℕ → Reading → Reading
 on d r = let s = step false d (1, r.1) in (r.0 + s.0, s.1)
 
--- the number of what follows, and from the number what follows
+-- the number of a state, and the state of a number
 abbrev pub number_of : After → ℕ
 number_of = elim [
   | Nothing ↦ 0
@@ -89,7 +91,7 @@ same_state-true x y h =
     ap₂ (λ a e. record { after = a; emoji = e; text = x.text; quote = x.quote }) after (same_from_beq _ _ two.0)
     ∙ ap₂ (λ t q. record { after = y.after; emoji = y.emoji; text = t; quote = q }) (same_from_beq _ _ three.0) (same_from_beq _ _ three.1)
 
--- z stands for y: the same states, and the other reading has no more in hand
+-- z covers y: the states are the same, and `more` exceeds `less` in z by at most as much as in y
 abbrev covers : Pair → Pair → Bool
 covers z y =
     (z.right == y.right) && (same_state z.less.1 y.less.1 && (same_state z.more.1 y.more.1 && (beq z.mark y.mark
@@ -116,9 +118,9 @@ covers-true z y h =
       totals = leb-true _ _ four.1;
     }
 
--- ---- the pairs that steps lead to
+-- ---- pairs that steps lead to
 
--- a call is computed where it is read, each time: these hand on what it comes to
+-- an argument is computed again wherever it is read: these functions pass on its value
 abbrev with_after : {A : Type 0} → After → (After → A) → A
 with_after Nothing f = f Nothing
 with_after a f = f a
@@ -135,7 +137,7 @@ with_reading r f =
     with_total r.0 (λ n. with_after r.1.after (λ a. with_flag r.1.emoji (λ e. with_flag r.1.text (λ t. with_flag r.1.quote (λ q.
     f (n, record { after = a; emoji = e; text = t; quote = q }))))))
 
--- those that no pair seen covers
+-- the pairs that no pair of `seen` covers
 abbrev fresh : List Pair → List Pair → List Pair
 fresh [] seen = []
 fresh (y ∷ ys) seen =
@@ -144,18 +146,18 @@ fresh (y ∷ ys) seen =
       | false ↦ with_reading y.less (λ l. with_reading y.more (λ m. let z = record y { less = l; more = m } in z ∷ fresh ys (z ∷ seen)))
     ]
 
--- those that have the character at the right
+-- the pairs whose next character is d
 abbrev at : ℕ → List Pair → List Pair
 at d = filter (λ z. z.right == d)
 
--- the pairs seen, and those that at most n rounds of steps lead to from the new ones
+-- the pairs of `seen`, and those to which at most n rounds of steps lead from `new`
 abbrev pub close : (ℕ → Pair → List Pair) → ℕ → List Pair → List Pair → List Pair
 close next zero seen new = seen
 close next (suc n) seen [] = seen
 close next (suc n) seen (x ∷ xs) =
     let more = flat_map (λ d. let here = at d seen in fresh (flat_map (next d) (x ∷ xs)) here) examples in close next n (seen ++ more) more
 
--- each step leads to a pair that is covered
+-- a pair of the list covers y
 abbrev is_covered : List Pair → Pair → Bool
 is_covered zs y = list_any (λ z. covers z y) zs
 
@@ -165,7 +167,7 @@ are_covered next pairs d = let zs = at d pairs in list_all (λ x. list_all (is_c
 abbrev pub is_closed : (ℕ → Pair → List Pair) → List Pair → Bool
 is_closed next pairs = list_all (are_covered next pairs) examples
 
--- a list that is filtered has no more members
+-- each member of a filtered list is a member of the list
 in_filter : (p : Pair → Bool) (xs : List Pair) (x : Pair) → IsIn (filter p xs) x → IsIn xs x
 in_filter p [] x none = none
 in_filter p (y ∷ ys) x known = go (p y) (in_filter p ys x) known
@@ -175,7 +177,7 @@ in_filter p (y ∷ ys) x known = go (p y) (in_filter p ys x) known
     go true rest (inr later) = inr (rest later)
     go false rest later = inr (rest later)
 
--- so from a pair of the list a step leads to one that a pair of the list stands for
+-- from a pair of a closed list, each step leads to a pair that one of the list covers
 pub leads : (next : ℕ → Pair → List Pair) (pairs : List Pair) → is_closed next pairs ≡ true
     → (d : ℕ) (x y : Pair) → IsIn examples d → IsIn pairs x → IsIn (next d x) y → (z : Pair) × IsIn pairs z × Covers z y
 leads next pairs closed d x y d_in x_in y_in =
@@ -184,9 +186,9 @@ leads next pairs closed d x y d_in x_in y_in =
     let it = found (λ z. covers z y) zs (each (is_covered zs) (next d x) (each (λ u. list_all (is_covered zs) (next d u)) pairs here x x_in) y y_in) in
     (it.0, in_filter _ pairs it.0 it.1, covers-true it.0 y it.2)
 
--- ---- members of lists that are made of choices
+-- ---- members of lists of choices
 
--- both answers
+-- true and false
 abbrev pub choices : List Bool
 choices = true ∷ false ∷ []
 
@@ -194,7 +196,7 @@ pub chosen : (b : Bool) → IsIn choices b
 chosen true = inl refl
 chosen false = inr (inl refl)
 
--- the pairs, if the test passes; they are computed only then
+-- the pairs if the test is true, and otherwise none; they are computed only if it is true
 abbrev pub only : Bool → (Unit {0} → List Pair) → List Pair
 only b f = elim b [ true ↦ f tt | false ↦ [] ]
 
@@ -216,7 +218,7 @@ in_flat f [] x y none known = absurd none
 in_flat f (u ∷ xs) x y (inl same) known = in_front (f u) (flat_map f xs) y (subst (λ v. IsIn (f v) y) same known)
 in_flat f (u ∷ xs) x y (inr later) known = in_back (f u) (flat_map f xs) y (in_flat f xs x y later known)
 
--- what was seen stays
+-- the pairs of `seen` are kept
 pub kept : (next : ℕ → Pair → List Pair) (n : ℕ) (seen new : List Pair) (x : Pair) → IsIn seen x → IsIn (close next n seen new) x
 kept next zero seen new x known = known
 kept next (suc n) seen [] x known = known

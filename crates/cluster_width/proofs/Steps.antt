@@ -1,4 +1,5 @@
--- The width's step back: it is the same at two characters of one class, and what it adds doesn't depend on the total.
+-- A step of the width rules, from the end of a text: it is the same for two characters of one class, and what it adds
+-- doesn't depend on the total.
 use Rattle.std.proofs.Common.{◌≡◌, ◌≤◌, ℕ, ◌+◌, ◌-◌, Bool, true, false, Option, Some, None, refl, ap, arith}
 use Rattle.std.specs.Prelude.{if◌then◌else◌}
 use Rattle.unicode_width.specs.declared.state.After.{After}
@@ -9,7 +10,7 @@ use Rattle.unicode_width.specs.declared.state.Change.TheVariants.{Less, Same, On
 use Rattle.unicode_width.specs.Width.{Reading, alone, before, before_alef, if_kept, in_context, joined_or, joins, past_emoji, past_selectors, step}
 use Rattle.cluster_width.proofs.Classes.{IsLike}
 
--- each part of the step is the same at two characters of one class
+-- each part of a step is the same for two characters of one class
 joins-like : (after : After) (c d : ℕ) → IsLike c d → joins false after c ≡ joins false after d
 unfolding joins before_alef alone
 joins-like Nothing c d like = refl
@@ -35,11 +36,11 @@ pub step-like : (c d total : ℕ) (s : State) → IsLike c d → step false c (t
 unfolding step
 step-like c d total s like = cc (past-like c d total s like, past-like c d total (record (if_kept s) { emoji = false }) like)
 
--- from a total of at least 1 on, what is added is what is added to 1
+-- to any total of at least 1, the function adds what it adds to 1
 pub record IsMove (f : ℕ → Reading) : Type 0 where
   pub moves : (t : ℕ) → 1 ≤ t → f t ≡ (t + (f 1).0 - 1, (f 1).1)
 
--- each part of the step is such a move
+-- each part of a step is such a function
 move-if : (b : Bool) (f g : ℕ → Reading) → IsMove f → IsMove g → IsMove (λ t. if b then f t else g t)
 move-if true f g p q = p
 move-if false f g p q = q

@@ -1,4 +1,5 @@
--- A text measures at most what its clusters measure together: both readings are kept in the relation, from the end of the text to its beginning.
+-- A text measures at most as much as its clusters together: both readings stay related, from the end of the text to its
+-- beginning.
 use Rattle.std.proofs.Common.{◌≡◌, ◌≤◌, ℕ, ◌+◌, ◌-◌, Bool, true, false, not, ◌&&◌, ◌||◌, ◌==◌, List, [], ◌∷◌, ◌++◌, map, sum_by, refl, sym, ap, ap₂, ◌∙◌, subst, arith}
 use Rattle.std.specs.Bool.{beq}
 use Rattle.std.specs.Prelude.{if◌then◌else◌}
@@ -23,7 +24,7 @@ use Rattle.cluster_width.proofs.Pairs.{Covers, Pair}
 use Rattle.cluster_width.proofs.Steps.{step-like, step-moves}
 use Rattle.cluster_width.proofs.TextPairs.{anew, arrives, ends-well, fits, is_cut, links, pairs, reached, start, starts}
 
--- ---- readings that begin with a total of 1 never come to 0
+-- ---- readings with a total of 1 at the start never reach 0
 
 abbrev pub read : List ℕ → Reading
 read cs = read_before false cs (1, plain)
@@ -70,7 +71,7 @@ and_left a b h = (and_parts a b h).0
 pub and_then : (a b : Bool) → (a && b) ≡ true → b ≡ true
 and_then a b h = (and_parts a b h).1
 
--- ---- what the rules on clusters say of two neighbours
+-- ---- the rules on clusters for two neighbours
 
 abbrev pub is_break : List ℕ → List ℕ → Bool
 is_break = is_grapheme_break true
@@ -87,7 +88,7 @@ either_way true b p q f g h = ap (λ t. t || q) (f refl)
 either_way false true p q f g h = ap (λ t. p || t) (g refl) ∙ or-true p
 either_way false false p q f g h = absurd (cc h)
 
--- where GB9c or GB11 joins the two, it may
+-- if GB9c or GB11 joins d and c, they are linkable
 pub linkable : (before : List ℕ) (d c : ℕ) → (joins_conjunct (d ∷ before) c || joins_emoji (d ∷ before) c) ≡ true → are_linkable d c ≡ true
 linkable before d c =
     let ends = ends_in_linker (map indic_conjunct_break (d ∷ before)) in
@@ -100,7 +101,7 @@ linkable before d c =
     (λ h. and_from link consonant (linker_may (indic_conjunct_break d) (map indic_conjunct_break before) (and_left ends consonant h)) (and_then ends consonant h))
     (λ h. and_from zwj pictograph (and_left zwj shown (and_left (zwj && shown) pictograph h)) (and_then (zwj && shown) pictograph h))
 
--- one step of a reading, by a character like the one that comes before it
+-- one step of a reading is the same for a character of the same class
 pub read-step : (c d : ℕ) → IsLike c d → (cs : List ℕ) (s : State) → (read cs).1 ≡ s
     → ((read (c ∷ cs)).1 ≡ (step false d (1, s)).1) × ((read (c ∷ cs)).0 + 1 ≡ (read cs).0 + (step false d (1, s)).0)
 read-step c d like cs s is =
@@ -115,7 +116,7 @@ read-step c d like cs s is =
 
 -- ---- the relation
 
--- a text from the character c on, after the characters `before`, last first, and its clusters where `after` follows
+-- a text from the character c on, which `before` precedes, last character first, and its clusters if `after` follows
 record IsRelated (before : List ℕ) (c : ℕ) (rest after first : List ℕ) (others : List (List ℕ)) : Type 0 where
   pair : Pair
   known : IsIn pairs pair
@@ -138,7 +139,7 @@ anew_plain : (b : Bool) → anew b (0, plain) ≡ (0, plain)
 anew_plain true = refl
 anew_plain false = refl
 
--- what follows a text joins nothing
+-- a text at its end is joined to nothing
 fits_start : (c : ℕ) (half : Bool) → (not half || is_regional (grapheme_cluster_break c)) ≡ true → fits c start.right start.mark half ≡ true
 unfolding unicode_segmentation
 fits_start c half h = and_from _ _ h (ap not (ap₂ ◌||◌ (and-false (c == 0xFE01)) (and-false (is_presentation c))))
@@ -168,7 +169,7 @@ related-one before c after =
       },
     )
 
--- the tests are the same at characters that are like
+-- the tests are the same for characters of the same class
 fits-like : (d e c x : ℕ) (mark half : Bool) → IsLike d e → IsLike c x → fits d c mark half ≡ fits e x mark half
 fits-like d e c x mark half l m = cc
 
@@ -178,7 +179,7 @@ links-like d e c x joined l m = cc
 cut-like : (d e c x : ℕ) (joined half : Bool) → IsLike d e → IsLike c x → is_cut d c joined half ≡ is_cut e x joined half
 cut-like d e c x joined half l m = cc
 
--- one character more before it
+-- one more character before c
 module _ (before : List ℕ) (d c : ℕ) (rest after first : List ℕ) (others : List (List ℕ)) (r : IsRelated (d ∷ before) c rest after first others) where
   abbrev half : Bool
   half = ends_in_half_flag (d ∷ before)
@@ -250,7 +251,7 @@ related before d (c ∷ rest) after h =
     let r = related (d ∷ before) c rest after parts.1 in
     related-more before d c rest after r.0 r.1 r.2 (not-true _ parts.0)
 
--- the characters of a text measure at most what the pieces measure
+-- the characters of a text measure at most as much as its pieces together
 pub pieces_bound : (cs after : List ℕ) → selectors_agree cs ≡ true → str_width false cs ≤ sum_by (str_width false) (cut is_break [] cs after)
 unfolding str_width ends_in_half_flag
 pieces_bound [] after h = omega arith

@@ -1,5 +1,5 @@
--- A text measures at least what its end measures by itself, but for one place. A text is read from its end: a character takes
--- at most one place away from what follows it, and only where that left one for it.
+-- A text measures at least as much as its suffix by itself, minus 1. A text is read from its end: a character takes
+-- away at most 1 of the width after it, and only if the state allows it.
 use Rattle.std.proofs.Common.{◌≡◌, ◌≤◌, ℕ, ◌+◌, ◌-◌, Bool, true, false, cond, not, ◌==◌, nat_le, ◌&&◌, List, [], ◌∷◌, ◌++◌, Option, Some, None, refl, sym, ap, ◌∙◌, subst, arith, add_assoc}
 use Rattle.std.specs.Int.{is_in_range}
 use Rattle.std.specs.Prelude.{IsUtf8, chars}
@@ -17,7 +17,7 @@ use Rattle.cluster_width.specs.ClusterSums.{Text, measure}
 
 -- ---- no step takes away more than there is
 
--- the width that the text has at least, in a state from which a step may take one away
+-- the least width of the text in a state in which a step may take 1 away
 abbrev credit : After → ℕ
 credit KhmerLetter = 1
 credit JoinerTifinagh = 1
@@ -25,7 +25,7 @@ credit IndicatorZwj = 1
 credit OddIndicatorsZwj = 1
 credit _ = 0
 
--- f, from a total to a reading, passes on what is added to t, and leaves the credit covered
+-- a function from a total to a reading adds to any total what it adds to t, and leaves a total that covers the credit
 record Shifts (f : ℕ → Reading) (t : ℕ) : Type 0 where
   shifts : (k : ℕ) → f (k + t) ≡ (k + (f t).0, (f t).1)
   covers : credit (f t).1.after ≤ (f t).0
@@ -61,7 +61,7 @@ Shifts-alone : (cjk : Bool) (c t : ℕ) → Shifts (λ x. added x (alone cjk c))
 unfolding alone
 Shifts-alone cjk c t = Shifts-add (alone cjk c).0 (alone cjk c).1 t (omega (arith, of_kind-credit cjk c (kind c)))
 
--- what a join asks of the credit before it, and gives to the credit after it
+-- the credit that a join needs before it, and leaves after it
 abbrev IsFair : After → Option (Change × After) → Type 0
 IsFair after None = Unit {0}
 IsFair after (Some (Less, next)) = (credit after ≡ 1) × (credit next ≡ 0)
@@ -204,7 +204,7 @@ Shifts-step cjk c s t h =
     (Shifts-cond _ _ _ t (Shifts-add (cond (is_joined_emoji s.after) 0 2) (before Emoji) t (omega arith))
     (Shifts-past_emoji cjk c (record (if_kept s) { emoji = false }) t (credit-if_kept s t h)))
 
--- so a text before another is read over its measure
+-- a reading of more characters passes on what is added to a total that covers the credit
 Shifts-read_before : (cjk : Bool) (cs : List ℕ) (s : State) (t : ℕ) → credit s.after ≤ t → Shifts (λ x. read_before cjk cs (x, s)) t
 Shifts-read_before cjk [] s t h = Shifts-same s t h
 Shifts-read_before cjk (c ∷ cs) s t h =
@@ -236,6 +236,6 @@ str_width-tail xs ys =
     ap (λ x. x.0) (read_before-append false xs ys (0, plain) ∙ ap (λ n. read_before false xs (n, r.1)) (sym parts) ∙ (Shifts-read_before false xs r.1 least (omega arith)).shifts (r.0 - least)) in
     omega (arith, all, covered, one)
 
--- a text measures at most one place less than its end by itself
+-- a text measures at least as much as its suffix by itself, minus 1
 pub measure-tail : (front tail : Text) → IsUtf8 front → measure tail ≤ measure (front ++ tail) + 1
 measure-tail front tail utf8 = subst (λ cs. measure tail ≤ str_width false cs + 1) (sym (chars-append front tail utf8)) (str_width-tail (chars front) (chars tail))

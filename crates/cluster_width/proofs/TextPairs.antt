@@ -1,4 +1,5 @@
--- The pairs of the readings of a text and of its clusters, one after another: where a cluster begins, its reading begins anew.
+-- The pairs of the readings of a text and of its clusters, one after another. At the end of a cluster, the second
+-- reading starts anew.
 use Rattle.std.proofs.Common.{◌≡◌, ℕ, Bool, true, false, not, ◌&&◌, ◌||◌, nat_le, List, [], ◌∷◌, unwrap_or, inl, refl}
 use Rattle.std.specs.Bool.{beq}
 use Rattle.std.specs.List.{flat_map, list_all}
@@ -13,41 +14,41 @@ use Rattle.cluster_width.specs.ClusterSums.{clash}
 use Rattle.cluster_width.proofs.Classes.{IsIn, are_linkable, each, examples}
 use Rattle.cluster_width.proofs.Pairs.{Pair, choices, Covers, chosen, close, in_flat, in_only, is_closed, kept, leads, on, only}
 
--- what holds of d before c, if half a flag ends with d (`half`) and with c (`mark`)
+-- the condition on d before c, if a half flag ends with d (`half`) and with c (`mark`)
 abbrev pub fits : ℕ → ℕ → Bool → Bool → Bool
 fits d c mark half =
     (not half || is_regional (grapheme_cluster_break d)) && (beq mark (is_regional (grapheme_cluster_break c) && not half) && not (clash d c))
 
--- and if rule GB9c or GB11 joins the two (`joined`)
+-- the condition on d before c, if rule GB9c or GB11 joins them (`joined`)
 abbrev pub links : ℕ → ℕ → Bool → Bool
 links d c joined = not joined || are_linkable d c
 
--- whether there is a boundary between the two
+-- true if there is a boundary between d and c
 abbrev pub is_cut : ℕ → ℕ → Bool → Bool → Bool
 is_cut d c joined half =
     unwrap_or (break_by_pair true (grapheme_cluster_break d) (grapheme_cluster_break c)) (not (joined || (half && is_regional (grapheme_cluster_break c))))
 
--- the reading, which begins anew if b
+-- the reading, which starts anew if b is true
 abbrev pub anew : Bool → Reading → Reading
 anew b r = if b then (r.0, plain) else r
 
--- where d comes before, and b says that a cluster begins after it
+-- the pair with d before it; b is true if a cluster begins after d
 abbrev pub reached : Pair → ℕ → Bool → Bool → Pair
 reached x d b half = record { less = on d x.less; more = on d (anew b x.more); right = d; mark = half }
 
--- the pair that d leads to, if the two may be joined so
+-- the pairs to which d leads, if d may be joined in this way
 abbrev joining : ℕ → Pair → Bool → Bool → List Pair
 joining d x half joined = only (links d x.right joined) (λ _. reached x d (is_cut d x.right joined half) half ∷ [])
 
--- those that it leads to, if half a flag ends with it or not
+-- the pairs to which d leads, if a half flag ends with d or not
 abbrev standing : ℕ → Pair → Bool → List Pair
 standing d x half = only (fits d x.right x.mark half) (λ _. flat_map (joining d x half) choices)
 
--- all that it leads to
+-- all pairs to which d leads
 abbrev next : ℕ → Pair → List Pair
 next d x = flat_map (standing d x) choices
 
--- at the end of a text, as if a control character followed
+-- the pair at the end of a text, which is the same as before a control character
 abbrev pub start : Pair
 start = record { less = (0, plain); more = (0, plain); right = 0; mark = false }
 
@@ -55,11 +56,11 @@ start = record { less = (0, plain); more = (0, plain); right = 0; mark = false }
 unfoldable pub pairs : List Pair
 pairs = close next 40 (start ∷ []) (start ∷ [])
 
--- where a text begins, the clusters have at least what the text has
+-- at the beginning of a text, its clusters measure at least as much as the text
 abbrev ends_well : Pair → Bool
 ends_well x = not (beq x.mark (is_regional (grapheme_cluster_break x.right))) || nat_le x.less.0 x.more.0
 
--- the pairs are closed under all steps, and end well: computed
+-- the list of pairs is closed under all steps, and each of them ends well; both are computed
 fine : (is_closed next pairs && list_all ends_well pairs) ≡ true
 unfolding unicode_segmentation unicode_width examples pairs
 fine = refl
@@ -71,7 +72,7 @@ pub starts : IsIn pairs start
 unfolding pairs
 starts = kept next 40 (start ∷ []) (start ∷ []) start (inl refl)
 
--- a step from a pair leads to a pair
+-- a step from a pair of the list leads to a pair that one of the list covers
 pub arrives : (x : Pair) (d : ℕ) (joined half : Bool) → IsIn pairs x → IsIn examples d → fits d x.right x.mark half ≡ true → links d x.right joined ≡ true
     → (z : Pair) × IsIn pairs z × Covers z (reached x d (is_cut d x.right joined half) half)
 arrives x d joined half known d_in f l =

@@ -1,4 +1,5 @@
--- A cluster whose front is wider than the cluster by two columns: a watch, a joiner and a wavy dash, before U+FE0F.
+-- A cluster with a prefix that measures two terminal columns more: a watch, a zero width joiner and a wavy dash, before
+-- U+FE0F.
 use Rattle.std.proofs.Common.{◌≡◌, ◌+◌, [], ◌∷◌, ◌++◌, refl}
 use Rattle.std.specs.Prelude.{encode_utf8_all}
 use Rattle.unicode_segmentation.proofs.Computing.{unicode_segmentation}

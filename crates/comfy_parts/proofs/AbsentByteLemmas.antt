@@ -1,4 +1,4 @@
--- Texts without a byte.
+-- Texts that don't contain a byte b.
 use Rattle.std.proofs.Common.{◌≡◌, ◌<◌, ℕ, ◌+◌, ◌/◌, ◌%◌, Bool, true, false, cond, ◌==◌, [], ◌∷◌, ◌++◌, take, drop, encode_utf8, refl, sym, ◌∙◌, subst, arith}
 use Rattle.std.specs.List.{list_any}
 use Rattle.std.proofs.lemmas.Bool.{or_from, or_parts}
@@ -10,28 +10,28 @@ use lib.Utf8.{encode}
 use Rattle.comfy_parts.specs.Text.{HasNo, Text}
 
 module _ (b : ℕ) where
-  -- two texts without it have none together
+  -- if two texts don't contain b, their concatenation doesn't
   pub HasNo-append : (xs ys : Text) → HasNo b xs → HasNo b ys → HasNo b (xs ++ ys)
   HasNo-append xs ys front back =
       list_any-append (λ x. x == b) xs ys ∙ or_from (list_any (λ x. x == b) xs) (list_any (λ x. x == b) ys) front back
 
-  -- so do the two parts of such a text
+  -- if a concatenation doesn't contain b, neither part does
   pub HasNo-parts : (xs ys : Text) → HasNo b (xs ++ ys) → HasNo b xs × HasNo b ys
   HasNo-parts xs ys clear =
       or_parts (list_any (λ x. x == b) xs) (list_any (λ x. x == b) ys) (sym (list_any-append (λ x. x == b) xs ys) ∙ clear)
 
-  -- a front of it, and an end
+  -- if a text doesn't contain b, none of its prefixes does
   pub HasNo-take : (n : ℕ) (text : Text) → HasNo b text → HasNo b (take n text)
   HasNo-take n text clear = (HasNo-parts (take n text) (drop n text) (subst (HasNo b) (sym (take-append-drop n text)) clear)).0
 
   pub HasNo-drop : (n : ℕ) (text : Text) → HasNo b text → HasNo b (drop n text)
   HasNo-drop n text clear = (HasNo-parts (take n text) (drop n text) (subst (HasNo b) (sym (take-append-drop n text)) clear)).1
 
--- a greater byte is another one
+-- a number that is greater than b is different from b
 greater : (b : ℕ) (c : ℕ) → b < c → (c == b) ≡ false
 greater b c high = grind (arith, nat_tests)
 
--- a byte of seven bits is in the text of its own character alone
+-- the UTF-8 of a character other than b doesn't contain b, if b is ASCII
 pub encoded_clear : (b c : ℕ) → b < 128 → (c == b) ≡ false → HasNo b (encode_utf8 c)
 unfolding encode
 encoded_clear b c seven other = by_size (ltb c 128) (ltb c 2048) (ltb c 65536)

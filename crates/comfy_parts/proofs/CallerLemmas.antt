@@ -1,4 +1,4 @@
--- What proofs of the crates above may cite.
+-- The lemmas of this crate that proofs of other crates may cite.
 pub use Rattle.cluster_width.proofs.SpaceMeasureLemmas.{measure-nil, measure-space, measure-spaces_before, one_character}
 pub use Rattle.comfy_parts.proofs.AbsentByteLemmas.{HasNo-append, HasNo-parts, encoded_clear}
 pub use Rattle.comfy_parts.proofs.BreakLemmas.{HasNo-visible, breaks_are_visible, sequence_clear}

@@ -1,4 +1,4 @@
--- No character takes more than two terminal columns, but U+17D8, which takes three.
+-- Each character takes at most two terminal columns, except U+17D8, which takes three.
 use Rattle.std.proofs.Common.{◌≢◌, ◌≤◌, ℕ, false, refl, subst, sym, arith}
 use Rattle.std.proofs.lemmas.Bool.Decides.{nat_tests}
 use Rattle.cluster_width.proofs.SpaceMeasureLemmas.{one_character}

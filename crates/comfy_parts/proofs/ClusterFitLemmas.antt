@@ -1,4 +1,5 @@
--- A head fits its terminal columns, since its clusters measure at least what it does. So words of which each character fits are cut well.
+-- A head fits its terminal columns, because the measures of its clusters add up to at least its own. So wrapping cuts
+-- words well if each of their characters fits.
 use Rattle.std.proofs.Common.{◌≡◌, ◌≤◌, ℕ, Bool, true, not, ◌==◌, List, [], ◌∷◌, ◌++◌, length, take, refl, sym, ap, ◌∙◌, arith, append-nil}
 use Rattle.std.specs.List.{list_all, onto_first, slice_split}
 use Rattle.std.specs.Prelude.{chars, encode_utf8, encode_utf8_all, IsUtf8}
@@ -39,11 +40,11 @@ agree-texts front back utf8 agree =
 
 -- ---- words are cut well
 
--- such a text is of characters that fit, and its selectors agree
+-- if the characters of a text fit, each of them does, and the selectors of the text agree
 pub fitting-parts : (w : ℕ) (text : Text) → CharactersFit w text → (list_all (character_fits w) (chars text) ≡ true) × SelectorsAgree text
 fitting-parts w text each = and_parts (list_all (character_fits w) (chars text)) (selectors_agree (chars text)) each
 
--- a front that fits cuts such a word
+-- a prefix that fits is a good cut of a word whose characters fit
 cuts : (w k : ℕ) (word taken : Text) → IsUtf8 word → CharactersFit w word → IsFront (chars word) taken → measure taken ≤ k → IsCut (CharactersFit w) k taken word
 cuts w k word taken utf8 each front fits =
     let whole = scalars-parts front.front front.back (sym (ap all_scalars front.splits) ∙ scalars-chars word utf8) in
@@ -63,7 +64,7 @@ cuts w k word taken utf8 each front fits =
 pub head-cuts : (w k : ℕ) (word : Text) → IsUtf8 word → CharactersFit w word → IsCut (CharactersFit w) k (head k word) word
 head-cuts w k word utf8 each = cuts w k word (head k word) utf8 each (head-front k word) (head_fits k word utf8 (fitting-parts w word each).1)
 
--- the first character of a text
+-- the first character of a text is a prefix
 first-front : (cs : List ℕ) → IsFront cs (encode_utf8_all (take 1 cs))
 first-front [] = record { front = []; back = []; splits = refl; spelt = refl }
 first-front (c ∷ cs) = record { front = c ∷ []; back = cs; splits = refl; spelt = refl }
@@ -83,7 +84,7 @@ head_or_first-cuts w word utf8 each =
 
 -- ---- the parts between delimiters
 
--- the first part agrees with a character before it
+-- the first part agrees with the character before it
 abbrev first_agrees : ℕ → List (List ℕ) → Bool
 first_agrees c [] = true
 first_agrees c (part ∷ parts) = not (clashes c part)

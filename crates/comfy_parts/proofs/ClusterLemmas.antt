@@ -1,4 +1,5 @@
--- Where a text is cut between two of its clusters, and that what stands before the cut is its head.
+-- A text that is cut between two of its clusters. If the first cluster after the cut is the first without room, the
+-- text before the cut is the head.
 use Rattle.std.proofs.Common.{◌≡◌, ℕ, ◌+◌, ◌-◌, ◌≤◌, ◌<◌, true, List, [], ◌∷◌, ◌++◌, map, length, take, sum_by, nat_le, refl, sym, ap, ◌∙◌, subst, arith, length-append, append-nil}
 use Rattle.std.proofs.Math.Seq.{take-append_seam, get_or-append_seam}
 use Rattle.std.specs.Borrow.{Bor}
@@ -16,14 +17,14 @@ use Rattle.unicode_segmentation.proofs.SegmentsLemmas.{map-with_offsets, concat-
 use Rattle.comfy_parts.specs.Following.{EndsHead, IsFirstWide}
 use Rattle.comfy_parts.specs.Text.{Text, measure, clusters, clusters_within, head}
 
--- a piece with the place where it begins
+-- a piece with the position of its first byte
 abbrev pub Placed : Type 0
 Placed = ℕ × List ℕ
 
 abbrev pub pieces : List Placed → List Text
 pieces xs = map (λ x. x.1) xs
 
--- a piece begins where those before it end
+-- a piece begins at the end of the pieces before it
 pub begins_at : (n : ℕ) (done : List Placed) (x : Placed) (rest : List Placed) (ps : List Text) → done ++ x ∷ rest ≡ with_offsets n ps → x.0 ≡ n + length (concat (pieces done))
 unfolding with_offsets
 begins_at n [] x rest [] e = cc
@@ -38,11 +39,11 @@ begins_at n (y ∷ done) x rest (p ∷ ps) e =
     let len : length y.1 ≡ length p = ap length same in
     omega arith
 
--- the pieces on both sides of one
+-- the pieces before and after a piece
 pub around : (done : List Placed) (x : Placed) (rest : List Placed) (ps : List Text) → done ++ x ∷ rest ≡ with_offsets 0 ps → ps ≡ pieces done ++ x.1 ∷ pieces rest
 around done x rest ps e = sym (map-with_offsets 0 ps) ∙ sym (ap pieces e) ∙ map-append (λ x. x.1) done (x ∷ rest)
 
--- clusters that fit are taken, and the head goes on after them with the columns that they leave
+-- the head takes clusters that fit, and goes on after them with the columns that they leave
 within-front : (k : ℕ) (qs more : List Text) → sum_by measure qs ≤ k → clusters_within k (qs ++ more) ≡ concat qs ++ clusters_within (k - sum_by measure qs) more
 within-front k [] more fits =
     let same : k ≡ k - 0 = omega arith in
@@ -59,7 +60,7 @@ within-front k (q ∷ qs) more fits =
 within-wide : (k : ℕ) (p : Text) (more : List Text) → k < measure p → clusters_within k (p ∷ more) ≡ []
 within-wide k p more wide = cond-false (nat_le (measure p) k) _ _ (grind (arith, nat_tests, wide))
 
--- the clusters before the first that is too wide are the head
+-- the clusters before the first one that is too wide are the head
 pub head-before : (k : ℕ) (text : Text) (qs : List Text) (c : Text) (others : List Text) → IsUtf8 text → clusters text ≡ qs ++ c ∷ others → sum_by measure qs ≤ k → k < sum_by measure qs + measure c
     → take (length (concat qs)) text ≡ head k text
 head-before k text qs c others u parts fits wide =
@@ -69,7 +70,7 @@ head-before k text qs c others u parts fits wide =
     ap (clusters_within k) parts ∙ within-front k qs (c ∷ others) fits ∙ ap (λ t. concat qs ++ t) (within-wide (k - sum_by measure qs) c others (omega (arith, fits, wide))) in
     front ∙ sym (taken ∙ append-nil (concat qs))
 
--- what is known of the first cluster that is too wide, by its place
+-- the record of the first cluster that is too wide, from its position in the list
 pub first-wide : (k : ℕ) (text : Text) (done : List Placed) (x : Placed) (rest : List Placed) (beyond : ℕ) → IsUtf8 text → done ++ x ∷ rest ≡ with_offsets 0 (clusters text)
     → sum_by measure (pieces done) ≤ k → sum_by measure (pieces done) + measure x.1 ≡ k + beyond → 0 < beyond → IsFirstWide k text x.0 (length x.1) beyond
 first-wide k text done x rest beyond u place fits all wide =
@@ -91,7 +92,7 @@ first-wide k text done x rest beyond u place fits all wide =
       too_wide = wide;
     }
 
--- it begins where the head ends
+-- the head ends at the first cluster that is too wide
 pub ends-head : (k : ℕ) (text : Text) (at bytes beyond : ℕ) → IsUtf8 text → IsFirstWide k text at bytes beyond → EndsHead k text at
 ends-head k text at bytes beyond u is =
     let wide : k < sum_by measure is.before + measure is.cluster = (let all = is.beyond_is in let some = is.too_wide in omega arith) in
@@ -104,11 +105,11 @@ head-all k text done u e fits =
     let taken : head k text ≡ concat (pieces done) ++ [] = ap (clusters_within k) (sym same ∙ sym (append-nil (pieces done))) ∙ within-front k (pieces done) [] fits in
     sym (taken ∙ append-nil (concat (pieces done)) ∙ ap concat same ∙ concat-segments (is_grapheme_break true) text u)
 
--- what an item of the iterator shows
+-- an item of the iterator as a piece with its position
 abbrev pub shown : ℕ × Bor (List ℕ) → Placed
 shown x = (x.0, x.1.now)
 
--- the measures of the items
+-- the sum of the measures of the items
 pub sum_by-shown : (xs : List (ℕ × Bor (List ℕ))) → sum_by measure (pieces (map shown xs)) ≡ sum_by (λ x. measure x.1.now) xs
 sum_by-shown [] = refl
 sum_by-shown (x ∷ xs) =

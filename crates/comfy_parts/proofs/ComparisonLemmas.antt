@@ -1,4 +1,4 @@
--- Equality, order and hash of attributes, alignments, colours and cells.
+-- Equality, order and hashes of attributes, alignments, colours and cells.
 use Rattle.std.proofs.Common.{◌≡◌, ◌∙◌, ◌&&◌, ◌==◌, Bool, true, false, List, [], ◌∷◌, Some, None, ℕ, nat_eq, ap, refl, sym, subst}
 use Rattle.std.specs.Cmp.{Equal-is, first_so, second_so, unsigned_Decides}
 use Rattle.std.specs.Cmp.Lexicographic.{pointwise, pointwise_decides}
@@ -22,36 +22,37 @@ use Rattle.comfy_parts.specs.contracts.style.color.Color as color
 use Rattle.comfy_parts.specs.contracts.style.color.ColorEq.TheImpl.Laws as color_equiv
 use Rattle.comfy_parts.specs.contracts.style.color.ColorOrd.TheImpl.Laws as color_ord
 
--- an order returns `Equal` where `==` holds, which is where the values are the same
+-- if `==` agrees with an order, and means that values are the same, the order returns `Equal` exactly for the same
+-- values
 pub equal_is_same : {K : Type 0} (E : K → K → Bool) (R : K → K → Ordering) → EqIsSame E → ((a b : K) → E a b ≡ eq_by_cmp R a b) → EqualIsSame R
 equal_is_same E R same ties a b =
     (λ e. (same a b).0 (ties a b ∙ (Equal-is (R a b)).1 e), λ e. (Equal-is (R a b)).0 (sym (ties a b) ∙ (same a b).1 e))
 
--- `==` on options is sameness where it is that of what they hold
+-- if `==` means that values are the same, `==` on options does too
 pub options_same : {K : Type 0} (E : K → K → Bool) → EqIsSame E → EqIsSame (option_eq E)
 options_same E same None None = (λ e. refl, λ e. refl)
 options_same E same None (Some b) = (λ e. absurd (cc e), λ e. absurd (cc e))
 options_same E same (Some a) None = (λ e. absurd (cc e), λ e. absurd (cc e))
 options_same E same (Some a) (Some b) = (λ e. ap Some ((same a b).0 e), λ e. (same a b).1 (cc e))
 
--- attributes have no fields, so that their place tells them apart
+-- two attributes are equal only if they are the same, because they have no fields
 pub attribute_eq_is_same : EqIsSame attribute_eq
 attribute_eq_is_same a b = (same_true attribute.the_type tt a b, true_same attribute.the_type a b)
 
--- so it is with alignments
+-- two alignments are equal only if they are the same
 pub alignment_eq_is_same : EqIsSame alignment_eq
 alignment_eq_is_same a b = (same_true alignment.the_type tt a b, true_same alignment.the_type a b)
 
--- the order of attributes tells them apart
+-- the order of attributes returns `Equal` exactly for the same attributes
 pub attribute_equal_is_same : EqualIsSame attribute_cmp
 attribute_equal_is_same = equal_is_same attribute_eq attribute_cmp attribute_eq_is_same attribute_ord.matches_eq-law
 
--- each variant's test holds only of values that are the same
+-- the test of each variant is true only for values that are the same
 abbrev AreSame : (Fss : List (List Field)) → Each Bool Fss → Type 0
 AreSame [] tests = Unit {0}
 AreSame (Fs ∷ Fss) tests = ((a b : Values Fs) → tests.0 a b ≡ true → a ≡ b) × AreSame Fss tests.1
 
--- then so does the test of the choice
+-- then the test of the whole enumeration is true only for values that are the same
 choices_same : (Fss : List (List Field)) (tests : Each Bool Fss) → AreSame Fss tests → (a b : Choice Fss) → by false false Fss tests a b ≡ true → a ≡ b
 choices_same [] tests same a b e = absurd a
 choices_same (Fs ∷ Fss) tests same (inl a) (inl b) e = ap inl (same.0 a b e)
@@ -59,7 +60,7 @@ choices_same (Fs ∷ Fss) tests same (inl a) (inr b) e = absurd (cc e)
 choices_same (Fs ∷ Fss) tests same (inr a) (inl b) e = absurd (cc e)
 choices_same (Fs ∷ Fss) tests same (inr a) (inr b) e = ap inr (choices_same Fss tests.1 same.1 a b e)
 
--- three numbers that are equal are the same
+-- three numbers that are equal in pairs are the same three numbers
 rgb_same : (a b : ℕ × (ℕ × (ℕ × Unit {0}))) → (a.0 == b.0 && (a.1.0 == b.1.0 && a.1.1.0 == b.1.1.0)) ≡ true → a ≡ b
 rgb_same a b e =
     let others = second_so (a.0 == b.0) (a.1.0 == b.1.0 && a.1.1.0 == b.1.1.0) e in
@@ -68,11 +69,11 @@ rgb_same a b e =
     let blue = (unsigned_Decides a.1.1.0 b.1.1.0).0 (second_so (a.1.0 == b.1.0) (a.1.1.0 == b.1.1.0) others) in
     λ i. (red i, (green i, (blue i, tt)))
 
--- so is one
+-- a number that is equal to another is the same
 ansi_same : (a b : ℕ × Unit {0}) → (a.0 == b.0) ≡ true → a ≡ b
 ansi_same a b e = let number = (unsigned_Decides a.0 b.0).0 e in λ i. (number i, tt)
 
--- colours differ by their variants, and by the numbers in these
+-- two colours are equal only if they have the same variant and the same numbers
 pub color_eq_is_same : EqIsSame color_eq
 color_eq_is_same a b = (values, λ e. subst (λ (other : Color). color_eq a other ≡ true) e (color_equiv.laws-law.refl a))
   where
@@ -83,11 +84,11 @@ color_eq_is_same a b = (values, λ e. subst (λ (other : Color). color_eq a othe
     values e =
         values_one color.enum a b (choices_same color.the_parts _ (plain, (plain, (plain, (plain, (plain, (plain, (plain, (plain, (plain, (plain, (plain, (plain, (plain, (plain, (plain, (plain, (plain, (rgb_same, (ansi_same, tt))))))))))))))))))) (color.as_values a) (color.as_values b) e)
 
--- their order tells them apart
+-- the order of colours returns `Equal` exactly for the same colours
 pub color_equal_is_same : EqualIsSame color_cmp
 color_equal_is_same = equal_is_same color_eq color_cmp color_eq_is_same color_ord.matches_eq-law
 
--- cells whose fields are the same are the same
+-- cells with the same fields are the same
 pub cell_eq_is_same : EqIsSame cell_eq
 cell_eq_is_same a b = (values, λ e. subst (λ (other : CellValue). cell_eq a other ≡ true) e (cell_eq_equiv.refl a))
   where

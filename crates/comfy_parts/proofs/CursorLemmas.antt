@@ -1,4 +1,4 @@
--- A cursor over the parts of a text line: what it passes, and where it stands then.
+-- A cursor over the parts of a text line: the parts that it passes, and its position after them.
 use Rattle.std.proofs.Common.{◌≡◌, ◌<◌, ◌≤◌, ℕ, zero, suc, ◌+◌, ◌-◌, true, false, List, [], ◌∷◌, ◌++◌, length, map, take, drop, replicate, refl, sym, ap, ap₂, ◌∙◌, subst, arith, append_assoc, append-nil, length-append}
 use Rattle.std.specs.List.{concat, flat_map}
 use Rattle.std.specs.Prelude.{if◌then◌else◌, encode_utf8, encode_utf8_all, IsUtf8}
@@ -22,18 +22,18 @@ use Rattle.comfy_parts.proofs.VisibleWholeLemmas.{none_at_front, visible_charact
 use Rattle.cluster_width.proofs.SpaceMeasureLemmas.{one_character}
 use Rattle.comfy_parts.proofs.WrappingLemmas.{begins_with-append}
 
--- a cursor of these sequences and parts
+-- a cursor with these open sequences and these parts after it
 abbrev pub at : List Text → List Part → CursorValue
 at ss ps = record { sequences = ss; ahead = ps }
 
 -- ---- parts
 
--- a sequence in front is not among the parts from a visible byte on
+-- the parts from a visible byte on don't include a sequence before it
 from_sequence : (k : ℕ) (p : Part) (ps : List Part) → p.is_sequence ≡ true → parts_from k (p ∷ ps) ≡ parts_from k ps
 from_sequence zero p ps is = ap (λ b. if b then parts_from zero ps else p ∷ ps) is
 from_sequence (suc k) p ps is = ap (λ b. parts_from (if b then suc k else k) ps) is
 
--- nor are those before the next visible byte
+-- the parts from a visible byte on don't include the sequences before the first visible byte
 from_zero : (k : ℕ) (ps : List Part) → parts_from k (parts_from zero ps) ≡ parts_from k ps
 from_zero k [] = refl
 from_zero k (p ∷ ps) = grind (arith, cond_both, from_sequence, from_zero k ps)
@@ -42,7 +42,7 @@ from_nil : (n : ℕ) → parts_from n [] ≡ []
 from_nil zero = refl
 from_nil (suc n) = refl
 
--- the parts from a later visible byte on
+-- the parts from the k-th visible byte after the n-th one on are those from the (n + k)-th one on
 from_further : (n k m : ℕ) (ps : List Part) → m ≡ n + k → parts_from k (parts_from n ps) ≡ parts_from m ps
 from_further zero k m ps is = grind (arith, from_zero)
 from_further (suc n) k m [] is = from_nil k ∙ sym (from_nil m)
@@ -51,13 +51,13 @@ from_further (suc n) k (suc m) (p ∷ ps) is =
     from_further (if p.is_sequence then suc n else n) k (if p.is_sequence then suc m else m) ps
     (elim p.is_sequence as (λ b. (if b then suc m else m) ≡ (if b then suc n else n) + k) [ true ↦ is | false ↦ omega (arith, is) ])
 
--- the parts up to a visible byte, and those after it
+-- the parts up to a visible byte, and the parts after it, are all parts
 pub up_to_behind : (n : ℕ) (ps : List Part) → parts_up_to n ps ++ parts_behind n ps ≡ ps
 up_to_behind zero ps = refl
 up_to_behind (suc n) [] = refl
 up_to_behind (suc n) (p ∷ ps) = ap (λ qs. p ∷ qs) (up_to_behind (if p.is_sequence then suc n else n) ps)
 
--- with the sequences there, those before the next visible byte
+-- the parts up to the n-th visible byte, and the sequences after it, are the parts before the next visible byte
 up_to_before : (n : ℕ) (ps : List Part) → parts_up_to n ps ++ parts_before zero (parts_behind n ps) ≡ parts_before n ps
 up_to_before zero ps = refl
 up_to_before (suc n) [] = refl
@@ -68,67 +68,67 @@ behind_from zero ps = refl
 behind_from (suc n) [] = refl
 behind_from (suc n) (p ∷ ps) = behind_from (if p.is_sequence then suc n else n) ps
 
--- ---- where a cursor stands
+-- ---- positions of a cursor
 
--- at a later visible byte
+-- a cursor moved by n visible bytes and then by k is moved by n + k
 pub at_further : (n k : ℕ) (c : CursorValue) → at_byte k (at_byte n c) ≡ at_byte (n + k) c
 at_further n k c =
     ap₂ at
     (sym (opened-append c.sequences (parts_before n c.ahead) (parts_before k (parts_from n c.ahead))) ∙ ap (opened c.sequences) (sym (before_further n k (n + k) c.ahead refl)))
     (from_further n k (n + k) c.ahead refl)
 
--- after the sequences that come next
+-- a cursor after the next sequences is at its old position up to sequences
 pub stands-itself : (c : CursorValue) → StandsAt (at_byte 0 c) 0 c
 stands-itself c = at_further 0 0 c
 
--- after a cursor that stands further on
+-- two moves by n and by k visible bytes are a move by n + k
 pub stands-more : (n k : ℕ) (old mid new : CursorValue) → StandsAt mid n old → StandsAt new k mid → StandsAt new (n + k) old
 stands-more n k old mid new first next =
     let plain : 0 + k ≡ k = omega arith in
     next ∙ ap (λ j. at_byte j mid) (sym plain) ∙ sym (at_further 0 k mid) ∙ ap (at_byte k) first ∙ at_further n k old
 
--- after a visible byte
+-- a cursor moved past n visible bytes is at the n-th one up to sequences
 pub stands-behind : (n : ℕ) (c : CursorValue) → StandsAt (behind_bytes n c) n c
 stands-behind n c =
     ap₂ at
     (sym (opened-append c.sequences (parts_up_to n c.ahead) (parts_before zero (parts_behind n c.ahead))) ∙ ap (opened c.sequences) (up_to_before n c.ahead))
     (behind_from n c.ahead)
 
--- the sequences at the text line's end stay
+-- a move doesn't change the sequences that are open at the end of the text line
 pub end-at : (n : ℕ) (c : CursorValue) → open_at_end (at_byte n c) ≡ open_at_end c
 end-at n c =
     sym (opened-append c.sequences (parts_before n c.ahead) (parts_from n c.ahead)) ∙ ap (opened c.sequences) (before_from n c.ahead)
 
--- also where a cursor only stands there but for sequences
+-- a cursor that is at the new position only up to sequences has the same sequences at the end of the text line
 pub end-stands : (n : ℕ) (new old : CursorValue) → StandsAt new n old → open_at_end new ≡ open_at_end old
 end-stands n new old stands = sym (end-at 0 new) ∙ ap open_at_end stands ∙ end-at n old
 
 -- ---- after sequences
 
--- after the sequences none comes next
+-- no sequence follows directly after the next sequences
 pub front-free : (ps : List Part) → begins_with_sequence (parts_from zero ps) ≡ false
 front-free [] = refl
 front-free (p ∷ ps) = grind (arith, cond_both, front-free ps)
 
--- no more parts are left there
+-- at most as many parts are left after the next sequences
 pub from-fewer : (ps : List Part) → length (parts_from zero ps) ≤ length ps
 from-fewer [] = omega arith
 from-fewer (p ∷ ps) = grind (arith, cond_both, from-fewer ps)
 
--- sequences aren't visible
+-- sequences have no visible bytes
 pub visible-front : (ps : List Part) → flat_map visible_bytes (parts_from zero ps) ≡ flat_map visible_bytes ps
 visible-front [] = refl
 visible-front (p ∷ ps) = grind (arith, cond_both, visible-front ps)
 
 -- ---- visible bytes are passed
 
--- fewer visible bytes are left to pass
+-- visible bytes at the front are passed first, and fewer are left to pass
 pub visible-behind : (n : ℕ) (ss : List Text) (bs : Text) (ps : List Part) → length bs ≤ n → behind_bytes n (at ss (map visible_part bs ++ ps)) ≡ behind_bytes (n - length bs) (at ss ps)
 visible-behind n ss [] ps few = grind arith
 visible-behind zero ss (b ∷ bs) ps few = absurd (omega (arith, few))
 visible-behind (suc n) ss (b ∷ bs) ps few = grind (arith, visible-behind n ss bs ps (omega (arith, few)))
 
--- a cursor after a character stands as many bytes on
+-- a cursor after some visible bytes is as many bytes further on
 visible-stands : (ss : List Text) (bs : Text) (ps : List Part) → StandsAt (at ss ps) (length bs) (at ss (map visible_part bs ++ ps))
 visible-stands ss [] ps = refl
 visible-stands ss (b ∷ bs) ps = visible-stands ss bs ps
@@ -136,13 +136,13 @@ visible-stands ss (b ∷ bs) ps = visible-stands ss bs ps
 pub character-stands : (ss : List Text) (c : ℕ) (ps : List Part) → StandsAt (at ss ps) (length (encode_utf8 c)) (at ss (character_parts c ++ ps))
 character-stands ss c ps = visible-stands ss (encode_utf8 c) ps
 
--- ---- at a text's front
+-- ---- the front of a text
 
--- where no sequence comes next, the text has none at its front
+-- if the first part of a text isn't a sequence, the text doesn't begin with one
 pub none_ahead : (text : Text) → begins_with_sequence (parts text) ≡ false → begins text ≡ false
 none_ahead text none = grind (arith, none_at_front, true≢false, parts-behind_sequence)
 
--- what is visible of it begins as the text does
+-- if a text begins with neither a sequence nor d, its visible text doesn't begin with d
 pub begins_visible : (d : ℕ) (text : Text) → IsUtf8 text → begins text ≡ false → begins_with d text ≡ false → begins_with d (visible_text text) ≡ false
 begins_visible d text ([], (scalars, is)) free otherwise = grind arith
 begins_visible d text (c ∷ cs, (scalars, is)) free otherwise =
@@ -157,7 +157,7 @@ begins_visible d text (c ∷ cs, (scalars, is)) free otherwise =
 
 -- ---- whole characters
 
--- after whole characters whole characters are left
+-- if n bytes are whole characters, and so are the first of them, the rest of them is whole characters
 pub whole-behind : (n : ℕ) (run rest : Text) → IsUtf8 run → length run ≤ n → IsUtf8 (take n (run ++ rest)) → IsUtf8 (take (n - length run) rest)
 whole-behind n run rest whole few all =
     subst IsUtf8 (ap (drop (length run)) cut ∙ drop-append_seam run (take (n - length run) rest)) (IsUtf8-drop (take n (run ++ rest)) (length run) all place)
@@ -172,18 +172,18 @@ whole-behind n run rest whole few all =
         let long = ap length cut ∙ length-append run (take (n - length run) rest) in
         IsCharBoundary-from_take (take n (run ++ rest)) (length run) all (omega (arith, long)) (subst IsUtf8 (sym (ap (take (length run)) cut ∙ take-append_seam run (take (n - length run) rest))) whole)
 
--- what is left of it is the same
+-- dropping n bytes after a run that has at most n drops the rest of them after the run
 pub drops-behind : (n : ℕ) (run rest : Text) → length run ≤ n → drop n (run ++ rest) ≡ drop (n - length run) rest
 drops-behind n run rest few = grind (arith, drop-append-add)
 
--- visible bytes at a text's front end where a character does
+-- a run of visible bytes at the front of a text ends at a character boundary
 pub run-place : (n most : ℕ) (text : Text) → IsUtf8 text → n ≤ most → n ≤ length text → (n < most → IsCharBoundary text n)
     → parts text ≡ map visible_part (take n text) ++ parts (drop n text) → (most ≤ length text → IsUtf8 (take most (visible_text text))) → IsCharBoundary text n
 run-place n most text utf8 within inside before divides whole = grind (arith, cases_lt, visible_bytes-visible, length-take-le, take-append-le, take-length, IsCharBoundary-from_take)
 
 -- ---- delimiters
 
--- one delimiter more
+-- a gap of delimiters with one more delimiter is such a gap
 pub only-push : (d : ℕ) (gap : Text) → IsOnly d gap → IsOnly d (gap ++ encode_utf8 d)
 only-push d gap (n, only) = (suc n, ap (λ g. g ++ encode_utf8 d) only ∙ turned n)
   where
@@ -192,15 +192,15 @@ only-push d gap (n, only) = (suc n, ap (λ g. g ++ encode_utf8 d) only ∙ turne
     turned (suc n) =
         append_assoc (encode_utf8 d) (encode_utf8_all (replicate n d)) (encode_utf8 d) ∙ ap (λ t. encode_utf8 d ++ t) (turned n)
 
--- ---- what is taken
+-- ---- taken bytes
 
--- the bytes that are passed stand before those that come next
+-- a text consists of the bytes that a cursor passed and the bytes after it
 pub record IsTaken (taken text rest : Text) : Type 0 where
   pub joined : text ≡ taken ++ rest
   pub fits : length rest ≤ length text
   pub place : length text - length rest ≡ length taken
 
--- so it is where a cursor passed them
+-- a cursor that passed n visible bytes has passed such bytes
 pub is_taken : (n : ℕ) (old : CursorValue) (text rest : Text) → old.ahead ≡ parts text → parts_behind n old.ahead ≡ parts rest → IsTaken (bytes_up_to n old) text rest
 is_taken n old text rest before after =
     let bytes = ap length joined ∙ length-append (bytes_up_to n old) rest in
@@ -215,7 +215,7 @@ is_taken n old text rest before after =
 
 -- ---- sequences
 
--- texts side by side
+-- concatenating images of a list is the concatenation of the list of images
 pub concat-map : {X : Type 0} (f : X → Text) (xs : List X) → flat_map f xs ≡ concat (map f xs)
 concat-map f [] = refl
 concat-map f (x ∷ xs) = ap (λ t. f x ++ t) (concat-map f xs)

@@ -1,4 +1,4 @@
--- What `parse` gives of a word, where it is digits alone.
+-- The result of `parse` for a word of digits.
 use Rattle.std.proofs.Common.{◌≡◌, ℕ, Bool, true, false, Some, None, refl, rules}
 use Rattle.std.specs.Prelude.{if◌then◌else◌}
 use Rattle.std.specs.Char.{is_ascii_digit}

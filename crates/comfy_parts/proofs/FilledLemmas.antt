@@ -1,4 +1,4 @@
--- How many terminal columns a line of whole elements takes, where its delimiter adds one column.
+-- The width in terminal columns of a line of whole elements, if its delimiter adds one terminal column.
 use Rattle.std.proofs.Common.{◌≡◌, ℕ, ◌+◌, Bool, true, false, [], ◌++◌, Option, None, Some, length, take, drop, refl, sym, ap, ◌∙◌, arith, append-nil, append_assoc, length-append, take_at}
 use Rattle.std.proofs.Math.Seq.{take-add}
 use Rattle.std.proofs.lemmas.Str.{IsUtf8-append, IsUtf8-nil}
@@ -10,29 +10,30 @@ use Rattle.comfy_parts.specs.Columns.{AddsOneColumn}
 use Rattle.comfy_parts.specs.Following.{FillsTo, IsFirstElement}
 use Rattle.comfy_parts.specs.Text.{Text, measure}
 
--- what holds of a value that is there where a test is true
+-- a property holds for the value of `then_some b x` if it holds whenever b is true
 pub if-then_some : {T : Type 0} (b : Bool) (x : T) (P : T → Type 0) → (b ≡ true → P x) → IfSome (then_some b x) P
 if-then_some true x P holds = holds refl
 if-then_some false x P holds = tt
 
--- such a delimiter by itself takes one column
+-- a delimiter that adds one terminal column takes one by itself
 pub one_column : (d : ℕ) → AddsOneColumn d → measure (encode_utf8 d) ≡ 1
 one_column d adds =
     let none = measure-nil in
     ap measure (sym (append-nil (encode_utf8 d))) ∙ adds [] [] IsUtf8-nil ∙ omega (arith, none)
 
--- what a line has passed of a text behind its first element: whole characters, which fill it from `from` columns up to `to`
+-- the part of a text that a line has passed after its first element: whole characters, which fill the line from `from`
+-- to `to` terminal columns
 pub record HasPassed (d from to : ℕ) (behind rest : Text) : Type 0 where
   pub passed : Text
   pub splits : behind ≡ passed ++ rest
   pub whole : IsUtf8 passed
   pub fills : AddsOneColumn d → FillsTo from to passed
 
--- nothing at first
+-- at first the line has passed nothing
 pub passed-none : (d from : ℕ) (behind : Text) → HasPassed d from from behind behind
 passed-none d from behind = record { passed = []; splits = refl; whole = IsUtf8-nil; fills = λ _ front _. ap (λ (t : Text). measure t + from) (append-nil front) }
 
--- then a delimiter and an element more
+-- then the line passes a delimiter and one more element
 pub passed-next : (d from to : ℕ) (behind rest others next following : Text) → IsScalar d → HasPassed d from to behind rest → rest ≡ encode_utf8 d ++ others → IsFirstElement d others next following
     → (to' : ℕ) → to' ≡ to + (measure next + measure (encode_utf8 d)) → HasPassed d from to' behind following
 passed-next d from to behind rest others next following scalar before splits element to' sum =
@@ -48,14 +49,14 @@ passed-next d from to behind rest others next following scalar before splits ele
           omega (arith, all, one, filled, sum);
     }
 
--- so the line is filled by the bytes up to there
+-- the bytes that were passed fill the line up to `to`
 pub passed-bytes : (d from to : ℕ) (behind rest : Text) → HasPassed d from to behind rest → (bytes : ℕ) → bytes + length rest ≡ length behind → AddsOneColumn d → FillsTo from to (take bytes behind)
 passed-bytes d from to behind rest is bytes size adds =
     let long = ap length is.splits ∙ length-append is.passed rest in
     let here : take bytes behind ≡ is.passed = ap (take bytes) is.splits ∙ take_at is.passed rest bytes (omega (arith, long, size)) in
     rw here (is.fills adds)
 
--- a line that begins with an element of so many columns takes those up to there
+-- the width of a line is that of its first element and of the bytes after it
 pub line-columns : (d : ℕ) (text behind : Text) (first from bytes : ℕ) → AddsOneColumn d → IsUtf8 (take first text) → from ≡ measure (take first text) → behind ≡ drop first text → (columns : Option ℕ)
     → IfSome columns (λ to. AddsOneColumn d → FillsTo from to (take bytes behind)) → IfSome columns (λ to. to ≡ measure (take (first + bytes) text))
 line-columns d text behind first from bytes adds utf8 columns back None fills = tt

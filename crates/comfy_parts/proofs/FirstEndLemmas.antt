@@ -1,4 +1,4 @@
--- A line ends at the first of its elements that meets the rule, by sums over its elements.
+-- A line ends after the first of its elements for which rule 2 holds, stated by sums over its elements.
 use Rattle.std.proofs.Common.{◌≡◌, ◌<◌, ◌≤◌, inl, inr, ℕ, zero, suc, ◌+◌, ◌-◌, ◌*◌, Bool, true, false, List, [], ◌∷◌, length, take, sum_by, ap, ◌∙◌, arith, slice_index_or}
 use Rattle.std.specs.Prelude.{encode_utf8, ◌||◌, nat_lt, nat_le}
 use Rattle.std.proofs.lemmas.Bool.{cases_Bool}
@@ -10,36 +10,36 @@ use Rattle.comfy_parts.specs.Text.{Text, elements, measure}
 use Rattle.comfy_parts.specs.Wrapping.{bytes_of_line, bytes_taken, head_or_first, line_end, part_taken}
 
 module _ (w d : ℕ) where
-  -- after so many columns, with those of the first j further elements and of the delimiters before them
+  -- the terminal columns that are filled with the first j further elements and the delimiters before them
   abbrev filled_to : ℕ → List Text → ℕ → ℕ
   filled_to filled others j = filled + sum_by measure (take j others) + j * measure (encode_utf8 d)
 
-  -- whether the line ends there
+  -- true if the line ends after j further elements
   abbrev ends_at : ℕ → List Text → ℕ → Bool
   ends_at filled others j =
       nat_lt (w - 2) (filled_to filled others j) || (nat_le (length others) j || nat_lt w (filled_to filled others j + 1 + measure (slice_index_or others j [])))
 
-  -- what the line takes of such elements
+  -- the line takes the further elements up to the first one after which it ends, and rule 3's part of the one after it
   record EndsAt (filled : ℕ) (others : List Text) : Type 0 where
     pub last : ℕ
     pub is_first : IsFirstOf (ends_at filled others) last
     pub takes : bytes_taken w d filled others ≡ sum_by length (take last others) + last * length (encode_utf8 d) + part_taken w d (filled_to filled others last) (slice_index_or others last [])
 
-  -- the columns with one element more
+  -- the filled columns with one more element
   filled_more : (filled : ℕ) (next : Text) (others : List Text) (j : ℕ)
       → filled_to filled (next ∷ others) (suc j) ≡ filled_to (filled + measure next + measure (encode_utf8 d)) others j
   filled_more filled next others j = let sums = sum_by-cons measure next (take j others) in omega (arith, sums)
 
-  -- so the line ends at the same place
+  -- a line ends after j + 1 further elements exactly if it ends after j of them, counted from the next one on
   ends_more : (filled : ℕ) (next : Text) (others : List Text) (j : ℕ)
       → ends_at filled (next ∷ others) (suc j) ≡ ends_at (filled + measure next + measure (encode_utf8 d)) others j
   ends_more filled next others j = let more = filled_more filled next others j in grind (arith, nat_tests, more)
 
-  -- no column before the first of these elements
+  -- zero further elements fill no terminal column
   none_more : (filled : ℕ) (others : List Text) → filled_to filled others 0 ≡ filled
   none_more filled others = omega arith
 
-  -- a line that ends at once
+  -- a line that takes no further element
   at_once : (filled : ℕ) (others : List Text) → ends_at filled others 0 ≡ true → bytes_taken w d filled others ≡ part_taken w d filled (slice_index_or others 0 []) → EndsAt filled others
   at_once filled others ends takes =
       record {
@@ -48,7 +48,7 @@ module _ (w d : ℕ) where
         takes = let part = ap (λ n. part_taken w d n (slice_index_or others 0 [])) (none_more filled others) in grind (arith, takes, part);
       }
 
-  -- a line that takes the first of these elements
+  -- a line that takes the first of the further elements
   and_more : (filled : ℕ) (next : Text) (others : List Text) → nat_lt (w - 2) filled ≡ false → nat_lt w (filled + 1 + measure next) ≡ false
       → EndsAt (filled + measure next + measure (encode_utf8 d)) others → EndsAt filled (next ∷ others)
   and_more filled next others ongoing room rest =
@@ -86,7 +86,7 @@ module _ (w d : ℕ) where
   ends_from : (first : Text) (others : List Text) (j : ℕ) → ends_after w d (first ∷ others) j ≡ ends_at (measure first) others j
   ends_from first others j = let columns = columns_from first others j in grind (arith, nat_tests, columns)
 
-  -- where a line of these elements ends
+  -- a line of these elements ends by the sums
   of_line : (es : List Text) → measure (slice_index_or es 0 []) ≤ w → EndsAtFirst w d es (bytes_of_line w d es)
   of_line [] fits =
       record {

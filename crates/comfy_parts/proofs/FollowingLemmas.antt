@@ -1,4 +1,4 @@
--- The first element of a text by its first delimiter, and the end of a line by what follows its first element.
+-- The first element of a text by its first delimiter, and the end of a line by the text after its first element.
 use Rattle.comfy_parts.proofs.WrappingLemmas.{begins_otherwise-unless}
 use Rattle.std.proofs.Common.{◌≡◌, ◌<◌, ◌≤◌, ℕ, ◌+◌, ◌-◌, Bool, true, false, ◌==◌, List, [], ◌∷◌, ◌++◌, length, take, drop, Some, map, nat_lt, refl, sym, ap, ap₂, ◌∙◌, subst, arith, append-nil, length-append, take_at, drop_at}
 use Rattle.std.specs.Char.{IsScalar}
@@ -26,7 +26,7 @@ use Rattle.comfy_parts.proofs.PrintableLineLemmas.{some_parts}
 pub some_elements : (d : ℕ) (text : Text) → 0 < length (elements d text)
 some_elements d text = grind (arith, length-map, some_parts)
 
--- after an element a delimiter and the other elements follow
+-- after an element come a delimiter and the other elements
 pub follow-delimiter : (d : ℕ) (more rest : Text) → rest ≡ encode_utf8 d ++ more → Follow d (elements d more) rest
 follow-delimiter d more rest splits = by_elements (elements d more) refl
   where
@@ -34,24 +34,24 @@ follow-delimiter d more rest splits = by_elements (elements d more) refl
     by_elements [] none = absurd (omega (arith, ap length none, some_elements d more))
     by_elements (e ∷ es) some = (more, splits, some)
 
--- a text without a delimiter is its first element, and nothing follows
+-- a text without a delimiter is its own first element, with nothing after it
 pub first-none : (d : ℕ) (text : Text) → IsUtf8 text → NoCharPasses (λ c. c == d) text → IsFirstElement d text text []
 first-none d text utf8 none = grind (arith, elements-none, append-nil, IsUtf8-nil)
 
--- the elements of a text with a delimiter at i, and what is after it from j on
+-- the elements of a text with its first delimiter at i, and a rest from j on
 pub elements-found : (d : ℕ) (text : Text) (i j : ℕ) → IsScalar d → IsUtf8 text → FindsChar d text (Some (i, j)) → IsCharBoundary text i
     → elements d text ≡ take i text ∷ elements d (drop j text)
 elements-found d text i j scalar utf8 (none, at) boundary =
     let splits : text ≡ take i text ++ (encode_utf8 d ++ drop j text) = sym (take-append-drop i text) ∙ ap (λ rest. take i text ++ rest) at.split in
     ap (elements d) splits ∙ elements-first d (take i text) (drop j text) scalar (IsUtf8-take text i utf8 boundary) none
 
--- the text before the first delimiter is its first element, and the delimiter follows
+-- the text before the first delimiter is the first element, and this delimiter follows it
 pub first-found : (d : ℕ) (text : Text) (i j : ℕ) → IsScalar d → IsUtf8 text → FindsChar d text (Some (i, j)) → IsCharBoundary text i
     → IsFirstElement d text (take i text) (drop i text)
 first-found d text i j scalar utf8 found boundary =
     record { others = elements d (drop j text); elements_are = elements-found d text i j scalar utf8 found boundary; follow = follow-delimiter d (drop j text) (drop i text) found.1.split; joined = take-append-drop i text; whole_first = IsUtf8-take text i utf8 boundary; whole_behind = IsUtf8-drop text i utf8 boundary }
 
--- what stands before a delimiter that was found is whole characters
+-- the text before the first delimiter is whole characters
 utf8-found : (d : ℕ) (text : Text) (i j : ℕ) → IsUtf8 text → FindsChar d text (Some (i, j)) → IsUtf8 (take i text)
 utf8-found d text i j (all, (scalars, spelt)) ((cs, encoded, none), at) =
     let utf8 : IsUtf8 text = (all, (scalars, spelt)) in
@@ -61,23 +61,23 @@ utf8-found d text i j (all, (scalars, spelt)) ((cs, encoded, none), at) =
     let same = encodes_same all (cs ++ d ∷ rest.0) joined in
     (cs, ((scalars-parts cs (d ∷ rest.0) (sym (ap all_scalars same) ∙ scalars)).0, encoded))
 
--- the elements of a text around a delimiter that was found
+-- the elements of a text that is split at its first delimiter
 pub elements-around : (d : ℕ) (text front behind : Text) → IsScalar d → IsUtf8 text → SplitsAroundMatch (FindsChar d) text front behind → elements d text ≡ front ∷ elements d behind
 elements-around d text front behind scalar utf8 (i, j, found, before, after, order, front_len, behind_len) =
     let splits : text ≡ take i text ++ (encode_utf8 d ++ drop j text) = sym (take-append-drop i text) ∙ ap (λ rest. take i text ++ rest) found.1.split in
     ap (elements d) splits ∙ elements-first d (take i text) (drop j text) scalar (utf8-found d text i j utf8 found) found.0 ∙ ap₂ (λ x y. x ∷ elements d y) (sym before) (sym after)
 
--- and what is after it is whole characters
+-- the text after the first delimiter is whole characters
 pub utf8-around : (d : ℕ) (text front behind : Text) → IsUtf8 text → SplitsAroundMatch (FindsChar d) text front behind → IsUtf8 behind
 utf8-around d text front behind utf8 (i, j, found, before, after, order, front_len, behind_len) = grind (arith, IsUtf8-drop)
 
 -- ---- the next element
 
--- a text that a delimiter was stripped of
+-- a text from whose front a delimiter was stripped
 pub stripped : (d : ℕ) (text behind : Text) → StripsPrefix (FindsCharPrefix d) text behind → text ≡ encode_utf8 d ++ behind
 stripped d text behind (n, at, same, bytes) = at.split ∙ ap (λ t. encode_utf8 d ++ t) (sym same)
 
--- where a delimiter is stripped of what follows an element, the next element is the one after it
+-- if a delimiter is stripped from the text after an element, the next element begins there
 pub follow-next : (d : ℕ) (es : List Text) (rest more next behind : Text) → Follow d es rest → rest ≡ encode_utf8 d ++ more → IsFirstElement d more next behind
     → (others : List Text) × (es ≡ next ∷ others) × Follow d others behind
 follow-next d [] rest more next behind none splits first =
@@ -86,7 +86,7 @@ follow-next d (e ∷ es) rest more next behind (more', same, parts) splits first
 
 -- ---- the rest of a first element
 
--- after the front of its first part, a list has the rest of that part and the other parts
+-- without a prefix of its first part, a list has the rest of that part and the other parts
 slice_split-rest : (p : ℕ → Bool) (xs ys zs : List ℕ) (parts : List (List ℕ)) → slice_split p (xs ++ ys) ≡ (xs ++ zs) ∷ parts → slice_split p ys ≡ zs ∷ parts
 slice_split-rest p [] ys zs parts same = same
 slice_split-rest p (x ∷ xs) ys zs parts same =
@@ -102,7 +102,7 @@ slice_split-rest p (x ∷ xs) ys zs parts same =
     rest : (q : List ℕ) (qs : List (List ℕ)) → (x ∷ q) ∷ qs ≡ (x ∷ (xs ++ zs)) ∷ parts → q ∷ qs ≡ (xs ++ zs) ∷ parts
     rest q qs same = cc same
 
--- where a text is cut inside its first element, the rest of that element is the first of what is after
+-- if a text is cut inside its first element, the rest of that element is the first element of the text after the cut
 pub first-rest : (d : ℕ) (text front rest behind : Text) → IsUtf8 front → IsUtf8 rest → IsFirstElement d text (front ++ rest) behind → IsFirstElement d (rest ++ behind) rest behind
 first-rest d text front rest behind utf8 utf8' first = by_parts (slice_split (λ c. c == d) (chars text)) refl
   where
@@ -121,18 +121,18 @@ first-rest d text front rest behind utf8 utf8' first = by_parts (slice_split (λ
         slice_split-rest (λ c. c == d) (chars front) (chars (rest ++ behind)) (chars rest) qs (ap (slice_split (λ c. c == d)) (sym all) ∙ some ∙ ap (λ x. x ∷ qs) same) in
         record { others = first.others; elements_are = ap (map encode_utf8_all) parts ∙ ap₂ (λ x y. x ∷ y) (encodes-chars rest utf8') others; follow = first.follow; joined = refl; whole_first = utf8'; whole_behind = first.whole_behind }
 
--- a text whose first element is not empty begins otherwise
+-- a text whose first element isn't empty doesn't begin with d
 pub begins_otherwise-first : (d : ℕ) (text first behind : Text) → IsUtf8 text → IsFirstElement d text first behind → 0 < length first → begins_with d text ≡ false
 begins_otherwise-first d text first behind utf8 is some = grind (arith, begins_otherwise-unless, slice_split-cons_yes)
 
--- the first element and what follows it, by the place between them
+-- the first element and the text after it, by the position between them
 pub first-at : (d : ℕ) (text first behind : Text) → IsFirstElement d text first behind → IsCharBoundary text (length first) × IsFirstElement d text (take (length first) text) (drop (length first) text)
 first-at d text first behind is =
     let front : take (length first) text ≡ first = ap (take (length first)) (sym is.joined) ∙ take_at first behind (length first) refl in
     let back : drop (length first) text ≡ behind = ap (drop (length first)) (sym is.joined) ∙ drop_at first behind (length first) refl in
     (IsCharBoundary-at_seam text first behind (sym is.joined) is.whole_behind, rw (front, back) is)
 
--- after a place inside the first element, the rest of that element is the first
+-- after a position inside the first element, the rest of this element is the first element
 pub first-inside : (d : ℕ) (text : Text) (first end : ℕ) → IsUtf8 text → IsFirstElement d text (take first text) (drop first text) → IsCharBoundary text first → IsCharBoundary text end → end < first
     → IsCharBoundary (drop end text) (first - end) × IsFirstElement d (drop end text) (take (first - end) (drop end text)) (drop (first - end) (drop end text)) × (begins_with d (drop end text) ≡ false)
 first-inside d text first end utf8 is place cut inside =
@@ -151,9 +151,9 @@ first-inside d text first end utf8 is place cut inside =
     let boundary = IsCharBoundary-at_seam (drop end text) rest back (sym joined) here.whole_behind in
     (subst (IsCharBoundary (drop end text)) long boundary, here, begins_otherwise-first d (drop end text) rest back (IsUtf8-drop text end utf8 cut) here (omega (arith, long)))
 
--- ---- where a line ends, by its first element and those that follow it
+-- ---- the end of a line, by its first element and the elements after it
 
--- after an element up to which a line isn't full, it takes a part of the next one, or all of it and goes on
+-- after an element that doesn't fill the line, the line takes a part of the next one, or all of it and goes on
 module _ (w d filled : ℕ) (next : Text) (others : List Text) (free : filled ≤ w - 2) where
   not_full : nat_lt (w - 2) filled ≡ false
   not_full = grind (arith, nat_tests, free)
@@ -164,12 +164,12 @@ module _ (w d filled : ℕ) (next : Text) (others : List Text) (free : filled �
   pub taken-more : measure next < w - filled → bytes_taken w d filled (next ∷ others) ≡ length (encode_utf8 d) + length next + bytes_taken w d (filled + measure next + measure (encode_utf8 d)) others
   taken-more room = grind (arith, cond-false, not_full, nat_tests)
 
--- a line whose first element is wider ends within it
+-- a line ends within its first element if that is wider than the line
 pub line_end-wide : (w d : ℕ) (text first behind : Text) → IsFirstElement d text first behind → nat_lt w (measure first) ≡ true → line_end w d text ≡ length (head_or_first w first)
 unfolding line_end
 line_end-wide w d text first behind is wide = grind (arith, cond-true)
 
--- any other line ends by what follows its first element
+-- any other line ends by the elements after its first one
 pub line_end-narrow : (w d : ℕ) (text first behind : Text) (is : IsFirstElement d text first behind) → nat_lt w (measure first) ≡ false → line_end w d text ≡ length first + bytes_taken w d (measure first) is.others
 unfolding line_end
 line_end-narrow w d text first behind is narrow = grind (arith, cond-false)

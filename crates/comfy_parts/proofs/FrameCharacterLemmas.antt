@@ -1,4 +1,4 @@
--- Characters of frames, and styles that are made of them.
+-- Frame characters, and styles that consist of them.
 use Rattle.std.proofs.Common.{◌≡◌, ℕ, Bool, true, not, ◌==◌, ◌&&◌, ◌||◌, eqb-true, List, [], ◌∷◌, Option, unwrap_or, refl, sym, subst, ◌∙◌, arith, ⊎_elim}
 use Rattle.std.specs.Char.{IsScalar}
 use Rattle.std.specs.Int.{is_in_range}
@@ -15,7 +15,7 @@ use Rattle.comfy_parts.specs.declared.style.table_style.TableStyle.{TableStyle}
 use Rattle.comfy_parts.specs.Columns.{FrameCharactersAddOneColumn, FrameTextsAreApart, IsOneColumn, IsOneColumnPreset, IsOneColumnStyle, has_frame_characters, is_frame_character, presets_all, style_characters}
 use Rattle.comfy_parts.specs.StyleModifiers.{with_rounded_corners, with_solid_inner_borders}
 
--- a frame character is of one of three sorts
+-- a frame character is a box or block character, `…`, or printable ASCII
 by_sort : (P : ℕ → Type 0) (c : ℕ) → (is_in_range 0x2500 0x259F c ≡ true → P c) → P 0x2026 → (is_in_range 0x20 0x7E c ≡ true → not ((c == 0x23) || ((c == 0x2A) || is_in_range 0x30 0x39 c)) ≡ true → P c) → is_frame_character c ≡ true → P c
 by_sort P c box ellipsis low h =
     ⊎_elim (λ high. ⊎_elim box (λ same. subst P (sym (eqb-true c 0x2026 same)) ellipsis) (or_cases (is_in_range 0x2500 0x259F c) (c == 0x2026) high))
@@ -27,11 +27,11 @@ frame_seals c h = by_sort Seals c (box_seals c) ellipsis_seals (λ ascii plain. 
 frame_scalar : (c : ℕ) → is_frame_character c ≡ true → IsScalar c
 frame_scalar c h = by_sort IsScalar c (λ box. grind (arith, nat_tests, box)) refl (λ ascii plain. grind (arith, nat_tests, ascii)) h
 
--- such a character adds one column between any two texts
+-- a frame character adds one terminal column between any two texts
 pub frame_adds : (c : ℕ) → FrameCharactersAddOneColumn c
 frame_adds c h front back utf8 = measure-sealed c front back (frame_scalar c h) (frame_seals c h) utf8
 
--- so no text joins one that begins with it
+-- no text joins a text that begins with a frame character
 pub frame_apart : (c : ℕ) (rest : Text) → FrameTextsAreApart c rest
 frame_apart c rest h front utf8 =
     let none = measure-nil in
@@ -44,11 +44,11 @@ all_one_column (c ∷ cs) each =
     let parts = and_parts (is_frame_character (unwrap_or c 0x20)) (list_all (λ c. is_frame_character (unwrap_or c 0x20)) cs) each in
     All-cons IsOneColumn c cs (frame_adds (unwrap_or c 0x20) parts.0) (all_one_column cs parts.1)
 
--- so does each character of a style that is made of them
+-- each character of a style of frame characters adds one terminal column
 pub one_column_characters : (style : TableStyle) → has_frame_characters style ≡ true → IsOneColumnStyle style
 one_column_characters style each = all_one_column (style_characters style) each
 
--- all presets are made of such characters, with both modifiers
+-- true if a preset consists of frame characters, with each modifier and with both
 is_frame_preset : TableStyle → Bool
 is_frame_preset style =
     has_frame_characters style && (has_frame_characters (with_rounded_corners style) && (has_frame_characters (with_solid_inner_borders style) && has_frame_characters (with_rounded_corners (with_solid_inner_borders style))))
@@ -67,6 +67,6 @@ one_column_presets (style ∷ styles) each =
     let third = and_parts (has_frame_characters (with_solid_inner_borders style)) _ second.1 in
     All-cons IsOneColumnPreset style styles (one_column_characters _ first.0, one_column_characters _ second.0, one_column_characters _ third.0, one_column_characters _ third.1) (one_column_presets styles here.1)
 
--- so each of their characters adds one column
+-- each character of each preset adds one terminal column
 pub presets_have_columns_of_one : All IsOneColumnPreset presets_all
 presets_have_columns_of_one = one_column_presets presets_all frame_presets

@@ -1,4 +1,4 @@
--- The part at a text's front: a whole sequence, or visible bytes.
+-- The part at the front of a text: a whole sequence, or a visible byte.
 use Rattle.std.proofs.Common.{◌≡◌, ◌<◌, ℕ, zero, suc, ◌-◌, true, false, ◌==◌, ⊎_elim, List, [], ◌∷◌, ◌++◌, length, map, take, drop, nat_lt, refl, sym, ap, ◌∙◌, subst, arith, length-append, eqb-true}
 use Rattle.std.specs.List.{flat_map, list_any}
 use Rattle.std.specs.Prelude.{if◌then◌else◌, encode_utf8}
@@ -13,13 +13,13 @@ use Rattle.comfy_parts.specs.Text.{Text}
 use Rattle.comfy_parts.specs.VisibleText.{Part, parts, parts_past, sequence_len, visible_bytes}
 use Rattle.comfy_parts.proofs.SequenceLemmas.{begins_with_sequence, no_sequence, parts-visible}
 
--- what is skipped gives no part
+-- the parts after n skipped bytes are those of the text without its first n bytes
 parts_past-drop : (n : ℕ) (text : Text) → parts_past n text ≡ parts (drop n text)
 parts_past-drop zero text = refl
 parts_past-drop (suc n) [] = refl
 parts_past-drop (suc n) (b ∷ rest) = parts_past-drop n rest
 
--- one byte less of what is skipped
+-- dropping n - 1 bytes after the first one drops n bytes
 drop-next : (n : ℕ) (b : ℕ) (rest : Text) → 0 < n → drop (n - 1) rest ≡ drop n (b ∷ rest)
 drop-next zero b rest some = absurd (omega (arith, some))
 drop-next (suc n) b rest some =
@@ -42,7 +42,7 @@ parts-clear (b ∷ bs) more clear =
     let each = or_parts (b == 0x1B) (list_any (λ b. b == 0x1B) bs) clear in
     parts-visible b (bs ++ more) (no_sequence b (bs ++ more) each.0) ∙ ap (λ (ps : List Part). visible_part b ∷ ps) (parts-clear bs more each.1)
 
--- an ESC that begins no sequence
+-- an ESC that begins no sequence is a visible byte
 parts-escape : (more : Text) → begins_with_sequence (encode_utf8 0x1B ++ more) ≡ false → parts (encode_utf8 0x1B ++ more) ≡ character_parts 0x1B ++ parts more
 unfolding encode
 parts-escape more free = parts-visible 0x1B more free
@@ -55,7 +55,7 @@ parts-character c more free =
     subst (λ n. parts (encode_utf8 n ++ more) ≡ character_parts n ++ parts more) (sym at) (parts-escape more (ap (λ n. begins_with_sequence (encode_utf8 n ++ more)) (sym at) ∙ free)))
     (λ other. parts-clear (encode_utf8 c) more (encoded_clear 0x1B c (omega arith) other)) (cases_Bool (c == 0x1B))
 
--- a character has bytes
+-- a character has at least one byte
 pub character_parts-some : (c : ℕ) (ps : List Part) → length ps < length (character_parts c ++ ps)
 character_parts-some c ps =
     let some = encode_utf8_nonempty c in
@@ -63,7 +63,7 @@ character_parts-some c ps =
     let both = length-append (character_parts c) ps in
     omega (arith, some, each, both)
 
--- what is visible of it
+-- visible bytes at the front are visible
 pub visible_bytes-visible : (bs : Text) (ps : List Part) → flat_map visible_bytes (map visible_part bs ++ ps) ≡ bs ++ flat_map visible_bytes ps
 visible_bytes-visible [] ps = refl
 visible_bytes-visible (b ∷ bs) ps = ap (λ (xs : Text). b ∷ xs) (visible_bytes-visible bs ps)

@@ -1,4 +1,4 @@
--- The lines of a cell keep its text but for delimiters.
+-- The lines of a cell keep its text, except delimiters.
 use Rattle.std.proofs.Common.{◌≡◌, ℕ, zero, suc, not, ◌==◌, List, [], ◌∷◌, ◌++◌, filter, replicate, refl, sym, ap, ap₂, ◌∙◌, subst, append-nil, append_assoc}
 use Rattle.std.specs.List.{All, concat, flat_map}
 use Rattle.std.specs.Char.{IsScalar}
@@ -16,11 +16,11 @@ use Rattle.comfy_parts.specs.Text.{IsOnly, Text, measure}
 use Rattle.comfy_parts.specs.Wrapping.{IsSlicesWhere, lines_of_text, wrapped}
 
 module _ (d : ℕ) where
-  -- of a text after another one
+  -- a concatenation keeps the characters that its two texts keep
   kept-append : (front back : Text) → IsUtf8 front → characters_without d (front ++ back) ≡ characters_without d front ++ characters_without d back
   kept-append front back utf8 = ap (filter (λ c. not (c == d))) (chars-append front back utf8) ∙ filter-append (λ c. not (c == d)) (chars front) (chars back)
 
-  -- delimiters are all left out
+  -- no character of a gap of delimiters is kept
   none_kept : (n : ℕ) → filter (λ c. not (c == d)) (replicate n d) ≡ []
   none_kept zero = refl
   none_kept (suc n) = ap (λ b. if not b then d ∷ filter (λ c. not (c == d)) (replicate n d) else filter (λ c. not (c == d)) (replicate n d)) (nat_eq_equiv.refl d) ∙ none_kept n
@@ -35,7 +35,7 @@ module _ (d : ℕ) where
         let spells : chars gap ≡ replicate n d = ap chars only ∙ chars-encodes (replicate n d) (scalars-replicate n d scalar) in
         (ap (filter (λ c. not (c == d))) spells ∙ none_kept n, subst IsUtf8 (sym only) (gap-utf8 n))
 
-    -- slices that leave out delimiters alone
+    -- slices keep all characters except delimiters
     kept_slices : (Ends : Text → Text → Type 0) (text : Text) (lines : List Text) → IsSlicesWhere Ends d text lines → characters_without d (concat lines) ≡ characters_without d text
     kept_slices Ends text [] only = ap (filter (λ c. not (c == d))) chars-nil ∙ sym (gap_left_out text only).0
     kept_slices Ends text (line ∷ lines) (tail, slice, ends, more) =
@@ -43,7 +43,7 @@ module _ (d : ℕ) where
         kept-append line (concat lines) slice.whole_characters ∙ ap (λ cs. characters_without d line ++ cs) (kept_slices Ends tail lines more)
         ∙ sym (ap (characters_without d) slice.splits ∙ kept-append slice.gap (line ++ tail) gap.1 ∙ ap (λ cs. cs ++ characters_without d (line ++ tail)) gap.0 ∙ kept-append line tail slice.whole_characters)
 
-    -- the lines of a text line
+    -- the lines of a text line keep its characters
     kept_line : (w : ℕ) (text : Text) → IsUtf8 text → characters_without d (concat (lines_of_text w d text)) ≡ characters_without d text
     kept_line w text utf8 =
         cond_both (nat_le (measure text) w) _ _ (λ lines. characters_without d (concat lines) ≡ characters_without d text) (λ _. ap (characters_without d) (append-nil text))
@@ -57,7 +57,7 @@ module _ (d : ℕ) where
     concat-append [] ys = refl
     concat-append (x ∷ xs) ys = ap (λ t. x ++ t) (concat-append xs ys) ∙ sym (append_assoc x (concat xs) (concat ys))
 
-    -- and of all text lines
+    -- the lines of all text lines keep their characters
     kept_lines : (w : ℕ) (texts : List Text) → All IsUtf8 texts → characters_without d (concat (flat_map (lines_of_text w d) texts)) ≡ characters_without d (concat texts)
     kept_lines w [] each = refl
     kept_lines w (text ∷ texts) each =
@@ -66,6 +66,6 @@ module _ (d : ℕ) where
         ∙ kept-append (concat (lines_of_text w d text)) (concat (flat_map (lines_of_text w d) texts)) (concat-utf8 (lines_of_text w d text) (lines_of_text-utf8 w d text own))
         ∙ ap₂ (λ a b. a ++ b) (kept_line w text own) (kept_lines w texts (All-tail IsUtf8 text texts each)) ∙ sym (kept-append text (concat texts) own)
 
--- so it is with the lines of a cell
+-- the lines of a cell keep the characters of its text
 pub lines_keep_the_text : (w d : ℕ) (text_lines : List Text) → LinesKeepTheText w d text_lines
 lines_keep_the_text w d text_lines scalar = kept_lines d scalar w text_lines

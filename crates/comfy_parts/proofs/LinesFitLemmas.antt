@@ -1,4 +1,4 @@
--- Wrapped lines fit their column, where the words that are wider than it are cut well.
+-- Wrapped lines fit their width, if words that are wider than it are cut well.
 use Rattle.std.proofs.Common.{◌≡◌, ◌<◌, ◌≤◌, ℕ, zero, suc, ◌+◌, ◌-◌, Bool, true, false, ◌&&◌, ◌==◌, List, [], ◌∷◌, ◌++◌, length, map, nat_le, nat_lt, refl, sym, ap, ◌∙◌, subst, arith, append-nil, append_assoc, length-append, eqb-true, replicate}
 use Rattle.std.specs.Char.{IsScalar}
 use Rattle.std.specs.List.{All, slice_split}
@@ -35,7 +35,7 @@ record HasFirst (d : ℕ) (text : Text) : Type 0 where
   behind : Text
   is : IsFirstElement d text first behind
 
--- after a first part stands what the later elements spell
+-- a first part is followed by a delimiter and the text of the later parts, or by nothing
 follow-parts : (d : ℕ) (parts : List (List ℕ)) (rest : List ℕ) → all_scalars rest ≡ true → AreNext (λ c. c == d) parts rest → Follow d (map encode_utf8_all parts) (encode_utf8_all rest)
 follow-parts d [] rest scalars nothing = ap encode_utf8_all nothing
 follow-parts d (part ∷ parts) rest scalars (c, cs, is, delimiter, are) =
@@ -56,7 +56,7 @@ first_exists d text utf8 =
       is = record { others = map encode_utf8_all has.parts; elements_are = ap (map encode_utf8_all) has.are; follow = follow-parts d has.parts has.is.rest parts.1 has.is.next; joined = sym (encodes-append has.part has.is.rest) ∙ ap encode_utf8_all (sym has.is.splits) ∙ encodes-chars text utf8; whole_first = (has.part, (parts.0, refl)); whole_behind = (has.is.rest, (parts.1, refl)) };
     }
 
--- one list of elements follows
+-- the elements after an element depend only on the text there
 follow-same : (d : ℕ) (xs ys : List Text) (behind : Text) → Follow d xs behind → Follow d ys behind → xs ≡ ys
 follow-same d [] [] behind none none' = refl
 follow-same d [] (y ∷ ys) behind none (more, splits, parts) =
@@ -65,9 +65,9 @@ follow-same d (x ∷ xs) [] behind (more, splits, parts) none =
     absurd (omega (arith, encode_utf8_nonempty d, length-append (encode_utf8 d) more, ap length (sym splits ∙ none)))
 follow-same d (x ∷ xs) (y ∷ ys) behind (more, splits, parts) (more', splits', parts') = grind (arith, append_cancel_left)
 
--- ---- words that are cut well
+-- ---- words that can be cut well
 
--- a word of which the front measures at most k, and the rest is such a word too
+-- a word whose prefix measures at most k, and whose rest is such a word again
 pub record IsCut (Word : Text → Type 0) (k : ℕ) (front word : Text) : Type 0 where
   pub rest : Text
   pub splits : word ≡ front ++ rest
@@ -76,7 +76,7 @@ pub record IsCut (Word : Text → Type 0) (k : ℕ) (front word : Text) : Type 0
   pub fits : measure front ≤ k
   pub keeps : Word rest
 
--- wherever a line may end within such a word that is wider than w columns, what stands before fits
+-- wherever a line may end within such a word that is wider than w, the prefix before that end fits
 pub record BreaksWell (w : ℕ) (Word : Text → Type 0) : Type 0 where
   pub empty : Word []
   pub part : (k : ℕ) (word : Text) → Word word → IsUtf8 word → w < measure word → IsCut Word k (head k word) word
@@ -96,7 +96,7 @@ module _ (w d : ℕ) (Word : Text → Type 0) (breaks : BreaksWell w Word) (scal
       subst Words (sym splits)
       (subst (All Word) (sym (elements-first d [] more scalar IsUtf8-nil ([], refl, tt) ∙ ap (λ xs. [] ∷ xs) parts)) (All-cons Word [] (e ∷ es) breaks.empty words))
 
-  -- what a line takes after its first elements, which measure `filled`
+  -- the n bytes that a line takes after its first elements, which measure `filled`, fit, and only such words are left
   record IsTaken (filled n : ℕ) (behind : Text) : Type 0 where
     taken : Text
     rest : Text
@@ -107,12 +107,12 @@ module _ (w d : ℕ) (Word : Text → Type 0) (breaks : BreaksWell w Word) (scal
     fits : (front : Text) → IsUtf8 front → measure front ≡ filled → measure (front ++ taken) ≤ w
     keeps : Words rest
 
-  -- nothing
+  -- a line that takes nothing more
   takes-none : (filled : ℕ) (behind : Text) → filled ≤ w → IsUtf8 behind → Words behind → IsTaken filled 0 behind
   takes-none filled behind room whole words =
       record { taken = []; rest = behind; splits = refl; bytes = refl; whole_taken = IsUtf8-nil; whole_rest = whole; fits = λ front utf8 same. subst (λ t. measure t ≤ w) (sym (append-nil front)) (omega (arith, same, room)); keeps = words }
 
-  -- a delimiter and a word measure one place more than the word
+  -- a delimiter and a word measure one terminal column more than the word
   behind-delimiter : (front word : Text) → IsUtf8 front → measure (front ++ (encode_utf8 d ++ word)) ≡ measure front + (1 + measure word)
   behind-delimiter front word utf8 = adds front word utf8
 
@@ -153,7 +153,7 @@ module _ (w d : ℕ) (Word : Text → Type 0) (breaks : BreaksWell w Word) (scal
       none : IsTaken filled 0 behind
       none = takes-none filled behind room whole (words-behind (next ∷ others) behind (more, splits, parts) words)
 
-      -- a part of the next element
+      -- the line takes a part of the next element
       part : (nat_lt w (measure next) && nat_le (filled + 4) w) ≡ true → IsTaken filled (length (encode_utf8 d) + length (head (w - filled - 1) next)) behind
       part takes =
           let tests = and_parts (nat_lt w (measure next)) (nat_le (filled + 4) w) takes in
@@ -173,7 +173,7 @@ module _ (w d : ℕ) (Word : Text → Type 0) (breaks : BreaksWell w Word) (scal
             keeps = subst (All Word) (sym after.elements_are) (All-cons Word cut.rest after.others cut.keeps (subst (All Word) (follow-same d others after.others first.behind follow after.follow) (All-tail Word next others words)));
           }
 
-      -- the whole of it, and what is taken after it
+      -- the line takes the whole next element, and perhaps more
       whole_next : nat_lt w (filled + 1 + measure next) ≡ false → (filled' ≤ w → IsTaken filled' (bytes_taken w d filled' others) first.behind)
           → IsTaken filled (length (encode_utf8 d) + length next + bytes_taken w d filled' others) behind
       whole_next test rest =
@@ -195,9 +195,9 @@ module _ (w d : ℕ) (Word : Text → Type 0) (breaks : BreaksWell w Word) (scal
             keeps = further.keeps;
           }
 
-  -- ---- a line and what follows it
+  -- ---- a line and the text after it
 
-  -- the line at a text's front fits, and all elements after it are such words
+  -- the line at the front of a text fits, and all elements after it are such words
   record IsLineThatFits (line tail : Text) : Type 0 where
     fits : measure line ≤ w
     whole : IsUtf8 tail
@@ -244,7 +244,7 @@ module _ (w d : ℕ) (Word : Text → Type 0) (breaks : BreaksWell w Word) (scal
 
   -- ---- all lines
 
-  -- after a gap of delimiters the elements are such words too
+  -- after a gap of delimiters, all elements are such words
   words-past_gap : (n : ℕ) (rest : Text) → Words (encode_utf8_all (replicate n d) ++ rest) → Words rest
   words-past_gap zero rest words = words
   words-past_gap (suc n) rest words =
@@ -253,7 +253,7 @@ module _ (w d : ℕ) (Word : Text → Type 0) (breaks : BreaksWell w Word) (scal
       (All-tail Word [] (elements d more)
       (subst (All Word) (elements-first d [] more scalar IsUtf8-nil ([], refl, tt)) (subst Words (append_assoc (encode_utf8 d) (encode_utf8_all (replicate n d)) rest) words)))
 
-  -- a line of whole characters that measures at most w
+  -- the line is whole characters, and measures at most w
   abbrev Fits : Text → Type 0
   Fits line = IsUtf8 line × (measure line ≤ w)
 

@@ -1,4 +1,4 @@
--- The next of the lines that are still to come, and those after it.
+-- The next of the remaining lines, and the lines after it.
 use Rattle.std.proofs.Common.{◌≡◌, ◌<◌, ℕ, ◌-◌, false, ◌∷◌, length, take, drop, refl, sym, ap, ap₂, ◌∙◌, subst}
 use Rattle.std.specs.Str.{IsCharBoundary, IsUtf8}
 use Rattle.std.proofs.lemmas.Str.{IsUtf8-drop}
@@ -12,7 +12,7 @@ use Rattle.comfy_parts.proofs.PrintableLemmas.{IsUtf8-printable, back-printable}
 use Rattle.comfy_parts.proofs.WideEndLemmas.{rest-wide}
 use Rattle.comfy_parts.proofs.StartLemmas.{line-cut}
 
--- where a line begins, a text is of whole characters, the first of which is no delimiter
+-- a text at the start of a line is whole characters, and doesn't begin with d
 abbrev pub IsLineStart : ℕ → Text → Type 0
 IsLineStart d text = IsUtf8 text × (begins_with d text ≡ false)
 
@@ -22,7 +22,7 @@ printable-starts w d text plain begins = (IsUtf8-printable text plain.printable,
 pub element-starts : (w d : ℕ) (text : Text) (first columns shown : ℕ) → IsAtLine w d text first columns shown → IsLineStart d text
 element-starts w d text first columns shown at = (at.whole, at.begins_otherwise)
 
--- what follows a line of a printable text is plain
+-- the text after a line of a printable text is printable
 pub printable-behind : (w d : ℕ) (text : Text) → IsPrintable w d text → (end : ℕ) (behind : Text) → behind ≡ drop end text → IsPrintable w d behind
 printable-behind w d text plain end behind back = record {
   columns = plain.columns;
@@ -30,7 +30,7 @@ printable-behind w d text plain end behind back = record {
   printable = ap is_printable_ascii back ∙ back-printable (take end text) (drop end text) (ap is_printable_ascii (take-append-drop end text) ∙ plain.printable);
 }
 
--- a text that isn't empty, at a line's first character, has that line and those after it
+-- a text at the start of a line that isn't empty has this line, and the lines after it
 pub line-then : (w d : ℕ) (text : Text) → IsLineStart d text → 0 < length text → (end : ℕ) (line behind : Text)
     → end ≡ line_end w d text → line ≡ take end text → behind ≡ drop end text → wrapped w d text ≡ line ∷ wrapped w d behind
 line-then w d text (whole, otherwise) some end line behind ends front back =
@@ -41,14 +41,14 @@ line-then w d text (whole, otherwise) some end line behind ends front back =
 pub line-place : (w d : ℕ) (text : Text) → IsLineStart d text → 0 < length text → (end : ℕ) → end ≡ line_end w d text → IsCharBoundary text end
 line-place w d text (whole, otherwise) some end ends = subst (IsCharBoundary text) (sym ends) (line-cut w d text whole some otherwise).place
 
--- a line that ends within the first element leaves the rest of that element, and what shows that it is wide
+-- if a line ends within the first element, the rest of the element follows, with the same bound of wide suffixes
 pub rest-shown : (w d : ℕ) (text : Text) (first columns shown : ℕ) → IsAtLine w d text first columns shown → (end : ℕ) → IsCharBoundary text end → end < first → (word behind : Text)
     → behind ≡ drop end text → word ≡ take (first - end) behind → IsWideFrom w shown word
 rest-shown w d text first columns shown at end place inside word behind back part =
     let same : word ≡ take (first - end) (drop end text) = part ∙ ap (take (first - end)) back in
     subst (IsWideFrom w shown) (sym same) (rest-wide text first end at.whole place inside w shown at.wide_from)
 
--- and the next line begins with that rest
+-- the next line then begins with this rest
 pub rest-at : (w d : ℕ) (text : Text) (first columns shown : ℕ) → IsAtLine w d text first columns shown → (end : ℕ) → IsCharBoundary text end → end < first → (word behind : Text)
     → behind ≡ drop end text → word ≡ take (first - end) behind → (p : ℕ) → AreColumnsUpTo w p word → IsAtLine w d behind (first - end) p shown
 rest-at w d text first columns shown at end place inside word behind back part p are =

@@ -1,4 +1,4 @@
--- What is known of the columns of a line or an element without measuring it again.
+-- Widths of lines and elements in terminal columns that are known without measuring again.
 use Rattle.std.proofs.Common.{◌≡◌, ◌≤◌, ℕ, ◌+◌, false, List, ◌∷◌, ◌++◌, Option, None, Some, length, take, drop, refl, sym, ap, ◌∙◌, subst, arith, append_assoc, length-append}
 use Rattle.std.proofs.Math.Seq.{drop-append_seam}
 use Rattle.std.proofs.lemmas.List.{length-take-le}
@@ -15,14 +15,14 @@ use Rattle.comfy_parts.specs.Text.{Text, begins_with, measure}
 use Rattle.comfy_parts.specs.Wrapping.{wrapped}
 use Rattle.comfy_parts.specs.declared.content_split.ends.Measured.{Measured}
 
--- the columns of the first line of a plain text are its bytes
+-- the width of the first line of a printable text is its number of bytes
 pub first-measured : (w d : ℕ) (text line : Text) (others : List Text) → IsPrintable w d text → wrapped w d text ≡ line ∷ others → length line ≡ measure line
 first-measured w d text line others plain is =
     let all : All (IsPrintableLine w) (line ∷ others) = subst (All (IsPrintableLine w)) is (wrapped-printable w d text plain) in
     let first : IsPrintableLine w line = all 0 line (omega arith) in
     sym (measure-printable line first.printable)
 
--- ends of one text that have the same length are the same
+-- two suffixes of one text with the same length are the same
 same_end : (whole front front' end end' : Text) → whole ≡ front ++ end → whole ≡ front' ++ end' → length end ≡ length end' → end ≡ end'
 same_end whole front front' end end' one two same =
     let long : length whole ≡ length front + length end = ap length one ∙ length-append front end in
@@ -30,14 +30,14 @@ same_end whole front front' end end' one two same =
     let fronts : length front ≡ length front' = omega (arith, long, long', same) in
     sym (drop-append_seam front end) ∙ ap (drop (length front)) (sym one ∙ two) ∙ ap (λ n. drop n (front' ++ end')) fronts ∙ drop-append_seam front' end'
 
--- an element that was measured
+-- the record of an element that was measured
 pub measured-at : (d : ℕ) (text front others next behind : Text) (columns : ℕ) → text ≡ front ++ others → IsFirstElement d others next behind → columns ≡ measure next
     → IsMeasured d text (length others) (length next) columns
 measured-at d text front others next behind columns splits element measured =
     let at = first-at d others next behind element in
     record { front = front; others = others; splits = splits; left_is = refl; boundary = at.0; element = at.1; columns_are = measured ∙ ap measure (sym (first-is d others next behind element)) }
 
--- looked at from a text that has more at its front
+-- the record holds for a text with more at its front
 pub measured-past : (d : ℕ) (text word behind : Text) (m : Option Measured) → text ≡ word ++ behind → IfSome m (λ m. IsMeasured d behind m.left m.first m.columns)
     → IfSome m (λ m. IsMeasured d text m.left m.first m.columns)
 measured-past d text word behind None splits is = is
@@ -51,13 +51,13 @@ measured-past d text word behind (Some m) splits is = record {
   columns_are = is.columns_are;
 }
 
--- and from one that has less
+-- the record holds for a text with less at its front
 pub measured-behind : (d : ℕ) (whole before text : Text) (m : Option Measured) → whole ≡ before ++ text → IfSome m (λ m. IsMeasured d whole m.left m.first m.columns)
     → IfSome m (λ m. IsMeasuredBehind d text m.left m.first m.columns)
 measured-behind d whole before text None splits is = is
 measured-behind d whole before text (Some m) splits is = (whole, before, splits, is)
 
--- a line that begins with an element of which so much is known
+-- a line that begins with an element of known width
 pub at-first : (w d : ℕ) (text word behind : Text) (columns shown : ℕ) → w ≤ 65535 → IsUtf8 text → begins_with d text ≡ false → IsFirstElement d text word behind
     → AreColumnsUpTo w columns word → IsWideFrom w shown word → IsAtLine w d text (length word) columns shown
 at-first w d text word behind columns shown narrow utf8 otherwise is columns_are wide_from =

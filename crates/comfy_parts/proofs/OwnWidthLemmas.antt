@@ -1,4 +1,4 @@
--- Characters that join no other take their own columns in every text.
+-- Characters that join no other take the same number of terminal columns in every text.
 use Rattle.std.proofs.Common.{◌≡◌, ◌≢◌, ◌<◌, ◌≤◌, ℕ, ◌+◌, ◌*◌, ◌/◌, ◌%◌, Bool, true, false, cond, not, ◌&&◌, ◌||◌, ◌==◌, List, ◌∷◌, ◌++◌, drop, Option, Some, None, append-nil, length, nat_le, sum_by, zero-add, [], refl, sym, subst, ap, ap₂, ◌∙◌, arith}
 use Rattle.std.specs.Char.{IsScalar}
 use Rattle.std.specs.Int.{is_in_range}
@@ -32,9 +32,9 @@ use Rattle.cluster_width.proofs.Sums.{implied}
 use Rattle.comfy_parts.proofs.OwnWidthTrie.{ideographs, ideographs-wide, kind_number, number_of, own_number}
 use Rattle.comfy_parts.proofs.SumKindLemmas.{summed_add_up}
 
--- ---- what the number in the table says
+-- ---- the numbers of the table
 
--- the columns that a number stands for
+-- the width that a number of the table means
 abbrev of_number : ℕ → Option ℕ
 of_number n = if n == 3 then None else Some n
 
@@ -52,7 +52,7 @@ kind-columns c kinds.RegionalIndicator is = absurd (cc is)
 kind-columns c kinds.EmojiModifier is = absurd (cc is)
 kind-columns c kinds.Single is = absurd (cc is)
 
--- printable ASCII takes one, and the others from U+00A0 on that don't join what their kind does
+-- printable ASCII takes one, and other characters from U+00A0 on that join no other take the width of their kind
 sorted : (low high joins few : Bool) (o : Option ℕ) (k : Kind) → (low ≡ true → o ≡ Some 1) → few ≡ not high → (high ≡ true → joins ≡ false → o ≡ of_number (kind_number k))
     → (if low || (high && not joins) then o else None) ≡ of_number (number_of (low || false, few || joins) k)
 sorted true high joins few o k one apart own = one refl
@@ -94,7 +94,7 @@ wide-two c within =
     let two = eqb-true (own_number c) 2 (implied (in_ranges ideographs c) _ (ideographs-wide c) within) in
     ap of_number (sym two) ∙ sym (own-columns c)
 
--- a text begins with a character of two columns and three bytes
+-- a text begins with a character of two terminal columns and three bytes
 pub record BeginsWide (text : Text) : Type 0 where
   pub first : ℕ
   pub later : Text
@@ -135,9 +135,9 @@ begins-wide text utf8 some is = by_characters utf8.0 utf8.1.1
           behind = ap (λ n. drop n text) (sym (zero-add (len_utf8 c) ∙ size)) ∙ drop_past_char text (encode_utf8_all cs) 0 c splits;
         }
 
--- ---- and in a text
+-- ---- characters in a text
 
--- it joins no other, and takes n columns
+-- the character joins no other, and takes n terminal columns
 pub record IsOwn (c n : ℕ) : Type 0 where
   pub apart : joins_no_other c ≡ true
   pub columns : width_or_zero false c ≡ n
@@ -153,11 +153,11 @@ own c n is = by_joins (joins_no_other c) refl is
         record { apart = apart; columns = columns; most = omega (arith, columns, most) }
     by_joins false apart same = absurd (cc same)
 
--- no control character is such a one
+-- a character that joins no other isn't a control character
 no_control : (b c : ℕ) → b < 0x20 → joins_no_other c ≡ true → (c == b) ≡ false
 no_control b c low apart = grind (arith, nat_tests, low, apart)
 
--- a walk over a text has counted so many columns before the rest of it
+-- a pass over a text has counted this many terminal columns before the rest of the text
 pub record IsCounted (text rest : Text) (columns : ℕ) : Type 0 where
   pub utf8 : IsUtf8 rest
   pub clear : (b : ℕ) → b < 0x20 → HasNo b rest → HasNo b text
@@ -168,7 +168,7 @@ pub record IsCounted (text rest : Text) (columns : ℕ) : Type 0 where
 pub counted-none : (text : Text) → IsUtf8 text → IsCounted text text 0
 counted-none text utf8 = record { utf8 = utf8; clear = λ b low none. none; apart = λ each. each; sum = omega arith; bound = omega arith }
 
--- and then one character more
+-- the pass counts one more character
 pub counted-more : (text rest later : Text) (columns c n : ℕ) → IsCounted text rest columns → rest ≡ encode_utf8 c ++ later → own_width c ≡ Some n → IsCounted text later (columns + n)
 counted-more text rest later columns c n counted splits is =
     let one = own c n is in
@@ -185,7 +185,7 @@ counted-more text rest later columns c n counted splits is =
       bound = omega (arith, counted.bound, long, some, one.most);
     }
 
--- at the end of the text that is its measure
+-- at the end of the text the count is the measure of the text
 pub counted-all : (text rest : Text) (columns : ℕ) → IsCounted text rest columns → length rest ≡ 0 → columns ≡ measure text
 counted-all text rest columns counted none =
     let nothing = chars_of_empty rest none in
@@ -195,7 +195,7 @@ counted-all text rest columns counted none =
     let total : columns ≡ sum_by (width_or_zero false) (chars text) = omega (arith, sum, left) in
     total ∙ sym (summed_add_up.sums (chars text) each)
 
--- and the text is a line without ESC
+-- a text that was counted to its end is one text line without ESC
 pub counted-clear : (text rest : Text) (columns : ℕ) → IsCounted text rest columns → length rest ≡ 0 → IsClearLine text columns
 counted-clear text rest columns counted none =
     record {
@@ -208,7 +208,7 @@ counted-clear text rest columns counted none =
     nothing b [] is = refl
     nothing b (x ∷ xs) is = absurd (omega (arith, is))
 
--- ---- and as a text of its own
+-- ---- characters as texts
 
 pub of_character : (c n : ℕ) → IsScalar c → own_width c ≡ Some n → n ≡ measure (encode_utf8 c)
 of_character c n scalar is =

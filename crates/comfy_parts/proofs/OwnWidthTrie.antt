@@ -1,4 +1,5 @@
--- The table of own widths has what the characters take, and ideographs and Hangul syllables take two: computed over all of Unicode.
+-- The table of own widths agrees with the widths of characters, and ideographs and Hangul syllables take two terminal
+-- columns. Both are computed over all of Unicode.
 use Rattle.std.proofs.Common.{◌≡◌, ℕ, ◌<◌, Bool, true, not, ◌||◌, ◌==◌, List, [], ◌∷◌, refl}
 use Rattle.std.specs.Prelude.{if◌then◌else◌}
 use Rattle.ucd_table.specs.Rows.{Range, in_ranges}
@@ -16,14 +17,14 @@ use Rattle.unicode_width.specs.Kind.{kind}
 use Rattle.comfy_parts.specs.Columns.{joining_characters}
 use Rattle.comfy_parts.specs.declared.content_split.own_width.table.TheConstants.{INDEX, TAIL, WORDS}
 
--- printable ASCII, and the others of which a number says that they join
+-- printable ASCII, and the characters whose number in the table means that they may join others
 abbrev pub printable : List Range
 printable = (0x20, 0x7E) ∷ []
 
 abbrev pub joining : List Range
 joining = (0, 0x9F) ∷ joining_characters
 
--- the columns of a kind that adds up, and 3 of any other
+-- the width of a kind that adds up, and 3 for any other kind
 abbrev pub kind_number : Kind → ℕ
 kind_number kinds.Zero = 0
 kind_number kinds.Narrow = 1
@@ -53,7 +54,7 @@ table_ok : trie_ok 2 4 4 INDEX WORDS TAIL (runs_of own_number own_number_stepped
 unfolding unicode_width tables own_number_stepped ranged_stepped
 table_ok = refl
 
--- ideographs and Hangul syllables, which are not looked up
+-- ideographs and Hangul syllables, which aren't looked up in the table
 abbrev pub ideographs : List Range
 ideographs = (0x4E00, 0x9FFF) ∷ (0xB000, 0xCFFF) ∷ []
 

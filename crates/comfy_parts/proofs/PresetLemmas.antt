@@ -1,19 +1,19 @@
--- A walk over the list of presets.
+-- A loop over the list of presets.
 use Rattle.std.proofs.Common.{◌≡◌, ℕ, zero, suc, ◌+◌, ◌<◌, ◌≤◌, true, false, List, [], ◌∷◌, Bor, Some, None, drop, length, map, option_map, slice_index_or, refl, ap, subst, arith}
 use Rattle.std.specs.Prelude.{bytes_eq, find, if◌then◌else◌, Option}
 use Rattle.comfy_parts.specs.Presets.{beside}
 use Rattle.comfy_parts.specs.Text.{Text}
 use Rattle.comfy_parts.specs.declared.style.table_style.TableStyle.{TableStyle}
 
--- an entry of the list
+-- an entry of the list in the code
 abbrev pub Entry : Type 0
 Entry = Bor Text × TableStyle
 
--- as its definition has it
+-- the entry as the definition has it
 abbrev pub as_measured : Entry → Text × TableStyle
 as_measured entry = (entry.0.now, entry.1)
 
--- what stands beside a word from a place on
+-- the style next to a name in the list from a position on
 abbrev pub from : List Entry → ℕ → Text → Option TableStyle
 from entries i word = beside (map as_measured (drop i entries)) word
 

@@ -1,4 +1,4 @@
--- A run of printable ASCII without a delimiter is a text's first element, where a delimiter or nothing follows it.
+-- A run of printable ASCII without a delimiter is the first element of a text, if a delimiter or nothing follows it.
 use Rattle.std.proofs.Common.{◌≡◌, inl, inr, ◌==◌, ℕ, Bool, true, false, List, [], ◌∷◌, ◌++◌, sym, ap, ◌∙◌, subst, append-nil}
 use Rattle.std.specs.Char.{IsScalar}
 use Rattle.std.specs.List.{list_any}
@@ -22,7 +22,7 @@ no_delimiter : (d : ℕ) (front : Text) → is_printable_ascii front ≡ true �
 no_delimiter d front printable none =
     (front, ap encode_utf8_all (sym (chars-printable front printable)) ∙ encodes-chars front (IsUtf8-printable front printable), none_passes (λ c. c == d) front none)
 
--- a text without a delimiter, where a delimiter or nothing follows it
+-- a prefix without a delimiter is the first element, if a delimiter or nothing follows it
 pub first-clear : (d : ℕ) (text front behind : Text) → IsScalar d → text ≡ front ++ behind → IsUtf8 front → IsUtf8 behind → NoCharPasses (λ c. c == d) front → EndsElement d behind → IsFirstElement d text front behind
 first-clear d text front behind scalar splits utf8 whole none (inl empty) =
     let same : text ≡ front = splits ∙ ap (λ t. front ++ t) empty ∙ append-nil front in

@@ -1,4 +1,4 @@
--- Where a line of printable ASCII ends, looked for from the line's last column backwards.
+-- The end of a line of printable ASCII, as the backward search from the line's last column finds it.
 use Rattle.std.proofs.Common.{◌≡◌, ◌<◌, ◌≤◌, ◌⊎◌, inl, inr, ℕ, zero, suc, ◌+◌, ◌-◌, Bool, true, false, ◌&&◌, ◌==◌, List, [], ◌∷◌, ◌++◌, length, nat_le, nat_lt, drop, take, slice_index_or, refl, sym, ap, ◌∙◌, subst, append-nil, arith}
 use Rattle.std.specs.Prelude.{if◌then◌else◌}
 use Rattle.std.proofs.lemmas.Bool.{or_parts}
@@ -19,7 +19,7 @@ abbrev pub spanned : List Text → ℕ
 spanned [] = 0
 spanned (part ∷ parts) = suc (length part) + spanned parts
 
--- a last part isn't empty
+-- the last part isn't empty
 abbrev pub EndsInPart : List Text → Type 0
 EndsInPart [] = Unit {0}
 EndsInPart (part ∷ []) = 0 < length part
@@ -29,7 +29,7 @@ EndsInPart (part ∷ next ∷ parts) = EndsInPart (next ∷ parts)
 one-taken : (w filled : ℕ) (part : Text) (others : List Text) → filled + 2 ≤ w → filled + 1 + length part ≤ w → printable_taken w filled (part ∷ others) ≡ suc (length part) + printable_taken w (filled + length part + 1) others
 one-taken w filled part others room fits = grind (arith, nat_tests)
 
--- parts that end within the line are taken, where a column is left after them, or the last isn't empty
+-- parts that end within the line are taken, if a column is left after them or the last one isn't empty
 pub taken-front : (w filled : ℕ) (parts more : List Text) → filled + spanned parts ≤ w → (filled + spanned parts < w) ⊎ EndsInPart parts
     → printable_taken w filled (parts ++ more) ≡ spanned parts + printable_taken w (filled + spanned parts) more
 taken-front w filled [] more within ends =
@@ -44,11 +44,11 @@ taken-front w filled (part ∷ next ∷ parts) more within ends =
     ∙ ap (λ n. suc (length part) + n) (rest ∙ ap (λ n. spanned (next ∷ parts) + printable_taken w n more) sum)
     ∙ (let assoc : (n : ℕ) → suc (length part) + (spanned (next ∷ parts) + n) ≡ spanned (part ∷ next ∷ parts) + n = λ n. omega arith in assoc (printable_taken w (filled + spanned (part ∷ next ∷ parts)) more))
 
--- an empty part that would end at the line's last column is not, nor what comes after it
+-- an empty part that would end at the line's last column isn't taken, nor is any part after it
 pub taken-up_to : (w : ℕ) (more : List Text) → 2 ≤ w → printable_taken w (w - 1) ([] ∷ more) ≡ 0
 taken-up_to w more wide = grind (arith, nat_tests)
 
--- of a part that has no room, rule 3 says what is taken
+-- rule 3 gives the bytes that are taken of a part that has no room
 pub taken-over : (w filled : ℕ) (next : Text) (others : List Text) → w < filled + 1 + length next
     → printable_taken w filled (next ∷ others) ≡ (if nat_lt w (length next) && nat_le (filled + 4) w then w - filled else 0)
 taken-over w filled next others over = grind (arith, nat_tests, over)
@@ -56,7 +56,7 @@ taken-over w filled next others over = grind (arith, nat_tests, over)
 -- ---- the parts of a text around a delimiter
 
 module _ (p : ℕ → Bool) where
-  -- there is always a part
+  -- a text has at least one part
   some_part : (text : Text) → 0 < length (slice_split p text)
   some_part text = let has = first_part p text in omega (arith, ap length has.are)
 
@@ -64,12 +64,12 @@ module _ (p : ℕ → Bool) where
   onto_first-append c [] more some = absurd (omega (arith, some))
   onto_first-append c (part ∷ parts) more some = refl
 
-  -- those before a delimiter, and those after it
+  -- the parts before and after a delimiter are the parts of the text
   pub parts-around : (front : Text) (c : ℕ) (back : Text) → p c ≡ true → slice_split p (front ++ c ∷ back) ≡ slice_split p front ++ slice_split p back
   parts-around [] c back is_d = slice_split-cons_yes p c back is_d
   parts-around (x ∷ front) c back is_d = grind (arith, slice_split-cons_yes, slice_split-cons_no, onto_first-append, some_part, parts-around front c back is_d)
 
-  -- the text is as long as its parts and the delimiters between them
+  -- a text is as long as its parts and the delimiters between them
   pub spans : (parts : List Text) (text first : Text) → slice_split p text ≡ first ∷ parts → length text ≡ length first + spanned parts
   spans [] text first are =
       let is = is_first_part p text first [] are in
@@ -80,7 +80,7 @@ module _ (p : ℕ → Bool) where
       let long = ap length is.splits ∙ length-append first is.rest in
       omega (arith, long, ap length is.next.2, rest)
 
-  -- where the last byte is no delimiter, the last part isn't empty
+  -- if the last byte isn't a delimiter, the last part isn't empty
   pub last-some : (front : Text) (c : ℕ) → p c ≡ false → EndsInPart (slice_split p (front ++ c ∷ []))
   last-some [] c none = subst EndsInPart (sym (slice_split-cons_no p c [] none)) (omega arith)
   last-some (x ∷ front) c none = by_test (p x) refl (slice_split p (front ++ c ∷ [])) refl (last-some front c none)
@@ -95,7 +95,7 @@ module _ (p : ℕ → Bool) where
       by_test true here (part ∷ parts) are ends = subst EndsInPart (sym (slice_split-cons_yes p x (front ++ c ∷ []) here ∙ ap (λ (ps : List Text). [] ∷ ps) are)) (subst EndsInPart are ends)
       by_test false passes parts are ends = subst EndsInPart (sym (slice_split-cons_no p x (front ++ c ∷ []) passes)) (longer x (slice_split p (front ++ c ∷ [])) ends)
 
--- ---- where the line ends
+-- ---- the end of the line
 
 module _ (w d : ℕ) where
   abbrev parts_of : Text → List Text
@@ -105,7 +105,7 @@ module _ (w d : ℕ) where
   ends-cons first [] ends = tt
   ends-cons first (part ∷ parts) ends = ends
 
-  -- before the parts that come next, the line takes those of a front that ends within it
+  -- a line takes the parts of a prefix that ends within it, and then goes on with the next parts
   pub front-taken : (front : Text) (more : List Text) → length front ≤ w → (length front < w) ⊎ EndsInPart (parts_of front)
       → printable_end w (parts_of front ++ more) ≡ length front + printable_taken w (length front) more
   front-taken front more within ends = by_parts has.parts has.are
@@ -124,7 +124,7 @@ module _ (w d : ℕ) where
           ∙ (let sum : (n : ℕ) → length has.part + (spanned parts + n) ≡ length front + n = λ n. omega (arith, long) in sum (printable_taken w (length has.part + spanned parts) more))
           ∙ ap (λ n. length front + printable_taken w n more) (sym long)
 
-  -- such a text whose first bytes are no delimiters has a first part of as many
+  -- if the first n bytes of a text have no delimiter, its first part has at least n bytes
   pub first-long : (n : ℕ) (text first : Text) (parts : List Text) → n ≤ length text → list_any (λ c. c == d) (take n text) ≡ false → parts_of text ≡ first ∷ parts → n ≤ length first
   first-long zero text first parts within clear are = omega arith
   first-long (suc n) [] first parts within clear are = absurd (omega (arith, within))
@@ -135,7 +135,7 @@ module _ (w d : ℕ) where
       let long : suc (length has.part) ≡ length first = ap (λ (ps : List Text). length (slice_index_or ps 0 [])) longer in
       omega (arith, long, first-long n xs has.part has.parts (omega (arith, within)) both.1 has.are)
 
-  -- and one that has a delimiter after as many bytes has no longer one
+  -- if the byte at n is a delimiter, the first part has at most n bytes
   pub first-short : (n : ℕ) (text first : Text) (parts : List Text) → n < length text → (slice_index_or text n 0 == d) ≡ true → parts_of text ≡ first ∷ parts → length first ≤ n
   first-short n [] first parts below here are = absurd (omega (arith, below))
   first-short n (x ∷ xs) first parts below here are = by_test (x == d) refl (λ m within found. first-short m xs has.part has.parts within found has.are) n below here
@@ -151,7 +151,7 @@ module _ (w d : ℕ) where
           let long : suc (length has.part) ≡ length first = ap (λ (ps : List Text). length (slice_index_or ps 0 [])) longer in
           omega (arith, long, shorter n (omega (arith, below)) here)
 
-  -- no delimiter stands after a position, as far as the line's last column
+  -- no delimiter is between a position and the end of the line's last column
   abbrev pub IsClearAfter : Text → ℕ → Type 0
   IsClearAfter text at = list_any (λ c. c == d) (take (w - at) (drop (at + 1) text)) ≡ false
 
@@ -173,7 +173,7 @@ module _ (w d : ℕ) where
       ∙ ap (λ n. w - 1 + n) (taken-up_to w more wide)
       ∙ (let zero : w - 1 + 0 ≡ w - 1 = omega arith in zero)
 
-  -- before a delimiter whose next part has no room, the line ends, or within that part
+  -- if the part after a delimiter has no room, the line ends before the delimiter, or within that part
   pub end-at : (text front back next : Text) (others : List Text) → IsPrintable w d text → text ≡ front ++ d ∷ back → length front ≤ w → (length front < w) ⊎ EndsInPart (parts_of front)
       → parts_of back ≡ next ∷ others → w < length front + 1 + length next
       → line_end w d text ≡ length front + (if nat_lt w (length next) && nat_le (length front + 4) w then w - length front else 0)
@@ -185,11 +185,11 @@ module _ (w d : ℕ) where
       ∙ front-taken front (next ∷ others) within ends
       ∙ ap (λ n. length front + n) (taken-over w (length front) next others over)
 
-  -- a first part that is wider than the line is cut at its last column
+  -- a first part that is wider than the line is cut at the line's last column
   pub end-wide : (text first : Text) (parts : List Text) → IsPrintable w d text → parts_of text ≡ first ∷ parts → w < length first → line_end w d text ≡ w
   end-wide text first parts plain are wide = grind (arith, nat_tests, line_end-printable, printable_end, printable_taken)
 
-  -- such bytes after a first one that is no delimiter
+  -- no delimiter is among the first n + 1 bytes if the first byte isn't one, nor any of the n bytes after it
   first-clear : (n : ℕ) (text : Text) → 0 < length text → (slice_index_or text 0 0 == d) ≡ false → list_any (λ c. c == d) (take n (drop 1 text)) ≡ false → list_any (λ c. c == d) (take (suc n) text) ≡ false
   first-clear n [] some first clear = absurd (omega (arith, some))
   first-clear n (x ∷ xs) some first clear = grind arith
@@ -200,14 +200,15 @@ module _ (w d : ℕ) (text : Text) (plain : IsPrintable w d text) (otherwise : b
   begins : 0 < length text → (slice_index_or text 0 0 == d) ≡ false
   begins some = grind (arith, chars-printable)
 
-  -- the text around a delimiter
+  -- the text before and after a delimiter
   cut_at : (i : ℕ) → i < length text → slice_index_or text i 0 ≡ d → text ≡ take i text ++ d ∷ drop (i + 1) text
   cut_at i below here = grind (arith, take-append-drop, drop_more)
 
   same : (d == d) ≡ true
   same = grind (arith, nat_tests)
 
-  -- a line that a delimiter or nothing follows, and a delimiter ends, ends before that
+  -- if the end of the text or a delimiter follows w bytes, and the last of these is a delimiter, the line ends before
+  -- that
   pub at-delimiter : w ≤ length text → (w < length text → slice_index_or text w 0 ≡ d) → slice_index_or text (w - 1) 0 ≡ d → line_end w d text ≡ w - 1
   at-delimiter enough found here = end-before w d text (take (w - 1) text) (drop (w - 1 + 1) text) more.0 plain (cut_at (w - 1) (omega (arith, enough, plain.columns)) here) two (length-take-le (w - 1) text (omega (arith, enough))) more.1
     where
@@ -232,7 +233,7 @@ module _ (w d : ℕ) (text : Text) (plain : IsPrintable w d text) (otherwise : b
               let past : length text ≤ w = grind (arith, nat_tests, ends) in
               ([], ap (λ n. parts_of w d (drop n text)) next ∙ ap (parts_of w d) (drop_all w text past))
 
-  -- a line that a delimiter or nothing follows, and another character ends, is full
+  -- if the end of the text or a delimiter follows w bytes, and the last of these is another character, the line is full
   pub at-width : w ≤ length text → (w < length text → slice_index_or text w 0 ≡ d) → (slice_index_or text (w - 1) 0 == d) ≡ false → line_end w d text ≡ w
   at-width enough found other = by_rest (nat_lt w (length text)) refl
     where
@@ -259,7 +260,7 @@ module _ (w d : ℕ) (text : Text) (plain : IsPrintable w d text) (otherwise : b
           let whole : length text ≤ w = grind (arith, nat_tests, short) in
           end-all w d text plain whole (inr (subst (λ (t : Text). EndsInPart (parts_of w d t)) (take_all w text whole) ends)) ∙ (let same : length text ≡ w = omega (arith, whole, enough) in same)
 
-  -- where no break stands within the line, the first part is cut
+  -- if no delimiter is within the line, the first part is cut
   pub no-break : w < length text → IsClearAfter w d text 0 → line_end w d text ≡ w
   no-break longer clear =
       let has = first_part (λ c. c == d) text in
@@ -267,11 +268,11 @@ module _ (w d : ℕ) (text : Text) (plain : IsPrintable w d text) (otherwise : b
       let first : list_any (λ c. c == d) (take (w + 1) text) ≡ false = ap (λ n. list_any (λ c. c == d) (take n text)) (let more : w + 1 ≡ suc w = omega arith in more) ∙ first-clear w d w text some (begins some) (ap (λ n. list_any (λ c. c == d) (take n (drop 1 text))) (let all : w ≡ w - 0 = omega arith in all) ∙ clear) in
       end-wide w d text has.part has.parts plain has.are (let long = first-long w d (w + 1) text has.part has.parts (omega (arith, longer)) first has.are in omega (arith, long))
 
-  -- what comes after a position, as far as the text goes
+  -- the text after a position
   abbrev pub later : ℕ → Text
   later end = take (length text - (end + 1)) (drop (end + 1) text)
 
-  -- otherwise the line ends at its last break, or within the part after it
+  -- otherwise the line ends at its last delimiter, or within the part after that
   at-break : (end : ℕ) (next : Text) (others : List Text) → end < w → w < length text → slice_index_or text end 0 ≡ d → IsClearAfter w d text end → parts_of w d (drop (end + 1) text) ≡ next ∷ others
       → line_end w d text ≡ end + (if nat_lt w (length next) && nat_le (end + 4) w then w - end else 0)
   at-break end next others before longer here clear are =
@@ -281,7 +282,7 @@ module _ (w d : ℕ) (text : Text) (plain : IsPrintable w d text) (otherwise : b
       end-at w d text (take end text) (drop (end + 1) text) next others plain (cut_at end (omega (arith, before, longer)) here) (omega (arith, front, before)) (inl (omega (arith, front, before))) are (omega (arith, front, long, before))
       ∙ ap (λ n. n + (if nat_lt w (length next) && nat_le (n + 4) w then w - n else 0)) front
 
-  -- the first part after a break in the line, and where the line ends
+  -- the first part after the last delimiter in the line, and the end of the line
   pub record LastBreak (end : ℕ) : Type 0 where
     pub next : Text
     pub others : List Text

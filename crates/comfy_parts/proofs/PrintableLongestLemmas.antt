@@ -1,4 +1,4 @@
--- The longest line of printable ASCII, part by part from its front.
+-- The longest line of printable ASCII, found part by part from the front.
 use Rattle.std.proofs.Common.{◌≡◌, ◌<◌, ◌≤◌, ℕ, true, false, ◌==◌, [], ◌∷◌, ◌++◌, length, map, max, drop, slice_index_or, sym, ap, ◌∙◌, subst, arith}
 use Rattle.std.specs.Char.{IsScalar}
 use Rattle.std.proofs.lemmas.List.{length-take-le}
@@ -13,7 +13,7 @@ use Rattle.comfy_parts.proofs.StartLemmas.{line-cut, wrapped-delimiter}
 abbrev longest : ℕ → ℕ → Text → ℕ
 longest w d text = greatest (map measure (wrapped w d text))
 
--- it begins with another character than its first byte
+-- a text begins with another character than d if its first byte isn't d
 pub begins-other : (d : ℕ) (text : Text) → is_printable_ascii text ≡ true → 0 < length text → (slice_index_or text 0 0 == d) ≡ false → begins_with d text ≡ false
 begins-other d [] printable some other = absurd (omega (arith, some))
 begins-other d (c ∷ cs) printable some other = ap (is_first d) (chars-printable (c ∷ cs) printable) ∙ other
@@ -26,7 +26,7 @@ past-delimiter w d (c ∷ cs) plain scalar some is =
     let splits = ap (λ b. b ∷ cs) is ∙ ap (λ (t : Text). t ++ cs) (sym one) in
     ap (λ ls. greatest (map measure ls)) (sym (wrapped-delimiter w d (c ∷ cs) cs scalar splits)) ∙ omega arith
 
--- a line at the front counts with its bytes
+-- a line at the front counts with its number of bytes
 pub record IsPast (w d : ℕ) (text : Text) (end : ℕ) : Type 0 where
   pub some : 0 < end
   pub bound : end ≤ length text

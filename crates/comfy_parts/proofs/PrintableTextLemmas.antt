@@ -1,4 +1,4 @@
--- The lines of printable ASCII, wrapped or not, are printable ASCII and fit their columns.
+-- The lines of printable ASCII, wrapped or not, are printable ASCII and fit their width.
 use Rattle.std.proofs.Common.{◌≡◌, ◌≤◌, ℕ, true, List, [], ◌∷◌, ◌++◌, nat_le, sym, ap, ◌∙◌, arith}
 use Rattle.std.specs.Int.{is_in_range}
 use Rattle.std.specs.List.{All}
@@ -40,7 +40,7 @@ wrapped-printable w d text plain k default below =
     lines : IsWrapped w d text (wrapped w d text)
     lines = wrapped_is_wrapped w d text (scalar-printable d plain.delimiter) (IsUtf8-printable text plain.printable)
 
--- so are its lines at a width
+-- the lines of a printable text at a width, wrapped if needed, are printable and fit
 pub lines_of_text-printable : (w d : ℕ) (text : Text) → IsPrintable w d text → All (IsPrintableLine w) (lines_of_text w d text)
 lines_of_text-printable w d text plain =
     cond_both (nat_le (measure text) w) _ _ (All (IsPrintableLine w))

@@ -1,4 +1,5 @@
--- Parts that are scanned: a list of parts is that of its own bytes, and so are its fronts and ends, also with sequences before it and a reset after it.
+-- Scanned parts: parts that a scan of their own bytes gives again. Their prefixes and suffixes are scanned too, also
+-- with sequences before them and a reset after them.
 use Rattle.std.proofs.Common.{◌≡◌, ◌⊎◌, inl, inr, ◌≤◌, ℕ, zero, suc, true, false, List, [], ◌∷◌, ◌++◌, length, refl, sym, ap, ap₂, ◌∙◌, subst, arith, append_assoc, append-nil, length-append}
 use Rattle.std.specs.List.{list_all, flat_map}
 use Rattle.std.proofs.lemmas.Grind.{flat_map-append}
@@ -13,23 +14,23 @@ use Rattle.comfy_parts.proofs.SequenceLemmas.{IsSequence, BeginsWithSequence, St
 abbrev pub bytes_of : List Part → Text
 bytes_of ps = flat_map (λ (p : Part). p.bytes) ps
 
--- a part that is a visible byte where this follows it
+-- the part is a visible byte if `rest` follows it
 pub record IsVisibleBefore (rest : Text) (p : Part) : Type 0 where
   pub byte : ℕ
   pub free : begins_with_sequence (byte ∷ rest) ≡ false
   pub is : p ≡ visible_part byte
 
--- a part that is a sequence
+-- the part is a sequence
 pub record IsSequencePart (p : Part) : Type 0 where
   pub sequence : IsSequence p.bytes
   pub is : p ≡ sequence_part p.bytes
 
--- the parts are those of their bytes, where this follows them
+-- the parts are those of their bytes if `rest` follows these
 abbrev pub AreScanned : List Part → Text → Type 0
 AreScanned [] rest = Unit {0}
 AreScanned (p ∷ ps) rest = (IsSequencePart p ⊎ IsVisibleBefore (bytes_of ps ++ rest) p) × AreScanned ps rest
 
--- scanned parts are the first parts of their bytes and what follows
+-- scanned parts are the first parts of their bytes and the text after them
 pub parts-scanned : (ps : List Part) (rest : Text) → AreScanned ps rest → parts (bytes_of ps ++ rest) ≡ ps ++ parts rest
 parts-scanned [] rest scanned = refl
 parts-scanned (p ∷ ps) rest (inl part, more) =
@@ -45,7 +46,7 @@ parts-scanned (p ∷ ps) rest (inr part, more) =
     ∙ parts-visible part.byte (bytes_of ps ++ rest) part.free
     ∙ ap₂ (λ (x : Part) xs. x ∷ xs) (sym part.is) (parts-scanned ps rest more)
 
--- scanned parts are still scanned where something else follows that can't continue an unfinished sequence
+-- scanned parts stay scanned before another text, if that can't continue an unfinished sequence
 pub scanned-stops : (ps : List Part) (rest other : Text) → Stops other → AreScanned ps rest → AreScanned ps other
 scanned-stops [] rest other stops scanned = tt
 scanned-stops (p ∷ ps) rest other stops (inl part, more) = (inl part, scanned-stops ps rest other stops more)
@@ -54,12 +55,12 @@ scanned-stops (p ∷ ps) rest other stops (inr part, more) = (
   scanned-stops ps rest other stops more,
 )
 
--- bytes side by side
+-- the bytes of two lists of parts, joined
 joined_bytes : (ps qs : List Part) (rest : Text) → bytes_of (ps ++ qs) ++ rest ≡ bytes_of ps ++ (bytes_of qs ++ rest)
 joined_bytes ps qs rest =
     ap (λ xs. xs ++ rest) (flat_map-append (λ (p : Part). p.bytes) ps qs) ∙ append_assoc (bytes_of ps) (bytes_of qs) rest
 
--- the two parts of such a list
+-- both lists of a joined list of scanned parts are scanned
 pub scanned-parts : (ps qs : List Part) (rest : Text) → AreScanned (ps ++ qs) rest → AreScanned ps (bytes_of qs ++ rest) × AreScanned qs rest
 scanned-parts [] qs rest scanned = (tt, scanned)
 scanned-parts (p ∷ ps) qs rest (inl part, scanned) =
@@ -71,12 +72,12 @@ scanned-parts (p ∷ ps) qs rest (inr part, scanned) =
 
 -- ---- the parts of a text are scanned, and have its bytes
 
--- this is so of a text's parts
+-- the parts of the text are scanned, and have its bytes
 pub record IsScan (text : Text) : Type 0 where
   pub scanned : AreScanned (parts text) []
   pub bytes : bytes_of (parts text) ≡ text
 
--- of a text with a sequence in front
+-- a text with a sequence at its front
 scan-sequence : (code rest : Text) → list_all is_parameter code ≡ true → IsScan rest → IsScan (0x1B ∷ 0x5B ∷ (code ++ (0x6D ∷ rest)))
 scan-sequence code rest all more =
     let first = parts-sequence code rest all in
@@ -86,7 +87,7 @@ scan-sequence code rest all more =
       bytes = ap bytes_of first ∙ ap (λ xs. s ++ xs) more.bytes ∙ ap (λ xs. 0x1B ∷ 0x5B ∷ xs) (append_assoc code (0x6D ∷ []) rest);
     }
 
--- of a text with a visible byte in front
+-- a text with a visible byte at its front
 scan-visible : (b : ℕ) (rest : Text) → begins_with_sequence (b ∷ rest) ≡ false → IsScan rest → IsScan (b ∷ rest)
 scan-visible b rest free more =
     let first = parts-visible b rest free in
@@ -96,7 +97,7 @@ scan-visible b rest free more =
       bytes = ap bytes_of first ∙ ap (λ xs. b ∷ xs) more.bytes;
     }
 
--- of each text that isn't longer
+-- each text of at most `fuel` bytes
 scan-within : (fuel : ℕ) (text : Text) → length text ≤ fuel → IsScan text
 scan-within fuel [] short = record { scanned = tt; bytes = refl }
 scan-within zero (b ∷ rest) short = absurd (omega (arith, short))
@@ -109,6 +110,6 @@ scan-within (suc fuel) (b ∷ rest) short = by_front (front_of (b ∷ rest)) (sc
         subst IsScan (sym s.is) (scan-sequence s.code s.rest s.parameters (more s.rest (omega (arith, short, long, behind))))
     by_front (inr free) more = scan-visible b rest free (more rest (omega (arith, short)))
 
--- of every text
+-- every text
 pub scan : (text : Text) → IsScan text
 scan text = scan-within (length text) text (omega arith)

@@ -1,4 +1,5 @@
--- The parts of a text: a text either begins with an SGR sequence or with a visible byte, and its parts are those of any text with them at its front.
+-- The parts of a text. A text begins either with a sequence or with a visible byte, and its other parts are those of
+-- the text after it.
 use Rattle.std.proofs.Common.{◌≡◌, ◌⊎◌, inl, inr, ⊎_elim, ℕ, suc, ◌+◌, ◌-◌, Bool, true, false, cond, ◌&&◌, ◌==◌, [], ◌∷◌, ◌++◌, length, take, nat_lt, refl, sym, ap, ap₂, ◌∙◌, arith, eqb-true}
 use Rattle.std.specs.List.{list_all, prefix_len, flat_map, slice_index}
 use Rattle.std.specs.Prelude.{if◌then◌else◌}
@@ -8,32 +9,32 @@ use Rattle.comfy_parts.specs.Text.{Text}
 use Rattle.comfy_parts.specs.VisibleText.{Part, is_parameter, parameter_count, sequence_len, part_at, parts, parts_past, visible_bytes, visible_text}
 use Rattle.comfy_parts.specs.Laws.{SequencesAreTakenOut, OtherBytesAreVisible}
 
--- one place on
+-- the byte at the next position
 one_on : (c : ℕ) (cs : Text) (n : ℕ) → slice_index (c ∷ cs) (1 + n) ≡ slice_index cs n
 one_on c cs n =
     let next : 1 + n ≡ suc n = omega arith in
     ap (slice_index (c ∷ cs)) next
 
--- ---- what a text begins with
+-- ---- the front of a text
 
--- after ESC and `[`: parameters and an `m` follow
+-- true if a text consists of parameters, an `m` and a rest, as after ESC and `[`
 abbrev pub ends_here : Text → Bool
 ends_here text = slice_index text (prefix_len is_parameter text) == 0x6D
 
--- a text that is an SGR sequence
+-- the text is a sequence
 pub record IsSequence (text : Text) : Type 0 where
   pub code : Text
   pub parameters : list_all is_parameter code ≡ true
   pub is : text ≡ 0x1B ∷ 0x5B ∷ (code ++ (0x6D ∷ []))
 
--- a text that begins with one
+-- the text begins with a sequence
 pub record BeginsWithSequence (text : Text) : Type 0 where
   pub code : Text
   pub rest : Text
   pub parameters : list_all is_parameter code ≡ true
   pub is : text ≡ 0x1B ∷ 0x5B ∷ (code ++ (0x6D ∷ rest))
 
--- what is after ESC and `[` and ends so is parameters, an `m` and a rest
+-- a text that passes this test is parameters, an `m` and a rest
 ends_here-is : (text : Text) → ends_here text ≡ true → (code : Text) × (rest : Text) × (list_all is_parameter code ≡ true) × (text ≡ code ++ (0x6D ∷ rest))
 ends_here-is [] ends = absurd (true≢false (sym ends))
 ends_here-is (c ∷ cs) ends =
@@ -43,12 +44,12 @@ ends_here-is (c ∷ cs) ends =
     (c ∷ more.0, more.1, ap (λ b. b && list_all is_parameter more.0) passes ∙ more.2, ap (λ xs. c ∷ xs) more.3))
     (λ stops ends. ([], cs, refl, ap (λ x. x ∷ cs) (eqb-true c 0x6D ends))) ends
 
--- whether a text begins with a sequence
+-- true if a text begins with a sequence
 abbrev pub begins_with_sequence : Text → Bool
 begins_with_sequence text =
     (slice_index text 0 == 0x1B) && ((slice_index text 1 == 0x5B) && (slice_index text (2 + parameter_count text) == 0x6D))
 
--- at a byte other than ESC none begins
+-- a text whose first byte isn't ESC doesn't begin with a sequence
 pub no_sequence : (b : ℕ) (bs : Text) → (b == 0x1B) ≡ false → begins_with_sequence (b ∷ bs) ≡ false
 no_sequence b bs other = rw other refl
 
@@ -58,11 +59,11 @@ two_on a b text =
     let next : 2 + prefix_len is_parameter text ≡ suc (suc (prefix_len is_parameter text)) = omega arith in
     ap (slice_index (a ∷ b ∷ text)) next
 
--- ESC and `[` in front of what ends so
+-- a text begins with a sequence exactly if it is ESC, `[` and such a text
 begins-two : (a b : ℕ) (text : Text) → begins_with_sequence (a ∷ b ∷ text) ≡ ((a == 0x1B) && ((b == 0x5B) && ends_here text))
 begins-two a b text = ap (λ x. (a == 0x1B) && ((b == 0x5B) && (x == 0x6D))) (two_on a b text)
 
--- a text that does is such a text
+-- a text that passes this test begins with a sequence
 begins-is : (text : Text) → begins_with_sequence text ≡ true → BeginsWithSequence text
 begins-is [] begins = absurd (true≢false (sym begins))
 begins-is (a ∷ []) begins =
@@ -73,25 +74,25 @@ begins-is (a ∷ b ∷ text) begins =
     let more = ends_here-is text next.1 in
     record { code = more.0; rest = more.1; parameters = more.2; is = ap₂ (λ x xs. x ∷ xs) (eqb-true a 0x1B first.0) (ap₂ (λ x xs. x ∷ xs) (eqb-true b 0x5B next.0) more.3) }
 
--- a text begins with a sequence, or has none at its front
+-- a text either begins with a sequence or doesn't
 pub front_of : (text : Text) → BeginsWithSequence text ⊎ (begins_with_sequence text ≡ false)
 front_of text = ⊎_elim (λ begins. inl (begins-is text begins)) inr (cases_Bool (begins_with_sequence text))
 
--- ---- what follows can't make a sequence
+-- ---- texts that can't complete a sequence
 
--- a text that can't continue an unfinished sequence
+-- the text can't continue an unfinished sequence
 pub record Stops (rest : Text) : Type 0 where
   pub no_end : ends_here rest ≡ false
   pub no_start : (slice_index rest 0 == 0x5B) ≡ false
 
--- the empty text is one, and so is each that begins with ESC
+-- the empty text can't, and neither can a text that begins with ESC
 pub Stops-nil : Stops []
 Stops-nil = record { no_end = refl; no_start = refl }
 
 pub Stops-escape : (more : Text) → Stops (0x1B ∷ more)
 Stops-escape more = record { no_end = refl; no_start = refl }
 
--- without parameters and an `m` before any rest, there are none before such a one
+-- bytes without an `m` after their parameters before any rest have none before such a text
 ends_here-stops : (xs rest other : Text) → Stops other → ends_here (xs ++ rest) ≡ false → ends_here (xs ++ other) ≡ false
 ends_here-stops [] rest other stops free = stops.no_end
 ends_here-stops (c ∷ cs) rest other stops free = by_test (is_parameter c) free (ends_here-stops cs rest other stops)
@@ -104,7 +105,7 @@ ends_here-stops (c ∷ cs) rest other stops free = by_test (is_parameter c) free
         ∙ more (ap (λ x. x == 0x6D) (sym (one_on c (cs ++ rest) (prefix_len is_parameter (cs ++ rest)))) ∙ free)
     by_test false free more = free
 
--- a first byte that is visible before any rest is visible before such a one
+-- a first byte that is visible before any rest is visible before such a text
 pub visible-stops : (b : ℕ) (xs rest other : Text) → Stops other → begins_with_sequence (b ∷ (xs ++ rest)) ≡ false → begins_with_sequence (b ∷ (xs ++ other)) ≡ false
 visible-stops b [] rest other stops free = by_test (b == 0x1B) (slice_index other 0 == 0x5B) stops.no_start
   where
@@ -123,7 +124,7 @@ visible-stops b (c ∷ cs) rest other stops free =
 
 -- ---- the parts of a text
 
--- parameters before an `m` are counted
+-- the parameters before an `m` are counted
 prefix_len-parameters : (code rest : Text) → list_all is_parameter code ≡ true → prefix_len is_parameter (code ++ (0x6D ∷ rest)) ≡ length code
 prefix_len-parameters [] rest all = refl
 prefix_len-parameters (c ∷ cs) rest all =
@@ -131,22 +132,22 @@ prefix_len-parameters (c ∷ cs) rest all =
     let more = prefix_len-parameters cs rest both.1 in
     ap (λ t. cond t (1 + prefix_len is_parameter (cs ++ (0x6D ∷ rest))) 0) both.0 ∙ omega (arith, more)
 
--- the byte after a front
+-- the byte after a prefix
 pub slice_index_behind : (xs : Text) (x : ℕ) (ys : Text) → slice_index (xs ++ (x ∷ ys)) (length xs) ≡ x
 slice_index_behind [] x ys = refl
 slice_index_behind (c ∷ cs) x ys = slice_index_behind cs x ys
 
--- what is skipped gives free part
+-- skipped bytes give no part
 parts_past-behind : (code : Text) (m : ℕ) (rest : Text) → parts_past (suc (length code)) (code ++ (m ∷ rest)) ≡ parts_past 0 rest
 parts_past-behind [] m rest = refl
 parts_past-behind (c ∷ cs) m rest = parts_past-behind cs m rest
 
--- the bytes of a sequence, and no more
+-- the bytes of a sequence
 take-sequence : (code rest : Text) → take (suc (length code)) (code ++ (0x6D ∷ rest)) ≡ code ++ (0x6D ∷ [])
 take-sequence [] rest = refl
 take-sequence (c ∷ cs) rest = ap (λ xs. c ∷ xs) (take-sequence cs rest)
 
--- how long the sequence at the front of such a text is
+-- the length of the sequence at the front of a text
 pub sequence_len-sequence : (code rest : Text) → list_all is_parameter code ≡ true → sequence_len (0x1B ∷ 0x5B ∷ (code ++ (0x6D ∷ rest))) ≡ suc (suc (suc (length code)))
 sequence_len-sequence code rest all = ap₂ (λ x n. if x == 0x6D then n + 3 else 0) ends count ∙ omega arith
   where
@@ -184,7 +185,7 @@ parts-sequence code rest all = ap₂ (λ (p : Part) ps. p ∷ ps) part skipped
         let back : sequence_len text - 1 ≡ suc (suc (length code)) = omega (arith, len) in
         ap (λ n. parts_past n (0x5B ∷ (code ++ (0x6D ∷ rest)))) back ∙ parts_past-behind code 0x6D rest
 
--- any other has its first byte
+-- the first part of any other text is its first byte
 pub parts-visible : (b : ℕ) (rest : Text) → begins_with_sequence (b ∷ rest) ≡ false → parts (b ∷ rest) ≡ record { is_sequence = false; bytes = b ∷ [] } ∷ parts rest
 parts-visible b rest free =
     ap (λ n. (if nat_lt 0 n then record { is_sequence = true; bytes = take n (b ∷ rest) } else record { is_sequence = false; bytes = take 1 (b ∷ rest) }) ∷ parts_past (n - 1) rest) none
@@ -192,9 +193,9 @@ parts-visible b rest free =
     none : sequence_len (b ∷ rest) ≡ 0
     none = ap (λ t. if t then parameter_count (b ∷ rest) + 3 else 0) free
 
--- ---- what is visible
+-- ---- visible text
 
--- a sequence at the front of a text shows nothing
+-- a sequence at the front of a text isn't visible
 pub sequences_are_taken_out : (code rest : Text) → SequencesAreTakenOut code rest
 sequences_are_taken_out code rest all = ap (flat_map visible_bytes) (parts-sequence code rest all)
 

@@ -1,4 +1,4 @@
--- A line's start, before which delimiters give no line, and its cut from the text's front.
+-- The start of a line, before which delimiters give no line, and the cut of a line from the front of a text.
 use Rattle.std.proofs.Common.{◌≡◌, ◌<◌, ℕ, Bool, true, false, ◌==◌, [], ◌∷◌, ◌++◌, length, take, drop, None, refl, sym, ap, ap₂, ◌∙◌, subst, arith, take_at, drop_at}
 use Rattle.std.specs.Char.{IsScalar}
 use Rattle.std.specs.Prelude.{encode_utf8, encode_utf8_all, IsUtf8}
@@ -12,7 +12,7 @@ use Rattle.comfy_parts.specs.Wrapping.{wrapped, lines_past, line_end}
 use Rattle.comfy_parts.proofs.EndLemmas.{line-first}
 use Rattle.comfy_parts.proofs.WrappingLemmas.{begins_otherwise-unless, begins_with-delimiter, lines_past-delimiter, lines_past-line}
 
--- where no delimiter is found at the front, the text begins otherwise
+-- if no delimiter is found at the front, the text doesn't begin with one
 pub begins_otherwise-none : (d : ℕ) (text : Text) → IsUtf8 text → FindsCharPrefix d text None → begins_with d text ≡ false
 begins_otherwise-none d text utf8 none =
     begins_otherwise-unless d text (λ cs characters. none (encode_utf8_all cs) (sym (encodes-chars text utf8) ∙ ap encode_utf8_all characters))
@@ -22,14 +22,14 @@ pub wrapped-delimiter : (w d : ℕ) (text behind : Text) → IsScalar d → text
 wrapped-delimiter w d text behind scalar splits =
     sym (ap (wrapped w d) splits ∙ lines_past-delimiter w d behind (encode_utf8_nonempty d) (begins_with-delimiter d behind scalar))
 
--- a line is cut from the front of a text at a place between characters, and the other lines are those of what is after it
+-- a line is cut from the front of a text at a character boundary, and the other lines are those of the text after it
 pub record IsLineCut (w d : ℕ) (text : Text) : Type 0 where
   pub place : IsCharBoundary text (line_end w d text)
   pub some : 0 < line_end w d text
   pub whole_rest : IsUtf8 (drop (line_end w d text) text)
   pub lines : wrapped w d text ≡ take (line_end w d text) text ∷ wrapped w d (drop (line_end w d text) text)
 
--- a text that begins otherwise has a line at its front
+-- a text that doesn't begin with a delimiter has a line at its front
 pub line-cut : (w d : ℕ) (text : Text) → IsUtf8 text → 0 < length text → begins_with d text ≡ false → IsLineCut w d text
 line-cut w d text utf8 some begins =
     let it = line-first w d text utf8 in

@@ -1,4 +1,4 @@
--- Kinds of characters whose widths add up: those that join nothing, and emoji that stand by themselves.
+-- Kinds of characters whose widths add up: those that join no other, and emoji by themselves.
 use Rattle.std.proofs.Common.{◌≡◌, ◌≢◌, ◌<◌, ◌≤◌, ◌⊎◌, inl, inr, ℕ, ◌+◌, true, false, not, ◌&&◌, ◌||◌, List, [], ◌∷◌, nat_lt, nat_le, ◌==◌, Bool, zero, suc, slice_index_or, refl, sym, ap, ◌∙◌, subst, arith, sum_by, ⊎_elim}
 use Rattle.std.specs.Int.{is_in_range}
 use Rattle.std.specs.List.{list_all}
@@ -19,7 +19,7 @@ use Rattle.unicode_width.proofs.WidthLemmas.{step-before_emoji}
 use Rattle.comfy_parts.proofs.KindRangeLemmas.{adds_up_kind, others_add_up}
 use Rattle.comfy_parts.specs.Columns.{joining_characters, joins_no_other}
 
--- the widths of characters of this kind add up, and each is at most two columns
+-- the widths of characters of this kind add up, and each is at most two terminal columns
 pub record AddUp (kind : ℕ → Bool) : Type 0 where
   pub sums : (cs : List ℕ) → list_all kind cs ≡ true → str_width false cs ≡ sum_by (width_or_zero false) cs
   pub narrow : (c : ℕ) → kind c ≡ true → width_or_zero false c ≤ 2
@@ -42,7 +42,7 @@ low-one : (c : ℕ) → is_low c ≡ true → width_or_zero false c ≡ 1
 low-one c low =
     ⊎_elim (ascii-one c) (λ same. ap (width_or_zero false) (eqb-true c 0xA0 same) ∙ no_break_space-one) (or_cases (is_in_range 0x20 0x7E c) (c == 0xA0) low)
 
--- a character that joins no other is such a one, or one above these
+-- a character that joins no other is one of these, or is above U+00A0
 low_or_high : (c : ℕ) → joins_no_other c ≡ true → (is_low c ≡ true) ⊎ ((nat_lt 0xA0 c && not (in_ranges joining_characters c)) ≡ true)
 low_or_high c joins = by_cases (in_ranges joining_characters c) joins
   where
@@ -53,9 +53,9 @@ pub high-alone : (c : ℕ) → nat_lt 0xA0 c ≡ true → width_or_zero false c 
 unfolding char_width
 high-alone c high = grind (arith, nat_tests, high)
 
--- ---- and emoji that stand by themselves
+-- ---- emoji by themselves
 
--- what the reading of such a character leaves
+-- the state of the width rules after such a character
 abbrev IsCalm : State → Type 0
 IsCalm s = (s ≡ plain) ⊎ (s ≡ before after.Emoji)
 
@@ -91,7 +91,7 @@ record IsOther (c : ℕ) : Type 0 where
   no_selector : (c < 0xFE00) ⊎ (0xFE0F < c)
   own : IsCalm (alone false c).1 × ((alone false c).0 ≤ 2)
 
--- a number in none of some ranges isn't in the one at position k
+-- a number that is in none of some ranges isn't in the range at position k
 outside_range : (rs : List Range) (k c : ℕ) → in_ranges rs c ≡ false → (c < (slice_index_or rs k (1, 0)).0) ⊎ ((slice_index_or rs k (1, 0)).1 < c)
 unfolding in_ranges
 outside_range [] k c none = cases_lt c 1
@@ -112,7 +112,7 @@ other_parts c h =
       own = of_kind-summed c (kind c) (ap (λ b. b || adds_up_kind (kind c)) (sym none) ∙ others_add_up c);
     }
 
--- one character more adds its width
+-- one more character adds its width
 pub step-summed : (c total : ℕ) (s : State) → IsCalm s → joins_no_other c ≡ true → (step false c (total, s)).0 ≡ total + width_or_zero false c
 step-summed c total s calm h =
     ⊎_elim
@@ -128,7 +128,7 @@ step-summed c total s calm h =
     by_high is (inl same) = ap (λ u. (step false c (total, u)).0) same ∙ ap (λ (r : Reading). r.0) (high-plain c total is.high) ∙ ap (λ n. total + n) (sym (high-alone c is.high))
     by_high is (inr same) = ap (λ u. (step false c (total, u)).0) same ∙ ap (λ (r : Reading). r.0) (step-before_emoji false c total (grind (arith, nat_tests, is.high)) is.no_joiner is.no_selector) ∙ ap (λ n. total + n) (sym (high-alone c is.high))
 
--- and leaves what another may follow
+-- one more character leaves such a state
 pub calm-summed : (c total : ℕ) (s : State) → IsCalm s → joins_no_other c ≡ true → IsCalm (step false c (total, s)).1
 calm-summed c total s calm h =
     ⊎_elim (λ low. by_low low calm) (λ high. by_high (other_parts c high) calm) (low_or_high c h)

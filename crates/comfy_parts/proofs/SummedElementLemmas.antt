@@ -1,4 +1,4 @@
--- A walk that counts the columns of an element up to its delimiter.
+-- A pass that counts the terminal columns of an element up to its delimiter.
 use Rattle.std.proofs.Common.{◌≡◌, ◌≤◌, ℕ, ◌+◌, ◌*◌, ◌-◌, true, false, ◌&&◌, ◌||◌, ◌==◌, List, [], ◌∷◌, ◌++◌, Some, length, sum_by, refl, sym, ap, ap₂, ◌∙◌, subst, arith, append-nil, append_assoc}
 use Rattle.std.specs.Char.{IsScalar}
 use Rattle.std.specs.Int.{is_in_range}
@@ -22,7 +22,7 @@ use Rattle.comfy_parts.specs.Following.{EndsElement, IsSummed}
 use Rattle.comfy_parts.specs.OwnWidth.{own_width}
 use Rattle.comfy_parts.specs.Text.{Text}
 
--- the walk has passed these characters before the rest, none of them a delimiter
+-- the pass has counted characters before the rest, none of which is a delimiter
 pub record IsRun (d : ℕ) (text rest : Text) (columns : ℕ) : Type 0 where
   pub passed : List ℕ
   pub splits : text ≡ encode_utf8_all passed ++ rest
@@ -42,7 +42,7 @@ first_scalar rest later c utf8 splits =
     let first = cons_from_encodes utf8.0 later c (utf8.1.1 ∙ splits) in
     (and_parts _ (all_scalars first.0) (sym (ap all_scalars first.1) ∙ utf8.1.0)).0
 
--- and one more
+-- the pass counts one more character
 pub run-more : (d : ℕ) (text rest later : Text) (columns c n : ℕ) → IsRun d text rest columns → rest ≡ encode_utf8 c ++ later → own_width c ≡ Some n → (c == d) ≡ false → IsRun d text later (columns + n)
 run-more d text rest later columns c n run splits is other =
     let one = own c n is in
@@ -64,7 +64,7 @@ run-more d text rest later columns c n run splits is other =
       bound = omega (arith, run.bound, long, some, one.most);
     }
 
--- a wide character is no delimiter that isn't wide
+-- a wide character isn't a delimiter that isn't wide
 pub wide-other : (c d : ℕ) → (is_in_range 0x4E00 0x9FFF c || (is_in_range 0xB000 0xCFFF c || false)) ≡ true → is_in_range 0x4E00 0xCFFF d ≡ false → (c == d) ≡ false
 wide-other c d wide other = grind (arith, nat_tests, wide, other)
 
@@ -72,7 +72,7 @@ pub nothing : (text : Text) → length text ≡ 0 → text ≡ []
 nothing [] none = refl
 nothing (b ∷ bs) none = absurd (omega (arith, none))
 
--- where the element ends
+-- the pass ends at the end of the element
 pub run-ends : (d : ℕ) (text rest : Text) (columns : ℕ) → IsRun d text rest columns → IsScalar d → EndsElement d rest → IsSummed d text rest columns
 run-ends d text rest columns run scalar ends =
     let word = encode_utf8_all run.passed in
@@ -88,7 +88,7 @@ module _ (d : ℕ) (text behind : Text) (columns : ℕ) (summed : IsSummed d tex
   front-long : length text ≡ length summed.word + length behind
   front-long = ap length (sym summed.element.joined) ∙ length-append summed.word behind
 
-  -- the text may be cut before it
+  -- the text can be cut before the rest
   pub front-boundary : IsCharBoundary text (length text - length behind)
   front-boundary =
       let size : length text - length behind ≡ length summed.word = omega (arith, front-long) in

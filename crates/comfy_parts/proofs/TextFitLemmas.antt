@@ -1,4 +1,4 @@
--- The lines of text lines whose words fit are no wider than their column.
+-- The lines of text lines whose words fit are at most as wide as their column.
 use Rattle.std.proofs.Common.{◌<◌, ◌≤◌, inl, inr, ⊎_elim, ℕ, ◌==◌, List, [], ◌∷◌, ◌++◌, ◌&&◌, nat_le, slice_index_or, ap, ◌∙◌, subst, arith}
 use Rattle.std.specs.Char.{IsScalar}
 use Rattle.std.specs.List.{All, list_all, slice_split}
@@ -24,7 +24,7 @@ use Rattle.comfy_parts.proofs.WrappedLemmas.{wrapped_is_wrapped}
 
 -- ---- words
 
--- words that fit, or whose characters do, are cut well
+-- words that fit, or whose characters fit, are cut well
 breaks-words : (w : ℕ) → BreaksWell w (WordFits w)
 breaks-words w = record { empty = inl (let none = measure-nil in omega (arith, none)); part = by_part; first = by_first }
   where
@@ -42,7 +42,7 @@ breaks-words w = record { empty = inl (let none = measure-nil in omega (arith, n
 
 -- ---- lines
 
--- the lines of a text that fits do
+-- the lines of a text that fits, fit
 pub text_lines_fit : (w d : ℕ) (text : Text) → IsScalar d → IsUtf8 text → TextFits w d text → All (IsFittingLine w) (lines_of_text w d text)
 text_lines_fit w d text scalar utf8 fits =
     cond_both (nat_le (measure text) w) _ _ (All (IsFittingLine w))
@@ -61,7 +61,7 @@ head-fitting k text utf8 agree = record { whole = head-utf8 k text utf8; fits = 
 
 -- ---- texts of characters that fit
 
--- the elements of a text of characters that fit are such texts
+-- the elements of a text whose characters fit are such texts
 elements-fit : (w d : ℕ) (text : Text) → IsUtf8 text → CharactersFit w text → All (CharactersFit w) (elements d text)
 elements-fit w d text utf8 each =
     All-map (CharactersFit w) encode_utf8_all (slice_split (λ c. c == d) (chars text))
@@ -73,14 +73,14 @@ elements-fit w d text utf8 each =
     let agree = AllPass-from_list_all selectors_agree parts (parts-agree (λ c. c == d) (chars text) of_text.1) k default below in
     ap (λ cs. list_all (character_fits w) cs && selectors_agree cs) (chars-encodes (slice_index_or parts k default) whole) ∙ and_from _ _ fits agree)
 
--- so such a text fits its column
+-- a text whose characters fit, fits its column
 pub fitting_characters_fit : (w d : ℕ) (text : Text) → FittingCharactersFit w d text
 fitting_characters_fit w d text adds utf8 each =
     inr (adds, All-weaker (CharactersFit w) (WordFits w) (λ word own. inr own) (elements d text) (elements-fit w d text utf8 each))
 
 -- ---- texts whose selectors agree
 
--- the lines of such a text are such texts
+-- the selectors of the lines of such a text agree
 wrapped-agree : (w d : ℕ) (text : Text) (lines : List Text) → IsScalar d → IsWrapped w d text lines → SelectorsAgree text → All SelectorsAgree lines
 wrapped-agree w d text [] scalar wrapped each = All-nil SelectorsAgree
 wrapped-agree w d text (line ∷ lines) scalar (tail, slice, ends, more) each =

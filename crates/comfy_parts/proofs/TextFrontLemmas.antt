@@ -1,4 +1,5 @@
--- The clusters of a text's front are clusters of the text, but for the last one, which begins a cluster. So a front can show where the head ends.
+-- The clusters of a prefix of a text are clusters of the text, except the last one, which is the beginning of a
+-- cluster. So a prefix can show the end of the head.
 use Rattle.std.proofs.Common.{◌≡◌, ◌≤◌, ◌<◌, ℕ, ◌+◌, ◌-◌, Bool, true, false, List, [], ◌∷◌, ◌++◌, length, map, take, sum_by, refl, sym, ap, ◌∙◌, subst, arith, length-append, append-nil}
 use Rattle.std.proofs.Math.Seq.{get_or-append_seam}
 use Rattle.std.specs.List.{All, concat}
@@ -16,15 +17,16 @@ use Rattle.comfy_parts.specs.Text.{Text, clusters, head, measure}
 use Rattle.comfy_parts.proofs.ClusterLemmas.{head-before}
 use Rattle.comfy_parts.proofs.PlaceLemmas.{head-utf8}
 
--- ---- the pieces of a front
+-- ---- the pieces of a prefix
 
--- the pieces of a front and those of the whole: the same up to the last of the front, which begins one of the whole
+-- the pieces of a prefix and of the whole are the same, except the last one of the prefix, which is the beginning of
+-- one of the whole
 abbrev pub Begin : List (List ℕ) → List (List ℕ) → Type 0
 Begin [] qs = Unit {0}
 Begin (p ∷ []) qs = (more : List ℕ) × (others : List (List ℕ)) × (qs ≡ (p ++ more) ∷ others)
 Begin (p ∷ (r ∷ ps)) qs = (others : List (List ℕ)) × (qs ≡ p ∷ others) × Begin (r ∷ ps) others
 
--- so it is with one character more before them
+-- this stays true with one more character before them
 begin-first : (b : Bool) (c : ℕ) (qs : List (List ℕ)) → Begin ((c ∷ []) ∷ []) (put b c qs)
 begin-first true c qs = ([], qs, refl)
 begin-first false c [] = ([], [], refl)
@@ -45,7 +47,7 @@ begin-cut before (c ∷ (x ∷ xs)) ys =
     begin-put (is_grapheme_break true (c ∷ before) (x ∷ (xs ++ []))) c (cut (is_grapheme_break true) (c ∷ before) (x ∷ xs) [])
     (cut (is_grapheme_break true) (c ∷ before) (x ∷ (xs ++ ys)) []) (begin-cut (c ∷ before) (x ∷ xs) ys)
 
--- as bytes
+-- this is true for the pieces as bytes
 begin-bytes : (ps qs : List (List ℕ)) → Begin ps qs → Begin (map encode_utf8_all ps) (map encode_utf8_all qs)
 begin-bytes [] qs h = tt
 begin-bytes (p ∷ []) qs (more, others, same) =
@@ -58,9 +60,9 @@ begin-clusters front rest utf8 =
     subst (λ cs. Begin (clusters front) (map encode_utf8_all (cut (is_grapheme_break true) [] cs []))) (sym (chars-append front rest utf8))
     (begin-bytes _ _ (begin-cut [] (chars front) (chars rest)))
 
--- ---- one of them
+-- ---- a single piece
 
--- a piece of a front begins one of the whole, and is that piece where another follows it
+-- a piece of a prefix begins a piece of the whole, and is the same piece if another one follows it
 begin-at : (qs : List Text) (c : Text) (others ws : List Text) → Begin (qs ++ c ∷ others) ws
     → (more : Text) × (after : List Text) × (ws ≡ qs ++ (c ++ more) ∷ after) × (0 < length others → more ≡ [])
 begin-at [] c [] ws (more, after, same) = (more, after, same, λ some. absurd (omega (arith, some)))
@@ -70,12 +72,12 @@ begin-at (q ∷ []) c others ws (tail, same, rest) =
 begin-at (q ∷ (s ∷ qs)) c others ws (tail, same, rest) =
     let r = begin-at (s ∷ qs) c others tail rest in (r.0, r.1, same ∙ ap (λ t. q ∷ t) r.2, r.3)
 
--- where the first cluster of a front that is too wide is so in each text with this front, the head ends before it
+-- if the first cluster of a prefix that is too wide is too wide in each text with this prefix, the head ends before it
 module _ (k : ℕ) (front : Text) (at bytes beyond : ℕ) (utf8 : IsUtf8 front) (first : IsFirstWide k front at bytes beyond) where
   all : concat first.before ++ (first.cluster ++ concat first.others) ≡ front
   all = sym (concat-append first.before (first.cluster ∷ first.others)) ∙ sym (ap concat first.clusters_are) ∙ concat-segments (is_grapheme_break true) front utf8
 
-  -- the last cluster ends where the front does
+  -- the last cluster ends at the end of the prefix
   at-end : first.others ≡ [] → bytes ≡ length front - at
   at-end none =
       let long = sym (ap length all) ∙ length-append (concat first.before) (first.cluster ++ concat first.others) in

@@ -1,4 +1,4 @@
--- The visible text of whole characters is whole characters.
+-- The visible text of a text of whole characters is whole characters.
 use Rattle.std.proofs.Common.{◌≡◌, ◌⊎◌, inl, inr, ◌<◌, ◌≤◌, ℕ, zero, suc, ◌+◌, true, false, List, [], ◌∷◌, ◌++◌, length, drop, refl, sym, ap, ◌∙◌, subst, arith, length-append}
 use Rattle.std.specs.List.{slice_index}
 use Rattle.std.specs.Prelude.{if◌then◌else◌, encode_utf8, encode_utf8_all, IsUtf8}
@@ -16,14 +16,14 @@ use Rattle.comfy_parts.proofs.SequenceLemmas.{BeginsWithSequence, begins_with_se
 use Rattle.comfy_parts.proofs.FrontLemmas.{character-visible, parts-character}
 use Rattle.std.specs.List.{flat_map}
 
--- what stands after a sequence at the front
+-- the text after a sequence at the front
 pub past_sequence : (text : Text) (s : BeginsWithSequence text) (n : ℕ) → n ≡ length s.code + 3 → drop n text ≡ s.rest
 past_sequence text s n place =
     let front : Text = 0x1B ∷ 0x5B ∷ (s.code ++ (0x6D ∷ [])) in
     let whole : n ≡ length front = omega (arith, place, length-append s.code (0x6D ∷ [])) in
     ap (λ i. drop i text) whole ∙ front_rest text front s.rest (s.is ∙ ap (λ xs. 0x1B ∷ 0x5B ∷ xs) (sym (append_assoc s.code (0x6D ∷ []) s.rest)))
 
--- what stands after a sequence is whole characters
+-- the text after a sequence is whole characters
 rest_whole : (text : Text) (s : BeginsWithSequence text) → IsUtf8 text → IsUtf8 s.rest
 rest_whole text s utf8 =
     subst IsUtf8 (past_sequence text s (length s.code + 2 + 1) (omega arith))
@@ -40,15 +40,15 @@ rest_whole text s utf8 =
         let place : length s.code + 2 ≡ suc (suc (length s.code)) = omega arith in
         ap (slice_index text) place ∙ ap (λ (t : Text). slice_index t (suc (suc (length s.code)))) s.is ∙ slice_index_behind s.code 0x6D s.rest
 
--- of each text that isn't longer
+-- the visible text of each text of at most n bytes is whole characters
 abbrev WholeWithin : ℕ → Type 0
 WholeWithin fuel = (text : Text) → length text ≤ fuel → IsUtf8 text → IsUtf8 (visible_text text)
 
--- a character without a sequence at its place stays
+-- a character that begins no sequence is visible
 pub visible_character : (c : ℕ) (more : Text) → begins_with_sequence (encode_utf8 c ++ more) ≡ false → visible_text (encode_utf8 c ++ more) ≡ encode_utf8 c ++ visible_text more
 visible_character c more free = ap (flat_map visible_bytes) (parts-character c more free) ∙ character-visible c (parts more)
 
--- after a visible character
+-- the visible text with a character at its front
 behind_character : (fuel c : ℕ) (cs : List ℕ) (text : Text) → text ≡ encode_utf8 c ++ encode_utf8_all cs → all_scalars (c ∷ cs) ≡ true → begins_with_sequence text ≡ false → length text ≤ suc fuel → WholeWithin fuel → IsUtf8 (visible_text text)
 behind_character fuel c cs text is scalars free short rest =
     subst IsUtf8 (sym shown) (IsUtf8-append (encode_utf8 c) (visible_text more) first (rest more shorter (cs, ((and_parts (scalar_of c) (all_scalars cs) scalars).1, refl))))
@@ -82,18 +82,18 @@ whole_within (suc fuel) (b ∷ rest) short utf8 = by_front (front_of (b ∷ rest
     by_front (inr free) ([], (scalars, is)) more = absurd (let len = ap length is in omega (arith, len))
     by_front (inr free) (c ∷ cs, (scalars, is)) more = behind_character fuel c cs (b ∷ rest) (sym is) scalars free short more
 
--- the visible text of a text
+-- the visible text of every text of whole characters is whole characters
 pub visible_text-whole : (text : Text) → IsUtf8 text → IsUtf8 (visible_text text)
 visible_text-whole text utf8 = whole_within (length text) text (omega arith) utf8
 
--- ---- one part after another
+-- ---- part by part
 
--- without a sequence at the front the text doesn't begin with one
+-- if the length of the sequence at the front is 0, the text doesn't begin with a sequence
 pub none_at_front : (text : Text) → sequence_len text ≡ 0 → begins_with_sequence text ≡ false
 none_at_front text none =
     cond_both (begins_with_sequence text) _ _ (λ n. n ≡ 0 → begins_with_sequence text ≡ false) (λ _ len. absurd (omega (arith, len))) (λ free _. free) none
 
--- what stands after a sequence at the front
+-- the text after a sequence at the front
 pub record IsBehind (text rest : Text) : Type 0 where
   pub visible : visible_text text ≡ visible_text rest
   pub whole : IsUtf8 rest

@@ -1,4 +1,5 @@
--- A text with sequences that is a cell's only line is written as it is where each reset follows visible text and closes a sequence, and none is open at the end.
+-- A text that is a cell's only line is written unchanged if each reset in it follows visible text and closes a
+-- sequence, and none is open at its end.
 use Rattle.std.proofs.Common.{◌≡◌, ◌<◌, ◌≤◌, ◌⊎◌, inl, inr, ℕ, zero, suc, Bool, true, false, not, ◌==◌, ◌&&◌, List, [], ◌∷◌, ◌++◌, length, map, nat_le, zip, refl, sym, ap, ◌∙◌, subst, arith, append_assoc, append-nil, length-append}
 use Rattle.std.specs.List.{concat, flat_map}
 use Rattle.std.specs.Prelude.{if◌then◌else◌, bytes_eq}
@@ -14,17 +15,18 @@ use Rattle.comfy_parts.specs.Wrapping.{wrapped}
 use Rattle.comfy_parts.proofs.ScanLemmas.{AreScanned, bytes_of, scan}
 use Rattle.comfy_parts.proofs.WrittenLemmas.{line_text-written}
 
--- parts that follow visible text, or don't, where a sequence is open, or none: each reset follows visible text and closes a sequence, and none is open at the end
+-- true if each reset follows visible text and closes a sequence, and none is open at the end; the first two values are
+-- true if a sequence is open before the parts, and if they follow visible text
 abbrev pub closes_itself : Bool → Bool → List Part → Bool
 closes_itself is_open follows_visible [] = not is_open
 closes_itself is_open follows_visible (p ∷ ps) =
     if p.is_sequence then (if bytes_eq reset p.bytes then is_open && (follows_visible && closes_itself false false ps) else closes_itself true false ps) else closes_itself is_open true ps
 
--- how many bytes of some parts are visible
+-- the number of visible bytes of some parts
 abbrev visible_byte_count : List Part → ℕ
 visible_byte_count ps = length (flat_map visible_bytes ps)
 
--- whether one of these sequences is open
+-- true if one of these sequences is open
 abbrev is_open : List Text → Bool
 is_open ss = not (length ss == 0)
 
@@ -33,9 +35,9 @@ some_open ss s =
     let some : (length (ss ++ s ∷ []) == 0) ≡ false = grind (arith, nat_tests, length-append ss (s ∷ [])) in
     sym (ap not some)
 
--- ---- at a sequence
+-- ---- a sequence
 
--- one that is the reset, or another
+-- the sequence is the reset, or another one
 record IsReset (ss : List Text) (o follows : Bool) (s : Text) (ps : List Part) : Type 0 where
   is : reset ≡ s
   opens : opened_by ss (sequence_part s) ≡ []
@@ -57,15 +59,15 @@ at_sequence ss o follows s ps = by_reset (bytes_eq reset s) refl
         inl (record { is = (bytes_eq-Decides reset s).0 is; opens = ap (λ (b : Bool). if b then [] else ss ++ s ∷ []) is; closes = first.0; follows_visible = second.0; more = second.1 })
     by_reset false is closes = inr (record { opens = ap (λ (b : Bool). if b then [] else ss ++ s ∷ []) is; more = closes })
 
--- after visible bytes
+-- after visible bytes, a reset follows visible text
 pub closes-visible : (o follows : Bool) (bs : Text) (ps : List Part) → 0 < length bs → closes_itself o follows (map visible_part bs ++ ps) ≡ closes_itself o true ps
 closes-visible o follows [] ps some = absurd (omega (arith, some))
 closes-visible o follows (b ∷ []) ps some = refl
 closes-visible o follows (b ∷ c ∷ bs) ps some = closes-visible o true (c ∷ bs) ps (omega arith)
 
--- ---- where nothing more is visible
+-- ---- no more visible text
 
--- no part is left then, and no sequence is open
+-- then no part is left, and no sequence is open
 record AreNone (o : Bool) (ps : List Part) : Type 0 where
   empty : ps ≡ []
   closed : o ≡ false
@@ -83,13 +85,13 @@ none_left o (p ∷ ps) rest (inl part, more) none closes =
     by_kind (inl same) behind = absurd (true≢false (sym same.follows_visible))
     by_kind (inr other) behind = absurd (true≢false (behind other.more).closed)
 
--- ---- what is written
+-- ---- the written text
 
--- up to the last visible byte, and the reset that is needed then
+-- the bytes up to the n-th visible byte, and the reset that is needed after it
 abbrev shut : ℕ → List Text → List Part → Text
 shut n ss ps = bytes_of (parts_up_to n ps) ++ closing (opened ss (parts_up_to n ps))
 
--- that is all, where no sequence stands in front or it is known
+-- up to the last visible byte, these are all bytes of the parts
 all_shut : (ss : List Text) (o follows : Bool) (ps : List Part) (rest : Text) → AreScanned ps rest → o ≡ is_open ss → closes_itself o follows ps ≡ true → shut (visible_byte_count ps) ss ps ≡ bytes_of ps
 all_shut ss o follows [] rest scanned is closes = by_length (length ss == 0) (ap not (sym is) ∙ closes)
   where
@@ -127,7 +129,7 @@ all_shut ss o follows (p ∷ ps) rest (inl part, more) is closes =
         append_assoc p.bytes (bytes_of (parts_up_to (suc n) ps)) (closing (opened (opened_by ss q) (parts_up_to (suc n) ps)))
         ∙ ap (λ (t : Text). p.bytes ++ t) (subst (λ k. shut k (opened_by ss q) ps ≡ bytes_of ps) some (by_kind kind behind))
 
--- with the sequences in front
+-- the bytes with the sequences before the first visible byte
 abbrev resumed : List Text → List Part → Text
 resumed ss ps = concat (opened ss (parts_before 0 ps)) ++ shut (visible_byte_count ps) (opened ss (parts_before 0 ps)) (parts_from 0 ps)
 
@@ -152,7 +154,7 @@ all_resumed ss o (p ∷ ps) rest (inl part, more) is some closes =
         ∙ ap (λ (t : Text). t ++ bytes_of ps) (concat-append ss (s ∷ []) ∙ ap (λ (t : Text). concat ss ++ t) (append-nil s))
         ∙ append_assoc (concat ss) s (bytes_of ps)
 
--- the line of such a text
+-- a text that passes the test `closes_itself` is written unchanged
 pub written_whole : (text : Text) → closes_itself false false (parts text) ≡ true → line_text [] text 0 (length (visible_text text)) ≡ text
 written_whole text closes = sym (line_text-written [] text 0 (visible_byte_count ps)) ∙ by_count (visible_byte_count ps) refl ∙ (scan text).bytes
   where
@@ -167,7 +169,7 @@ written_whole text closes = sym (line_text-written [] text 0 (visible_byte_count
         ∙ ap (λ k. concat (opened [] (parts_before 0 ps)) ++ shut k (opened [] (parts_before 0 ps)) (parts_from 0 ps)) (sym some)
         ∙ all_resumed [] false ps [] (scan text).scanned refl (omega (arith, some)) closes
 
--- and of a cell of this text alone, where what is visible of it fits
+-- a cell of such a text alone is written unchanged, if its visible text fits
 pub line_of_whole : (w d : ℕ) (text : Text) → measure (visible_text text) ≤ w → line_text [] text 0 (length (visible_text text)) ≡ text → line_texts w d (text ∷ []) ≡ record { measured = visible_text text; written = text } ∷ []
 line_of_whole w d text fits whole =
     let visible = visible_text text in

@@ -1,4 +1,4 @@
--- An end that is wider than a line and one place shows that each longer end is wider than a line.
+-- A suffix that is at least two terminal columns too wide shows that each longer suffix is too wide.
 use Rattle.std.proofs.Common.{◌≡◌, ◌<◌, ◌≤◌, ◌++◌, ◌∙◌, ℕ, ◌+◌, ◌-◌, length, take, drop, sym, ap, ap₂, subst, arith, length-append, take-add, [], refl}
 use Rattle.std.proofs.Math.Seq.{drop-append-add, drop-append_seam, take-append_seam}
 use Rattle.std.proofs.lemmas.List.{append_assoc, take-append-drop}
@@ -21,37 +21,37 @@ wide-from w word a end joins utf8 wide front tail splits before behind long =
     let all = ap measure whole in
     omega (arith, most, all, wide)
 
--- so does what stands after a place in the word
+-- a suffix from a character boundary on shows this
 pub wide-end : (w at : ℕ) (word end : Text) → IsUtf8 word → IsCharBoundary word at → end ≡ drop at word → w + 1 < measure end → IsWideFrom w (length end) word
 wide-end w at word end utf8 boundary back wide =
     wide-from w word (take at word) end (sym (take-append-drop at word) ∙ ap (λ t. take at word ++ t) (sym back)) (subst IsUtf8 (sym back) (IsUtf8-drop word at utf8 boundary)) wide
 
--- what is wide from a number of bytes on stays so when its front is taken off
+-- a bound of wide suffixes holds for the word without a prefix too
 pub wide-behind : (w bytes : ℕ) (word front rest : Text) → word ≡ front ++ rest → IsUtf8 front → IsWideFrom w bytes word → IsWideFrom w bytes rest
 wide-behind w bytes word a rest joins utf8 wide front tail splits before behind long =
     wide (a ++ front) tail (joins ∙ ap (λ t. a ++ t) splits ∙ sym (append_assoc a front tail)) (IsUtf8-append a front utf8 before) behind long
 
--- it stays so for what is left of a text's first bytes after a place in them
+-- a bound of wide suffixes holds for the rest of a first element after a position in it
 pub rest-wide : (text : Text) (first end : ℕ) → IsUtf8 text → IsCharBoundary text end → end < first → (w bytes : ℕ) → IsWideFrom w bytes (take first text) → IsWideFrom w bytes (take (first - end) (drop end text))
 rest-wide text first end utf8 cut inside w bytes wide =
     let sum : first ≡ end + (first - end) = omega arith in
     let front : take first text ≡ take end text ++ take (first - end) (drop end text) = ap (λ n. take n text) sum ∙ take-add end (first - end) text in
     wide-behind w bytes (take first text) (take end text) (take (first - end) (drop end text)) front (IsUtf8-take text end utf8 cut) wide
 
--- no end of a word has more bytes than the word
+-- no suffix of a word has more bytes than the word
 pub none-wider : (w : ℕ) (word : Text) → IsWideFrom w (length word + 1) word
 none-wider w word front tail splits before behind long =
     let lengths = ap length splits ∙ length-append front tail in
     absurd (omega (arith, lengths, long))
 
--- a word of that many bytes is wider than a line
+-- a word with at least that many bytes is wider than a line
 pub known-wide : (w bytes : ℕ) (word : Text) → IsUtf8 word → IsWideFrom w bytes word → bytes ≤ length word → w < measure word
 known-wide w bytes word utf8 wide known = wide [] word refl IsUtf8-nil utf8 known
 
--- the first element of a text is its first bytes
+-- the first element of a text is a prefix of it
 pub first-is : (d : ℕ) (text first behind : Text) → IsFirstElement d text first behind → take (length first) text ≡ first
 first-is d text first behind is = ap (λ t. take (length first) t) (sym is.joined) ∙ take-append_seam first behind
 
--- what a word measures is exact
+-- the measure of a word is its exact width
 pub exact-columns : (w columns : ℕ) (word : Text) → columns ≡ measure word → AreColumnsUpTo w columns word
 exact-columns w columns word exact = record { fits = λ _. exact; wider = λ wide. omega (arith, exact, wide) }

@@ -1,4 +1,5 @@
--- The lines that a cursor writes: where they begin in a wrapped text, and that they are the texts of the lines of a cell.
+-- The lines that a cursor writes: their positions in a wrapped text, and a proof that they are the texts of the lines
+-- of a cell.
 use Rattle.std.proofs.Common.{◌≡◌, ◌<◌, ◌≤◌, ℕ, zero, suc, ◌+◌, ◌-◌, Bool, true, false, List, [], ◌∷◌, ◌++◌, length, map, take, drop, zip, replicate, refl, sym, ap, ap₂, ◌∙◌, subst, arith, append_assoc, append-nil, length-append, slice_index_or}
 use Rattle.std.specs.Char.{IsScalar}
 use Rattle.std.specs.List.{concat, flat_map}
@@ -19,7 +20,7 @@ use Rattle.comfy_parts.proofs.OpenLemmas.{open_after-again, opened-append}
 use Rattle.comfy_parts.proofs.StartLemmas.{IsLineCut, line-cut}
 use Rattle.comfy_parts.proofs.WrappingLemmas.{whole-past_gap, begins_with-delimiter, lines_past-delimiter, lines_past-gap, lines_past-line}
 
--- for the lines of text lines, where these sequences are open
+-- the texts for the lines of text lines, if the sequences ss are open before them
 abbrev pub written_past : ℕ → ℕ → List Text → List Text → List Text
 written_past w d ss [] = []
 written_past w d ss (text ∷ more) =
@@ -27,7 +28,7 @@ written_past w d ss (text ∷ more) =
 
 -- ---- positions of lines
 
--- a place so many bytes further on
+-- a position that is n bytes further on
 abbrev pub further : ℕ → ℕ × ℕ → ℕ × ℕ
 further n p = (n + p.0, p.1)
 
@@ -39,7 +40,7 @@ further-twice : (n k : ℕ) (positions : List (ℕ × ℕ)) → map (further n) 
 further-twice n k [] = refl
 further-twice n k (p ∷ ps) = grind (arith, further-twice n k ps)
 
--- lines that begin further on
+-- lines that begin n bytes further on
 zip-further : (n : ℕ) (starts lens : List ℕ) → zip (map (λ s. n + s) starts) lens ≡ map (further n) (zip starts lens)
 zip-further n [] lens = refl
 zip-further n (s ∷ ss) [] = refl
@@ -62,12 +63,12 @@ module _ (w d : ℕ) where
       elim (begins_with d (b ∷ rest)) as (λ t. (if t then [] else (n + place) ∷ []) ++ starts_past w d (n + place + 1) skip rest ≡ map (λ s. n + s) ((if t then [] else place ∷ []) ++ starts_past w d (place + 1) skip rest))
       [ true ↦ same | false ↦ ap (λ (xs : List ℕ). (n + place) ∷ xs) same ]
 
-  -- what is skipped begins no line
+  -- skipped bytes begin no line
   starts-skip : (place : ℕ) (xs ys : Text) → starts_past w d place (length xs) (xs ++ ys) ≡ starts_past w d (length xs + place) 0 ys
   starts-skip place [] ys = grind arith
   starts-skip place (x ∷ xs) ys = grind (arith, starts-skip (place + 1) xs ys)
 
-  -- a part at the front is passed at once
+  -- a part at the front is passed as a whole
   starts-part : (part rest : Text) (t : Bool) → 0 < length part → part_end w d (part ++ rest) ≡ length part → begins_with d (part ++ rest) ≡ t
       → starts_past w d 0 0 (part ++ rest) ≡ (if t then [] else 0 ∷ []) ++ map (λ s. length part + s) (starts_past w d 0 0 rest)
   starts-part [] rest t some ends begins = absurd (omega (arith, some))
@@ -77,7 +78,7 @@ module _ (w d : ℕ) where
       ap₂ (λ t n. (if t then [] else 0 ∷ []) ++ starts_past w d (0 + 1) n (bs ++ rest)) begins back
       ∙ ap (λ xs. (if t then [] else 0 ∷ []) ++ xs) (starts-skip (0 + 1) bs rest ∙ ap (λ m. starts_past w d m 0 rest) sum ∙ starts-further (suc (length bs)) 0 0 rest)
 
-  -- after a delimiter the lines begin further on
+  -- after a delimiter, the lines begin further on
   positions-delimiter : (rest : Text) → IsScalar d → wrapped_positions w d (encode_utf8 d ++ rest) ≡ map (further (length (encode_utf8 d))) (wrapped_positions w d rest)
   positions-delimiter rest scalar =
       let some = encode_utf8_nonempty d in
@@ -86,7 +87,7 @@ module _ (w d : ℕ) where
       ap₂ (λ starts (lines : List Text). zip starts (map length lines)) (starts-part (encode_utf8 d) rest true some ends begins) (lines_past-delimiter w d rest some begins)
       ∙ zip-further (length (encode_utf8 d)) (starts_past w d 0 0 rest) (map length (wrapped w d rest))
 
-  -- and so they do after a gap
+  -- after a gap, the lines begin further on
   positions-gap : (gap rest : Text) → IsScalar d → IsOnly d gap → wrapped_positions w d (gap ++ rest) ≡ map (further (length gap)) (wrapped_positions w d rest)
   positions-gap gap rest scalar (n, only) = subst (λ g. wrapped_positions w d (g ++ rest) ≡ map (further (length g)) (wrapped_positions w d rest)) (sym only) (delimiters n)
     where
@@ -100,7 +101,7 @@ module _ (w d : ℕ) where
           ∙ further-twice (length (encode_utf8 d)) (length more) (wrapped_positions w d rest)
           ∙ ap (λ m. map (further m) (wrapped_positions w d rest)) (sym (length-append (encode_utf8 d) more))
 
-  -- a line at the front begins there
+  -- a line at the front begins at 0
   positions-line : (line tail : Text) → 0 < length line → begins_with d (line ++ tail) ≡ false → length line ≡ line_end w d (line ++ tail)
       → wrapped_positions w d (line ++ tail) ≡ (0, length line) ∷ map (further (length line)) (wrapped_positions w d tail)
   positions-line line tail some begins ends =
@@ -108,9 +109,9 @@ module _ (w d : ℕ) where
       ap₂ (λ starts (lines : List Text). zip starts (map length lines)) (starts-part line tail false some part begins) (lines_past-line w d line tail some begins ends)
       ∙ ap (λ (ps : List (ℕ × ℕ)). (0, length line) ∷ ps) (zip-further (length line) (starts_past w d 0 0 tail) (map length (wrapped w d tail)))
 
--- ---- what is written at them
+-- ---- the texts that are written at these positions
 
--- from a cursor that stands further on
+-- a cursor further on writes the same texts at the nearer positions
 written-further : (n : ℕ) (old new : CursorValue) (positions : List (ℕ × ℕ)) → StandsAt new n old → written_at old (map (further n) positions) ≡ written_at new positions
 written-further n old new [] stands = refl
 written-further n old new (p ∷ ps) stands =
@@ -118,13 +119,14 @@ written-further n old new (p ∷ ps) stands =
     let same : at_byte (n + p.0) old ≡ at_byte p.0 new = sym (at_further n p.0 old) ∙ ap (at_byte p.0) (sym stands) ∙ at_further 0 p.0 new ∙ ap (λ k. at_byte k new) plain in
     ap₂ (λ c (ts : List Text). written p.1 c ∷ ts) same (written-further n old new ps stands)
 
--- a text with a line has bytes
+-- a text that has a line isn't empty
 some_bytes : (w d : ℕ) (line : Text) (behind : List Text) (text : Text) → line ∷ behind ≡ wrapped w d text → 0 < length text
 unfolding lines_past
 some_bytes w d line behind [] is = absurd (let len = ap length is in omega (arith, len))
 some_bytes w d line behind (b ∷ bs) is = omega arith
 
--- the first line of a wrapped text, with those after it, where a cursor stands before its gap and another after that
+-- the first line of a wrapped text and the lines after it, for a cursor before the gap of this line, and one after the
+-- gap
 pub record IsNextLine (w d : ℕ) (old mid : CursorValue) (line : Text) (behind : List Text) : Type 0 where
   pub whole : IsUtf8 (take (length line) (visible_ahead mid))
   pub rest_whole : IsUtf8 (drop (length line) (visible_ahead mid))
@@ -183,23 +185,23 @@ next_line w d old mid line behind scalar utf8 gap lines =
     halves : line ++ drop end visible ≡ visible
     halves = ap (λ t. t ++ drop end visible) first ∙ take-append-drop end visible
 
--- after the last line nothing is written
+-- after the last line, nothing is written
 pub written-none : (w d : ℕ) (c : CursorValue) (text : Text) → [] ≡ wrapped w d text → written_at c (wrapped_positions w d text) ≡ []
 written-none w d c text none =
     ap (λ (lines : List Text). written_at c (zip (starts_past w d 0 0 text) (map length lines))) (sym none) ∙ ap (written_at c) (zip-none (starts_past w d 0 0 text))
 
 -- ---- the texts of the lines of a cell
 
--- the sequences that are open after what a line takes
+-- the sequences that are open after the line's part of the text
 open-taken : (earlier : List Text) (text : Text) (start len : ℕ)
     → open_after (parts (concat (active earlier text start) ++ text_between text start len)) ≡ opened (active earlier text start) (parts_up_to len (parts_from start (parts text)))
 open-taken earlier text start len = grind (arith, parts-written, open_after-again, opened-append)
 
--- the text of a line is what a cursor writes that comes from its text line's front
+-- the text of a line is the text that a cursor from the front of its text line writes
 pub line_text-written : (earlier : List Text) (text : Text) (start len : ℕ) → written len (at_byte start (at (open_after (flat_map parts earlier)) (parts text))) ≡ line_text earlier text start len
 line_text-written earlier text start len = grind (arith, append_assoc, open-taken, opened-append)
 
--- so it is with all lines of a text line
+-- this is so for all lines of a text line
 text_lines-written : (w d : ℕ) (earlier : List Text) (text : Text)
     → written_of_text w d (at (open_after (flat_map parts earlier)) (parts text)) ≡ map (λ (line : CellLine). line.written) (line_texts_of_text w d earlier text)
 text_lines-written w d earlier text = each (starts_of_text w d (visible_text text)) (lines_of_text w d (visible_text text))
@@ -214,20 +216,20 @@ past-written : (w d : ℕ) (earlier texts : List Text) → written_past w d (ope
 past-written w d earlier [] = refl
 past-written w d earlier (text ∷ more) = grind (arith, text_lines-written, map-append, opened-append, append-nil, flat_map-append, past-written w d (earlier ++ text ∷ []) more)
 
--- what is written for the text lines of a cell is the text of each line
+-- the texts that are written for the text lines of a cell are the texts of its lines
 pub cell-written : (w d : ℕ) (texts : List Text) → written_past w d [] texts ≡ map (λ (line : CellLine). line.written) (line_texts w d texts)
 cell-written w d texts = past-written w d [] texts
 
 -- ---- text line by text line
 
--- the text at a place of a list
+-- the text at a position of a list
 pub text_at : {X : Type 0} (f : X → Text) (xs : List X) (place : ℕ) (x : X) → place < length xs → x ≡ slice_index_or xs place x → slice_index_or (map f xs) place [] ≡ f x
 text_at f xs place x below is = get_or-map f xs place x [] below ∙ ap f (sym is)
 
 as_many : {X : Type 0} (f : X → Text) (texts visibles : List X) → map f visibles ≡ map visible_text (map f texts) → length visibles ≡ length texts
 as_many f texts visibles same = grind (arith, length-map)
 
--- what is visible of a text line is the text at the same position of those
+-- the visible text of a text line is the text at the same position of the list of visible texts
 pub visible_at : {X : Type 0} (f : X → Text) (texts visibles : List X) (place : ℕ) (text visible : X) → map f visibles ≡ map visible_text (map f texts) → place < length texts
     → text ≡ slice_index_or texts place text → visible ≡ slice_index_or visibles place visible → f visible ≡ visible_text (f text)
 visible_at f texts visibles place text visible same below is is' =
@@ -236,7 +238,7 @@ visible_at f texts visibles place text visible same below is is' =
     ∙ get_or-map visible_text (map f texts) place [] [] (omega (arith, length-map texts f, below))
     ∙ ap visible_text (text_at f texts place text below is)
 
--- and its measure is kept there
+-- its measure is at the same position of the list of widths
 pub width_at : {X : Type 0} (f : X → Text) (texts visibles : List X) (widths : List ℕ) (place : ℕ) (visible : X) → map f visibles ≡ map visible_text (map f texts) → widths ≡ map measure (map f visibles)
     → place < length texts → visible ≡ slice_index_or visibles place visible → slice_index_or widths place 0 ≡ measure (f visible)
 width_at f texts visibles widths place visible same measured below is =
@@ -244,12 +246,12 @@ width_at f texts visibles widths place visible same measured below is =
     ∙ get_or-map measure (map f visibles) place [] 0 (omega (arith, length-map visibles f, as_many f texts visibles same, below))
     ∙ ap measure (text_at f visibles place visible (omega (arith, as_many f texts visibles same, below)) is)
 
--- a text line more is written
+-- one more text line is written
 pub next_text : (w d : ℕ) (texts done more : List Text) (place : ℕ) (text : Text) (old mid new : CursorValue) → place < length texts → slice_index_or texts place [] ≡ text
     → mid ≡ at (open_at_end old) (parts text) → more ≡ done ++ written_of_text w d mid → open_at_end new ≡ open_at_end mid
     → more ++ written_past w d (open_at_end new) (drop (place + 1) texts) ≡ done ++ written_past w d (open_at_end old) (drop place texts)
 next_text w d texts done more place text old mid new below is begins writes stays = grind (arith, append_assoc, drop_more)
 
--- after the last one nothing is
+-- after the last text line, nothing is written
 pub texts_written : (w d : ℕ) (texts done : List Text) (place : ℕ) (ss : List Text) → length texts ≤ place → done ++ written_past w d ss (drop place texts) ≡ done
 texts_written w d texts done place ss past = grind (arith, drop_all, append-nil)

@@ -1,4 +1,4 @@
--- Which borders a style draws: those of which any of its six lines has a character.
+-- Borders and vertical lines. A style draws one if any of its six lines has a character for it.
 -- Source: has_left_border, has_right_border and has_vertical_lines of comfy-table 8.0.1.
 use Rattle.std.specs.Prelude.{ℕ, Bool, List, [], ◌∷◌, Option, is_some}
 use Rattle.std.specs.List.{list_any}
@@ -10,13 +10,13 @@ left_characters style =
     style.top_border.left ∷ style.header_lines.left ∷ style.header_separator.left
     ∷ style.content_lines.left ∷ style.row_separator.left ∷ style.bottom_border.left ∷ []
 
--- their right characters
+-- the right characters of the six lines of a style
 abbrev pub right_characters : TableStyle → List (Option ℕ)
 right_characters style =
     style.top_border.right ∷ style.header_lines.right ∷ style.header_separator.right
     ∷ style.content_lines.right ∷ style.row_separator.right ∷ style.bottom_border.right ∷ []
 
--- their junctions
+-- the junctions of the six lines of a style
 abbrev pub junction_characters : TableStyle → List (Option ℕ)
 junction_characters style =
     style.top_border.junction ∷ style.header_lines.junction ∷ style.header_separator.junction

@@ -1,5 +1,5 @@
--- What `==` and a hash read of a cell: its value. They are std's tests and writes of the fields, in
--- order, and so have their laws.
+-- Equality and hashes of cells: both read the value of a cell. They are the tests and writes of
+-- `std` for its fields, in order, and have the laws of these.
 -- Source: the derived PartialEq, Eq and Hash of Cell of comfy-table 8.0.1.
 use Rattle.std.specs.Prelude.{◌≡◌, ◌&&◌, ◌++◌, pos, Bool, true, Option, Some, None, nat_eq}
 use Rattle.std.specs.Cmp.{IsEquivalence, and_equiv, on_equiv, nat_eq_equiv, unsigned_Decides}
@@ -16,7 +16,7 @@ use Rattle.comfy_parts.specs.contracts.style.cell.CellAlignmentHash.TheImpl.Laws
 use Rattle.comfy_parts.specs.contracts.style.color.ColorEq.TheImpl.Laws as color_equiv
 use Rattle.comfy_parts.specs.contracts.style.color.ColorHash.TheImpl.Laws as color_alike
 
--- what `==` returns for two cells
+-- the result of `==` for two cells
 abbrev pub cell_eq : CellValue → CellValue → Bool
 cell_eq a b =
     pointwise (pointwise nat_eq) a.text_lines b.text_lines
@@ -26,7 +26,7 @@ cell_eq a b =
     && option_eq color_eq a.background b.background
     && pointwise attribute_eq a.attributes b.attributes
 
--- what a hash is fed of a cell
+-- the writes of a cell to a hasher
 abbrev pub cell_hash : CellValue → fed.HashWrites
 cell_hash c =
     fed.slice fed.str c.text_lines
@@ -53,7 +53,7 @@ cell_eq_equiv =
     (and_equiv (and_equiv (and_equiv (and_equiv text_lines delimiter) alignment) foreground)
     background) attributes
 
--- options are fed alike where what they hold is
+-- if equal values have equal writes, so have equal options of them
 options_alike : {K : Type 0} {E : K → K → Bool} {F : K → fed.HashWrites} → EqHashesAlike E F
     → fed.Alike (option_eq E) (fed.option F)
 options_alike {K} {E} {F} alike = record { fed = by_case }

@@ -1,4 +1,4 @@
--- What cells, rows, columns and drawn columns are, as values.
+-- The values of cells, rows, columns, and columns as they are drawn.
 -- Source: Cell, Row, Column and ColumnDisplayInfo of comfy-table 8.0.1.
 use Rattle.std.specs.Prelude.{ℕ, ℤ, ◌+◌, ◌-◌, Bool, true, false, not, List, [], ◌∷◌, ◌++◌, Option, Some, None, map, filter, length, max, min, codes, decimal, encode_utf8, if◌then◌else◌, ◌≡◌, ◌<◌, ◌≤◌, ◌==◌, All, IfSome, IsUtf8}
 use Rattle.std.specs.Char.{IsScalar}
@@ -20,32 +20,32 @@ pub record CellValue : Type 0 where
   pub background : Option Color
   pub attributes : List Attribute
 
--- at least one text line, none holds a line feed, and each is whole characters
+-- at least one text line, each in whole characters and without a line feed
 pub record HasTextLines (text_lines : List Text) : Type 0 where
   pub some_line : 0 < length text_lines
   pub no_breaks : All (λ (line : Text). list_any (λ b. b == 0x0A) line ≡ false) text_lines
   pub whole : All IsUtf8 text_lines
 
--- a delimiter, where one is set, is a character
+-- a delimiter that is set is a character
 abbrev pub IsDelimiter : Option ℕ → Type 0
 IsDelimiter delimiter = IfSome delimiter IsScalar
 
--- what every cell keeps
+-- the invariant of a cell
 pub record IsCell (cell : CellValue) : Type 0 where
   pub text_lines : HasTextLines cell.text_lines
   pub delimiter : IsDelimiter cell.delimiter
 
--- a row: its cells, and the greatest height of its cells, at least 1
+-- a row: its cells, and the greatest number of lines that are drawn of each, at least 1
 pub record RowValue : Type 0 where
   pub cells : List CellValue
   pub max_height : Option ℕ
 
--- what every row keeps: its cells do, and its greatest height is at least 1
+-- the invariant of a row: each cell keeps its own, and a greatest height is at least 1
 pub record IsRow (row : RowValue) : Type 0 where
   pub cells : All IsCell row.cells
   pub some_height : IfSome row.max_height (λ h. 1 ≤ h)
 
--- a column: its settings, and a label that nothing looks at
+-- a column: its settings, and a label that no function reads
 pub record ColumnValue : Type 0 where
   pub padding : ℕ × ℕ
   pub delimiter : Option ℕ
@@ -53,12 +53,12 @@ pub record ColumnValue : Type 0 where
   pub constraint : Option ColumnConstraint
   pub index : ℕ
 
--- what every column keeps
+-- the invariant of a column
 abbrev pub IsColumn : ColumnValue → Type 0
 IsColumn column = IsDelimiter column.delimiter
 
--- what a row is drawn by in one column: the column's settings, the width of its content, and
--- whether it is hidden
+-- a column as it is drawn: its settings, the width of its content in terminal columns, and true if
+-- it is hidden
 pub record ColumnInfo : Type 0 where
   pub padding : ℕ × ℕ
   pub delimiter : Option ℕ
@@ -66,7 +66,8 @@ pub record ColumnInfo : Type 0 where
   pub content_width : ℕ
   pub is_hidden : Bool
 
--- a cell of this text and without settings: its text lines are what stands between the line feeds
+-- a cell of this text, without settings: its text lines are the pieces of the text between line
+-- feeds
 abbrev pub plain_cell : Text → CellValue
 plain_cell text =
     record {
@@ -78,11 +79,11 @@ plain_cell text =
       attributes = [];
     }
 
--- the cell of a whole number: what `Display` writes
+-- the cell of a whole number, as `Display` writes it
 abbrev pub number_cell : ℕ → CellValue
 number_cell n = plain_cell (decimal n)
 
--- the cell of a number with a sign: what `Display` writes
+-- the cell of a number with a sign, as `Display` writes it
 abbrev pub signed_cell : ℤ → CellValue
 signed_cell z = plain_cell (signed_decimal z)
 
@@ -94,7 +95,7 @@ bool_cell b = plain_cell (if b then codes "true" else codes "false")
 abbrev pub char_cell : ℕ → CellValue
 char_cell c = plain_cell (encode_utf8 c)
 
--- the whole text of a cell: its text lines, joined by line feeds
+-- the text of a cell: its text lines, joined by line feeds
 abbrev pub content_of : CellValue → Text
 content_of cell = join_with_byte 0x0A cell.text_lines
 
@@ -121,30 +122,30 @@ new_column index =
       index = index;
     }
 
--- default columns are appended until there are n
+-- columns, with new ones appended until there are at least n
 abbrev pub columns_grown_to : ℕ → List ColumnValue → List ColumnValue
 columns_grown_to n columns =
     columns ++ map new_column (range_with_len (length columns) (n - length columns))
 
--- the columns are as many as before or n, whichever is more
+-- the grown list has as many columns as before, or n if that is more
 abbrev pub NoFewerColumns : ℕ → List ColumnValue → Type 0
 NoFewerColumns n columns = length (columns_grown_to n columns) ≡ max n (length columns)
 
--- the constraint is that the column is hidden
+-- true if the constraint hides the column
 abbrev pub is_hidden_constraint : Option ColumnConstraint → Bool
 is_hidden_constraint (Some Hidden) = true
 is_hidden_constraint _ = false
 
--- the column is hidden
+-- true if the column is hidden
 abbrev pub is_hidden_column : ColumnValue → Bool
 is_hidden_column column = is_hidden_constraint column.constraint
 
--- how many of these columns are visible
+-- the number of shown columns among these
 abbrev pub shown_among : List ColumnValue → ℕ
 shown_among columns =
     length (filter (λ (column : ColumnValue). not (is_hidden_column column)) columns)
 
--- a column drawn with this content width, at least 1
+-- a column as it is drawn with this content width, at least 1
 abbrev pub info_of : ColumnValue → ℕ → ColumnInfo
 info_of column width =
     record {
@@ -155,14 +156,14 @@ info_of column width =
       is_hidden = is_hidden_column column;
     }
 
--- the whole width of a drawn column: its content and its paddings
+-- the whole width of a drawn column in terminal columns: its content and both paddings
 abbrev pub info_width : ColumnInfo → ℕ
 info_width info = info.padding.0 + info.content_width + info.padding.1
 
--- both paddings of a column together
+-- the sum of both paddings of a column
 abbrev pub column_padding : ColumnValue → ℕ
 column_padding column = column.padding.0 + column.padding.1
 
--- both paddings as `padding_width` returns them: at most 65535
+-- the sum of both paddings, at most 65535, as `padding_width` returns it
 abbrev pub saturated_padding : ColumnValue → ℕ
 saturated_padding column = min 65535 (column_padding column)

@@ -1,5 +1,4 @@
--- What `==`, the order and a hash read of attributes, alignments and colours, and what the
--- comparisons promise.
+-- Equality, order and hashes of attributes, alignments and colours, and the laws of comparisons.
 -- Source: the derived traits of Attribute, Color and CellAlignment of comfy-table 8.0.1.
 use Rattle.std.specs.Prelude.{◌≡◌, ◌↔◌, ◌&&◌, ℕ, Bool, true, List, [], ◌∷◌}
 use Rattle.std.specs.Hash.{HashWrites}
@@ -24,11 +23,11 @@ use Rattle.comfy_parts.specs.contracts.style.color.ColorHash.TheImpl as of_color
 abbrev pub attribute_eq : Attribute → Attribute → Bool
 attribute_eq = (of_attribute_eq.ghosts).eq
 
--- their order
+-- the order of attributes
 abbrev pub attribute_cmp : Attribute → Attribute → Ordering
 attribute_cmp = (of_attribute_ord.ghosts).cmp
 
--- what a hash is fed of an attribute
+-- the writes of an attribute to a hasher
 abbrev pub attribute_hash : Attribute → HashWrites
 attribute_hash = (of_attribute_hash.ghosts).hash_input
 
@@ -36,7 +35,7 @@ attribute_hash = (of_attribute_hash.ghosts).hash_input
 abbrev pub alignment_eq : CellAlignment → CellAlignment → Bool
 alignment_eq = (of_alignment_eq.ghosts).eq
 
--- what a hash is fed of an alignment
+-- the writes of an alignment to a hasher
 abbrev pub alignment_hash : CellAlignment → HashWrites
 alignment_hash = (of_alignment_hash.ghosts).hash_input
 
@@ -44,15 +43,15 @@ alignment_hash = (of_alignment_hash.ghosts).hash_input
 abbrev pub color_eq : Color → Color → Bool
 color_eq = (of_color_eq.ghosts).eq
 
--- their order
+-- the order of colours
 abbrev pub color_cmp : Color → Color → Ordering
 color_cmp = (of_color_ord.ghosts).cmp
 
--- what a hash is fed of a colour
+-- the writes of a colour to a hasher
 abbrev pub color_hash : Color → HashWrites
 color_hash = (of_color_hash.ghosts).hash_input
 
--- `==` holds exactly of values that are the same
+-- `==` returns true exactly for values that are the same
 abbrev pub EqIsSame : {K : Type 0} → (K → K → Bool) → Type 0
 EqIsSame {K} eq = (a b : K) → (eq a b ≡ true) ↔ (a ≡ b)
 
@@ -60,16 +59,16 @@ EqIsSame {K} eq = (a b : K) → (eq a b ≡ true) ↔ (a ≡ b)
 abbrev pub EqualIsSame : {K : Type 0} → (K → K → Ordering) → Type 0
 EqualIsSame {K} cmp = (a b : K) → (cmp a b ≡ Equal) ↔ (a ≡ b)
 
--- equal values are hashed alike
+-- equal values have equal writes to a hasher
 abbrev pub EqHashesAlike : {K : Type 0} → (K → K → Bool) → (K → HashWrites) → Type 0
 EqHashesAlike {K} eq hash_input = (a b : K) → eq a b ≡ true → hash_input a ≡ hash_input b
 
--- each of some values is less than the next
+-- each value of the list is less than the next one
 abbrev pub ascends : {K : Type 0} → (K → K → Ordering) → List K → Bool
 ascends cmp (x ∷ y ∷ more) = is_lt (cmp x y) && ascends cmp (y ∷ more)
 ascends cmp _ = true
 
--- the attributes, from the least
+-- the attributes, from the least to the greatest
 abbrev pub attributes_in_order : List Attribute
 attributes_in_order =
     attribute.Reset ∷ attribute.Bold ∷ attribute.Dim ∷ attribute.Italic ∷ attribute.Underlined
@@ -84,7 +83,8 @@ attributes_in_order =
     ∷ attribute.Encircled ∷ attribute.OverLined ∷ attribute.NotFramedOrEncircled
     ∷ attribute.NotOverLined ∷ []
 
--- the colours, from the least: those without parts, one by its parts, and one by its number
+-- the colours, from the least to the greatest: the named ones, one given by its parts, and one by
+-- its number
 abbrev pub colors_in_order : ℕ → ℕ → ℕ → ℕ → List Color
 colors_in_order r g b v =
     color.Reset ∷ color.Black ∷ color.DarkGrey ∷ color.Red ∷ color.DarkRed ∷ color.Green

@@ -1,5 +1,5 @@
--- Private: a cursor over the parts of a cell's text lines: what it passes, and the sequences that
--- are open where it stands.
+-- Private: a cursor over the parts of a cell's text lines, the parts that it passes, and the
+-- sequences that are open at its position.
 -- Source: this library's own.
 use Rattle.std.specs.Prelude.{◌≡◌, ◌<◌, ℕ, zero, suc, Bool, true, false, Option, None, Some, List, [], ◌∷◌, ◌++◌, map, length, flat_map, encode_utf8, if◌then◌else◌}
 use Rattle.comfy_parts.specs.Text.{Text, IsOnly, begins_with}
@@ -26,14 +26,14 @@ abbrev pub begins_with_sequence : List Part → Bool
 begins_with_sequence [] = false
 begins_with_sequence (p ∷ ps) = p.is_sequence
 
--- what follows the n-th visible byte
+-- the parts after the n-th visible byte
 abbrev pub parts_behind : ℕ → List Part → List Part
 parts_behind zero ps = ps
 parts_behind (suc n) [] = []
 parts_behind (suc n) (p ∷ ps) = parts_behind (if p.is_sequence then suc n else n) ps
 
--- a call of an iterator over parts gave a sequence, or visible bytes, or nothing where no part was
--- left
+-- a call of an iterator over parts returned a sequence, or visible bytes, or `None` because no part
+-- was left
 abbrev pub GivesPart : List Part → Option TextPart → List Part → Type 0
 GivesPart old None new = (old ≡ []) × (new ≡ [])
 GivesPart old (Some (Sequence s)) new = old ≡ sequence_part s.now ∷ new
@@ -41,31 +41,30 @@ GivesPart old (Some (Visible t)) new = (old ≡ map visible_part t.now ++ new) �
 
 -- ---- a cursor
 
--- a cursor in a text line of a cell: the sequences that are open there, and the parts that come
--- next
+-- a cursor in a text line of a cell: the sequences that are open there, and the parts after it
 pub record CursorValue : Type 0 where
   pub sequences : List Text
   pub ahead : List Part
 
--- what is visible of the parts that come next
+-- the visible text after a cursor
 abbrev pub visible_ahead : CursorValue → Text
 visible_ahead c = flat_map visible_bytes c.ahead
 
--- the cursor after the first of these parts, which come next
+-- a cursor after the first of these parts, which follow it
 abbrev pub stepped : CursorValue → List Part → CursorValue
 stepped c [] = c
 stepped c (p ∷ ps) = record { sequences = opened_by c.sequences p; ahead = ps }
 
--- the cursor after the next part where that is a sequence
+-- a cursor after the next part if that is a sequence, and otherwise unchanged
 abbrev pub past_sequence : CursorValue → CursorValue
 past_sequence c = if begins_with_sequence c.ahead then stepped c c.ahead else c
 
--- before the visible byte at n of what comes, after the sequences there
+-- the cursor moved to the visible byte at n after it, with the sequences before that byte passed
 abbrev pub at_byte : ℕ → CursorValue → CursorValue
 at_byte n c =
     record { sequences = opened c.sequences (parts_before n c.ahead); ahead = parts_from n c.ahead }
 
--- after the n-th visible byte, before the sequences there
+-- the cursor moved past n visible bytes, with the sequences after the last of them not yet passed
 abbrev pub behind_bytes : ℕ → CursorValue → CursorValue
 behind_bytes n c =
     record {
@@ -73,20 +72,21 @@ behind_bytes n c =
       ahead = parts_behind n c.ahead;
     }
 
--- the bytes up to there
+-- the bytes that a cursor passes on its way past n visible bytes
 abbrev pub bytes_up_to : ℕ → CursorValue → Text
 bytes_up_to n c = flat_map (λ (p : Part). p.bytes) (parts_up_to n c.ahead)
 
--- the sequences that are open at the text line's end
+-- the sequences that are open at the end of the text line
 abbrev pub open_at_end : CursorValue → List Text
 open_at_end c = opened c.sequences c.ahead
 
--- the first cursor stands at the visible byte at n of what comes after the second, apart from
--- sequences there
+-- the first cursor is at the visible byte at n after the second one, up to sequences before that
+-- byte
 abbrev pub StandsAt : CursorValue → ℕ → CursorValue → Type 0
 StandsAt new n old = at_byte 0 new ≡ at_byte n old
 
--- only delimiters are visible between two cursors, and something else, or nothing, after the second
+-- the visible text between two cursors is only delimiters, and the visible text after the second
+-- one doesn't begin with a delimiter
 pub record IsBehindGap (d : ℕ) (old new : CursorValue) : Type 0 where
   pub gap : Text
   pub only : IsOnly d gap

@@ -1,21 +1,21 @@
--- Private: an element at a text's front, and what follows it.
+-- Private: an element at the front of a text, and the text after it.
 -- Source: this library's own.
 use Rattle.std.specs.Prelude.{◌≡◌, ◌⊎◌, ℕ, ◌+◌, ◌<◌, ◌≤◌, List, [], ◌∷◌, ◌++◌, length, take, drop, sum_by, false, encode_utf8, IsUtf8, ◌*◌}
 use Rattle.std.specs.List.{concat}
 use Rattle.std.specs.Str.{IsCharBoundary}
 use Rattle.comfy_parts.specs.Text.{Text, measure, clusters, head, elements, begins_with}
 
--- what follows an element: a delimiter and a text of these elements, or nothing where there are
+-- the text after an element: a delimiter and a text of the elements es, or nothing if there are
 -- none
 abbrev pub Follow : ℕ → List Text → Text → Type 0
 Follow d [] rest = rest ≡ []
 Follow d (e ∷ es) rest = (more : Text) × (rest ≡ encode_utf8 d ++ more) × (elements d more ≡ e ∷ es)
 
--- nothing stands after an element, or a delimiter
+-- the text after an element is empty, or begins with a delimiter
 abbrev pub EndsElement : ℕ → Text → Type 0
 EndsElement d behind = (behind ≡ []) ⊎ ((more : Text) × (behind ≡ encode_utf8 d ++ more))
 
--- the first element of a text, and what follows it, both in whole characters
+-- the first element of a text, and the text after it, both in whole characters
 pub record IsFirstElement (d : ℕ) (text first behind : Text) : Type 0 where
   pub others : List Text
   pub elements_are : elements d text ≡ first ∷ others
@@ -24,27 +24,28 @@ pub record IsFirstElement (d : ℕ) (text first behind : Text) : Type 0 where
   pub whole_first : IsUtf8 first
   pub whole_behind : IsUtf8 behind
 
--- the first element of a text takes so many terminal columns, and this follows it
+-- the first element of a text takes `columns` terminal columns, and is followed by `behind`
 pub record IsSummed (d : ℕ) (text behind : Text) (columns : ℕ) : Type 0 where
   pub word : Text
   pub element : IsFirstElement d text word behind
   pub columns_are : columns ≡ measure word
   pub bound : columns ≤ 2 * length word
 
--- each end of a word that has at least so many bytes is wider than w terminal columns
+-- each suffix of a word with at least `bytes` bytes is wider than w terminal columns
 abbrev pub IsWideFrom : ℕ → ℕ → Text → Type 0
 IsWideFrom w bytes word =
     (front tail : Text) → word ≡ front ++ tail → IsUtf8 front → IsUtf8 tail → bytes ≤ length tail
     → w < measure tail
 
--- the terminal columns of a word: exact where they are at most w, and otherwise the word is wider
--- than w
+-- the width of a word in terminal columns if it is at most w, and otherwise any number greater than
+-- w
 pub record AreColumnsUpTo (w columns : ℕ) (word : Text) : Type 0 where
   pub fits : columns ≤ w → columns ≡ measure word
   pub wider : w < columns → w < measure word
 
--- a text at the first character of a line of w terminal columns: its first element has so many
--- bytes and columns, and each of its ends with at least `shown` bytes is wider than the line
+-- a text that begins a line of w terminal columns: its first element has `first` bytes and takes
+-- `columns` terminal columns, and each suffix of it with at least `shown` bytes is wider than the
+-- line
 pub record IsAtLine (w d : ℕ) (text : Text) (first columns shown : ℕ) : Type 0 where
   pub narrow : w ≤ 65535
   pub whole : IsUtf8 text
@@ -54,7 +55,7 @@ pub record IsAtLine (w d : ℕ) (text : Text) (first columns shown : ℕ) : Type
   pub columns_are : AreColumnsUpTo w columns (take first text)
   pub wide_from : IsWideFrom w shown (take first text)
 
--- a text with so many bytes at its end that begin with an element of so many bytes and terminal
+-- the last `left` bytes of a text begin with an element of `first` bytes and `columns` terminal
 -- columns
 pub record IsMeasured (d : ℕ) (text : Text) (left first columns : ℕ) : Type 0 where
   pub front : Text
@@ -65,28 +66,28 @@ pub record IsMeasured (d : ℕ) (text : Text) (left first columns : ℕ) : Type 
   pub element : IsFirstElement d others (take first others) (drop first others)
   pub columns_are : columns ≡ measure (take first others)
 
--- a text that ends with this one has so many bytes at its end, as above
+-- the last `left` bytes of a longer text, which ends with this one, begin with such an element
 abbrev pub IsMeasuredBehind : ℕ → Text → ℕ → ℕ → ℕ → Type 0
 IsMeasuredBehind d text left first columns =
     (whole : Text) × (before : Text) × (whole ≡ before ++ text)
     × IsMeasured d whole left first columns
 
--- behind every text this one adds the terminal columns from the first number to the second
+-- after every text this one adds `to - from` terminal columns
 abbrev pub FillsTo : ℕ → ℕ → Text → Type 0
 FillsTo from to text =
     (front : Text) → IsUtf8 front → measure (front ++ text) + from ≡ measure front + to
 
--- a text ends with another
+-- the first text ends with the second one
 abbrev pub EndsWith : Text → Text → Type 0
 EndsWith text end = (front : Text) × (text ≡ front ++ end)
 
--- the head of a text for k terminal columns is its first bytes, so many
+-- the head of a text for k terminal columns is its first `bytes` bytes
 pub record EndsHead (k : ℕ) (text : Text) (bytes : ℕ) : Type 0 where
   pub boundary : IsCharBoundary text bytes
   pub head_is : take bytes text ≡ head k text
 
--- the first cluster of a text that has no room in k terminal columns after those before it: where
--- it begins, its bytes, and by how many columns it is too wide
+-- the first cluster that has no room in k terminal columns after the clusters before it: its
+-- position, its bytes, and the terminal columns by which it is too wide
 pub record IsFirstWide (k : ℕ) (text : Text) (at bytes beyond : ℕ) : Type 0 where
   pub before : List Text
   pub cluster : Text

@@ -1,4 +1,4 @@
--- Private: what the library's lists and iterators give: the laws of their impls.
+-- Private: the laws of the lists and iterators that implement `Items`.
 -- Source: this library's own.
 use Rattle.std.specs.Prelude.{◌≡◌, ⊤, ℕ, zero, suc, List, [], ◌∷◌, Option, Some, None, length}
 use Rattle.std.specs.Array.Iter.{array_into_iter_items, array_steps}
@@ -20,7 +20,7 @@ abbrev others : {A : Type 0} → List A → List A
 others [] = []
 others (x ∷ xs) = xs
 
--- an iterator that shows the list of what is left gives that list
+-- an iterator that has a list of the items to come returns the items of this list
 pub gives_rest :
     {S A : Type 0} (steps : S → Option A → S → Type 0) (rest : S → List A)
     (none : (s t : S) → steps s None t → length (rest s) ≡ 0)

@@ -1,5 +1,5 @@
--- The thirteen presets. A part of a style is written as its characters: left, fill, junction and
--- right of a frame line, left, junction and right of a content line; `_` is one that isn't set.
+-- The thirteen presets. A line of a style is written as its characters: left, fill, junction and
+-- right of a frame line; left, junction and right of a content line. `_` is a missing character.
 -- Source: style::presets of comfy-table 8.0.1.
 use Rattle.std.specs.Prelude.{ℕ, ◌==◌, List, [], ◌∷◌, Option, Some, None, option_map, find, slice_get, slice_index, codes, bytes_eq, if◌then◌else◌}
 use Prim.Native.String.{String}
@@ -8,7 +8,7 @@ use Rattle.comfy_parts.specs.declared.style.table_style.ContentLineStyle.{Conten
 use Rattle.comfy_parts.specs.declared.style.table_style.LineStyle.{LineStyle}
 use Rattle.comfy_parts.specs.declared.style.table_style.TableStyle.{TableStyle}
 
--- a part of a line; `_` is one that isn't set
+-- a character of a line; `_` is a missing one
 abbrev pub part : ℕ → Option ℕ
 part c = if c == 0x5F then None else Some c
 
@@ -51,11 +51,12 @@ ascii_full = style_of "+-++" "|||" "+==+" "|||" "|-+|" "+-++"
 abbrev pub ascii_full_condensed : TableStyle
 ascii_full_condensed = style_of "+-++" "|||" "+==+" "|||" "____" "+-++"
 
--- no outer borders
+-- `ascii_full` without outer borders
 abbrev pub ascii_no_borders : TableStyle
 ascii_no_borders = style_of "____" "_|_" "_==_" "_|_" "_-+_" "____"
 
--- outer borders, and no vertical lines inside
+-- outer borders and the header's separator, without vertical lines inside, and with a line of
+-- spaces between rows
 abbrev pub ascii_borders_only : TableStyle
 ascii_borders_only = style_of "+--+" "|_|" "+==+" "|_|" "|__|" "+--+"
 
@@ -63,15 +64,15 @@ ascii_borders_only = style_of "+--+" "|_|" "+==+" "|_|" "|__|" "+--+"
 abbrev pub ascii_borders_only_condensed : TableStyle
 ascii_borders_only_condensed = style_of "+--+" "|_|" "+==+" "|_|" "____" "+--+"
 
--- horizontal lines alone
+-- only horizontal lines
 abbrev pub ascii_horizontal_only : TableStyle
 ascii_horizontal_only = style_of "_--_" "___" "_==_" "___" "_--_" "_--_"
 
--- a table of Markdown
+-- a Markdown table
 abbrev pub ascii_markdown : TableStyle
 ascii_markdown = style_of "____" "|||" "|-||" "|||" "____" "____"
 
--- all borders, drawn with box characters
+-- all borders, of box characters
 abbrev pub utf8_full : TableStyle
 utf8_full = style_of "┌─┬┐" "│┆│" "╞═╪╡" "│┆│" "├╌┼┤" "└─┴┘"
 
@@ -79,7 +80,7 @@ utf8_full = style_of "┌─┬┐" "│┆│" "╞═╪╡" "│┆│" "├�
 abbrev pub utf8_full_condensed : TableStyle
 utf8_full_condensed = style_of "┌─┬┐" "│┆│" "╞═╪╡" "│┆│" "____" "└─┴┘"
 
--- box characters without outer borders
+-- `utf8_full` without outer borders
 abbrev pub utf8_no_borders : TableStyle
 utf8_no_borders = style_of "____" "_┆_" "_═╪_" "_┆_" "_╌┼_" "____"
 
@@ -87,7 +88,7 @@ utf8_no_borders = style_of "____" "_┆_" "_═╪_" "_┆_" "_╌┼_" "____"
 abbrev pub utf8_borders_only : TableStyle
 utf8_borders_only = style_of "┌──┐" "│_│" "╞══╡" "│_│" "____" "└──┘"
 
--- horizontal lines of box characters alone
+-- only horizontal lines, of box characters
 abbrev pub utf8_horizontal_only : TableStyle
 utf8_horizontal_only = style_of "_──_" "___" "_══_" "___" "_──_" "_──_"
 
@@ -95,7 +96,7 @@ utf8_horizontal_only = style_of "_──_" "___" "_══_" "___" "_──_" "_�
 abbrev pub nothing : TableStyle
 nothing = style_of "____" "___" "____" "___" "____" "____"
 
--- the presets by their names, in the order of their positions
+-- the presets with their names, in the order of their positions
 abbrev pub named_presets : List (Text × TableStyle)
 named_presets =
     (codes "ASCII_FULL", ascii_full)
@@ -113,14 +114,14 @@ named_presets =
     ∷ (codes "NOTHING", nothing)
     ∷ []
 
--- what stands beside a word in a table
+-- the value next to a word in a list of pairs; `None` if the list doesn't have the word
 abbrev pub beside : {A : Type 0} → List (Text × A) → Text → Option A
 beside table word = option_map (λ entry. entry.1) (find (λ entry. bytes_eq word entry.0) table)
 
--- the preset of this name
+-- the preset of this name; `None` if no preset has it
 abbrev pub preset_named : Text → Option TableStyle
 preset_named = beside named_presets
 
--- the preset at this position of them, counted from 0
+-- the preset at this position, counted from 0; `None` at a greater position
 abbrev pub preset_at : ℕ → Option TableStyle
 preset_at position = option_map (λ entry. entry.1) (slice_get named_presets position)

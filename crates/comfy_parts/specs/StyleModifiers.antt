@@ -1,9 +1,9 @@
--- The two modifiers of a style: each sets some characters, and nothing else.
+-- The two modifiers of a style. Each sets some characters, and changes no other.
 -- Source: with_rounded_corners and with_solid_inner_borders of comfy-table 8.0.1.
 use Rattle.std.specs.Prelude.{◌≡◌, Some}
 use Rattle.comfy_parts.specs.declared.style.table_style.TableStyle.{TableStyle}
 
--- the ends of the top and the bottom border are round: U+256D and U+256E, U+2570 and U+256F
+-- the corners of the top and bottom borders are round: U+256D and U+256E, U+2570 and U+256F
 abbrev pub with_rounded_corners : TableStyle → TableStyle
 with_rounded_corners style =
     record style {
@@ -20,12 +20,12 @@ with_solid_inner_borders style =
       row_separator = record style.row_separator { fill = Some 0x2500 };
     }
 
--- corners that are rounded twice are rounded once
+-- a second rounding changes nothing
 abbrev pub RoundingTwiceIsOnce : TableStyle → Type 0
 RoundingTwiceIsOnce style =
     with_rounded_corners (with_rounded_corners style) ≡ with_rounded_corners style
 
--- inner borders that are made solid twice are made so once
+-- making inner borders solid a second time changes nothing
 abbrev pub SolidTwiceIsOnce : TableStyle → Type 0
 SolidTwiceIsOnce style =
     with_solid_inner_borders (with_solid_inner_borders style) ≡ with_solid_inner_borders style

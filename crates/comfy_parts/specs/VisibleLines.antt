@@ -1,18 +1,19 @@
--- The lines of a cell whose text holds SGR sequences: what is visible of it decides where lines
--- end, and each line resumes and closes the sequences of its part of the cell.
+-- The lines of a cell whose text has sequences. The visible text decides the ends of lines. Each
+-- line begins with the sequences that are open at its start, and closes those that are open at its
+-- end.
 -- Source: this library's own, in place of custom_styling of comfy-table 8.0.1.
 use Rattle.std.specs.Prelude.{ℕ, zero, suc, ◌+◌, ◌-◌, List, [], ◌∷◌, ◌++◌, map, length, nat_le, zip, if◌then◌else◌}
 use Rattle.comfy_parts.specs.Text.{Text, measure, begins_with}
 use Rattle.comfy_parts.specs.VisibleText.{visible_text, line_text}
 use Rattle.comfy_parts.specs.Wrapping.{lines_of_text, part_end}
 
--- a line of a cell: what is measured of it, and cut, and what is written
+-- a line of a cell: its visible text, which is measured and cut, and its text as it is written
 pub record CellLine : Type 0 where
   pub measured : Text
   pub written : Text
 
--- where a line of a cell begins: in a text line of it, which has earlier ones before it, at this
--- visible byte
+-- the start of a line of a cell: the text lines before its own, its text line, and the position of
+-- its first visible byte there
 pub record LineStart : Type 0 where
   pub earlier : List Text
   pub text : Text
@@ -20,7 +21,7 @@ pub record LineStart : Type 0 where
 
 -- the positions at which the lines of a text begin
 module _ (w d : ℕ) where
-  -- those after the first `skip` bytes, which begin at position `at`
+  -- the positions after the first `skip` bytes of a text whose front is at position `at`
   abbrev pub starts_past : ℕ → ℕ → Text → List ℕ
   starts_past at skip [] = []
   starts_past at zero (b ∷ rest) =
@@ -40,7 +41,7 @@ line_texts_of_text w d earlier text =
       written = line_text earlier text p.0 (length p.1);
     }) (zip (starts_of_text w d (visible_text text)) (lines_of_text w d (visible_text text)))
 
--- the lines of text lines that follow earlier ones: their sequences stay active
+-- the lines of text lines that follow earlier ones, whose open sequences stay open
 abbrev pub line_texts_past : ℕ → ℕ → List Text → List Text → List CellLine
 line_texts_past w d earlier [] = []
 line_texts_past w d earlier (text ∷ more) =
@@ -50,13 +51,13 @@ line_texts_past w d earlier (text ∷ more) =
 abbrev pub line_texts : ℕ → ℕ → List Text → List CellLine
 line_texts w d text_lines = line_texts_past w d [] text_lines
 
--- where the lines of text lines begin that follow earlier ones
+-- the starts of the lines of text lines that follow earlier ones
 abbrev pub line_starts_past : ℕ → ℕ → List Text → List Text → List LineStart
 line_starts_past w d earlier [] = []
 line_starts_past w d earlier (text ∷ more) =
     map (λ (at : ℕ). record { earlier = earlier; text = text; at = at })
     (starts_of_text w d (visible_text text)) ++ line_starts_past w d (earlier ++ text ∷ []) more
 
--- where the lines of all text lines of a cell begin
+-- the starts of the lines of all text lines of a cell
 abbrev pub line_starts : ℕ → ℕ → List Text → List LineStart
 line_starts w d text_lines = line_starts_past w d [] text_lines

@@ -16,7 +16,7 @@ use std::fmt::{self, Display};
 use std::hash::{Hash, Hasher};
 use std::marker::Model;
 
-/// One cell of a table. It has at least one text line, and no text line holds a line feed.
+/// One cell of a table. It has at least one text line, and no text line contains a line feed.
 ///
 /// ```
 /// let cell = Cell::new(alloc, "rent")?
@@ -32,8 +32,9 @@ pub struct Cell {
     background: Option<Color>,
 }
 
-// A derived drop is opened at each `?` after which a caller owns the value, one by hand is a call
-// there. So types that callers own have one by hand, where it makes their checks shorter.
+// The proof of a caller opens a derived drop at each `?` after which the caller owns the value. A
+// drop that is written by hand is only a call there. So types that callers own have a drop of their
+// own if it makes proofs of callers shorter.
 impl Drop for Cell {
     fn drop(self) {
         let Cell {
@@ -65,9 +66,13 @@ impl Model for Cell {
 }
 
 impl Cell {
-    /// The cell of the text that `content` prints: its text lines are what is between the line
-    /// feeds. After running out of memory `content` is dropped. An error of its own `Display` is
-    /// returned as `OutOfMemory` too.
+    /// Makes a cell of the text that `content` prints. Its text lines are the pieces of this text
+    /// between the line feeds.
+    ///
+    /// # Errors
+    ///
+    /// `OutOfMemory` if memory runs out, or if the `Display` of `content` returns an error. Then
+    /// `content` is dropped.
     ///
     /// ```
     /// let cells = [Cell::new(alloc, "rent")?, Cell::new(alloc, 1200)?];
@@ -81,8 +86,10 @@ impl Cell {
         Cell::new_owned(alloc, content.to_string(alloc)?)
     }
 
-    /// The cell of a text: its text lines are what is between the line feeds. A text without
-    /// one keeps its `String`, and takes no further memory.
+    /// Makes a cell of a text. Its text lines are the pieces of the text between the line feeds. A
+    /// text without line feeds and without ESC keeps its `String`, and takes no further memory.
+    ///
+    /// The only error is `OutOfMemory`. Then the text is dropped.
     pub fn new_owned(alloc: Global, text: String) -> Result<Cell>
         ensures value { IfOk result (λ cell. cell ≡ plain_cell (string_bytes text)) }
         ensures content { IfOk result (λ cell. content_of cell ≡ string_bytes text) }
@@ -91,7 +98,7 @@ impl Cell {
         Ok(Cell::of_lines(alloc, text_lines, None))
     }
 
-    // The cell of text lines, with this alignment and no other setting.
+    // A cell with these text lines, this alignment and no other setting.
     fn of_lines(alloc: Global, text_lines: TextLines, alignment: Option<CellAlignment>) -> Cell
         requires has_text_lines { HasTextLines text_lines }
         ensures { result ≡ record (plain_cell []) {
@@ -109,14 +116,14 @@ impl Cell {
         }
     }
 
-    /// The text of the cell: its text lines, joined by line feeds.
+    /// The text of the cell: its text lines, joined by line feeds. The only error is `OutOfMemory`.
     pub fn content(&self) -> Result<String>
         ensures { IfOk result (λ text. string_bytes text ≡ content_of self.now) }
     {
         Ok(self.text_lines().join(*self.attributes.allocator(), "\n")?)
     }
 
-    /// The text lines, in order.
+    /// The text lines in order, with their sequences.
     pub fn text_lines(&self) -> &[String]
         ensures value { map string_bytes result.now ≡ self.now.text_lines }
         ensures is_cell { IsCell self.now }
@@ -124,8 +131,8 @@ impl Cell {
         self.text_lines.raw().0
     }
 
-    /// Sets the character at which the cell's texts may break, whatever its column and its table
-    /// have.
+    /// Sets the character at which the cell's texts may break. It comes before the delimiters of
+    /// the column and of the table.
     pub fn set_delimiter(mut self, delimiter: char) -> Cell
         ensures { result ≡ record self { delimiter = Some delimiter } }
     {
@@ -133,7 +140,7 @@ impl Cell {
         self
     }
 
-    /// Sets where the cell's texts are, whatever its column has.
+    /// Sets the alignment of the cell's lines. It comes before the alignment of the column.
     pub fn set_alignment(mut self, alignment: CellAlignment) -> Cell
         ensures { result ≡ record self { alignment = Some alignment } }
     {
@@ -163,8 +170,8 @@ impl Cell {
         self
     }
 
-    /// Adds an attribute after those that the cell has. Attributes are written once each, in a
-    /// fixed order, however often they were added. After running out of memory the cell is dropped.
+    /// Adds an attribute after the attributes that the cell has. Each attribute is written once, in
+    /// a fixed order, even if it was added several times. After `OutOfMemory` the cell is dropped.
     ///
     /// ```
     /// let cell = Cell::new(alloc, "Sum")?.add_attribute(Attribute::Bold)?;
@@ -177,8 +184,8 @@ impl Cell {
         self.with_attributes(&[attribute])
     }
 
-    /// Adds attributes in their order, as `add_attribute` adds one. After running out of memory the
-    /// cell is dropped.
+    /// Adds attributes in their order, each as `add_attribute` does. After `OutOfMemory` the cell
+    /// is dropped.
     pub fn add_attributes(self, attributes: Vec<Attribute>) -> Result<Cell>
         ensures { IfOk result (λ cell. cell ≡ record self {
           attributes = self.attributes ++ attributes.items;
@@ -187,7 +194,7 @@ impl Cell {
         self.with_attributes(attributes.as_slice())
     }
 
-    // The cell with attributes after those that it has.
+    // Appends attributes to the list of the cell.
     fn with_attributes(mut self, attributes: &[Attribute]) -> Result<Cell>
         ensures { IfOk result (λ cell. cell ≡ record self {
           attributes = self.attributes ++ attributes.now;
@@ -197,36 +204,36 @@ impl Cell {
         Ok(self)
     }
 
-    /// The character at which the cell's texts may break; none where its column's or its table's is
-    /// taken.
+    /// The character at which the cell's texts may break. `None` if the delimiter of the column or
+    /// of the table applies.
     pub fn cell_delimiter(&self) -> Option<char>
         ensures { result ≡ self.now.delimiter }
     {
         self.delimiter
     }
 
-    /// Where the cell's texts are; none where its column's alignment is taken.
+    /// The alignment of the cell's lines. `None` if the alignment of the column applies.
     pub fn cell_alignment(&self) -> Option<CellAlignment>
         ensures { result ≡ self.now.alignment }
     {
         self.alignment
     }
 
-    /// The colour of the text; none if none is set.
+    /// The colour of the text. `None` if it isn't set.
     pub fn foreground(&self) -> Option<Color>
         ensures { result ≡ self.now.foreground }
     {
         self.foreground
     }
 
-    /// The background colour; none if none is set.
+    /// The background colour. `None` if it isn't set.
     pub fn background(&self) -> Option<Color>
         ensures { result ≡ self.now.background }
     {
         self.background
     }
 
-    /// The attributes, in the order in which they were added.
+    /// The attributes, in the order in which they were added, with repetitions.
     pub fn attributes(&self) -> &[Attribute]
         ensures { result.now ≡ self.now.attributes }
     {
@@ -247,7 +254,7 @@ impl fmt::Debug for Cell {
     }
 }
 
-// A copy has the same value, in memory of its own.
+// A copy has the same value, in its own memory.
 impl Clone for Cell {
     ghost is_clone = { λ source copy. copy ≡ source };
 
@@ -263,8 +270,8 @@ impl Clone for Cell {
     }
 }
 
-// Two cells are equal where their values are. The widths that are kept beside the text lines follow
-// from these.
+// Two cells are equal if their values are. Stored widths and visible texts aren't compared, because
+// they follow from the text lines.
 impl PartialEq for Cell {
     ghost eq = { cell_eq };
 

@@ -18,7 +18,8 @@ use std::marker::Model;
 /// ```
 #[derive(Clone, Debug, Drop)]
 pub struct Column {
-    /// A label, which nothing reads. Only the position in the table's list of columns counts.
+    /// A label for the caller. No function reads it: only the position in the table's list of
+    /// columns counts.
     pub index: usize,
     padding: (u16, u16),
     delimiter: Option<char>,
@@ -64,14 +65,15 @@ impl Column {
         }
     }
 
-    /// The terminal columns left free to the left and to the right of the contents, in this order.
+    /// The terminal columns left free on the left and on the right of the content, in this order.
     pub fn padding(&self) -> (u16, u16)
         ensures { result ≡ self.now.padding }
     {
         self.padding
     }
 
-    /// The character at which the texts of the column may break; none where the table's is taken.
+    /// The character at which the texts of the column may break. `None` if the delimiter of the
+    /// table applies.
     pub fn column_delimiter(&self) -> Option<char>
         ensures value { result ≡ self.now.delimiter }
         ensures is_column { IsColumn self.now }
@@ -79,35 +81,37 @@ impl Column {
         self.delimiter
     }
 
-    /// Where the texts of the column are; none where they are at the left.
+    /// The alignment of the column's lines. If it is `None`, they are left-aligned.
     pub fn column_alignment(&self) -> Option<CellAlignment>
         ensures { result ≡ self.now.alignment }
     {
         self.alignment
     }
 
-    /// The same by the name of its setter, `set_cell_alignment`.
+    /// The alignment of the column's lines, as `column_alignment` returns it. This name goes with
+    /// the setter `set_cell_alignment`.
     pub fn cell_alignment(&self) -> Option<CellAlignment>
         ensures { result ≡ self.now.alignment }
     {
         self.alignment
     }
 
-    /// The constraint on the column's width; none where its content alone decides.
+    /// The constraint on the column's width. `None` if only the content and the arrangement decide
+    /// the width.
     pub fn constraint(&self) -> Option<&ColumnConstraint>
         ensures { option_copied result ≡ self.now.constraint }
     {
         self.constraint.as_ref()
     }
 
-    /// Whether the column isn't drawn.
+    /// Returns true if the column isn't drawn.
     pub fn is_hidden(&self) -> bool
         ensures { result ≡ is_hidden_column self.now }
     {
         matches!(self.constraint, Some(ColumnConstraint::Hidden))
     }
 
-    /// Sets the terminal columns left free to the left and to the right of the contents, in this
+    /// Sets the terminal columns left free on the left and on the right of the content, in this
     /// order.
     pub fn set_padding(&mut self, padding: (u16, u16)) -> &mut Self
         ensures same_reference { result.ghost_name ≡ self.entry.ghost_name }
@@ -117,7 +121,7 @@ impl Column {
         self
     }
 
-    /// Both paddings together in terminal columns, 65535 if there are more.
+    /// The sum of both paddings in terminal columns, at most 65535.
     pub fn padding_width(&self) -> u16
         ensures { result ≡ saturated_padding self.now }
     {
@@ -125,8 +129,8 @@ impl Column {
         left.saturating_add(right)
     }
 
-    /// Sets the character at which the texts of the column may break, unless a cell has one of its
-    /// own.
+    /// Sets the character at which the texts of the column may break. A cell's own delimiter comes
+    /// before it.
     pub fn set_delimiter(&mut self, delimiter: char) -> &mut Self
         ensures same_reference { result.ghost_name ≡ self.entry.ghost_name }
         ensures value { result.now ≡ record self.old { delimiter = Some delimiter } }
@@ -135,7 +139,7 @@ impl Column {
         self
     }
 
-    /// Sets the constraint on the column's width, in place of an earlier one.
+    /// Sets the constraint on the column's width. It replaces an earlier constraint.
     ///
     /// ```
     /// column.set_constraint(ColumnConstraint::Absolute(Width::Percentage(33)));
@@ -148,7 +152,7 @@ impl Column {
         self
     }
 
-    /// Removes the constraint on the column's width, and with it whether the column is hidden.
+    /// Removes the constraint on the column's width. A hidden column is shown again.
     pub fn remove_constraint(&mut self) -> &mut Self
         ensures same_reference { result.ghost_name ≡ self.entry.ghost_name }
         ensures value { result.now ≡ record self.old { constraint = None } }
@@ -157,7 +161,7 @@ impl Column {
         self
     }
 
-    /// Sets where the texts of the column are, unless a cell has an alignment of its own.
+    /// Sets the alignment of the column's lines. A cell's own alignment comes before it.
     ///
     /// ```
     /// column.set_cell_alignment(CellAlignment::Right);

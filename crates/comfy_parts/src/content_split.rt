@@ -1,4 +1,4 @@
-//! The cutting of texts: what they measure, their heads, and the lines that they are wrapped into.
+//! The cutting of texts: their measures, their heads, and the lines that they are wrapped into.
 
 ghost use Rattle.std.specs.Prelude.{◌≡◌, [], map, IfOk, IsOk, string_bytes};
 ghost use Rattle.comfy_parts.specs.Text.{elements};
@@ -31,7 +31,8 @@ use std::alloc::Global;
 pub use width::measure_text_width;
 pub(crate) use width::{joined_columns, summed_columns};
 
-/// What is between the delimiters of a line, in order and empty parts too.
+/// Splits a line at its delimiters. The parts are in order, and empty ones are kept. The only error
+/// is `OutOfMemory`.
 pub fn split_line_by_delimiter(alloc: Global, line: &str, delimiter: char) -> Result<Vec<&str>>
     ensures { IfOk result (λ v. map (λ x. x.now) v.items ≡ elements delimiter line.now) }
 {
@@ -45,9 +46,9 @@ pub fn split_line_by_delimiter(alloc: Global, line: &str, delimiter: char) -> Re
     Ok(parts)
 }
 
-/// Wraps a line into lines of the column's content width. Each begins at the first character that
-/// is no delimiter, and only delimiters are left out. It is right for every width, 0 too, and for
-/// every text and delimiter.
+/// Wraps a line into lines of the column's content width. Each line begins at the first character
+/// that isn't a delimiter, and only delimiters are left out. This holds for every text and
+/// delimiter, and for every width including 0. The only error is `OutOfMemory`.
 pub fn split_line(
     alloc: Global,
     line: &str,
@@ -66,7 +67,8 @@ pub fn split_line(
     Ok(lines)
 }
 
-/// The lines of `split_line`, borrowed from the text. A text that gives no line takes no memory.
+/// The lines of `split_line`, borrowed from the text. The only error is `OutOfMemory`, and a text
+/// without lines never gives it.
 pub fn split_line_ref<'a>(
     alloc: Global,
     line: &'a str,

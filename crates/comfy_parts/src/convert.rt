@@ -1,4 +1,4 @@
-//! What cells, lists of cells, and rows can be made of.
+//! The values that cells, lists of cells, and rows can be made of.
 
 ghost use Rattle.std.specs.Prelude.{◌≡◌, [], ◌∷◌, ◌++◌, IfOk, List, map, string_bytes};
 ghost use Rattle.comfy_parts.specs.CellValue.{CellValue, RowValue, bool_cell, char_cell, plain_cell, plain_row};
@@ -24,14 +24,14 @@ pub trait IntoCell: Drop {
     // the cell that the value represents
     ghost cell_of: { Self → CellValue };
 
-    /// Makes the cell. After running out of memory the value is dropped.
+    /// Makes the cell. After `OutOfMemory` the value is dropped.
     fn into_cell(self, alloc: Global) -> Result<Cell>
         ensures { IfOk result (λ cell. cell ≡ cell_of self) };
 }
 
 /// A list that cells can be made of: `Cells`, or a `Vec`, an array, or a tuple of two to eight
-/// values that a cell can be made of. A borrowed `Vec`, array or slice is such a list where its
-/// items are `Copy`, as `&str` and numbers are.
+/// values that a cell can be made of. A borrowed `Vec`, array or slice is such a list if its items
+/// are `Copy`, as `&str` and numbers are.
 ///
 /// ```
 /// let open = Cell::new(alloc, "open")?.fg(Color::Green);
@@ -41,7 +41,7 @@ pub trait IntoCells: Drop {
     // the cells that the value represents
     ghost cells_of: { Self → List CellValue };
 
-    /// Makes the cells, in the order of the list. After running out of memory the list is dropped.
+    /// Makes the cells, in the order of the list. After `OutOfMemory` the list is dropped.
     fn into_cells(self, alloc: Global) -> Result<Cells>
         ensures { IfOk result (λ cells. cells.0.items ≡ cells_of self) };
 }
@@ -55,17 +55,17 @@ pub trait IntoRow: Drop {
     // the row that the value represents
     ghost row_of: { Self → RowValue };
 
-    /// Makes the row. After running out of memory the value is dropped.
+    /// Makes the row. After `OutOfMemory` the value is dropped.
     fn into_row(self, alloc: Global) -> Result<Row>
         ensures { IfOk result (λ row. row ≡ row_of self) };
 }
 
-/// Cells in order, that are not a row yet.
+/// Cells in order, which aren't a row yet.
 #[derive(Debug, Drop)]
 pub struct Cells(pub Vec<Cell>);
 
 impl Cells {
-    // These cells, and one more at their end.
+    // Appends the cell of one more value. After `OutOfMemory` all cells are dropped.
     fn with<T: IntoCell>(self, alloc: Global, last: T) -> Result<Cells>
         ensures { IfOk result (λ cells. cells.0.items ≡ self.0.items ++ T.cell_of last ∷ []) }
     {

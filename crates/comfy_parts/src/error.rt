@@ -6,7 +6,7 @@ ghost use Rattle.comfy_parts.specs.declared.error.TableError.TheVariants.{OutOfM
 use std::alloc::{AllocError, AllocFailed};
 use thiserror::Error;
 
-/// Why a cell, a row, a table or a drawing couldn't be made.
+/// The reason why a cell, a row, a table or a drawing couldn't be made.
 ///
 /// ```
 /// if let Err(TableError::OutOfMemory) = table.try_add_row(["17", "dock 3"]) {
@@ -15,8 +15,8 @@ use thiserror::Error;
 /// ```
 #[derive(Clone, Copy, Debug, PartialEq, Eq, Error)]
 pub enum TableError {
-    /// A request for memory was refused. `Cell::new` also returns this for an error of its value's
-    /// own `Display`.
+    /// A request for memory was refused. `Cell::new` also returns this if the `Display` of its
+    /// value returns an error.
     #[error("out of memory")]
     OutOfMemory,
 }
@@ -37,6 +37,6 @@ impl<T: Drop> From<AllocFailed<T>> for TableError {
     }
 }
 
-/// The result of a call that takes memory. With another error it is std's: `use comfy_table::*`
-/// takes no `Result` away.
+/// The result of a call that takes memory. With a second parameter it is the `Result` of `std`, so
+/// that `use comfy_table::*` doesn't hide that one.
 pub type Result<T, E = TableError> = std::result::Result<T, E>;

@@ -1,8 +1,8 @@
 //! The parts of a table: styles, cells, rows, columns, and the cutting of texts into lines.
 //!
 //! The functions of `laws`, and `presets_are_as_tabled`, have empty bodies and do nothing when they
-//! run. A clause has to be on a function to be proved, and a caller's proof gains it by a call:
-//! theirs are laws that no other call carries.
+//! run. They exist because a clause can be proved only on a function, and another proof gets the
+//! clause by a call of that function. Their clauses are laws that no other function has.
 #![tactic(auto)]
 
 pub mod cell;

@@ -1,4 +1,4 @@
-//! Texts that come in pieces, so that they needn't be whole in memory.
+//! Texts that come in pieces, so that the whole text needn't be in memory.
 
 ghost use Rattle.std.specs.Prelude.{◌≡◌, ◌<◌, [], List, ℕ, Bool, true, false, IfOk, OnErr, length, string_bytes};
 ghost use Rattle.comfy_parts.specs.TextPieces.{IsNextPiece, text_left};
@@ -7,14 +7,15 @@ use std::alloc::{AllocError, Global};
 
 /// A text that comes in pieces.
 pub trait Pieces {
-    // the bytes of the pieces that are still to come
+    // the bytes of all pieces that are still to come, joined
     ghost rest: { Self → List ℕ };
 
-    // whether these are whole in memory, so that no call asks for any
+    // true if the whole rest is in memory, so that `next_piece` takes no memory and can't fail
     ghost is_whole: { Bool };
 
-    /// The next piece, which isn't empty, or `None` after the last one. After an error nothing is
-    /// left: each further call returns `None`.
+    /// Returns the next piece, which isn't empty, or `None` after the last one. An error comes only
+    /// before the end of the text. After an error nothing is left: each further call returns
+    /// `None`.
     fn next_piece(&mut self) -> Result<Option<String>, AllocError>
         ensures next { IfOk result (IsNextPiece (rest self.old) (rest self.new)) }
         ensures refused { OnErr result (is_whole ≡ false) }
@@ -22,7 +23,7 @@ pub trait Pieces {
         ensures after { OnErr result (rest self.new ≡ []) };
 }
 
-// A text that is whole in memory: one piece, and none if it is empty.
+// A text that is in memory as a whole: one piece, or no piece if it is empty.
 impl Pieces for Option<String> {
     ghost rest = { text_left };
 
@@ -33,7 +34,7 @@ impl Pieces for Option<String> {
     }
 }
 
-/// All that is still to come, as one text.
+/// Joins all pieces that are still to come. The only error is that memory runs out.
 pub fn joined<P: Pieces + Drop>(alloc: Global, mut pieces: P) -> Result<String, AllocError>
     ensures { IfOk result (λ text. string_bytes text ≡ P.rest pieces) }
 {

@@ -1,4 +1,4 @@
-//! A row: its cells, and how many lines of each are drawn at the most.
+//! A row: its cells, and the greatest number of lines that are drawn of each cell.
 
 ghost use Rattle.std.specs.Prelude.{◌≡◌, ◌≤◌, IfOk, IfSome, OnOk, OnErr, length, []};
 ghost use Rattle.std.specs.Borrow.{sem};
@@ -16,7 +16,7 @@ use std::alloc::{AllocError, Global};
 use std::marker::Model;
 use std::slice;
 
-/// One row of a table: its cells, and how many lines of each are drawn at the most.
+/// One row of a table: its cells, and the greatest number of lines that are drawn of each cell.
 ///
 /// ```
 /// let mut row = Row::new(alloc);
@@ -57,7 +57,7 @@ impl Row {
         Row::from_cells(Cells(Vec::new(alloc)))
     }
 
-    // The row of some cells.
+    // A row with these cells and no greatest height.
     pub(crate) fn from_cells(cells: Cells) -> Row
         ensures { result ≡ plain_row cells.0.items }
     {
@@ -70,7 +70,7 @@ impl Row {
     }
 
     /// Appends a cell, and returns the row for further calls. After `OutOfMemory` the row is
-    /// unchanged and the cell is dropped; a caller's own proof can use that of `try_add_cell` only.
+    /// unchanged and the cell is dropped. Proofs of callers can use this only after `try_add_cell`.
     pub fn add_cell(&mut self, cell: Cell) -> Result<&mut Self>
         ensures* err { sem 𝓛 (RowStaysIfErr self.entry result) }
         ensures same_reference { IfOk result (λ row. row.ghost_name ≡ self.entry.ghost_name) }
@@ -79,7 +79,8 @@ impl Row {
         into_reference(self.with_cell_added(cell))
     }
 
-    // `add_cell`, with the reference in a struct: so its clause on `OutOfMemory` can be proved.
+    // Does what `add_cell` does, and returns the reference in a struct. The clause `err` can be
+    // proved only with the struct.
     fn with_cell_added(&mut self, cell: Cell) -> Result<RowReference<'_>>
         ensures* err { sem 𝓛 (RowStaysIfErr self.entry (reference_of result)) }
         ensures same_reference { IfOk (reference_of result)
@@ -90,22 +91,21 @@ impl Row {
         Ok(RowReference { row: self })
     }
 
-    /// Appends a cell, for callers that go on with the row after `OutOfMemory`: then it is
-    /// unchanged and the cell is dropped, and the caller's own proof can use that.
+    /// Appends a cell, for callers that still need the row after `OutOfMemory`. Then the row is
+    /// unchanged and the cell is dropped, and proofs of callers can use this.
     pub fn try_add_cell(&mut self, cell: Cell) -> Result<()>
         ensures ok { OnOk result (self.new ≡ with_cell cell self.old) }
         ensures err { OnErr result (self.new ≡ self.old) }
     {
-        // Read for the clause `is_cell` alone: a cell that was looked at is known to keep what
-        // every cell keeps.
+        // Proof only: the clause `is_cell` of `text_lines` shows that the cell keeps its invariant.
         let _ = cell.text_lines();
         self.cells.push(cell)?;
         Ok(())
     }
 
-    /// Sets how many lines of each cell are drawn at the most; 0 counts as 1. Of a cell with more
-    /// lines the first ones are drawn, and the last of these ends with the table's truncation
-    /// indicator, unless that is wider than the column.
+    /// Sets the greatest number of lines that are drawn of each cell; 0 counts as 1. If a cell has
+    /// more lines, only the first ones are drawn. The last of these ends with the table's
+    /// truncation indicator, unless the indicator is wider than the column.
     ///
     /// ```
     /// let mut row = ["17", "rented\nreturned\nrented"].into_row(alloc)?;
@@ -134,7 +134,8 @@ impl Row {
         self.cells.len()
     }
 
-    /// How many lines of each cell are drawn at the most, at least 1; none if all are drawn.
+    /// The greatest number of lines that are drawn of each cell, at least 1. `None` if all lines
+    /// are drawn.
     pub fn height_limit(&self) -> Option<usize>
         ensures value { result ≡ self.now.max_height }
         ensures at_least_one { IfSome result (λ lines. 1 ≤ lines) }
@@ -142,7 +143,7 @@ impl Row {
         self.max_height
     }
 
-    /// The cells in order.
+    /// Iterates over the cells in order.
     pub fn cell_iter(&self) -> slice::Iter<'_, Cell>
         ensures rest { iter_rest result ≡ self.now.cells }
         ensures runs { IterYieldsInOrder CellValue }
@@ -151,7 +152,7 @@ impl Row {
     }
 }
 
-// A copy has the same value, in memory of its own.
+// A copy has the same value, in its own memory.
 impl Clone for Row {
     ghost is_clone = { λ source copy. copy ≡ source };
 
@@ -163,7 +164,7 @@ impl Clone for Row {
     }
 }
 
-// Looks at each cell, which shows what every cell keeps.
+// Proof only: each cell keeps its invariant.
 fn look_at(cells: &[Cell])
     ensures { All IsCell cells.now }
 {
@@ -172,12 +173,12 @@ fn look_at(cells: &[Cell])
     });
 }
 
-// A reference to a row.
+// A reference to a row, in a struct.
 struct RowReference<'a> {
     row: &'a mut Row,
 }
 
-// The reference, taken out of its struct.
+// Takes the reference out of its struct.
 fn into_reference<'a>(reference: Result<RowReference<'a>>) -> Result<&'a mut Row>
     ensures { result ≡ reference_of reference.entry }
 {

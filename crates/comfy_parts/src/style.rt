@@ -1,5 +1,4 @@
-//! How a table looks: its frame, and how the contents of its cells are placed. Nothing here takes
-//! memory.
+//! The look of a table: its frame, and how cells are placed and coloured. None of it takes memory.
 
 pub mod attribute;
 pub mod cell;

@@ -1,4 +1,4 @@
--- What the program reports, and which settings it runs with.
+-- The messages of the program, and the settings of its run.
 use Rattle.std.proofs.Common.{◌≡◌, Bool, true, [], ◌++◌, Option, Some, Result, Ok, Err, OnOk, OnErr, refl, sym, append-nil, ap, subst, ◌∙◌}
 use Rattle.comfy_parts.specs.Text.{Text}
 use Rattle.devices.specs.Outcome.{Between, IsBeginningOnly}
@@ -17,15 +17,15 @@ reported (Err e) text old new failed all fault part = λ had known.
     let beginning = part had known in
     (beginning.0, beginning.2.rest, beginning.1, beginning.2.joins, λ fine. absurd (cc (fault, fine)))
 
--- nothing is reported of a sink that stays as it was
+-- nothing is reported to a sink that is unchanged
 pub nothing_reported : (old : Option Text) (failed : Bool) → Reports [] old old failed
 nothing_reported old failed = λ had known. ([], [], known ∙ ap Some (sym (append-nil had)), refl, λ fine. refl)
 
--- settings found once are found again
+-- two settings that are both those of the arguments are the same
 pub same_settings : (a b : Settings) (x : Option Settings) → Some a ≡ x → x ≡ Some b → a ≡ b
 same_settings a b x first second = cc
 
--- what is said of a run under settings is said under the same ones
+-- a claim about a run with some settings holds with the same settings
 pub same_run : {T R W : Type 0} (of_source : source.Ghosts R) (of_sink : sink.Ghosts W) {a b : Settings} (r : Result T RunError) (old new : R × W) → a ≡ b
     → Between of_source of_sink old new (IsAfter a r) → Between of_source of_sink old new (IsAfter b r)
 same_run of_source of_sink r old new same = subst (λ (s : Settings). Between of_source of_sink old new (IsAfter s r)) same

@@ -1,4 +1,4 @@
--- What a run that stopped ensures, by this crate's error.
+-- The facts of a run that stopped, for this crate's errors.
 use Rattle.std.specs.Prelude.{⊤}
 use Rattle.std.proofs.Common.{◌≡◌, inl, inr, false, true, Ok, Err, refl, subst, sym}
 use Rattle.std.proofs.lemmas.Str.{IsUtf8-nil}
@@ -13,11 +13,11 @@ use Rattle.devices.specs.Run.{IsAfter as IsAfterRun, IsAfterIn}
 use Rattle.devices.specs.declared.transfer.Stop.{Stop}
 use Rattle.devices.specs.declared.transfer.Stop.TheVariants.{OutOfMemory, Read, Refused, Unfinished, Write}
 
--- it's asked of every beginning in vain
+-- every beginning is too short
 abbrev Any : Text → Type 0
 Any read = ⊤
 
--- no beginning is enough
+-- after success the whole input was read and drawn, because no beginning is enough
 pub after_ok : (T : Type 0) (x : T) (settings : Settings) (facts : RunFacts) → IsAfterRun Any (IsDrawnIn settings) IsRefusalIn {T = T} (Ok x) facts → IsAfterOk (IsDrawnFrom settings) facts
 after_ok T x settings facts (inl after) = after.says
 after_ok T x settings facts (inr part) = absurd part.says.output

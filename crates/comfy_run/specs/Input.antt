@@ -1,5 +1,4 @@
--- The table that an input text stands for: a line for the header, a line for each row, and a TAB
--- between cells.
+-- The table of an input text: a line for the header, a line for each row, and TABs between cells.
 -- Source: this library's own.
 use Rattle.std.specs.Prelude.{ℕ, List, [], ◌∷◌, Option, fold}
 use Rattle.std.specs.Str.Lines.{lines}
@@ -17,15 +16,15 @@ table_of_lines table (first ∷ others) =
     fold (λ (t : TableValue) (line : Text). with_row (row_of_line line) t)
     (with_header (row_of_line first) table) others
 
--- the table of an input under these settings; a carriage return before a line feed is no part of a
--- line, and an empty last piece is no line
+-- the table of an input with these settings; a carriage return before a line feed isn't part of a
+-- line, and an empty last piece isn't a line
 abbrev pub input_table : Option ℕ → ContentArrangement → TableStyle → Text → TableValue
 input_table width arrangement style text =
     table_of_lines (record (new_table style) { set_width = width; arrangement = arrangement })
     (lines text)
 
--- the bytes written for an input: a drawing of its table, with all that a drawing promises, each
--- line followed by a line feed
+-- the bytes that are written for an input are a drawing of its table, with all clauses of a
+-- drawing, and each line is ended by a line feed
 abbrev pub RendersInput : Option ℕ → ContentArrangement → TableStyle → Text → Text → Type 0
 RendersInput width arrangement style text output =
     TerminatesLines (input_table width arrangement style text) output

@@ -1,4 +1,4 @@
--- What the program returns and reports, by the result of its run.
+-- The status and the messages of the program, by the result of its run.
 -- Source: this library's own.
 use Rattle.std.specs.Prelude.{◌≡◌, ℕ, Bool, false, [], ◌++◌, Option, Some, Result, Ok, Err, codes}
 use Rattle.comfy_parts.specs.Text.{Text}
@@ -6,11 +6,11 @@ use Rattle.comfy_parts.specs.declared.error.TableError.TheVariants.{OutOfMemory}
 use Rattle.comfy_run.specs.declared.error.RunError.{RunError}
 use Rattle.comfy_run.specs.declared.error.RunError.TheVariants.{Read, Write, NotUtf8, Table}
 
--- the line on other arguments
+-- the message for unknown arguments
 abbrev pub usage_line : Text
 usage_line = codes "usage: ctable [WIDTH|- [disabled|dynamic|full [STYLE]]]\n"
 
--- the line on an error
+-- the message for an error
 abbrev pub error_line : RunError → Text
 error_line Read = codes "ctable: the input can't be read\n"
 error_line Write = codes "ctable: the output can't be written\n"
@@ -22,12 +22,12 @@ abbrev pub status_of : {T : Type 0} → Result T RunError → ℕ
 status_of (Ok _) = 0
 status_of (Err _) = 1
 
--- what is reported after a run
+-- the message after a run
 abbrev pub report_of : {T : Type 0} → Result T RunError → Text
 report_of (Ok _) = []
 report_of (Err error) = error_line error
 
--- a sink took the text, or a beginning of it where it failed
+-- a sink took the text, or only a beginning of it if the sink failed
 abbrev pub Reports : Text → Option Text → Option Text → Bool → Type 0
 Reports text old new failed =
     (had : Text) → old ≡ Some had

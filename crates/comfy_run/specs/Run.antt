@@ -1,4 +1,4 @@
--- What a call of `run` ensures, by its result.
+-- The contract of a call of `run`, by its result.
 -- Source: this library's own.
 use Rattle.std.specs.Prelude.{Bool, true, false, Result, Ok, Err, IsUtf8}
 use Rattle.comfy_parts.specs.Text.{Text}
@@ -20,20 +20,20 @@ IsDrawnFrom settings input output =
 abbrev pub IsNoText : Text → Type 0
 IsNoText input = ¬ (IsUtf8 input)
 
--- why an input that was read whole has no output
+-- the reason why an input that was read as a whole has no output
 abbrev pub IsRefusal : Text → RunError → Type 0
 IsRefusal input NotUtf8 = IsNoText input
 IsRefusal input (Table _) = IsUtf8 input
 IsRefusal input _ = ⊥
 
--- an output, and why there is none, are of a whole input alone: no beginning is enough
+-- only a whole input has an output or a refusal: no beginning is enough
 abbrev pub IsDrawnIn : Settings → Extent → Text → Text → Type 0
 IsDrawnIn settings extent input output = OfWhole (IsDrawnFrom settings input output) extent
 
 abbrev pub IsRefusalIn : Extent → Text → RunError → Type 0
 IsRefusalIn extent input e = OfWhole (IsRefusal input e) extent
 
--- what the facts of a call are, by its result
+-- the facts of a call, by its result
 abbrev pub IsAfter : {T : Type 0} → Settings → Result T RunError → RunFacts → Type 0
 IsAfter settings (Ok _) facts = IsAfterOk (IsDrawnFrom settings) facts
 IsAfter settings (Err Read) facts = IsAfterRead facts
@@ -41,12 +41,12 @@ IsAfter settings (Err Write) facts = IsAfterWrite (IsDrawnFrom settings) facts
 IsAfter settings (Err NotUtf8) facts = IsAfterFault IsNoText facts
 IsAfter settings (Err (Table _)) facts = IsAfterOutOfMemory IsUtf8 facts
 
--- the result says that the source failed
+-- the result means that the source failed
 abbrev pub is_read_fault : {T : Type 0} → Result T RunError → Bool
 is_read_fault (Err Read) = true
 is_read_fault _ = false
 
--- the result says that the sink failed
+-- the result means that the sink failed
 abbrev pub is_write_fault : {T : Type 0} → Result T RunError → Bool
 is_write_fault (Err Write) = true
 is_write_fault _ = false

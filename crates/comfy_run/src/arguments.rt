@@ -1,4 +1,4 @@
-//! The arguments after the program's name, and the settings that they ask for.
+//! The settings that the arguments after the program's name mean.
 
 ghost use Rattle.std.specs.Prelude.{◌≡◌};
 ghost use Rattle.std.specs.Char.{is_ascii_digit};
@@ -12,8 +12,9 @@ use comfy_parts::style::presets::by_name;
 
 const MOST_DIGITS: usize = 5;
 
-/// The settings that the arguments after the program's name ask for, or none where an argument
-/// isn't known. Arguments that are missing mean no width, `Disabled` and `ASCII_FULL`.
+/// The settings that the arguments after the program's name mean. `None` if an argument is unknown,
+/// or there are more than three. Without an argument, the width isn't set, the arrangement is
+/// `Disabled`, and the style is `ASCII_FULL`.
 pub fn settings_of(args: &[&str]) -> Option<Settings>
     ensures { result ≡ settings_for args.now }
 {
@@ -31,8 +32,7 @@ pub fn settings_of(args: &[&str]) -> Option<Settings>
     })
 }
 
-// The width that an argument asks for, which is none for a hyphen. Other arguments ask for nothing
-// that is known.
+// The width that an argument means: `Some(None)` for a hyphen, and `None` for an unknown argument.
 fn width_of(argument: &str) -> Option<Option<u16>>
     ensures { result ≡ width_for argument.now }
 {
@@ -42,7 +42,8 @@ fn width_of(argument: &str) -> Option<Option<u16>>
     number_of(argument).map(Some)
 }
 
-// A number of up to five digits. `parse` alone would take a plus sign and further zeros.
+// A number of one to five digits, at most 65535. `parse` alone would also accept a plus sign and
+// more zeros.
 fn number_of(argument: &str) -> Option<u16>
     ensures { result ≡ number_for argument.now }
 {

@@ -1,4 +1,4 @@
-//! Why a run stopped.
+//! The reasons why a run stopped.
 
 ghost use Rattle.std.specs.Prelude.{◌≡◌};
 ghost use Rattle.comfy_parts.specs.declared.error.TableError.TheVariants.{OutOfMemory};
@@ -10,7 +10,7 @@ use devices::Stop;
 use std::alloc::AllocError;
 use thiserror::Error;
 
-/// Why a run stopped.
+/// The reason why a run stopped.
 #[derive(Clone, Copy, Debug, PartialEq, Eq, Error)]
 pub enum RunError {
     /// The source failed during the call.

@@ -1,4 +1,4 @@
-//! The row of a line: its cells are between TABs.
+//! The row of an input line, whose cells have TABs between them.
 
 ghost use Rattle.std.specs.Prelude.{◌≡◌, IfOk, false, map, nat_lt, string_bytes, take, if◌then◌else◌};
 ghost use Rattle.std.specs.List.{list_any};
@@ -10,15 +10,15 @@ use comfy_parts::content_split::has_control;
 use comfy_parts::{Cell, Cells, IntoRow, Result, Row};
 use std::alloc::Global;
 
-// The byte for a line feed inside a cell.
+// The character of the input for a line feed inside a cell.
 const BREAK: char = '\u{b}';
 
-// How many bytes are looked at together.
+// The number of bytes that are tested together.
 const BLOCK: usize = 16;
 
-/// The row of a line, whose cells are between TABs; U+000B inside a cell is a line break. Its
-/// list has room for `count` cells at first, so that lines with as many cells as the one before
-/// take no more memory than they need.
+/// Makes the row of a line. TABs are between its cells, and U+000B inside a cell is a line feed.
+/// The row's list has room for `count` cells at first. So it takes no more memory than it needs if
+/// the line has as many cells as the line before it. The only error is `OutOfMemory`.
 pub fn row_of(alloc: Global, line: &str, count: usize) -> Result<Row>
     ensures { IfOk result (λ row. row ≡ row_of_line line.now) }
 {
@@ -36,7 +36,7 @@ pub fn row_of(alloc: Global, line: &str, count: usize) -> Result<Row>
     }
 }
 
-// How many bytes are before the first TAB, and whether there may be breaks among them.
+// The number of bytes before the first TAB, and true if U+000B may be among them.
 fn first_part(bytes: &[u8]) -> (usize, bool)
     ensures part { IsFirstPart bytes.now result.0 }
     ensures breaks { result.1 ≡ false
@@ -50,7 +50,7 @@ fn first_part(bytes: &[u8]) -> (usize, bool)
     (len, len > clear)
 }
 
-// How many bytes at the front are no control characters.
+// The number of bytes at the front without a control character.
 fn clear_run(bytes: &[u8]) -> usize
     ensures { IsClearFront bytes.now result }
 {
@@ -61,8 +61,8 @@ fn clear_run(bytes: &[u8]) -> usize
     run
 }
 
-// How many bytes at the front are in whole blocks without a control character. The bytes of a
-// block are looked at without a test between them, which is faster in long texts.
+// The number of bytes at the front that are in whole blocks without a control character. The bytes
+// of a block are read without a test between them, which is faster in long texts.
 fn clear_blocks(bytes: &[u8]) -> usize
     ensures { IsClearFront bytes.now result }
 {
@@ -73,7 +73,8 @@ fn clear_blocks(bytes: &[u8]) -> usize
     run
 }
 
-// The cell of a text between TABs, with its breaks as line feeds if it may have any.
+// Makes the cell of a text between TABs. If `has_breaks` is set, each U+000B in it becomes a line
+// feed.
 fn cell_of(alloc: Global, part: &str, has_breaks: bool) -> Result<Cell>
     ensures { IfOk result (λ cell. cell
         ≡ plain_cell (if has_breaks then map break_of part.now else part.now)) }
@@ -86,7 +87,7 @@ fn cell_of(alloc: Global, part: &str, has_breaks: bool) -> Result<Cell>
     Cell::new_owned(alloc, text)
 }
 
-// A text between TABs, with its breaks as line feeds.
+// A text between TABs, with a line feed for each U+000B.
 fn with_line_feeds(alloc: Global, part: &str) -> Result<String>
     ensures { IfOk result (λ text. string_bytes text ≡ map break_of part.now) }
 {

@@ -1,8 +1,8 @@
-//! How the table of an input is drawn.
+//! The settings with which the table of an input is drawn.
 
 use comfy_parts::style::{ContentArrangement, TableStyle};
 
-/// How the table of an input is drawn.
+/// The settings with which the table of an input is drawn.
 ///
 /// ```
 /// let settings = Settings {
@@ -13,10 +13,10 @@ use comfy_parts::style::{ContentArrangement, TableStyle};
 /// ```
 #[derive(Clone, Copy, Debug)]
 pub struct Settings {
-    /// The width of the table in terminal columns; none if none is kept.
+    /// The width of the table in terminal columns. `None` if it isn't set.
     pub width: Option<u16>,
-    /// How the widths of the columns are found. The dynamic arrangements keep to the width, and are
-    /// as `Disabled` without one.
+    /// The way to find the widths of the columns. The dynamic arrangements keep to the width, and
+    /// are the same as `Disabled` without one.
     pub arrangement: ContentArrangement,
     /// The characters of the frame.
     pub style: TableStyle,

@@ -1,4 +1,4 @@
--- A row that is added at the end of a table: what was drawn stays above the bottom border, where no column gets wider.
+-- Adding a row at the end of a table keeps the lines above the bottom border, if no column gets wider.
 use Rattle.std.proofs.Common.{◌≡◌, ◌≤◌, ℕ, ◌-◌, List, [], ◌∷◌, ◌++◌, Option, Some, None, length, map, max, nat_lt, arith, refl, sym, ap, ap₂, ◌∙◌, subst, append-nil, append_assoc}
 use Rattle.std.specs.List.{join_by, range_with_len, slice_get}
 use Rattle.std.specs.Prelude.{MatchOption, if◌then◌else◌, option_and_then, unwrap_or}
@@ -19,11 +19,11 @@ use Rattle.comfy_table.specs.TableValue.{TableValue, cell_content_width, cells_a
 use Rattle.comfy_table.specs.Widths.{capped_content, disabled_width, fixed_by_constraint, shown_count, shown_needs, upper_boundary}
 
 module _ (table : TableValue) (row : RowValue) where
-  -- the table with the row, and no further column
+  -- the table with the row appended, and the same columns
   abbrev longer : TableValue
   longer = with_other_rows (table.rows ++ row ∷ []) table
 
-  -- it is the table with the row, where each cell has a column
+  -- if each cell has a column, this is the table with the row
   with_row-is : HasColumnsFor table row → with_row row table ≡ longer
   with_row-is enough =
       let none : length row.cells - length table.columns ≡ 0 = omega (arith, enough) in
@@ -42,7 +42,7 @@ module _ (table : TableValue) (row : RowValue) where
         ∙ join_by_push (drawn_row table infos table.style.content_lines) separator table.rows row
         ∙ append_assoc (drawn_rows table infos table.rows) (if nat_lt 0 (length table.rows) then separator else []) (drawn_row table infos table.style.content_lines row)
 
-    -- four parts, of which the middle ones are joined
+    -- four parts regrouped: the two in the middle are joined
     regrouped : (top header rows bottom : List Text) → top ++ (header ++ (rows ++ bottom)) ≡ (top ++ (header ++ rows)) ++ bottom
     regrouped top header rows bottom = ap (λ (ls : List Text). top ++ ls) (sym (append_assoc header rows bottom)) ∙ sym (append_assoc top (header ++ rows) bottom)
 
@@ -59,7 +59,7 @@ module _ (table : TableValue) (row : RowValue) where
         ∙ ap (λ (lines : List Text). top ++ (drawn_header table infos table.header ++ lines)) (append_assoc rows added (bottom_lines table infos))
         ∙ regrouped top (drawn_header table infos table.header) rows (added ++ bottom_lines table infos)
 
-  -- so the row's lines come above the bottom border
+  -- so the lines of the row come above the bottom border
   pub row_is_added_below : (widths : List ℕ) → RowIsAddedBelow table row widths
   row_is_added_below widths enough = (above_is (infos_of table widths), ap (λ (t : TableValue). drawing t widths) (with_row-is enough) ∙ longer_is (infos_of table widths))
 
@@ -106,7 +106,7 @@ module _ (table : TableValue) (row : RowValue) where
         ∙ ap₂ (λ (fixed upper : Option ℕ). unwrap_or fixed (capped_content (column_content_width table p.0) padding upper))
         (fixed_same longer table refl refl n (column_content_width table p.0) padding p.1.constraint) (upper_same longer table refl refl n p.1.constraint)
 
-    -- where no width is kept, no column's width changes
+    -- if no width is kept, no column's width changes
     widths_stay : (widths : List ℕ) → width_kept table.arrangement (table_width table) ≡ None → IsArranged table widths → IsArranged longer widths
     widths_stay widths none arranged =
         record {
@@ -121,7 +121,7 @@ module _ (table : TableValue) (row : RowValue) where
         Are : TableValue → Option ℕ → Type 0
         Are t o = MatchOption o (shown ≡ map (disabled_width t) (shown_columns t)) (λ w. IsDynamicLayout (room_beside_borders t w) (shown_needs t) (is_full_width t.arrangement) shown)
 
-  -- so the lines that were shown stay
+  -- so all lines that were drawn stay
   pub shown_lines_stay : (lines others : List Text) → ShownLinesStay table row lines others
   shown_lines_stay lines others none enough within (ws, before, is) (vs, after, are) =
       let same : vs ≡ ws = arranged_is_one longer vs ws (subst (λ (t : TableValue). IsArranged t vs) (with_row-is enough) after) (widths_stay within ws none before) in

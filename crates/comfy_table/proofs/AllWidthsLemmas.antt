@@ -1,4 +1,4 @@
--- The widths of all columns, where the dynamic widths of the visible ones are given.
+-- The widths of all columns, made from the dynamic widths of the shown ones.
 use Rattle.std.proofs.Common.{◌≡◌, ℕ, suc, ◌+◌, Bool, true, false, not, cond, List, [], ◌∷◌, drop, length, map, max, arith, refl, sym, ap, ap₂, ◌∙◌, subst, slice_index, slice_index_or, Option, Some}
 use Rattle.std.specs.List.{enumerate_from, filter}
 use Rattle.std.specs.Prelude.{zip, MatchOption}
@@ -13,15 +13,15 @@ use Rattle.comfy_table.specs.Widths.{ColumnNeeds, disabled_width, needs_of, show
 use Rattle.comfy_table.proofs.BudgetLemmas.{length-contents_after}
 use Rattle.comfy_table.proofs.SpreadLemmas.{length-even_spread}
 
--- ---- the dynamic widths are as many as the shown columns
+-- ---- dynamic widths have one element for each shown column
 
--- numbers added place by place are as many as the first ones
+-- the sum of two lists of one length, element by element, has this length
 length-added : (xs ys : List ℕ) → length xs ≡ length ys → length (added xs ys) ≡ length xs
 length-added [] ys same = refl
 length-added (x ∷ xs) [] same = absurd (omega arith)
 length-added (x ∷ xs) (y ∷ ys) same = ap suc (length-added xs ys (omega arith))
 
--- one dynamic width for each column
+-- dynamic widths have one element for each column
 pub length-dynamic : (room : ℕ) (columns : List ColumnNeeds) (full : Bool) (widths : List ℕ) → IsDynamicLayout room columns full widths → length widths ≡ length columns
 length-dynamic room columns full widths dynamic = grind (arith, length-added, length-contents_after, length-even_spread)
 
@@ -33,19 +33,19 @@ length-given_in_order table widths [] = refl
 length-given_in_order table widths (p ∷ columns) =
     grind (arith, length-given_in_order table widths columns, length-given_in_order table (drop 1 widths) columns)
 
--- the columns from a position on that pass a test
+-- the columns from a position on that pass a test, each with its position
 abbrev passing : (ColumnValue → Bool) → ℕ → List ColumnValue → List (ℕ × ColumnValue)
 passing test at columns = filter (λ (p : ℕ × ColumnValue). test p.1) (enumerate_from at columns)
 
--- from a position on, numbers are these
+-- the elements of `all` from a position on are these numbers
 abbrev pub AreFrom : List ℕ → ℕ → List ℕ → Type 0
 AreFrom all at numbers = (i : ℕ) → slice_index all (at + i) ≡ slice_index numbers i
 
--- the first of them
+-- the element at the position is the first number
 pub first_from : (all : List ℕ) (at x : ℕ) (numbers : List ℕ) → AreFrom all at (x ∷ numbers) → slice_index all at ≡ x
 first_from all at x numbers each = let moved : at ≡ at + 0 = omega arith in ap (slice_index all) moved ∙ each 0
 
--- and those after it
+-- the elements after it are the other numbers
 pub behind_first : (all : List ℕ) (at x : ℕ) (numbers : List ℕ) → AreFrom all at (x ∷ numbers) → AreFrom all (at + 1) numbers
 behind_first all at x numbers each i = let moved : at + 1 + i ≡ at + suc i = omega arith in ap (slice_index all) moved ∙ each (suc i)
 
@@ -72,7 +72,7 @@ hidden_given table all widths at (column ∷ columns) each =
         ap₂ (λ (x : ℕ) (xs : List ℕ). x ∷ xs) (first_from all at _ _ these) (hidden (behind_first all at _ _ these))
     by_test false hidden visible these = visible (behind_first all at _ _ these)
 
--- the shown columns have the given widths, where there is one for each
+-- the shown columns have the given widths, if there is one for each
 shown_given : (table : TableValue) (all widths : List ℕ) (at : ℕ) (columns : List ColumnValue) → AreFrom all at (given_in_order table widths (enumerate_from at columns))
     → length widths ≡ length (passing (λ (c : ColumnValue). not (is_hidden_column c)) at columns)
     → widths_at all (passing (λ (c : ColumnValue). not (is_hidden_column c)) at columns) ≡ widths
@@ -98,11 +98,11 @@ shown_given table all widths at (column ∷ columns) each enough =
 
 -- ---- a dynamic arrangement
 
--- from the first position on a list is itself
+-- the elements of a list from position 0 on are the whole list
 pub from_start : (all : List ℕ) → AreFrom all 0 all
 from_start all i = let moved : 0 + i ≡ i = omega arith in ap (slice_index all) moved
 
--- where a width is kept, the dynamic widths are the table's
+-- if a width is kept, the dynamic widths with those of hidden columns are widths of the table
 pub arranged_by_widths : (table : TableValue) (w : ℕ) (widths : List ℕ) → width_kept table.arrangement (table_width table) ≡ Some w
     → IsDynamicLayout (room_beside_borders table w) (shown_needs table) (is_full_width table.arrangement) widths → IsArranged table (all_widths table widths)
 arranged_by_widths table w widths kept dynamic = record {
@@ -124,8 +124,8 @@ arranged_by_widths table w widths kept dynamic = record {
     shown_is : shown ≡ widths
     shown_is = shown_given table (all_widths table widths) widths 0 table.columns (from_start (all_widths table widths)) enough
 
--- ---- what the columns are drawn by
+-- ---- the infos of columns
 
--- the columns from a position on, drawn by these widths
+-- the infos of the columns from a position on, with these widths
 abbrev pub infos_from : TableValue → List ℕ → ℕ → List ColumnValue → List ColumnInfo
 infos_from table widths at columns = map (λ (p : ColumnValue × ℕ). info_of p.0 p.1) (zip columns (given_in_order table widths (enumerate_from at columns)))

@@ -1,4 +1,4 @@
--- In tables of one width and one style, a constraint gives the same boundaries and the same fixed width.
+-- In tables of equal width and style, a constraint gives the same boundaries and the same fixed width.
 use Rattle.std.proofs.Common.{◌≡◌, ℕ, Option, Some, None, option_map, refl, ap, ap₂}
 use Rattle.comfy_parts.specs.declared.style.column.ColumnConstraint.{ColumnConstraint}
 use Rattle.comfy_parts.specs.declared.style.column.ColumnConstraint.TheVariants as constraint

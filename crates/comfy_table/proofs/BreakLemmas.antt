@@ -1,4 +1,5 @@
--- No drawn line holds a line feed, where neither the style nor the indicator does. So lines are found in their texts.
+-- No drawn line has a line feed, if neither the style nor the indicator has one. So splitting a text at line feeds
+-- gives its lines.
 use Rattle.std.proofs.Common.{◌≡◌, ℕ, ◌==◌, List, [], ◌∷◌, ◌++◌, refl, sym, ap, ◌∙◌, subst, arith, append_assoc}
 use Rattle.std.specs.List.{All, slice_split}
 use Rattle.std.specs.Str.{IsUtf8}
@@ -15,7 +16,7 @@ use Rattle.comfy_table.specs.Drawing.{drawing, infos_of, terminated_text_of, tex
 use Rattle.comfy_table.specs.Laws.{HasNoBreak, HasUnbrokenStyle, JoinedLinesAreFound, TerminatedLinesAreFound, unstyled}
 use Rattle.comfy_table.specs.TableValue.{TableValue, measured_rows}
 
--- texts without a line feed have none as they are drawn, whatever is shown of them
+-- texts without line feeds stay so as they are drawn
 breaks_kept : KeptByDrawing HasNoBreak (λ shown text. HasNoBreak text)
 breaks_kept =
     record {
@@ -33,7 +34,7 @@ without_breaks table widths whole clear style =
 
 -- ---- texts of lines
 
--- a line before a line feed is the first part
+-- splitting at line feeds gives the line before the first one, and then splits the rest
 first_line : (line rest : Text) → HasNoBreak line → slice_split (λ b. b == 0x0A) (line ++ 0x0A ∷ rest) ≡ line ∷ slice_split (λ b. b == 0x0A) rest
 first_line line rest clear = slice_split_at (λ b. b == 0x0A) line 0x0A rest (All-none (λ b. b == 0x0A) line clear) refl
 

@@ -1,4 +1,4 @@
--- Tables that are built from one without columns by a header and rows.
+-- Tables that are built from a table without columns, by a header and rows.
 use Rattle.std.proofs.Common.{◌≡◌, ◌==◌, ◌⊎◌, ℕ, ◌-◌, ◌≤◌, inl, inr, true, false, List, [], ◌∷◌, None, length, refl, sym, ap, ◌∙◌, subst, arith, option_to_list}
 use Rattle.std.specs.List.{All, list_any, range_with_len}
 use Rattle.std.specs.Prelude.{not}
@@ -16,7 +16,7 @@ use Rattle.comfy_table.specs.NewTables.{AreEquallyWide, IsShortRow, NewTablesAre
 use Rattle.comfy_table.specs.Straight.{IsShownWhole, IsStraightTable}
 use Rattle.comfy_table.specs.TableValue.{TableValue, column_cells, header_and_rows, new_table, measured_rows, should_style, table_width, shown_columns, with_header, with_row, with_rows}
 
--- a column as it is made
+-- a column with default settings
 pub record IsNewColumn (column : ColumnValue) : Type 0 where
   pub padding : column.padding ≡ (1, 1)
   pub no_constraint : column.constraint ≡ None
@@ -29,7 +29,7 @@ grown n columns each =
     (All-map IsNewColumn new_column (range_with_len (length columns) (n - length columns))
     (All-every (λ i. IsNewColumn (new_column i)) (range_with_len (length columns) (n - length columns)) (λ i. record { padding = refl; no_constraint = refl; no_delimiter = refl; no_alignment = refl })))
 
--- a table like the base, but for new columns, and for a header and rows that P holds of
+-- a table that differs from the base only in default columns, and in a header and rows for which P holds
 module _ (base : TableValue) (P : RowValue → Type 0) where
   pub record IsBuilt (table : TableValue) : Type 0 where
     pub is : table ≡ record base { columns = table.columns; header = table.header; rows = table.rows }
@@ -50,7 +50,7 @@ module _ (base : TableValue) (P : RowValue → Type 0) where
   built-rows (row ∷ rows) table each known = built-rows rows (with_row row table) (All-tail P row rows each) (built-row row table (All-head P row rows each) known)
 
   module _ (table : TableValue) (known : IsBuilt table) where
-    -- what follows for each of its rows as it is measured
+    -- all measured rows have Q, if Q follows from P
     pub measured_known : (Q : RowValue → Type 0) → ((row : RowValue) → P row → Q (row_measured base.custom_styling row)) → All Q (measured_rows table)
     measured_known Q gives =
         subst (All Q) (sym (measured_rows-is table))
@@ -58,7 +58,7 @@ module _ (base : TableValue) (P : RowValue → Type 0) where
         (subst (λ custom. All (λ row. Q (row_measured custom row)) (header_and_rows table)) (sym (ap (λ (t : TableValue). t.custom_styling) known.is))
         (All-weaker P (λ row. Q (row_measured base.custom_styling row)) gives (header_and_rows table) (All-append P (option_to_list table.header) table.rows known.header known.rows))))
 
-    -- without custom styling they are measured as they are
+    -- without custom styling the measured rows have P
     pub rows_known : base.custom_styling ≡ false → All P (measured_rows table)
     rows_known plain = measured_known P (λ row own. subst (λ custom. P (row_measured custom row)) (sym plain) own)
 
@@ -73,11 +73,11 @@ module _ (base : TableValue) (P : RowValue → Type 0) where
     pub unconstrained : NoConstraints table
     unconstrained = All-weaker (λ (p : ℕ × ColumnValue). IsNewColumn p.1) (λ (p : ℕ × ColumnValue). p.1.constraint ≡ None) (λ p new. new.no_constraint) (shown_columns table) columns_known
 
-    -- its characters are those of the base
+    -- the characters of its style add one terminal column each, if those of the base do
     pub characters_known : All IsOneColumn (style_characters base.style) → All IsOneColumn (style_characters table.style)
     characters_known = subst (λ (style : TableStyle). All IsOneColumn (style_characters style)) (sym (ap (λ (t : TableValue). t.style) known.is))
 
--- such a table of short rows that keeps to no width is straight
+-- such a table is straight, if its rows are short and it keeps to no width
 pub built_is_straight : (base : TableValue) (plain : base.custom_styling ≡ false) (table : TableValue) (widths : List ℕ) → IsBuilt base IsShortRow table → All IsOneColumn (style_characters base.style)
     → width_kept table.arrangement (table_width table) ≡ None → IsStraightTable table widths
 built_is_straight base plain table widths known characters no_width =
@@ -95,7 +95,7 @@ built_is_straight base plain table widths known characters no_width =
           short = All-weaker IsShortRow (λ (row : RowValue). All (λ (cell : CellValue). All (λ line. measure line ≤ 65535) cell.text_lines) row.cells) (λ row own. own.short) (measured_rows table) rows;
         }
 
--- its lines are equally wide
+-- the lines of such a table are equally wide
 pub built_is_equally_wide : (base : TableValue) (plain : base.custom_styling ≡ false) (unstyled : should_style base ≡ false) (P : RowValue → Type 0) (table : TableValue) → IsBuilt base P table
     → (lines : List Text) (drawing : IsTableDrawing table lines) → IsStraightTable table drawing.widths → AreEquallyWide lines
 built_is_equally_wide base plain unstyled P table known lines drawing is = (
@@ -103,13 +103,13 @@ built_is_equally_wide base plain unstyled P table known lines drawing is = (
   subst (All (λ line. measure line ≡ line_total table drawing.widths)) (sym (drawing.edges.unstyled_lines (ap should_style known.is ∙ unstyled) (ap (λ (t : TableValue). t.custom_styling) known.is ∙ plain))) (drawing.edges.straight is),
 )
 
--- a new table with a header and rows is such a table
+-- a new table with a header and rows is built from an empty one
 built_new : (P : RowValue → Type 0) (style : TableStyle) (header : RowValue) (rows : List RowValue) → P header → All P rows → IsBuilt (new_table style) P (with_rows rows (with_header header (new_table style)))
 built_new P style header rows first each =
     built-rows (new_table style) P rows (with_header header (new_table style)) each
     (built-header (new_table style) P header (new_table style) first (record { is = refl; columns = All-nil IsNewColumn; header = All-nil P; rows = All-nil P }))
 
--- so its lines are equally wide
+-- so the lines of a new table are equally wide
 pub new_tables_are_straight : (style : TableStyle) (header : RowValue) (rows : List RowValue) (lines : List Text) → NewTablesAreStraight style header rows lines
 new_tables_are_straight style header rows lines characters first each drawing =
     built_is_equally_wide (new_table style) refl refl IsShortRow table known lines drawing
@@ -121,7 +121,7 @@ new_tables_are_straight style header rows lines characters first each drawing =
     known : IsBuilt (new_table style) IsShortRow table
     known = built_new IsShortRow style header rows first each
 
--- and with custom styling none of them leaves a sequence open
+-- with custom styling, no line of a new table leaves a sequence open
 pub new_tables_leave_none_open : (style : TableStyle) (header : RowValue) (rows : List RowValue) (lines : List Text) → NewTablesLeaveNoneOpen style header rows lines
 new_tables_leave_none_open style header rows lines clear drawing =
     drawing.sequences.closed_lines refl

@@ -19,12 +19,12 @@ use Rattle.comfy_table.specs.Lines.{cell_lines, cell_delimiter, fitting_indicato
 use Rattle.comfy_table.specs.Pieces.{cell_alignment, free_before, free_places}
 use Rattle.comfy_table.specs.TableValue.{TableValue}
 
--- a line that measures at most w, and has as many characters as places
+-- a line that measures at most w, and has as many characters as it measures
 pub record IsCountedLine (w : ℕ) (line : Text) : Type 0 where
   pub fits : measure line ≤ w
   pub counted : HasCount (measure line) line
 
--- a printable line is counted
+-- a printable line that fits is such a line
 counted-printable : (w : ℕ) (line : Text) → IsPrintableLine w line → IsCountedLine w line
 counted-printable w line plain =
     record { fits = plain.fits; counted = HasCount-same (length line) (measure line) line (sym (measure-printable line plain.printable)) (HasCount-printable line plain.printable) }
@@ -39,17 +39,17 @@ cell_lines-printable table delimiter w cell places plain =
 
 -- ---- cut lines
 
--- an indicator that is UTF-8 is so as it is written
+-- the indicator that is written is UTF-8, if the indicator is
 fitting_indicator-utf8 : (w : ℕ) (indicator : Text) → IsUtf8 indicator → IsUtf8 (fitting_indicator w indicator)
 fitting_indicator-utf8 w indicator utf8 = cond_both (nat_lt w (measure indicator)) [] indicator IsUtf8 (λ _. IsUtf8-nil) (λ _. utf8)
 
--- an indicator that is written, and adds one column for each character, measures at most w
+-- the indicator that is written measures at most w, if it adds one terminal column for each of its characters
 fitting_indicator-le : (w : ℕ) (indicator : Text) → AddsOneColumnEach (fitting_indicator w indicator) → measure (fitting_indicator w indicator) ≤ w
 fitting_indicator-le w indicator =
     cond_both (nat_lt w (measure indicator)) [] indicator (λ (text : Text). AddsOneColumnEach text → measure text ≤ w)
     (λ _ even. let none = ap length chars-nil in let measured = even [] refl in omega (arith, none, measured)) (λ narrow even. grind (arith, nat_tests))
 
--- a printable line that is cut is counted
+-- a printable line that is cut has as many characters as it measures
 cut_text-counted : (w : ℕ) (indicator line : Text) → IsUtf8 indicator → AddsOneColumnEach (fitting_indicator w indicator) → is_printable_ascii line ≡ true → IsCountedLine w (cut_text w indicator line)
 cut_text-counted w indicator line utf8 even printable =
     let written : Text = fitting_indicator w indicator in
@@ -62,7 +62,8 @@ cut_text-counted w indicator line utf8 even printable =
     subst (λ front. IsCountedLine w (front ++ written)) (sym (head-printable (w - measure written) line printable))
     (record { fits = omega (arith, both, alone, room, short); counted = HasCount-same (length front + count written) (measure (front ++ written)) (front ++ written) (sym both) (HasCount-append (length front) (count written) front written (HasCount-printable front front_printable) (HasCount-utf8 written (fitting_indicator-utf8 w indicator utf8))) })
 
--- the lines of a printable cell in a row are counted, where the indicator adds one column for each character if a line is cut
+-- each line of a printable cell in a row has as many characters as it measures, if the indicator adds one terminal
+-- column for each of its characters whenever a line is cut
 pub row_cell_lines-counted : (table : TableValue) (row : RowValue) (info : ColumnInfo) (cell : CellValue) → 1 ≤ info.content_width → IsUtf8 table.indicator
     → IsPrintableCell table info.delimiter cell
     → ((h : ℕ) → row.max_height ≡ Some h → h < length (cell_lines info.content_width (cell_delimiter table info.delimiter cell) cell) → AddsOneColumnEach (fitting_indicator info.content_width table.indicator))
@@ -74,7 +75,7 @@ row_cell_lines-counted table row info cell places utf8 plain even =
 
 -- ---- pieces
 
--- a counted line gives a piece as wide as its column
+-- the piece of such a line has as many characters as its column is wide
 pub HasCount-unstyled_piece : (cell : CellValue) (info : ColumnInfo) (line : Text) → IsCountedLine info.content_width line → HasCount (info_width info) (unstyled_piece cell info line)
 HasCount-unstyled_piece cell info line counted =
     HasCount-same _ _ _ (whole_width (cell_alignment cell info) info.padding.0 (measure line) info.padding.1 info.content_width counted.fits)

@@ -21,7 +21,7 @@ use Rattle.comfy_table.specs.TableValue.{TableValue}
 
 -- ---- cut lines
 
--- a line that is cut fits
+-- a line that is cut fits its column
 cut-fits : (w : ℕ) (indicator line : Text) → IsUtf8 line → SelectorsAgree line → IsUtf8 indicator → IsApart indicator → IsFittingLine w (cut_text w indicator line)
 cut-fits w indicator line utf8 summed whole apart = by_test (nat_lt w (measure indicator)) refl
   where
@@ -38,11 +38,11 @@ cut-fits w indicator line utf8 summed whole apart = by_test (nat_lt w (measure i
 
 -- ---- cells
 
--- the text lines of the cell are whole characters, and its delimiter is one
+-- the text lines of the cell consist of whole characters, and its delimiter is a character
 abbrev pub IsWholeCell : TableValue → RowValue → ColumnInfo → CellValue → Type 0
 IsWholeCell table row info cell = All IsUtf8 cell.text_lines × IsScalar (cell_delimiter table info.delimiter cell)
 
--- its lines are whole characters that fit
+-- the lines of the cell consist of whole characters and fit
 abbrev pub HasFittingLines : TableValue → RowValue → ColumnInfo → CellValue → Type 0
 HasFittingLines table row info cell = All (IsFittingLine info.content_width) (measured_in_row table row info cell)
 
@@ -59,13 +59,13 @@ module _ (table : TableValue) (row : RowValue) (info : ColumnInfo) (cell : CellV
   whole : All IsUtf8 lines
   whole = All-flat_map IsUtf8 (lines_of_text w d) cell.text_lines (All-weaker IsUtf8 (λ text. All IsUtf8 (lines_of_text w d text)) (lines_of_text-utf8 w d) cell.text_lines known.0)
 
-  -- all lines are whole characters, cut ones too
+  -- all lines consist of whole characters, also cut ones
   uncut_lines : All IsUtf8 (measured_in_row table row info cell)
   uncut_lines =
       All-cut IsUtf8 IsUtf8 (cut_text w table.indicator) row.max_height lines whole (λ line own. own)
       (λ h limited below line own. IsUtf8-append (head _ line) (fitting_indicator w table.indicator) (head-utf8 _ _ own) (cond_both (nat_lt w (measure table.indicator)) _ _ IsUtf8 (λ _. IsUtf8-nil) (λ _. indicator)))
 
-  -- so lines that are no wider than the column fit
+  -- lines that are no wider than the column fit
   pub lines-fit : CellLinesFit table row info cell → HasFittingLines table row info cell
   lines-fit narrow k default below =
       record {
@@ -73,7 +73,7 @@ module _ (table : TableValue) (row : RowValue) (info : ColumnInfo) (cell : CellV
         fits = All-of_map (λ (line : CellLine). measure line.measured ≤ w) as_measured (measured_in_row table row info cell) (subst (All (λ (line : CellLine). measure line.measured ≤ w)) (row-unstyled table row info cell) narrow) k default below;
       }
 
-  -- and so do the lines of texts that fit
+  -- the lines of texts that fit also fit
   pub texts-fit : TextsFit table row info cell → HasFittingLines table row info cell
   texts-fit is =
       All-cut (λ line. IsFittingLine w line × ((h : ℕ) → row.max_height ≡ Some h → h < length lines → SelectorsAgree line × IsApart table.indicator)) (IsFittingLine w) (cut_text w table.indicator) row.max_height lines

@@ -1,4 +1,4 @@
--- With custom styling no drawn line leaves a sequence open, where sequences stand in the texts of cells alone.
+-- With custom styling no drawn line leaves a sequence open, if only texts of cells have sequences.
 use Rattle.std.proofs.Common.{◌∷◌, ◌≡◌, ◌⊎◌, inl, inr, ◌≤◌, ℕ, zero, suc, ◌+◌, ◌-◌, Bool, true, false, List, [], ◌++◌, Option, Some, None, length, refl, sym, ap, ◌∙◌, subst, arith, slice_index_or, ◌<◌, ◌==◌, ⊎_elim, append_assoc}
 use Rattle.std.specs.List.{All, slice_get}
 use Rattle.std.specs.Prelude.{if◌then◌else◌, option_map}
@@ -28,9 +28,9 @@ use Rattle.comfy_table.specs.Pieces.{blank_piece, cell_pieces, free_before, free
 use Rattle.comfy_table.specs.Styling.{style_begin, style_end, style_end_without_attributes, styled}
 use Rattle.comfy_table.specs.TableValue.{TableValue, column_cells, header_and_rows, measured_rows, should_style}
 
--- ---- what stays true as texts are drawn and joined
+-- ---- properties that drawing and joining texts keep
 
--- texts that nothing continues
+-- a text stays one that no later text can continue
 stands_kept : KeptByDrawing HasNoEscape (λ shown text. StandsAlone text)
 stands_kept =
     record {
@@ -40,7 +40,7 @@ stands_kept =
       of_closed = stands-closed;
     }
 
--- texts that open no sequence
+-- a joined text opens no sequence, if its parts open none
 opens_joined : KeptByJoining HasNoEscape (λ shown text. OpensNone text)
 opens_joined =
     record { kind = byte_kind 0x1B refl; of_kind = opens-clear; of_both = λ shown others xs ys. opens-append xs ys }
@@ -50,16 +50,16 @@ opens_spaces n = keeps_spaces HasNoEscape (λ shown text. OpensNone text) opens_
 
 -- ---- pieces
 
--- a space stands after each text of the column, or this one opens no sequence whatever follows it
+-- a space follows each text of the column, or this text opens no sequence whatever follows it
 abbrev EndsInside : ColumnInfo → Text → Type 0
 EndsInside info text = (1 ≤ info.padding.1) ⊎ OpensNone text
 
--- a text before spaces
+-- a text that leaves no sequence open opens none before spaces
 opens-spaces : (text : Text) (n : ℕ) → open_after (parts text) ≡ [] → 1 ≤ n → OpensNone (text ++ spaces n)
 opens-spaces text zero ends some = absurd (omega (arith, some))
 opens-spaces text (suc n) ends some = opens-spaced text (spaces n) ends (opens_spaces (suc n))
 
--- a padded text
+-- a padded text opens no sequence, if its text ends inside
 opens-padded : (cell : CellValue) (info : ColumnInfo) (columns : ℕ) (text : Text) → open_after (parts text) ≡ [] → EndsInside info text → OpensNone (padded cell info columns text)
 opens-padded cell info columns text ends inside =
     opens-append (spaces info.padding.0) _ (opens_spaces info.padding.0) (opens-append (spaces before) _ (opens_spaces before) (by_case inside))
@@ -78,14 +78,14 @@ opens-padded cell info columns text ends inside =
 
 -- ---- styling
 
--- a text with the styling of a cell with an attribute, which ends with a reset
+-- a text styled by a cell with an attribute opens no sequence, because it ends with a reset
 styled-reset : (cell : CellValue) (text : Text) → 0 < length cell.attributes → OpensNone (styled cell text)
 styled-reset cell text some =
     let attributed : (length cell.attributes == 0) ≡ false = grind (arith, nat_tests, some) in
     let ends : style_end cell ≡ reset = ap (λ b. if b then style_end_without_attributes cell.background cell.foreground else reset) attributed in
     subst OpensNone (append_assoc (style_begin cell) text reset ∙ ap (λ (t : Text). style_begin cell ++ (text ++ t)) (sym ends)) (opens-reset (style_begin cell ++ text))
 
--- so styling that ends opens nothing, or there is none
+-- so styling that ends opens no sequence, or writes nothing
 styled-ends : (cell : CellValue) (text : Text) → EndsItsStyling cell → OpensNone (styled cell text) ⊎ (styled cell text ≡ text)
 styled-ends cell text (inr some) = inl (styled-reset cell text some)
 styled-ends cell text (inl none) = by_list cell.attributes refl
@@ -94,7 +94,7 @@ styled-ends cell text (inl none) = by_list cell.attributes refl
     by_list [] is = inr (no_styles cell text none.0 none.1 is)
     by_list (a ∷ more) is = inl (styled-reset cell text (subst (λ (given : List Attribute). 0 < length given) (sym is) (omega arith)))
 
--- the piece of a text that ends inside, where the styling ends too or isn't written
+-- a piece opens no sequence, if its text ends inside, and its styling ends or isn't written
 opens-piece : (table : TableValue) (cell : CellValue) (info : ColumnInfo) (line : CellLine) → (should_style table ≡ false) ⊎ EndsItsStyling cell → open_after (parts line.written) ≡ [] → EndsInside info line.written
     → OpensNone (piece table cell info line)
 opens-piece table cell info line styling ends inside = by_case styling
@@ -122,14 +122,14 @@ opens-piece table cell info line styling ends inside = by_case styling
 
 -- ---- rows
 
--- what is known of a cell that a row has in a column: its styling ends or isn't written, and its texts end inside
+-- the conditions on a cell of a row in a column: its styling ends or isn't written, and its texts end inside
 record IsClosedCell (table : TableValue) (info : ColumnInfo) (cell : CellValue) : Type 0 where
   styling : (should_style table ≡ false) ⊎ EndsItsStyling cell
   ends : (1 ≤ info.padding.1) ⊎ All HasNoEscape (cell_measured table.custom_styling cell).text_lines
   whole : All IsUtf8 (cell_measured table.custom_styling cell).text_lines
 
 module _ (table : TableValue) (on : table.custom_styling ≡ true) (mark : HasNo 0x1B table.indicator) where
-  -- its lines end inside
+  -- the lines of such a cell end inside
   ends_inside : (row : RowValue) (info : ColumnInfo) (cell : CellValue) → IsClosedCell table info cell → All (λ (line : CellLine). EndsInside info line.written) (row_cell_lines table row info cell)
   ends_inside row info cell own = by_case own.ends
     where
@@ -146,7 +146,7 @@ module _ (table : TableValue) (on : table.custom_styling ≡ true) (mark : HasNo
       (λ k default below.
       opens-piece table cell info (slice_index_or (row_cell_lines table row info cell) k default) own.styling (none_is_open_at_the_end table row info cell on k default below) (ends_inside row info cell own k default below))
 
-  -- nor do the pieces in a column
+  -- the pieces of a row in a column open no sequence
   opens_column : (row : RowValue) (p : ℕ × ColumnInfo) → ((cell : CellValue) → slice_get row.cells p.0 ≡ Some cell → IsClosedCell table p.1 cell) → All OpensNone (pieces_at table row p)
   opens_column row p known = by_option (slice_get row.cells p.0) known
     where
@@ -157,12 +157,12 @@ module _ (table : TableValue) (on : table.custom_styling ≡ true) (mark : HasNo
   -- ---- lines
 
   module _ (infos : List ColumnInfo) where
-    -- each cell that a row has in a shown column is such a cell
+    -- each cell of the row in a shown column meets these conditions
     abbrev IsClosedRow : RowValue → Type 0
     IsClosedRow row =
         All (λ (p : ℕ × ColumnInfo). (cell : CellValue) → slice_get row.cells p.0 ≡ Some cell → IsClosedCell table p.1 cell) (shown_infos infos)
 
-    -- the lines of such a row
+    -- the lines of such a row open no sequence
     opens_row : (line : ContentLineStyle) → IsClearContent HasNoEscape line → (row : RowValue) → IsClosedRow row → All OpensNone (drawn_row table infos line row)
     opens_row line clear row known =
         All-row OpensNone table infos line row
@@ -173,7 +173,7 @@ module _ (table : TableValue) (on : table.custom_styling ≡ true) (mark : HasNo
         let p : ℕ × ColumnInfo = slice_index_or (shown_infos infos) j other in
         At-or OpensNone (pieces_at table row p) k (blank_piece p.1) (opens_column row p (known j other below)) (opens_spaces (info_width p.1)))))
 
-    -- a frame line
+    -- frame lines open no sequence
     opens_frame : (line : LineStyle) → IsClearFrame HasNoEscape line → All OpensNone (optional_frame_line table.style line (outer_widths infos))
     opens_frame line clear =
         All-from_recursion OpensNone (optional_frame_line table.style line (outer_widths infos))
@@ -181,7 +181,7 @@ module _ (table : TableValue) (on : table.custom_styling ≡ true) (mark : HasNo
 
 -- ---- tables
 
--- what is known of the rows of a table as they are measured is known row by row
+-- a property of all measured rows holds of the rows, each as it is measured
 of_measured_rows : (table : TableValue) (P : RowValue → Type 0) → All P (measured_rows table) → All (λ row. P (row_measured table.custom_styling row)) (header_and_rows table)
 of_measured_rows table P each =
     All-of_map P (row_measured table.custom_styling) (header_and_rows table) (subst (All P) (measured_rows-is table) each)

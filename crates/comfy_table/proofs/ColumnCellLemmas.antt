@@ -1,4 +1,4 @@
--- The greatest of what the cells of a column give, one after another.
+-- The greatest number that a function gives for the measured cells of a column, computed cell by cell.
 use Rattle.std.proofs.Common.{◌≡◌, ℕ, List, [], ◌∷◌, ◌++◌, Option, Some, None, map, flat_map, max, arith, refl, ap, ◌∙◌}
 use Rattle.std.specs.List.{cons_option, filter_map, slice_get}
 use Rattle.std.specs.Prelude.{option_and_then, option_map, option_to_list}
@@ -12,28 +12,28 @@ use Rattle.comfy_table.specs.LongestLine.{cell_longest_line}
 use Rattle.comfy_table.specs.TableValue.{TableValue, cells_at, cells_with_header, column_cells, header_and_rows, measured_cell}
 
 module _ (table : TableValue) (f : CellValue → ℕ) where
-  -- what a cell gives as it is measured, 0 where there is none
+  -- the function's number for a cell as it is measured; 0 if there is no cell
   abbrev pub of_measured : Option CellValue → ℕ
   of_measured None = 0
   of_measured (Some cell) = f (measured_cell table cell)
 
-  -- of some cells and perhaps one more
+  -- one cell more: the maximum of its number and of the others'
   one_more : (cell : Option CellValue) (cells : List CellValue) → greatest (map f (cons_option (option_map (cell_measured table.custom_styling) cell) cells)) ≡ max (of_measured cell) (greatest (map f cells))
   one_more None cells = omega arith
   one_more (Some cell) cells = refl
 
-  -- row by row
+  -- the cells of rows
   of_rows : (i : ℕ) (rows : List RowValue) → greatest (map f (filter_map (λ (row : RowValue). slice_get row.cells i) (map (row_measured table.custom_styling) rows))) ≡ greatest (map of_measured (cells_at rows i))
   of_rows i [] = refl
   of_rows i (row ∷ rows) = grind (arith, get_measured, one_more, of_rows i rows)
 
-  -- after the header's cell
+  -- the header's cell and the cells of rows
   of_header : (i : ℕ) (header : Option RowValue) (rows : List RowValue)
       → greatest (map of_measured (cells_at (option_to_list header ++ rows) i)) ≡ max (of_measured (option_and_then (λ (row : RowValue). slice_get row.cells i) header)) (greatest (map of_measured (cells_at rows i)))
   of_header i None rows = omega arith
   of_header i (Some header) rows = refl
 
-  -- of all cells of a column
+  -- all cells of a column
   pub greatest_measured : (i : ℕ) → greatest (map f (column_cells table i)) ≡ greatest (map of_measured (cells_with_header table i))
   greatest_measured i =
       ap (λ (rows : List RowValue). greatest (map f (filter_map (λ (row : RowValue). slice_get row.cells i) rows))) (measured_rows-is table)
@@ -42,18 +42,18 @@ module _ (table : TableValue) (f : CellValue → ℕ) where
 
 -- ---- lines
 
--- of two lists after each other
+-- the greatest of two joined lists is the greater of both
 pub greatest-append : (xs ys : List ℕ) → greatest (xs ++ ys) ≡ max (greatest xs) (greatest ys)
 greatest-append [] ys = omega arith
 greatest-append (x ∷ xs) ys = let rest = greatest-append xs ys in omega (arith, rest)
 
--- of all that some elements give
+-- the greatest over a flattened list is the greatest over its elements' greatest
 greatest-flat_map : {X Y : Type 0} (f : Y → ℕ) (g : X → List Y) (xs : List X) → greatest (map f (flat_map g xs)) ≡ greatest (map (λ x. greatest (map f (g x))) xs)
 greatest-flat_map f g [] = refl
 greatest-flat_map f g (x ∷ xs) =
     ap greatest (map-append f (g x) (flat_map g xs)) ∙ greatest-append (map f (g x)) (map f (flat_map g xs)) ∙ ap (max (greatest (map f (g x)))) (greatest-flat_map f g xs)
 
--- the longest line of a column
+-- the longest line of a column is the greatest over its cells
 pub longest_line-is : (table : TableValue) (info : ColumnInfo) (i : ℕ)
     → longest_line table i info.delimiter info.content_width ≡ greatest (map (of_measured table (cell_longest_line table info)) (cells_with_header table i))
 longest_line-is table info i =

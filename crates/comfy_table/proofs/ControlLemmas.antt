@@ -1,4 +1,4 @@
--- What is visible of a drawing holds no control character, where its texts, its style and its indicator hold none.
+-- The visible text of a drawing has no control character, if its texts, its style and its indicator have none.
 use Rattle.std.proofs.Common.{◌≡◌, ℕ, false, ◌==◌, List, Option, length, refl, unwrap_or, arith}
 use Rattle.std.specs.Char.{is_control}
 use Rattle.std.specs.List.{All}
@@ -18,7 +18,7 @@ use Rattle.comfy_table.specs.Drawing.{drawing, infos_of}
 use Rattle.comfy_table.specs.Laws.{HasNoControl, HasNoEscape, IsFreeOfControls, IsFreeOfEscapes, unstyled}
 use Rattle.comfy_table.specs.TableValue.{TableValue, measured_rows}
 
--- ESC is a control character
+-- a text without control characters has no ESC
 no_escape : (text : Text) → HasNoControl text → HasNoEscape text
 no_escape = none_by_characters is_control 0x1B (omega arith) refl
 
@@ -34,7 +34,7 @@ free_of_escapes table free =
       };
     }
 
--- what is shown of a text has none, however it is drawn
+-- the visible text has none, however the text is drawn
 controls_kept : KeptByDrawing HasNoControl (λ shown text. HasNoControl shown)
 controls_kept =
     record {
@@ -44,7 +44,7 @@ controls_kept =
       of_closed = λ text none. none;
     }
 
--- so no line without styling has one
+-- so no line has one without styling
 pub without_controls : (table : TableValue) (widths : List ℕ) → length widths ≡ length table.columns → All (IsRowOf IsUtf8) (measured_rows table) → IsFreeOfControls table → All HasNoControl (drawing (unstyled table) widths)
 without_controls table widths long whole free =
     All-from_recursion HasNoControl (drawing (unstyled table) widths)

@@ -1,4 +1,4 @@
--- How many characters a text adds to what follows it, and so how many a framed line has.
+-- The number of characters that a text adds before any other text, and so the number of characters of a framed line.
 use Rattle.std.proofs.Common.{◌≡◌, ◌<◌, ℕ, zero, suc, ◌+◌, ◌-◌, ◌/◌, ◌%◌, Bool, true, false, cond, List, [], ◌∷◌, ◌++◌, Option, length, map, sum, refl, sym, ap, ◌∙◌, subst, arith, append_assoc, append-nil}
 use Rattle.std.specs.Int.{is_in_range}
 use Rattle.std.specs.List.{repeat, join_by, flat_map, AllZip}
@@ -21,7 +21,7 @@ use Rattle.comfy_table.specs.Frame.{border_count, character, between_borders, fr
 use Rattle.comfy_table.specs.Laws.{count}
 use Rattle.comfy_table.specs.Pieces.{shown_infos}
 
--- before any rest, the text adds n characters
+-- the text adds n characters before any rest
 pub record HasCount (n : ℕ) (text : Text) : Type 0 where
   pub counts : (rest : Text) → length (chars (text ++ rest)) ≡ n + length (chars rest)
 
@@ -29,29 +29,29 @@ pub record HasCount (n : ℕ) (text : Text) : Type 0 where
 pub count-is : (n : ℕ) (text : Text) → HasCount n text → count text ≡ n
 count-is n text has = grind (arith, chars-nil, append-nil)
 
--- a number that equals n is the same count
+-- a number that equals n serves as n
 pub HasCount-same : (m n : ℕ) (text : Text) → m ≡ n → HasCount m text → HasCount n text
 HasCount-same m n text same has = subst (λ k. HasCount k text) same has
 
 -- ---- characters
 
--- a first byte says how many bytes follow it
+-- the first byte of a character says how many bytes follow it
 led : (a n : ℕ) (bs : Text) → n ≡ continuation_len a → chars (a ∷ bs) ≡ chars_after n (lead_bits a) bs
 unfolding chars
 led a n bs says = ap (λ m. chars_after m (lead_bits a) bs) (sym says)
 
--- a character whose bytes are all read
+-- a character whose bytes have all been read
 whole : (c : ℕ) (rest : Text) → length (chars_after 0 c rest) ≡ 1 + length (chars rest)
 unfolding chars
 whole c [] = refl
 whole c (b ∷ bs) = omega arith
 
--- a character of ASCII is one byte
+-- a byte of ASCII is one character
 pub HasCount-byte : (b : ℕ) → b < 128 → HasCount 1 (b ∷ [])
 HasCount-byte b low =
     record { counts = λ rest. ap length (led b 0 rest (grind (arith, nat_tests))) ∙ whole (lead_bits b) rest }
 
--- the bytes of every number are read as one character
+-- the bytes of a number's encoding are one character
 pub HasCount-encode : (c : ℕ) → HasCount 1 (encode_utf8 c)
 unfolding encode
 HasCount-encode c = record { counts = λ rest. by_size (ltb c 128) (ltb c 2048) (ltb c 65536) refl refl refl rest }
@@ -69,15 +69,15 @@ HasCount-encode c = record { counts = λ rest. by_size (ltb c 128) (ltb c 2048) 
 
 -- ---- texts
 
--- an empty text adds none
+-- an empty text adds no characters
 pub HasCount-nil : HasCount 0 []
 HasCount-nil = record { counts = λ rest. omega arith }
 
--- two texts add what both add
+-- two texts add the sum of their characters
 pub HasCount-append : (m n : ℕ) (xs ys : Text) → HasCount m xs → HasCount n ys → HasCount (m + n) (xs ++ ys)
 HasCount-append m n xs ys front back = grind (arith, append_assoc)
 
--- every text that is UTF-8 has its own characters
+-- a text of UTF-8 adds its own characters
 pub HasCount-utf8 : (text : Text) → IsUtf8 text → HasCount (count text) text
 HasCount-utf8 text utf8 =
     record { counts = λ rest. ap length (chars-append text rest utf8) ∙ length-append (chars text) (chars rest) }
@@ -91,13 +91,13 @@ HasCount-printable (c ∷ cs) printable =
     HasCount-same (1 + length cs) (length (c ∷ cs)) (c ∷ cs) (omega arith)
     (HasCount-append 1 (length cs) (c ∷ []) cs (HasCount-byte c (omega arith)) (HasCount-printable cs parts.1))
 
--- n spaces add n
+-- n spaces add n characters
 pub HasCount-spaces : (n : ℕ) → HasCount n (spaces n)
 HasCount-spaces zero = HasCount-nil
 HasCount-spaces (suc n) =
     HasCount-same (1 + n) (suc n) (spaces (suc n)) (omega arith) (HasCount-append 1 n (0x20 ∷ []) (spaces n) (HasCount-byte 0x20 (omega arith)) (HasCount-spaces n))
 
--- a text of one character, n times, adds n
+-- a text of one character, repeated n times, adds n characters
 pub HasCount-repeat : (n : ℕ) (text : Text) → HasCount 1 text → HasCount n (repeat n text)
 HasCount-repeat zero text one = HasCount-nil
 HasCount-repeat (suc n) text one =
@@ -105,17 +105,17 @@ HasCount-repeat (suc n) text one =
 
 -- ---- framed lines
 
--- a character that is written or not
+-- a character that is written only if `b` is true
 HasCount-when : (b : Bool) (text : Text) → HasCount 1 text → HasCount (if b then 1 else 0) (if b then text else [])
 HasCount-when true text one = one
 HasCount-when false text one = HasCount-nil
 
--- one width more, with a separator before each
+-- the sum of widths with a separator before each, for one width more
 pub sum-separated : (w : ℕ) (widths : List ℕ) (b : Bool) → ((if b then 1 else 0) + w) + ((if b then length widths else 0) + sum widths) ≡ (if b then suc (length widths) else 0) + sum (w ∷ widths)
 sum-separated w widths true = let all = sum_by-cons (λ (x : ℕ). x) w widths in omega (arith, all)
 sum-separated w widths false = let all = sum_by-cons (λ (x : ℕ). x) w widths in omega (arith, all)
 
--- and with one between each two
+-- the sum of widths with a separator between each two
 pub sum-between : (w : ℕ) (widths : List ℕ) (b : Bool) → w + ((if b then length widths else 0) + sum widths) ≡ (if b then suc (length widths) - 1 else 0) + sum (w ∷ widths)
 sum-between w widths true = let all = sum_by-cons (λ (x : ℕ). x) w widths in omega (arith, all)
 sum-between w widths false = let all = sum_by-cons (λ (x : ℕ). x) w widths in omega (arith, all)
@@ -152,22 +152,22 @@ HasCount-joined style left junction right widths pieces each =
     (HasCount-append _ _ _ _ (HasCount-when (draws_left_border style) (character left) (HasCount-encode _))
     (HasCount-append _ _ _ _ (HasCount-between (draws_vertical_lines style) (character junction) widths pieces (HasCount-encode _) each) (HasCount-when (draws_right_border style) (character right) (HasCount-encode _))))
 
--- the pieces of a frame line have the widths
+-- the fills of a frame line have the whole widths of the columns
 fills : (fill : Option ℕ) (widths : List ℕ) → AllZip HasCount widths (map (λ (width : ℕ). repeat width (character fill)) widths)
 fills fill [] = tt
 fills fill (w ∷ widths) = (HasCount-repeat w (character fill) (HasCount-encode _), fills fill widths)
 
--- a frame line over these widths has the border characters and the sum of the widths, before any rest
+-- a frame line has the border characters and the sum of the widths, before any rest
 pub HasCount-frame_line : (style : TableStyle) (line : LineStyle) (widths : List ℕ) → HasCount (border_count style (length widths) + sum widths) (frame_line style line widths)
 HasCount-frame_line style line widths =
     HasCount-joined style line.left line.junction line.right widths (map (λ (width : ℕ). repeat width (character line.fill)) widths) (fills line.fill widths)
 
--- whatever the style, a frame line has the border characters and the whole widths of the shown columns
+-- for every style, a frame line has as many characters as the borders and the whole widths of the shown columns
 abbrev pub FrameLinesCount : TableStyle → LineStyle → List ColumnInfo → Type 0
 FrameLinesCount style line infos =
     count (frame_line style line (outer_widths infos)) ≡ border_count style (length (shown_infos infos)) + sum (outer_widths infos)
 
--- a frame line has the border characters and the whole widths
+-- a frame line has as many characters as the borders and the whole widths
 pub frame_lines_count : (style : TableStyle) (line : LineStyle) (infos : List ColumnInfo) → FrameLinesCount style line infos
 frame_lines_count style line infos =
     count-is _ _ (HasCount-frame_line style line (outer_widths infos))

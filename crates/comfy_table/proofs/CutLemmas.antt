@@ -1,4 +1,4 @@
--- The lines of a cell, of which one may be cut.
+-- The lines of a cell, the last of which may be cut.
 use Rattle.std.proofs.Common.{◌≡◌, ◌<◌, ℕ, ◌-◌, Bool, true, false, List, [], ◌∷◌, Option, Some, None, length, map, take, unwrap_or, nat_le, refl, ap, ◌∙◌, sym, arith, subst}
 use Rattle.std.specs.List.{All, slice_get}
 use Rattle.std.proofs.lemmas.Bool.{cond_both}
@@ -16,14 +16,14 @@ use Rattle.comfy_table.specs.Lines.{as_measured, cell_delimiter, cell_lines, cut
 use Rattle.comfy_table.specs.Pieces.{blank_piece, cell_pieces, padded, pieces_at, pieces_of_optional, row_cell_lines}
 use Rattle.comfy_table.specs.TableValue.{TableValue}
 
--- ---- lists of which one element may be cut
+-- ---- lists whose last element may be cut
 
--- no limit is that of all lines
+-- without a limit, the number of all lines serves as one
 pub no_limit : {A : Type 0} (cut : A → A) (limit : Option ℕ) (lines : List A) → cut_to_limit cut limit lines ≡ cut_to_height cut (unwrap_or limit (length lines)) lines
 no_limit cut None lines = grind (arith, nat_tests)
 no_limit cut (Some h) lines = refl
 
--- what is made of each line, cut or not
+-- mapping the lines maps each of them, cut or not
 pub map-cut : {A B : Type 0} (f : A → B) (cut : A → A) (other : B → B) (limit : Option ℕ) (lines : List A) → ((line : A) → f (cut line) ≡ other (f line))
     → map f (cut_to_limit cut limit lines) ≡ cut_to_limit other limit (map f lines)
 map-cut f cut other None lines same = refl
@@ -33,7 +33,7 @@ map-cut f cut other (Some h) lines same = grind (arith, length-map, map-append, 
     made [] = refl
     made (x ∷ xs) = λ i. same x i ∷ made xs i
 
--- what holds of each line, whole or cut
+-- a property of each line, whole or cut, holds of all lines
 pub All-cut : {A : Type 0} (P Q : A → Type 0) (cut : A → A) (limit : Option ℕ) (lines : List A) → All P lines → ((line : A) → P line → Q line)
     → ((h : ℕ) → limit ≡ Some h → h < length lines → (line : A) → P line → Q (cut line)) → All Q (cut_to_limit cut limit lines)
 All-cut P Q cut None lines each whole one = All-weaker P Q whole lines each
@@ -42,13 +42,13 @@ All-cut P Q cut (Some h) lines each whole one =
     (λ taller. All-append Q (take (h - 1) lines) _ (All-weaker P Q whole _ (All-take P (h - 1) lines each))
     (All-map Q cut _ (All-weaker P (λ line. Q (cut line)) (one h refl (grind (arith, nat_tests, taller))) _ (All-take P 1 _ (All-drop P (h - 1) lines each)))))
 
--- ---- what is measured of the lines of a cell
+-- ---- measured texts of the lines of a cell
 
--- what is measured of lines
+-- the measured texts of lines
 abbrev pub measured_of : List CellLine → List Text
 measured_of lines = map (λ (line : CellLine). line.measured) lines
 
--- of those of a cell it is the lines of what is measured of the cell
+-- the measured texts of a cell's lines are the lines of the measured cell
 pub whole-measured : (custom : Bool) (w d : ℕ) (cell : CellValue) → measured_of (uncut_lines custom w d cell) ≡ cell_lines w d (cell_measured custom cell)
 whole-measured true w d cell = visible_lines w d cell.text_lines
 whole-measured false w d cell = as_they_are (cell_lines w d cell)
@@ -57,12 +57,12 @@ whole-measured false w d cell = as_they_are (cell_lines w d cell)
     as_they_are [] = refl
     as_they_are (line ∷ lines) = ap (λ (more : List Text). line ∷ more) (as_they_are lines)
 
--- the lines of a cell in a row as they are measured
+-- the measured lines of a cell in a row
 abbrev pub measured_in_row : TableValue → RowValue → ColumnInfo → CellValue → List Text
 measured_in_row table row info cell =
     cut_to_limit (cut_text info.content_width table.indicator) row.max_height (cell_lines info.content_width (cell_delimiter table info.delimiter cell) cell)
 
--- they are what is measured of its lines
+-- they are the measured texts of its lines
 pub row-measured : (table : TableValue) (row : RowValue) (info : ColumnInfo) (cell : CellValue) → measured_of (row_cell_lines table row info cell) ≡ measured_in_row table row info (cell_measured table.custom_styling cell)
 row-measured table row info cell =
     map-cut (λ (line : CellLine). line.measured) (cut_line table.custom_styling info.content_width table.indicator) (cut_text info.content_width table.indicator) row.max_height _ (λ line. refl)
@@ -70,7 +70,7 @@ row-measured table row info cell =
 
 -- ---- unstyled tables
 
--- the lines are written as they are measured
+-- without styling, lines are written as they are measured
 pub row-unstyled : (table : TableValue) (row : RowValue) (info : ColumnInfo) (cell : CellValue) → row_cell_lines (unstyled table) row info cell ≡ map as_measured (measured_in_row table row info cell)
 row-unstyled table row info cell =
     sym (map-cut as_measured (cut_text info.content_width table.indicator) (cut_line false info.content_width table.indicator) row.max_height _ (λ line. refl))
@@ -79,11 +79,11 @@ row-unstyled table row info cell =
 abbrev pub unstyled_piece : CellValue → ColumnInfo → Text → Text
 unstyled_piece cell info line = padded cell info (measure line) line
 
--- such are all pieces
+-- all pieces of an unstyled table are such pieces
 pub pieces-unstyled : (table : TableValue) (row : RowValue) (info : ColumnInfo) (cell : CellValue) → cell_pieces (unstyled table) row info cell ≡ map (unstyled_piece cell info) (measured_in_row table row info cell)
 pieces-unstyled table row info cell = grind (arith, row-unstyled, map-map)
 
--- what holds of the pieces of lines as they are measured, and of a blank one, holds of all pieces in a column
+-- a property of the pieces of measured lines and of a blank piece holds of all pieces in a column
 pub All-pieces : (P : Text → Type 0) (table : TableValue) (row : RowValue) (p : ℕ × ColumnInfo) → P (blank_piece p.1)
     → ((cell : CellValue) → slice_get row.cells p.0 ≡ Some cell → All (λ line. P (unstyled_piece cell p.1 line)) (measured_in_row table row p.1 cell)) → All P (pieces_at (unstyled table) row p)
 All-pieces P table row p blank = by_option (slice_get row.cells p.0)

@@ -1,4 +1,4 @@
--- The widths by content are those of an arrangement that keeps no width.
+-- The widths by content are the widths of an arrangement that keeps to no width.
 use Rattle.std.proofs.Common.{◌≡◌, ℕ, suc, ◌+◌, Bool, true, false, not, cond, List, [], ◌∷◌, length, map, max, Option, None, arith, refl, sym, ap, ap₂, ◌∙◌, subst, slice_index}
 use Rattle.std.specs.List.{enumerate_from, filter}
 use Rattle.std.specs.Prelude.{if◌then◌else◌, zip}
@@ -13,17 +13,17 @@ use Rattle.comfy_table.specs.DisabledWidths.{width_by_content, widths_by_content
 use Rattle.comfy_table.specs.TableValue.{TableValue, column_content_width, table_width, shown_columns}
 use Rattle.comfy_table.specs.Widths.{disabled_width, shown_count, shown_needs}
 
--- as many columns are visible among those with a position as among those without
+-- the shown columns with positions are as many as the shown columns without positions
 pub visible_from-count : (n : ℕ) (columns : List ColumnValue)
     → length (filter (λ (p : ℕ × ColumnValue). not (is_hidden_column p.1)) (enumerate_from n columns)) ≡ shown_among columns
 visible_from-count n [] = refl
 visible_from-count n (column ∷ columns) = grind (arith, visible_from-count (n + 1) columns)
 
--- a table's shown columns are counted by either
+-- the number of shown columns is the same with and without positions
 pub shown_count-among : (table : TableValue) → shown_count table ≡ shown_among table.columns
 shown_count-among table = visible_from-count 0 table.columns
 
--- the numbers at the positions of the columns that pass a test, where g gives the numbers of all
+-- at the positions of the columns that pass a test, g's numbers are f's numbers, if both agree there
 picked : (g f : ℕ × ColumnValue → ℕ) (test : ColumnValue → Bool) → ((p : ℕ × ColumnValue) → test p.1 ≡ true → g p ≡ f p)
     → (all : List ℕ) (at : ℕ) (columns : List ColumnValue)
     → ((i : ℕ) → slice_index all (at + i) ≡ slice_index (map g (enumerate_from at columns)) i)
@@ -44,7 +44,7 @@ picked g f test same all at (column ∷ columns) each =
     by_test true is rest = ap₂ (λ (x : ℕ) (xs : List ℕ). x ∷ xs) (here ∙ same (at, column) is) rest
     by_test false is rest = rest
 
--- the widths by content, at the positions of the columns that pass a test
+-- at the positions of the columns that pass a test, the widths by content are f's numbers, if both agree there
 picked_by_content : (table : TableValue) (f : ℕ × ColumnValue → ℕ) (test : ColumnValue → Bool) → ((p : ℕ × ColumnValue) → test p.1 ≡ true → width_by_content table p ≡ f p)
     → widths_at (widths_by_content table) (filter (λ (p : ℕ × ColumnValue). test p.1) (enumerate_from 0 table.columns))
     ≡ map f (filter (λ (p : ℕ × ColumnValue). test p.1) (enumerate_from 0 table.columns))
@@ -55,11 +55,11 @@ picked_by_content table f test same =
 hidden_width : (table : TableValue) (p : ℕ × ColumnValue) → is_hidden_column p.1 ≡ true → width_by_content table p ≡ max 1 (column_content_width table p.0)
 hidden_width table p is = ap (λ (b : Bool). if b then max 1 (column_content_width table p.0) else disabled_width table p) is
 
--- a visible one the disabled width
+-- a shown column has its disabled width
 visible_width : (table : TableValue) (p : ℕ × ColumnValue) → not (is_hidden_column p.1) ≡ true → width_by_content table p ≡ disabled_width table p
 visible_width table p is = grind arith
 
--- where no width is kept, the widths by content are the table's
+-- if no width is kept, the widths by content are the table's
 pub arranged_by_content : (table : TableValue) → width_kept table.arrangement (table_width table) ≡ None → IsArranged table (widths_by_content table)
 arranged_by_content table none =
     let shown : List ℕ = widths_at (widths_by_content table) (shown_columns table) in
@@ -71,18 +71,18 @@ arranged_by_content table none =
           (picked_by_content table (disabled_width table) (λ (c : ColumnValue). not (is_hidden_column c)) (visible_width table));
     }
 
--- ---- what the columns are drawn by
+-- ---- the infos of columns
 
--- the column at a position as it is drawn by content
+-- the info of the column at a position, with its width by content
 abbrev pub info_by_content : TableValue → ℕ × ColumnValue → ColumnInfo
 info_by_content table p = info_of p.1 (width_by_content table p)
 
--- columns beside numbers that f gives of them
+-- zipping columns with f's numbers gives each column with its own number
 zip-map : (f : ℕ × ColumnValue → ℕ) (n : ℕ) (columns : List ColumnValue)
     → map (λ (p : ColumnValue × ℕ). info_of p.0 p.1) (zip columns (map f (enumerate_from n columns))) ≡ map (λ (p : ℕ × ColumnValue). info_of p.1 (f p)) (enumerate_from n columns)
 zip-map f n [] = refl
 zip-map f n (column ∷ columns) = ap (λ (infos : List ColumnInfo). info_of column (f (n, column)) ∷ infos) (zip-map f (n + 1) columns)
 
--- so the columns are drawn by the widths by content
+-- so the infos of the columns have the widths by content
 pub infos-by_content : (table : TableValue) → map (info_by_content table) (enumerate_from 0 table.columns) ≡ infos_of table (widths_by_content table)
 infos-by_content table = sym (zip-map (width_by_content table) 0 table.columns)

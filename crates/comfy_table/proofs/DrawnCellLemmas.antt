@@ -1,4 +1,4 @@
--- The lines of a row are made of the cells that its shown columns draw.
+-- The lines of a row consist of the pieces of its shown columns.
 use Rattle.std.proofs.Common.{◌≡◌, ℕ, Bool, true, false, List, Option, Some, length, map, refl, ap, ◌∙◌, sym, slice_index_or, unwrap_or}
 use Rattle.std.specs.List.{range_with_len, slice_get}
 use Rattle.std.specs.Prelude.{option_map, if◌then◌else◌}
@@ -15,7 +15,7 @@ use Rattle.comfy_table.specs.TableValue.{TableValue, should_style}
 use Rattle.comfy_table.specs.declared.utils.formatting.piece.Styles.{Styles}
 use Rattle.comfy_table.specs.declared.utils.formatting.piece.Styles.TheVariants.{Nowhere, RoundTexts, RoundPieces}
 
--- the piece of a line, where the table writes styles
+-- the piece of a line, with styles at the places where the table writes them
 where_written : (table : TableValue) (cell : CellValue) (info : ColumnInfo) (line : DrawnLine) → piece_with (styles_of table) cell info line ≡ text_piece table cell info line.columns line.written
 where_written table cell info line = by_settings (should_style table) table.style_text_only
   where
@@ -30,7 +30,7 @@ where_written table cell info line = by_settings (should_style table) table.styl
     by_settings true false = refl
     by_settings false text_only = refl
 
--- the pieces of a cell that a row has, with its lines
+-- the pieces of a cell of a row, made from its lines
 pub cell_pieces_are : (table : TableValue) (row : RowValue) (info : ColumnInfo) (o : Option CellValue) (cell : CellValue) (lines : List DrawnLine) → o ≡ Some cell → lines ≡ map drawn_line (row_cell_lines table row info cell)
     → map (piece_with (styles_of table) cell info) lines ≡ pieces_of_optional table row info o
 cell_pieces_are table row info o cell lines found are =
@@ -39,23 +39,23 @@ cell_pieces_are table row info o cell lines found are =
     ∙ map-map _ drawn_line (row_cell_lines table row info cell)
     ∙ ap (pieces_of_optional table row info) (sym found)
 
--- the piece in a line, by the line
+-- the piece in line k, made from the line
 pub piece_in : (styles : Styles) (cell : CellValue) (info : ColumnInfo) (lines : List DrawnLine) (k : ℕ)
     → slice_index_or (map (piece_with styles cell info) lines) k (blank_piece info) ≡ unwrap_or (option_map (piece_with styles cell info) (slice_get lines k)) (blank_piece info)
 piece_in styles cell info lines k = index-map (piece_with styles cell info) lines k (blank_piece info)
 
--- the lines of a row, cell by cell
+-- the lines of a row, made from its cells
 pub drawn_lines : (table : TableValue) (infos : List ColumnInfo) (row : RowValue) (cells : List DrawnCell) → cells ≡ map (drawn_cell table row) (shown_infos infos)
     → map (λ k. map (piece_at k) cells) (range_with_len 0 (greatest_height cells)) ≡ row_lines table infos row
 drawn_lines table infos row cells are =
     ap (λ (cells : List DrawnCell). map (λ k. map (piece_at k) cells) (range_with_len 0 (greatest_height cells))) are
     ∙ (λ i. map (λ k. map-map (piece_at k) (drawn_cell table row) (shown_infos infos) i) (range_with_len 0 (greatest (map-map (λ drawn. length drawn.pieces) (drawn_cell table row) (shown_infos infos) i))))
 
--- and its height is theirs
+-- the height of a row is the greatest height of its cells
 pub height_of_cells : (table : TableValue) (infos : List ColumnInfo) (row : RowValue) (cells : List DrawnCell) → cells ≡ map (drawn_cell table row) (shown_infos infos) → greatest_height cells ≡ row_height table infos row
 height_of_cells table infos row cells are = ap greatest_height are ∙ ap greatest (map-map (λ (drawn : DrawnCell). length drawn.pieces) (drawn_cell table row) (shown_infos infos))
 
--- the lines of a row between gaps
+-- the lines of a row with gaps, made from its cells
 pub drawn_between : (gaps : RowGapsValue) (table : TableValue) (infos : List ColumnInfo) (row : RowValue) (cells : List DrawnCell) → cells ≡ map (drawn_cell table row) (shown_infos infos)
     → map (λ k. gap_line gaps (map (piece_at k) cells)) (range_with_len 0 (greatest_height cells)) ≡ row_between gaps table infos row
 drawn_between gaps table infos row cells are =

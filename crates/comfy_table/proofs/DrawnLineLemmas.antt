@@ -17,53 +17,53 @@ use Rattle.comfy_table.specs.Lines.{as_measured, cell_delimiter, cell_lines, cut
 use Rattle.comfy_table.specs.Pieces.{row_cell_lines}
 use Rattle.comfy_table.specs.TableValue.{TableValue}
 
--- lines that are written as they are measured
+-- lines that are written as they are measured are given by their measured texts
 all_as_measured : (lines : List CellLine) → AllByRecursion IsAsMeasured lines → lines ≡ map as_measured (measured_of lines)
 all_as_measured [] each = refl
 all_as_measured (line ∷ lines) each =
     λ i. record { measured = line.measured; written = each.0 i } ∷ all_as_measured lines each.1 i
 
--- such are those of a cell without custom styling, or without ESC
+-- the lines of a cell without custom styling or without ESC are written as they are measured
 pub without_custom_styling : (custom : Bool) (w d : ℕ) (cell : CellValue) → (custom && list_any has_escape cell.text_lines) ≡ false → uncut_lines custom w d cell ≡ map as_measured (cell_lines w d (cell_measured custom cell))
 without_custom_styling false w d cell none = refl
 without_custom_styling true w d cell none =
     all_as_measured (line_texts w d cell.text_lines) (clear_written w d cell.text_lines none) ∙ ap (map as_measured) (whole-measured true w d cell)
 
--- lines without texts of their own
+-- without texts the lines stay as they are
 pub no_texts : (lines : List DrawnLine) (texts : List Text) → length texts ≡ 0 → with_texts lines texts ≡ lines
 no_texts [] texts none = refl
 no_texts (line ∷ lines) [] none = refl
 no_texts (line ∷ lines) (text ∷ texts) none = absurd (omega (arith, none))
 
--- lines with all their texts
+-- with a text for each line, the lines are drawn with these texts
 pub all_texts : (lines : List CellLine) → with_texts (map drawn_text (measured_of lines)) (map (λ (line : CellLine). line.written) lines) ≡ map drawn_line lines
 all_texts [] = refl
 all_texts (line ∷ lines) = ap (λ (more : List DrawnLine). drawn_line line ∷ more) (all_texts lines)
 
--- ---- of a cell
+-- ---- the lines of one cell
 
 module _ (table : TableValue) (row : RowValue) (info : ColumnInfo) (cell : CellValue) where
-  -- the lines of the cell
+  -- the lines of the cell, before any cut
   abbrev whole : List CellLine
   whole = uncut_lines table.custom_styling info.content_width (cell_delimiter table info.delimiter cell) cell
 
-  -- and of what is measured of it
+  -- the lines of the measured cell
   abbrev measured : List Text
   measured = cell_lines info.content_width (cell_delimiter table info.delimiter cell) (cell_measured table.custom_styling cell)
 
-  -- as many
+  -- both have the same number of lines
   pub as_many : length whole ≡ length measured
   as_many = grind (arith, whole-measured, length-map)
 
-  -- lines that are written as they are measured
+  -- without sequences or without custom styling, the drawn lines are the measured ones
   pub drawn-measured : (table.custom_styling && list_any has_escape cell.text_lines) ≡ false → map drawn_text measured ≡ map drawn_line whole
   drawn-measured none = grind (arith, without_custom_styling, map-map)
 
-  -- lines none of which is cut
+  -- if no line is cut, all lines are drawn
   pub drawn-uncut : (lines : List DrawnLine) → lines ≡ map drawn_text measured → length lines ≤ unwrap_or row.max_height (length lines) → row_cell_lines table row info cell ≡ whole
   drawn-uncut lines are within = let many = ap length are in grind (arith, nat_tests, as_many, no_limit, length-map, many)
 
-  -- nor is one line
+  -- a single line is never cut
   pub drawn-one : (line : DrawnLine) → line ∷ [] ≡ map drawn_line whole → IfSome row.max_height (λ lines. 1 ≤ lines) → line ∷ [] ≡ map drawn_line (row_cell_lines table row info cell)
   drawn-one line is limit = is ∙ ap (map drawn_line) (sym (one_uncut row.max_height limit))
     where
@@ -71,7 +71,7 @@ module _ (table : TableValue) (row : RowValue) (info : ColumnInfo) (cell : CellV
       one_uncut None _ = refl
       one_uncut (Some h) below = let one = ap length is in grind (arith, nat_tests, one, length-map, below)
 
-  -- lines of which one is cut
+  -- if a line is cut, the lines before it are drawn, and then the cut line
   pub drawn-cut : (lines : List DrawnLine) (h : ℕ) (last : DrawnLine) → lines ≡ map drawn_text measured → h ≡ unwrap_or row.max_height (length lines) → h < length lines → last ≡ slice_index_or lines (h - 1) last
       → take (h - 1) (map drawn_line whole) ++ drawn_line (cut_line table.custom_styling info.content_width table.indicator (as_measured last.written)) ∷ [] ≡ map drawn_line (row_cell_lines table row info cell)
   drawn-cut lines h last are is taller read =

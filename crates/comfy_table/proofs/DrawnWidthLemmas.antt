@@ -1,4 +1,4 @@
--- What a line of a table without constraints adds up to: it keeps to the width, or has it.
+-- The total of a line of a table without constraints: at most the table's width, or exactly this width.
 use Rattle.std.proofs.lemmas.Bool.{cond_both}
 use Rattle.std.proofs.Common.{◌≡◌, ◌≤◌, ℕ, suc, ◌+◌, Bool, true, false, cond, not, ◌==◌, List, [], ◌∷◌, length, map, sum, sum_by, zip, get_or, Option, Some, None, filter, refl, sym, ap, ◌∙◌, subst, arith, ◌&&◌}
 use Rattle.std.specs.List.{AllByRecursion, AllZip, enumerate_from}
@@ -22,21 +22,21 @@ use Rattle.comfy_table.proofs.UnconstrainedLemmas.{least_with_steps-unconstraine
 use Rattle.comfy_parts.proofs.CallerLemmas.{every-second}
 use Rattle.comfy_table.proofs.InfoLemmas.{columns_from}
 
--- ---- the drawn widths
+-- ---- the whole widths
 
--- the widths of the visible ones of some columns that begin at a position
+-- the widths of the shown columns of a list that begins at position n
 abbrev widths_from : List ℕ → ℕ → List ColumnValue → List ℕ
 widths_from widths n columns = widths_at widths (columns_from n columns)
 
--- the whole widths as they are drawn
+-- the whole widths of these columns
 abbrev drawn_from : ℕ → List ColumnInfo → List ℕ
 drawn_from n infos = map (λ (p : ℕ × ColumnInfo). info_width p.1) (filter (λ (p : ℕ × ColumnInfo). not p.1.is_hidden) (enumerate_from n infos))
 
--- their paddings
+-- the sum of their paddings
 abbrev paddings_from : ℕ → List ColumnValue → ℕ
 paddings_from n columns = sum_by (λ (p : ℕ × ColumnValue). column_padding p.1) (columns_from n columns)
 
--- widths of at least 1 are drawn with the paddings
+-- the sum of the whole widths is that of the widths, if these are at least 1, and of the paddings
 sum-drawn_from : (widths : List ℕ) (n : ℕ) (columns : List ColumnValue) (ws : List ℕ) → length ws ≡ length columns → ((k : ℕ) → get_or widths (n + k) 0 ≡ get_or ws k 0)
     → AllByRecursion (λ (w : ℕ). 1 ≤ w) (widths_from widths n columns)
     → sum (drawn_from n (map (λ (p : ColumnValue × ℕ). info_of p.0 p.1) (zip columns ws))) ≡ paddings_from n columns + sum (widths_from widths n columns)
@@ -71,7 +71,7 @@ sum-drawn_from widths n (column ∷ more) (w ∷ ws) same at each =
           sum_by-cons (λ (x : ℕ). x) (get_or widths n 0) (widths_from widths (n + 1) more),
         )
 
--- the whole widths of a table whose visible widths are at least 1
+-- the whole widths of a table add up in this way, if its shown widths are at least 1
 pub sum-outer_widths : (table : TableValue) (widths : List ℕ) → length widths ≡ length table.columns → AllByRecursion (λ (w : ℕ). 1 ≤ w) (widths_at widths (shown_columns table))
     → sum (outer_widths (infos_of table widths)) ≡ sum_by (λ (p : ℕ × ColumnValue). column_padding p.1) (shown_columns table) + sum (widths_at widths (shown_columns table))
 sum-outer_widths table widths same each =
@@ -79,7 +79,7 @@ sum-outer_widths table widths same each =
 
 -- ---- the needs of a table without constraints
 
--- nothing but a content and paddings is needed
+-- columns without constraints have unconstrained needs
 unconstrained_needs : (table : TableValue) (columns : List (ℕ × ColumnValue)) → AllByRecursion (λ (p : ℕ × ColumnValue). p.1.constraint ≡ None) columns → AllByRecursion IsUnconstrained (map (needs_of table) columns)
 unconstrained_needs table [] each = tt
 unconstrained_needs table (p ∷ more) each = (
@@ -95,7 +95,7 @@ unconstrained_needs table (p ∷ more) each = (
 pub unconstrained_shown : (table : TableValue) → NoConstraints table → AllByRecursion IsUnconstrained (shown_needs table)
 unconstrained_shown table none = unconstrained_needs table (shown_columns table) (recursion_from_All (λ (p : ℕ × ColumnValue). p.1.constraint ≡ None) (shown_columns table) none)
 
--- their paddings
+-- the sum of the paddings of their needs
 pub paddings_of_needs : (table : TableValue) (columns : List (ℕ × ColumnValue)) → sum_by (λ (column : ColumnNeeds). column.padding) (map (needs_of table) columns) ≡ sum_by (λ (p : ℕ × ColumnValue). column_padding p.1) columns
 paddings_of_needs table [] = refl
 paddings_of_needs table (p ∷ more) =
@@ -103,7 +103,7 @@ paddings_of_needs table (p ∷ more) =
 
 -- ---- each width is at least 1
 
--- an even share is at least the level
+-- each content width of columns without constraints is at least 1
 some_content : (room : ℕ) (columns : List ColumnNeeds) → AllByRecursion IsUnconstrained columns → (full : Bool) (lower : List Claim) (level : Option ℕ) (shrunk : List Claim) (widths : List ℕ)
     → IsArrangedBy room columns full (steps_with lower level shrunk) widths → AllZip (λ (column : ColumnNeeds) (width : ℕ). 1 ≤ width) columns (contents_after room columns (steps_with lower level shrunk))
 some_content room columns plain full lower None shrunk widths arranged =
@@ -113,7 +113,7 @@ some_content room columns plain full lower (Some level) shrunk widths arranged =
     each_content room columns plain (λ column width. 1 ≤ width) full lower level shrunk widths arranged
     (record { fit = λ column free fits. omega arith; shrunk = λ column b free wider at_least within three. omega arith; even = λ column b width free wider at_least within tight low high. omega (arith, one) })
 
--- what is added leaves a width at least 1
+-- an added number keeps a width at least 1
 pub every_added : (xs ys : List ℕ) → AllByRecursion (λ (w : ℕ). 1 ≤ w) xs → AllByRecursion (λ (w : ℕ). 1 ≤ w) (added xs ys)
 every_added [] ys each = tt
 every_added (x ∷ xs) [] each = tt
@@ -130,7 +130,7 @@ some_width room columns plain full steps widths arranged =
 
 -- ---- a table's lines
 
--- the visible widths of a table whose width is known are dynamic
+-- the shown widths of a table whose width is known are dynamic
 pub dynamic_widths : (table : TableValue) (arrangement : ContentArrangement) (w : ℕ) (widths : List ℕ) → width_kept arrangement (Some w) ≡ Some w → table.arrangement ≡ arrangement → table_width table ≡ Some w → IsArranged table widths
     → IsDynamicLayout (room_beside_borders table w) (shown_needs table) (is_full_width arrangement) (widths_at widths (shown_columns table))
 dynamic_widths table arrangement w widths kept same known arranged = grind arith
@@ -143,20 +143,20 @@ module _ (table : TableValue) (w : ℕ) (widths : List ℕ) (full : Bool) (none 
       let drawn = sum-outer_widths table widths arranged.one_for_each (some_width (room_beside_borders table w) (shown_needs table) (unconstrained_shown table none) full steps (widths_at widths (shown_columns table)) by) in
       omega (arith, drawn, paddings_of_needs table (shown_columns table))
 
-  -- the least total is the border characters, the paddings and one for each column
+  -- the least total is the border characters, the paddings and one terminal column for each column
   least_total-is : border_count table.style (shown_count table) + least_with_steps (shown_needs table) steps ≡ least_total table
   least_total-is =
       let least = least_with_steps-unconstrained (room_beside_borders table w) (shown_needs table) (unconstrained_shown table none) full steps (widths_at widths (shown_columns table)) by in
       omega (arith, least, paddings_of_needs table (shown_columns table), length-map (shown_columns table) (needs_of table))
 
--- a line keeps to the width, or to the least total
+-- a line is at most as wide as the table's width, or the least total if that is more
 pub keeps_to_width : (table : TableValue) (w : ℕ) (widths : List ℕ) → KeepsToWidth table w widths
 keeps_to_width table w widths none dynamic known arranged =
     let found = dynamic_widths table Dynamic w widths refl dynamic known arranged in
     let bound = keeps_to_wider_bound (room_beside_borders table w) (shown_needs table) found.0 (widths_at widths (shown_columns table)) found.1 in
     omega (arith, bound, line_total-is table w widths false none arranged found.0 found.1, least_total-is table w widths false none arranged found.0 found.1)
 
--- with full width a line has exactly that
+-- with full width a line is exactly that wide
 pub fills_width : (table : TableValue) (w : ℕ) (widths : List ℕ) → FillsWidth table w widths
 fills_width table w widths none dynamic known some arranged =
     let found = dynamic_widths table DynamicFullWidth w widths refl dynamic known arranged in

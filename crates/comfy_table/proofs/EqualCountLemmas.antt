@@ -25,25 +25,25 @@ use Rattle.comfy_table.specs.Arrangement.{IsArranged}
 
 -- ---- columns
 
--- as many columns are drawn as are visible
+-- there are as many shown infos as shown columns
 pub length-infos_from : (n : ℕ) (columns : List ColumnValue) (widths : List ℕ) → length widths ≡ length columns → length (infos_from n columns widths) ≡ length (columns_from n columns)
 length-infos_from n [] [] same = refl
 length-infos_from n [] (w ∷ widths) same = refl
 length-infos_from n (column ∷ columns) [] same = absurd (omega (arith, same))
 length-infos_from n (column ∷ columns) (w ∷ widths) same = grind (arith, length-infos_from (n + 1) columns widths (omega (arith, same)))
 
--- a drawn column has a place, and what is known of its position and its delimiter
+-- a shown info has at least one terminal column, and a known property of its position and its delimiter
 pub record IsKnownInfo (Known : ℕ → Option ℕ → Type 0) (p : ℕ × ColumnInfo) : Type 0 where
   pub places : 1 ≤ p.1.content_width
   pub known : Known p.0 p.1.delimiter
 
 -- ---- rows
 
--- the pieces of an unstyled row in a column
+-- the pieces of an unstyled row in a column have as many characters as the column is wide
 abbrev ArePiecesCounted : TableValue → RowValue → ℕ × ColumnInfo → Type 0
 ArePiecesCounted table row p = All (HasCount (info_width p.1)) (pieces_at (unstyled table) row p)
 
--- the pieces of a printable cell are as wide as the column, and so is the blank_piece of a missing one
+-- the pieces of a printable cell are as wide as the column, and so is the blank piece of a missing cell
 pieces-counted : (table : TableValue) (row : RowValue) (p : ℕ × ColumnInfo) → IsUtf8 table.indicator → 1 ≤ p.1.content_width
     → ((cell : CellValue) → slice_get row.cells p.0 ≡ Some cell → IsPrintableCell table p.1.delimiter cell) → AddsOneColumnEachWhereWritten table row p → ArePiecesCounted table row p
 pieces-counted table row p utf8 places plain even =
@@ -53,7 +53,7 @@ pieces-counted table row p utf8 places plain even =
 
 -- ---- the drawing
 
--- what holds of each line that a row's pieces make holds of each of its lines
+-- a property of each line that a row's pieces make holds of each of its lines
 pub All-row : (P : Text → Type 0) (table : TableValue) (infos : List ColumnInfo) (line : ContentLineStyle) (row : RowValue)
     → ((k : ℕ) → P (content_line table.style line (row_line table infos row k))) → All P (drawn_row table infos line row)
 All-row P table infos line row each =
@@ -61,7 +61,7 @@ All-row P table infos line row each =
     (All-map (λ pieces. P (content_line table.style line pieces)) (row_line table infos row) (range_with_len 0 (row_height table infos row))
     (All-every (λ k. P (content_line table.style line (row_line table infos row k))) (range_with_len 0 (row_height table infos row)) each))
 
--- what holds of the frame lines and of the lines of each row holds of each line of the drawing
+-- a property of the frame lines and of the lines of each row holds of each line of the drawing
 pub All-drawing : (P : Text → Type 0) (table : TableValue) (infos : List ColumnInfo) (Known : RowValue → Type 0)
     → All P (optional_frame_line table.style table.style.top_border (outer_widths infos))
     → All P (optional_frame_line table.style table.style.header_separator (outer_widths infos))
@@ -83,11 +83,11 @@ All-drawing P table infos Known top below_header between bottom as_header as_con
     header_lines (Some row) each = All-append P (drawn_row table infos table.style.header_lines row) _ (as_header row (All-head Known row table.rows each)) below_header
 
 module _ (table : TableValue) (infos : List ColumnInfo) where
-  -- the characters of a line
+  -- the number of characters of a line
   abbrev total_of : ℕ
   total_of = border_count table.style (length (outer_widths infos)) + sum (outer_widths infos)
 
-  -- each line of a row has them
+  -- each line of a row has this number
   row_counted : (line : ContentLineStyle) (row : RowValue) → All (ArePiecesCounted table row) (shown_infos infos) → All (HasCount total_of) (drawn_row (unstyled table) infos line row)
   row_counted line row each =
       All-row (HasCount total_of) (unstyled table) infos line row
@@ -97,7 +97,7 @@ module _ (table : TableValue) (infos : List ColumnInfo) where
       (All-weaker (ArePiecesCounted table row) (λ (p : ℕ × ColumnInfo). HasCount (info_width p.1) (slice_index_or (pieces_at (unstyled table) row p) k (blank_piece p.1)))
       (λ p counted. At-or (HasCount (info_width p.1)) (pieces_at (unstyled table) row p) k (blank_piece p.1) counted (HasCount-spaces (info_width p.1))) (shown_infos infos) each)))
 
-  -- a frame line that is drawn has them
+  -- a frame line that is drawn has this number
   frame_counted : (line : LineStyle) → All (HasCount total_of) (optional_frame_line table.style line (outer_widths infos))
   frame_counted line =
       cond_both (is_drawn line) _ [] (All (HasCount total_of))
@@ -105,19 +105,20 @@ module _ (table : TableValue) (infos : List ColumnInfo) where
       (HasCount-frame_line table.style line (outer_widths infos)) (All-nil (HasCount total_of)))
       (λ _. All-nil (HasCount total_of))
 
-  -- all lines have them
+  -- all lines have this number
   drawing_counted : All (λ row. All (ArePiecesCounted table row) (shown_infos infos)) (measured_rows table) → All (HasCount total_of) (drawing_of_infos (unstyled table) infos)
   drawing_counted each =
       All-drawing (HasCount total_of) (unstyled table) infos (λ row. All (ArePiecesCounted table row) (shown_infos infos))
       (frame_counted table.style.top_border) (frame_counted table.style.header_separator) (frame_counted table.style.row_separator) (frame_counted table.style.bottom_border)
       (row_counted table.style.header_lines) (row_counted table.style.content_lines) each
 
--- all lines, frame lines too, have the same count, whatever the arrangement and the constraints; an indicator that ends inside a character would swallow what follows it
+-- all lines, also frame lines, have the same number of characters, for all arrangements and constraints. The indicator
+-- has to be UTF-8: one that ends inside a character would take in the bytes after it.
 abbrev pub EqualCounts : TableValue → List ℕ → Type 0
 EqualCounts table widths =
     IsUtf8 table.indicator → IsPrintableTable table widths → IsArranged table widths → All (λ line. count line ≡ line_total table widths) (drawing (unstyled table) widths)
 
--- all lines of a printable table have the same count
+-- all lines of a printable table have the same number of characters
 pub equal_counts : (table : TableValue) (widths : List ℕ) → EqualCounts table widths
 equal_counts table widths utf8 plain arranged =
     let columns : length (outer_widths infos) ≡ shown_count table =

@@ -1,4 +1,4 @@
--- The fixed widths as widths that claims give, and the widths where the undecided columns are filled.
+-- Fixed widths as widths that claims give, and the widths after the undecided columns are filled.
 use Rattle.std.proofs.Common.{◌≡◌, ◌<◌, ℕ, ◌+◌, cond, List, [], ◌∷◌, ◌++◌, map, zip, Option, Some, None, option_map, filter, is_none, unwrap_or, refl, sym, ap, ◌∙◌, arith}
 use Rattle.std.specs.List.{enumerate_from, cons_option}
 use Rattle.std.specs.Option.{option_or}
@@ -11,12 +11,12 @@ use Rattle.comfy_parts.proofs.CallerLemmas.{map-places, zip-nil}
 
 -- ---- fixed widths
 
--- no fixed claim stands before the first place
+-- no fixed claim is before the first position
 fixed_before : (i n : ℕ) (needs : List ColumnNeeds) → i < n → width_at (fixed_claims (enumerate_from n needs)) i ≡ None
 fixed_before i n [] before = refl
 fixed_before i n (column ∷ more) before = grind (arith, fixed_before i (n + 1) more (omega arith))
 
--- the fixed widths are those that the fixed claims give
+-- the fixed widths are those that the fixed claims give, from a position on
 fixed-places : (n : ℕ) (needs : List ColumnNeeds) → map (λ (c : ColumnNeeds). c.fixed) needs ≡ map (λ (p : Positioned). width_at (fixed_claims (enumerate_from n needs)) p.0) (enumerate_from n needs)
 fixed-places n [] = refl
 fixed-places n (column ∷ more) = by_fixed column.fixed (fixed-places (n + 1) more)
@@ -36,7 +36,7 @@ fixed-places n (column ∷ more) = by_fixed column.fixed (fixed-places (n + 1) m
 pub fixed-widths_of : (needs : List ColumnNeeds) → map (λ (c : ColumnNeeds). c.fixed) needs ≡ widths_of needs (fixed_claims (places_of needs))
 fixed-widths_of needs = fixed-places 0 needs
 
--- columns without a fixed width, and places without a width
+-- the columns without a fixed width are at the positions without a width
 late-places : (f : ℕ → Option ℕ) (n : ℕ) (needs : List ColumnNeeds) → map (λ (c : ColumnNeeds). c.fixed) needs ≡ map (λ (p : Positioned). f p.0) (enumerate_from n needs)
     → filter (λ (p : Positioned). is_none p.1.fixed) (enumerate_from n needs) ≡ filter (λ (p : Positioned). is_none (f p.0)) (enumerate_from n needs)
 late-places f n [] same = refl
@@ -45,14 +45,14 @@ late-places f n (column ∷ more) same =
     let first : column.fixed ≡ f n = cc both in
     let rest = late-places f (n + 1) more (cc both) in λ k. cond (is_none (first k)) ((n, column) ∷ rest k) (rest k)
 
--- the columns without a fixed width are those without a fixed claim
+-- the columns without a fixed width are the columns without a fixed claim
 pub undecided-fixed : (room : ℕ) (needs : List ColumnNeeds) → without_claims (fixed_claims (places_of needs)) (places_of needs) ≡ undecided room needs
 undecided-fixed room needs =
     let fixed = fixed_claims (places_of needs) in sym (none-widths_of needs fixed) ∙ sym (late-places (width_at fixed) 0 needs (fixed-places 0 needs))
 
--- ---- the widths at the end
+-- ---- the final widths
 
--- the undecided columns take these widths in list order
+-- the undecided columns get these widths in list order, from a position on
 filled-places : (f : ℕ → Option ℕ) (n : ℕ) (needs : List ColumnNeeds) (parts : List ℕ)
     → filled (map (λ (p : Positioned). f p.0) (enumerate_from n needs)) parts
     ≡ map (λ (p : Positioned). unwrap_or (option_or (f p.0) (width_at (zip (map (λ (q : Positioned). q.0) (filter (λ (q : Positioned). is_none (f q.0)) (enumerate_from n needs))) parts) p.0)) 0) (enumerate_from n needs)
@@ -84,7 +84,7 @@ filled-places f n (column ∷ more) parts = by_width (f n) parts (filled-places 
         let later = rest ws ∙ map-places (given claims) (given ((n, w) ∷ claims)) (n + 1) more (λ i from. sym (ap (λ (o : Option ℕ). unwrap_or (option_or (f i) o) 0) (width_at-other (n, w) claims i (ne_eqb n i (λ same. omega arith))))) in
         λ k. first k ∷ later k
 
--- the widths where the undecided columns take these widths in list order
+-- the undecided columns get these widths in list order
 pub filled-widths_of : (needs : List ColumnNeeds) (claims : List Claim) (left : List Positioned) (parts : List ℕ) → without_claims claims (places_of needs) ≡ left
     → filled (widths_of needs claims) parts ≡ map (λ (p : Positioned). claim_at (claims ++ zip (map (λ (q : Positioned). q.0) left) parts) p.0) (places_of needs)
 filled-widths_of needs claims left parts left_is =
@@ -93,7 +93,7 @@ filled-widths_of needs claims left parts left_is =
     ∙ map-places (λ i. unwrap_or (option_or (width_at claims i) (width_at (zip (map (λ (q : Positioned). q.0) left) parts) i)) 0) (claim_at (claims ++ zip (map (λ (q : Positioned). q.0) left) parts)) 0 needs
     (λ i from. ap (λ (o : Option ℕ). unwrap_or o 0) (sym (width_at-append i claims (zip (map (λ (q : Positioned). q.0) left) parts))))
 
--- where none is undecided no width is taken
+-- if no column is undecided, no width is taken
 pub filled-decided : (widths : List (Option ℕ)) (parts : List ℕ) → undecided_count widths ≡ 0 → filled widths parts ≡ decided widths
 filled-decided [] parts none = refl
 filled-decided (Some w ∷ widths) parts none = ap (λ (ws : List ℕ). w ∷ ws) (filled-decided widths parts none)

@@ -1,4 +1,4 @@
--- Lines that are made of their borders and pieces one after another.
+-- Lines that are made from borders and pieces, one after another.
 use Rattle.std.proofs.Common.{◌≡◌, ℕ, Bool, List, [], ◌++◌, Option, map, ap, ◌∙◌, sym, append_assoc}
 use Rattle.std.specs.List.{join_by}
 use Rattle.std.specs.Prelude.{if◌then◌else◌}
@@ -7,7 +7,7 @@ use Rattle.comfy_parts.specs.declared.style.table_style.TableStyle.{TableStyle}
 use Rattle.comfy_parts.proofs.CallerLemmas.{join_by-map}
 use Rattle.comfy_table.specs.Frame.{character, draws_left_border, draws_right_border, draws_vertical_lines, between_borders}
 
--- after a text: the left border, the pieces with what stands between them, the right border
+-- appending the left border, the pieces with junctions between them, and the right border to a text appends the line
 pub between_borders-behind : {X : Type 0} (style : TableStyle) (left junction right : Option ℕ) (f : X → Text) (xs : List X) (l v r : Bool) (start before inside whole : Text)
     → l ≡ draws_left_border style → v ≡ draws_vertical_lines style → r ≡ draws_right_border style
     → before ≡ start ++ (if l then character left else [])

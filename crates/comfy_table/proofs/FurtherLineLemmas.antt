@@ -1,4 +1,4 @@
--- The lines of a row after its first, of the cells that are kept for them.
+-- The lines of a row after its first one, made from the cells that are kept for them.
 use Rattle.std.proofs.Common.{◌≡◌, ◌<◌, ◌≤◌, ◌+◌, ◌-◌, ℕ, zero, suc, List, [], ◌∷◌, ◌++◌, length, map, take, refl, ap, ap₂, sym, subst, ◌∙◌, arith, append-nil, append_assoc, slice_index_or}
 use Rattle.std.proofs.lemmas.List.{get_or_append_left, get_or-append_right, get_or-map, get_or_past, get_or-take, length-append, length-map, length-take-le, map-append, take-map}
 use Rattle.std.proofs.Math.Seq.{take-append_seam}
@@ -12,13 +12,13 @@ use Rattle.comfy_table.specs.Gaps.{RowGapsValue, gap_line, row_between}
 use Rattle.comfy_table.specs.Pieces.{blank_piece, shown_infos}
 use Rattle.comfy_table.specs.TableValue.{TableValue}
 
--- it has a piece in the first line at the most
+-- the cell has at most one piece
 abbrev IsLow : DrawnCell → Type 0
 IsLow drawn = length drawn.pieces ≤ 1
 
 -- ---- the cells that are kept
 
--- and one more
+-- one more cell that is kept
 pub further-more : (further cells : List DrawnCell) (drawn : DrawnCell) → AreFurther further cells → AreFurther (further ++ drawn ∷ []) (cells ++ drawn ∷ [])
 further-more further cells drawn are =
     record {
@@ -27,7 +27,7 @@ further-more further cells drawn are =
       all = ap (λ (ds : List DrawnCell). ds ++ drawn ∷ []) are.all ∙ append_assoc are.low further (drawn ∷ []);
     }
 
--- one that isn't kept, before all that are
+-- a cell that isn't kept, before all cells that are
 pub further-none : (cells : List DrawnCell) (drawn : DrawnCell) → length drawn.pieces ≤ 1 → AreFurther [] cells → AreFurther [] (cells ++ drawn ∷ [])
 further-none cells drawn low are =
     record {
@@ -36,7 +36,7 @@ further-none cells drawn low are =
       all = ap (λ (ds : List DrawnCell). ds ++ drawn ∷ []) (are.all ∙ append-nil are.low) ∙ sym (append-nil (are.low ++ drawn ∷ []));
     }
 
--- the one that is kept last
+-- the last cell that is kept
 pub kept-last : (further : List DrawnCell) (drawn other : DrawnCell) (i : ℕ) → i ≡ length (further ++ drawn ∷ []) - 1 → slice_index_or (further ++ drawn ∷ []) i other ≡ drawn
 kept-last further drawn other i is =
     let size = length-append further (drawn ∷ []) in
@@ -44,14 +44,14 @@ kept-last further drawn other i is =
     let first : i - length further ≡ 0 = omega (arith, is, size) in
     get_or-append_right further (drawn ∷ []) (length further) i other refl from ∙ ap (λ k. slice_index_or (drawn ∷ []) k other) first
 
--- there are no more of them than cells
+-- at most as many cells are kept as there are
 pub further-few : (further cells : List DrawnCell) → AreFurther further cells → length further ≤ length cells
 further-few further cells are = let size = ap length are.all ∙ length-append are.low further in omega (arith, size)
 
--- ---- the cells of the columns, position by position
+-- ---- the cells of the columns, at each position
 
 module _ (columns : List (ℕ × ColumnInfo)) (further : List DrawnCell) where
-  -- those before the kept ones
+  -- the columns before the kept cells
   abbrev front : List (ℕ × ColumnInfo)
   front = take (length columns - length further) columns
 
@@ -76,7 +76,7 @@ module _ (columns : List (ℕ × ColumnInfo)) (further : List DrawnCell) where
 -- ---- the lines of a row
 
 module _ (table : TableValue) (row : RowValue) where
-  -- in a line after the first a low cell has no piece
+  -- in a line after the first, a cell with at most one piece has none
   low-pieces : (k : ℕ) (xs : List (ℕ × ColumnInfo)) → 0 < k → All IsLow (map (drawn_cell table row) xs) → map (piece_at k) (map without_piece xs) ≡ map (piece_at k) (map (drawn_cell table row) xs)
   low-pieces k [] some low = refl
   low-pieces k (x ∷ xs) some low =
@@ -87,7 +87,7 @@ module _ (table : TableValue) (row : RowValue) where
   some-columns [] height is some = absurd (omega (arith, is, some))
   some-columns (x ∷ xs) height is some = omega arith
 
-  -- and one without a line has no text
+  -- a row without a line has no text
   pub none-between : (gaps : RowGapsValue) (columns : List (ℕ × ColumnInfo)) (infos : List ColumnInfo) (height : ℕ) → columns ≡ shown_infos infos → height ≡ greatest_height (map (drawn_cell table row) columns) → height ≡ 0 → row_between gaps table infos row ≡ []
   none-between gaps columns infos height shown is none =
       let cells = map (drawn_cell table row) columns in
@@ -95,7 +95,7 @@ module _ (table : TableValue) (row : RowValue) where
       ∙ ap (λ n. map (λ k. gap_line gaps (map (piece_at k) cells)) (range_with_len 0 n)) (sym is ∙ none)
 
   module _ (columns : List (ℕ × ColumnInfo)) (further : List DrawnCell) (are : AreFurther further (map (drawn_cell table row) columns)) where
-    -- there the kept cells have all pieces
+    -- in a line after the first, the kept cells have all pieces
     same-pieces : (k : ℕ) → 0 < k → map (piece_at k) (filled columns further) ≡ map (piece_at k) (map (drawn_cell table row) columns)
     same-pieces k some =
         let n = length columns - length further in
@@ -114,7 +114,7 @@ module _ (table : TableValue) (row : RowValue) where
       others from zero some = refl
       others from (suc count) some = ap₂ (λ (line : Text) (lines : List Text). line ∷ lines) (ap (gap_line gaps) (same-pieces from some)) (others (from + 1) count (omega arith))
 
-      -- the first line and those after it
+      -- the lines of a row are its first line and those after it
       pub lines-between : (infos : List ColumnInfo) (height : ℕ) → columns ≡ shown_infos infos → height ≡ greatest_height (map (drawn_cell table row) columns) → 0 < height
           → gap_line gaps (map (piece_at 0) (map (drawn_cell table row) columns)) ∷ map (λ k. gap_line gaps (map (piece_at k) (filled columns further))) (range_with_len 1 (height - 1)) ≡ row_between gaps table infos row
       lines-between infos zero shown is some = absurd (omega (arith, some))

@@ -1,4 +1,4 @@
--- A border between two runs of spaces, and the part that is copied from it.
+-- A border between two runs of spaces, and the slice that is copied from them.
 use Rattle.std.proofs.Common.{◌≡◌, ◌≤◌, ℕ, zero, suc, ◌+◌, ◌-◌, ◌++◌, length, take, drop, refl, ap, sym, subst, ◌∙◌, arith, append_assoc}
 use Rattle.std.proofs.Math.Seq.{drop-append_seam, take-append_seam}
 use Rattle.std.proofs.lemmas.List.{length-append, length-replicate}
@@ -7,18 +7,18 @@ use Rattle.std.specs.Prelude.{IsCharBoundary, IsUtf8}
 use Rattle.comfy_parts.specs.Text.{Text, spaces}
 use Rattle.comfy_table.proofs.SpaceLemmas.{spaces-append, spaces-utf8}
 
--- two lengths make a run
+-- a run splits into two
 run_of : (n k : ℕ) → k ≤ n → spaces n ≡ spaces (n - k) ++ spaces k
 run_of n k within = let e : n ≡ n - k + k = omega (arith, within) in ap spaces e ∙ sym (spaces-append (n - k) k)
 
--- what stands behind spaces
+-- the text after spaces is UTF-8, if all is
 past_spaces : (n : ℕ) (text : Text) → IsUtf8 (spaces n ++ text) → IsUtf8 text
 unfolding lib.Utf8.encode
 past_spaces zero text whole = whole
 past_spaces (suc n) text whole = past_spaces n text (IsUtf8-past_char (spaces (suc n) ++ text) (spaces n ++ text) 0x20 whole refl)
 
 module _ (text border : Text) (n before after : ℕ) (is : text ≡ spaces n ++ (border ++ spaces n)) (whole : IsUtf8 text) (b : before ≤ n) (a : after ≤ n) where
-  -- what is copied, and what stands before and after it
+  -- the slice that is copied: spaces, the border, and spaces
   abbrev gap : Text
   gap = spaces before ++ (border ++ spaces after)
 
@@ -39,7 +39,7 @@ module _ (text border : Text) (n before after : ℕ) (is : text ≡ spaces n ++ 
   pub first_left : drop (n - before) text ≡ rest
   first_left = ap (drop (n - before)) divided ∙ ap (λ i. drop i (spaces (n - before) ++ rest)) (sym first_length) ∙ drop-append_seam (spaces (n - before)) rest
 
-  -- the rest ends with spaces that aren't copied
+  -- the rest ends with the spaces that aren't copied
   ended : rest ≡ gap ++ spaces (n - after)
   ended =
       let e : n ≡ after + (n - after) = omega (arith, a) in
@@ -47,7 +47,7 @@ module _ (text border : Text) (n before after : ℕ) (is : text ≡ spaces n ++ 
       ∙ ap (λ (t : Text). spaces before ++ t) (sym (append_assoc border (spaces after) (spaces (n - after))))
       ∙ sym (append_assoc (spaces before) (border ++ spaces after) (spaces (n - after)))
 
-  -- the length of what is copied
+  -- the length of the slice
   gap_length : length gap ≡ before + length border + after
   gap_length = grind (arith, length-append, length-replicate)
 

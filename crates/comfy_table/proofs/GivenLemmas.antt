@@ -1,4 +1,4 @@
--- The widths while they are decided: those that claims give, and the columns that are left.
+-- The widths while they are decided: the widths that claims give, and the columns that are left.
 use Rattle.std.proofs.Common.{◌≡◌, ◌≤◌, ℕ, Bool, true, false, cond, ◌==◌, List, [], ◌∷◌, ◌++◌, length, Some, find, option_map, unwrap_or, sym, ap, ◌∙◌, subst, arith}
 use Rattle.std.proofs.lemmas.List.Sums.{sum_by-cons}
 use Rattle.comfy_table.specs.Deciding.{HasTaken, HasGoneRound, offer_by_rule, undecided_among, undecided_count, with_claims}
@@ -21,15 +21,15 @@ pub record IsGiven (needs : List ColumnNeeds) (claims : List Claim) (left : List
 pub undecided_left : (needs : List ColumnNeeds) (claims : List Claim) (left : List Positioned) (budget : Budget) → IsGiven needs claims left budget → undecided_among needs budget.widths.items ≡ left
 undecided_left needs claims left budget given = ap (undecided_among needs) given.widths ∙ undecided_among-widths_of needs claims ∙ given.left_is
 
--- and they are as many
+-- the undecided columns are as many as the columns that are left
 pub undecided_count_left : (needs : List ColumnNeeds) (claims : List Claim) (left : List Positioned) (budget : Budget) → IsGiven needs claims left budget → undecided_count budget.widths.items ≡ length left
 undecided_count_left needs claims left budget given = ap undecided_count given.widths ∙ undecided_count-widths_of needs claims ∙ ap length given.left_is
 
--- at most one column is left at each place
+-- at most one column is left at each position
 pub one_left : (needs : List ColumnNeeds) (claims : List Claim) (left : List Positioned) (budget : Budget) → IsGiven needs claims left budget → IsOneEach left
 one_left needs claims left budget given = subst IsOneEach given.left_is (one_each-without claims (places_of needs) (one_each-places 0 needs))
 
--- more of the columns that are left get claims
+-- columns that are left get further claims
 pub given_more : (needs : List ColumnNeeds) (claims order : List Claim) (left : List Positioned) (old new : Budget) → IsGiven needs claims left old → IsAmong order left → HasTaken order old new
     → IsGiven needs (claims ++ order) (without_claims order left) new
 given_more needs claims order left old new given among taken =
@@ -40,14 +40,14 @@ given_more needs claims order left old new given among taken =
       left_is = without_claims-append claims order (places_of needs) ∙ ap (without_claims order) given.left_is;
     }
 
--- the claims that a rule takes, in turn
+-- the claims that columns take by a rule, in turn
 pub taken_by_rule : (rule : Rule) (room : ℕ) (needs : List ColumnNeeds) (claims : List Claim) (left : List Positioned) (old new : Budget) (given : IsGiven needs claims left old) → old.room ≡ room
     → (taken : HasGoneRound rule needs old new) → IsTakenInOrder left (offer_by_rule rule room left) taken.0
 taken_by_rule rule room needs claims left old new given room_is taken =
     subst (λ (r : ℕ). IsTakenInOrder left (offer_by_rule rule r left) taken.0) room_is
     (subst (λ (ps : List Positioned). IsTakenInOrder ps (offer_by_rule rule old.room ps) taken.0) (undecided_left needs claims left old given) taken.1)
 
--- a width is at most all claims together
+-- a width is at most the total of all claims
 pub claim_at-le_total : (i : ℕ) (claims : List Claim) → claim_at claims i ≤ total claims
 claim_at-le_total i [] = omega arith
 claim_at-le_total i (t ∷ more) = by_test (t.0 == i) (claim_at-le_total i more)

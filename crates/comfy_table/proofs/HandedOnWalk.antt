@@ -1,4 +1,5 @@
--- The proof of a function that calls another one with its parameters, and then `into_reference` with its result, under the same clauses. Assumes `Logic`.
+-- The proof of a function that calls another one with its parameters, and then `into_reference` with its result,
+-- under the same clauses. Assumes `Logic`.
 use Rattle.std.proofs.Common.{◌≡◌, ℕ, zero, suc, List, [], ◌∷◌, refl, sym}
 pub use Rattle.std.proofs.raw_atomic.Walks.{proved_at, leaves}
 pub use mathlib.Core.Path.{subst}
@@ -57,7 +58,7 @@ abbrev first : List RattleType → RattleType
 first [] = table.the_row
 first (R ∷ Rs) = R
 
--- what `into_reference` takes, and what it returns
+-- the parameter of `into_reference`, which is also the result of the first function
 abbrev pub held : (m : ℕ) → Slot (suc m)
 held m = plain (λ κs. first (types_at h.signature.params (κs.0, tt)))
 

@@ -1,4 +1,4 @@
--- What a drawing over the table's infos promises.
+-- The promises of a drawing over a table's widths.
 use Rattle.std.proofs.Common.{◌≡◌, ◌≤◌, ℕ, ◌+◌, not, List, [], ◌∷◌, Option, Some, None, map, zip, slice_index_or, unwrap_or, max, String, refl, ap, sym, subst, ◌∙◌, arith}
 use Rattle.std.proofs.lemmas.List.Elements.{All-filter, All-head, All-nil, All-tail, All-weaker}
 use Rattle.std.proofs.lemmas.Str.{IsUtf8-string_bytes}
@@ -36,28 +36,28 @@ use Rattle.comfy_table.specs.TableValue.{KeepsParts, TableValue, ellipsis, heade
 text_or_slices : (w d : ℕ) (text : Text) → IsScalar d → IsUtf8 text → IsTextOrSlices w d text
 text_or_slices w d text scalar whole = grind (arith, wrapped_is_wrapped)
 
--- a delimiter, or another character where there is none, is a character
+-- a delimiter, or else another character, is a character
 delimiter_or : (delimiter : Option ℕ) (other : ℕ) → IsDelimiter delimiter → IsScalar other → IsScalar (unwrap_or delimiter other)
 delimiter_or None other is given = given
 delimiter_or (Some d) other is given = is
 
--- the cell of a row in a column whose delimiter is a character
+-- a cell of a row is whole in a column whose delimiter is a character
 whole_cell : (table : TableValue) (row : RowValue) → IsDelimiter table.delimiter → HasCells row → (p : ℕ × ColumnInfo) → IsDelimiter p.1.delimiter
     → (cell : CellValue) → slice_get row.cells p.0 ≡ Some cell → IsWholeCell table row p.1 cell
 whole_cell table row own kept p of_column cell is =
     let own_cell : IsCell cell = All-at IsCell row.cells p.0 cell kept is in
     (own_cell.text_lines.whole, delimiter_or cell.delimiter _ own_cell.delimiter (delimiter_or p.1.delimiter _ of_column (delimiter_or table.delimiter 0x20 own refl)))
 
--- the lines of its text lines are these, or slices of them
+-- the lines of its text lines are the texts, or slices of them
 cell_slices : (table : TableValue) (row : RowValue) (info : ColumnInfo) (cell : CellValue)
     → IsWholeCell table row info cell → AreTextsOrSlices table row info cell
 cell_slices table row info cell whole = grind (arith, text_or_slices)
 
--- a table's rows and its header keep what rows keep
+-- the rows of a table and its header have the invariant of rows
 all_rows : (table : TableValue) → KeepsParts table → All IsRow (header_and_rows table)
 all_rows table kept = grind arith
 
--- the shown columns are drawn with the delimiters of the table's columns
+-- the shown columns have the delimiters of the table's columns
 info_delimiters : (n : ℕ) (columns : List ColumnValue) (widths : List ℕ) → All IsColumn columns
     → All (λ (p : ℕ × ColumnInfo). IsDelimiter p.1.delimiter) (enumerate_from n (map (λ (p : ColumnValue × ℕ). info_of p.0 p.1) (zip columns widths)))
 info_delimiters n [] widths kept = All-nil (λ (p : ℕ × ColumnInfo). IsDelimiter p.1.delimiter)
@@ -65,7 +65,7 @@ info_delimiters n (column ∷ columns) [] kept = All-nil (λ (p : ℕ × ColumnI
 info_delimiters n (column ∷ columns) (width ∷ widths) kept =
     grind (arith, All-head, info_delimiters (n + 1) columns widths (All-tail IsColumn column columns kept))
 
--- what a line's total meets, each line's count does
+-- a property of a line's total holds of each line's number of characters
 each_line_counts : (P : ℕ → Type 0) (table : TableValue) (widths : List ℕ) → IsUtf8 table.indicator → EachCell (IsWholeCell table) table widths → IsArranged table widths → P (line_total table widths)
     → LineWidthsSatisfy P table widths
 each_line_counts P table widths utf8 cells arranged meets =
@@ -75,14 +75,14 @@ each_line_counts P table widths utf8 cells arranged meets =
       straight_lines = λ is. All-weaker (λ line. measure line ≡ line_total table widths) (λ line. P (measure line)) (λ line same. subst P (sym same) meets) (drawing (unstyled table) widths) (straight table widths utf8 cells arranged is);
     }
 
--- what holds of each cell of a row holds of each that it has in a shown column
+-- a property of each cell of a row holds of each cell in a shown column
 each_shown : (P : RowValue → ColumnInfo → CellValue → Type 0) (rows : List RowValue)
     → (table : TableValue) (widths : List ℕ)
     → ((row : RowValue) (info : ColumnInfo) (cell : CellValue) → P row info cell)
     → EachShownCell P rows table widths
 each_shown P rows table widths each k default under j other below cell found = each _ _ cell
 
--- and promise what every drawing does
+-- the drawing keeps all promises of drawings
 pub table_drawing : (table : TableValue) (infos : List ColumnInfo) (lines : List Text) → IsUtf8 table.indicator → KeepsParts table → AreInfosOf table infos → lines ≡ drawing_of_infos table infos → IsTableDrawing table lines
 table_drawing table infos lines utf8 kept (widths, arranged, is) drawn =
     let whole = drawn ∙ ap (drawing_of_infos table) is in
@@ -167,12 +167,12 @@ table_drawing table infos lines utf8 kept (widths, arranged, is) drawn =
       };
     }
 
--- the indicator of a new table is a character
+-- the indicator of a new table is UTF-8
 utf8_ellipsis : IsUtf8 ellipsis
 unfolding wrapping
 utf8_ellipsis = (one_character 0x2026 refl).0
 
--- an indicator is whole characters
+-- an indicator consists of whole characters
 pub utf8_indicator : {A : Type 0} (set : Option (String A)) → IsUtf8 (indicator_of set)
 utf8_indicator None = utf8_ellipsis
 utf8_indicator (Some set) = IsUtf8-string_bytes set

@@ -1,4 +1,4 @@
--- A table has the drawing that it has without its hidden columns.
+-- A table has the same drawing without its hidden columns.
 use Rattle.std.proofs.Common.{◌≡◌, ℕ, suc, ◌+◌, ◌-◌, Bool, true, false, not, cond, List, [], ◌∷◌, ◌++◌, Option, Some, None, length, map, max, arith, refl, sym, ap, ap₂, ◌∙◌, subst, slice_index}
 use Rattle.std.specs.List.{enumerate_from, filter, filter_map, cons_option, slice_get}
 use Rattle.std.specs.Prelude.{MatchOption, option_map, option_to_list, unwrap_or}
@@ -28,31 +28,31 @@ use Rattle.comfy_table.specs.Widths.{ColumnNeeds, capped_content, disabled_width
 
 -- ---- positions
 
--- what stands beside the column at the first position stands at the second one, where hidden columns are gone
+-- an element at position i is at position j after the elements of hidden columns are removed
 abbrev IsMoved : List ColumnValue → ℕ → ℕ → Type 1
 IsMoved columns i j = (X : Type 0) (xs : List X) → slice_get (beside_shown columns xs) j ≡ slice_get xs i
 
 module _ (column : ColumnValue) (columns : List ColumnValue) where
-  -- a first column that is shown stays the first one
+  -- a first column that is shown keeps position 0
   stays_first : is_hidden_column column ≡ false → IsMoved (column ∷ columns) 0 0
   stays_first is X [] = refl
   stays_first is X (x ∷ xs) = grind arith
 
-  -- and the columns after it stand one further
+  -- after a first column that is shown, both positions are one further
   moves_on : (i j : ℕ) → is_hidden_column column ≡ false → IsMoved columns i j → IsMoved (column ∷ columns) (suc i) (suc j)
   moves_on i j is at X [] = refl
   moves_on i j is at X (x ∷ xs) = grind arith
 
-  -- after a hidden one they don't
+  -- after a first column that is hidden, only the position before the removal is one further
   moves_up : (i j : ℕ) → is_hidden_column column ≡ true → IsMoved columns i j → IsMoved (column ∷ columns) (suc i) j
   moves_up i j is at X [] = refl
   moves_up i j is at X (x ∷ xs) = grind arith
 
--- so does a number
+-- a number at position i is at position j after the removal; 0 after the end of the list
 index_moved : (columns : List ColumnValue) (i j : ℕ) → IsMoved columns i j → (ws : List ℕ) → slice_index (beside_shown columns ws) j ≡ slice_index ws i
 index_moved columns i j at ws = sym (unwrap_or-slice_get (beside_shown columns ws) j 0) ∙ ap (λ (o : Option ℕ). unwrap_or o 0) (at ℕ ws) ∙ unwrap_or-slice_get ws i 0
 
--- what is made of shown columns, where it is the same at both positions
+-- the results for shown columns are the same, if they are the same at both positions
 from_columns : {X : Type 0} (f g : ℕ × ColumnValue → X) (n m : ℕ) (columns : List ColumnValue)
     → ((i j : ℕ) (column : ColumnValue) → IsMoved columns i j → f (n + i, column) ≡ g (m + j, column))
     → map f (columns_from n columns) ≡ map g (columns_from m (filter is_shown columns))
@@ -82,7 +82,7 @@ from_columns {X} f g n m (column ∷ columns) same = by_test (is_hidden_column c
         ap (λ k. f (k, c)) there ∙ same (suc i) (suc j) c (moves_on column columns i j is at) ∙ ap (λ k. g (k, c)) then))
         ∙ ap (λ (b : Bool). map g (cond (not b) ((m, column) ∷ others) others)) (sym is)
 
--- of all of a table
+-- the results for all shown columns of a table are the same, if they are the same at both positions
 pub shown_same : {X : Type 0} (table : TableValue) (f g : ℕ × ColumnValue → X)
     → ((i j : ℕ) (column : ColumnValue) → IsMoved table.columns i j → f (i, column) ≡ g (j, column))
     → map f (shown_columns table) ≡ map g (shown_columns (without_hidden table))
@@ -122,14 +122,14 @@ module _ (table : TableValue) where
   needs_same : (i j : ℕ) (column : ColumnValue) → IsMoved table.columns i j → needs_of table (i, column) ≡ needs_of (without_hidden table) (j, column)
   needs_same i j column at = grind (arith, count_same, cells_same, fixed_same, lower_same, upper_same)
 
-  -- the width by content, of the needs
+  -- the width by content, from the needs of a column
   abbrev by_content : ColumnNeeds → ℕ
   by_content needs = unwrap_or needs.fixed (capped_content needs.content needs.padding needs.upper)
 
   disabled_same : (i j : ℕ) (column : ColumnValue) → IsMoved table.columns i j → disabled_width table (i, column) ≡ disabled_width (without_hidden table) (j, column)
   disabled_same i j column at = ap by_content (needs_same i j column at)
 
-  -- widths of the shown columns are those of the table without the others
+  -- these are the widths of the shown columns, and those of the table without the hidden ones
   abbrev Are : ℕ → List ColumnNeeds → List ℕ → List ℕ → Type 0
   Are n needs disabled widths =
       MatchOption (width_kept table.arrangement (table_width table)) (widths ≡ disabled) (λ w. IsDynamicLayout (w - border_count table.style n) needs (is_full_width table.arrangement) widths)
@@ -139,7 +139,7 @@ module _ (table : TableValue) where
       λ k. Are (count_same k) (shown_same table (needs_of table) (needs_of (without_hidden table)) needs_same k)
       (shown_same table (disabled_width table) (disabled_width (without_hidden table)) disabled_same k) widths
 
--- one width stands beside each shown column
+-- there is one width for each shown column
 length-beside : (columns : List ColumnValue) (widths : List ℕ) → length widths ≡ length columns → length (beside_shown columns widths) ≡ length (filter is_shown columns)
 length-beside [] widths long = refl
 length-beside (column ∷ columns) [] long = absurd (omega (arith, long))
@@ -159,7 +159,7 @@ none_hidden n (column ∷ columns) = by_test (is_hidden_column column) refl (λ 
         let later : List (ℕ × ColumnValue) = hidden (n + 1) (filter is_shown columns) in
         ap (λ (b : Bool). cond b ((n, column) ∷ later) later) is ∙ rest (n + 1)
 
--- the widths of the shown columns are those of the table without the others
+-- the widths of the shown columns are widths of the table without the hidden ones
 arranged_without : (table : TableValue) (widths : List ℕ) → IsArranged table widths → IsArranged (without_hidden table) (beside_shown table.columns widths)
 arranged_without table widths arranged =
     record {
@@ -176,11 +176,11 @@ arranged_without table widths arranged =
 
 -- ---- lines
 
--- a shown column as it is drawn, with its width
+-- the info of a shown column, with its width
 abbrev drawn_with : List ℕ → ℕ × ColumnValue → ℕ × ColumnInfo
 drawn_with all p = (p.0, info_of p.1 (slice_index all p.0))
 
--- the shown columns from a position on, as they are drawn
+-- the infos of the shown columns from a position on
 infos-are : (all : List ℕ) (n : ℕ) (columns : List ColumnValue) (widths : List ℕ) → AreFrom all n widths → length widths ≡ length columns
     → infos_from n columns widths ≡ map (drawn_with all) (columns_from n columns)
 infos-are all n [] widths each long = refl
@@ -198,15 +198,15 @@ module _ (table : TableValue) (widths : List ℕ) (long : length widths ≡ leng
   abbrev infos : List ColumnInfo
   infos = infos_of table widths
 
-  -- the widths that are left
+  -- the widths of the shown columns
   abbrev kept : List ℕ
   kept = beside_shown table.columns widths
 
-  -- the columns as they are drawn where hidden ones are gone
+  -- the infos of the table without its hidden columns
   abbrev others : List ColumnInfo
   others = infos_of (without_hidden table) kept
 
-  -- what is made of drawn columns, where it is the same at both positions
+  -- the results for shown infos are the same, if they are the same at both positions
   infos_same : {X : Type 0} (f g : ℕ × ColumnInfo → X) → ((i j : ℕ) (info : ColumnInfo) → IsMoved table.columns i j → f (i, info) ≡ g (j, info)) → map f (shown_infos infos) ≡ map g (shown_infos others)
   infos_same f g same =
       ap (map f) (infos-are widths 0 table.columns widths (from_start widths) long)
@@ -238,13 +238,13 @@ module _ (table : TableValue) (widths : List ℕ) (long : length widths ≡ leng
   rows_same : drawn_rows table infos table.rows ≡ drawn_rows (without_hidden table) others (map (shown_row table.columns) table.rows)
   rows_same = grind (arith, row_same, whole_same, join_by-map)
 
-  -- the drawing stays
+  -- the drawing is the same
   drawing_same : drawing table widths ≡ drawing (without_hidden table) (beside_shown table.columns widths)
   drawing_same = grind (arith, whole_same, header_same, rows_same)
 
--- ---- both ways
+-- ---- both directions
 
--- the widths by content, or the widths of the table without hidden columns with those of hidden ones
+-- a table whose shown columns may have these widths has widths for all of its columns
 has_widths : (table : TableValue) (widths : List ℕ) (o : Option ℕ) → width_kept table.arrangement (table_width table) ≡ o → AreShownWidths table widths → (all : List ℕ) × IsArranged table all
 has_widths table widths None none are = (widths_by_content table, arranged_by_content table none)
 has_widths table widths (Some w) kept are = (

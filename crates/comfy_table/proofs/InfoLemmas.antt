@@ -1,4 +1,4 @@
--- What is known of the shown columns is known of them as they are drawn.
+-- Properties of the shown columns hold of their infos.
 use Rattle.std.proofs.Common.{◌≡◌, ℕ, ◌+◌, Bool, true, false, not, cond, List, [], ◌∷◌, ◌++◌, length, map, refl, sym, ap, ◌∙◌, arith, append_assoc, length-append}
 use Rattle.std.specs.List.{All, enumerate_from, filter}
 use Rattle.std.specs.Prelude.{slice_index, zip}
@@ -9,11 +9,11 @@ use Rattle.comfy_table.specs.Drawing.{infos_of}
 use Rattle.comfy_table.specs.Pieces.{shown_infos}
 use Rattle.comfy_table.specs.TableValue.{TableValue, shown_columns}
 
--- the visible ones of some columns that begin at position n
+-- the shown columns of a list that begins at position n
 abbrev pub columns_from : ℕ → List ColumnValue → List (ℕ × ColumnValue)
 columns_from n columns = filter (λ (p : ℕ × ColumnValue). not (is_hidden_column p.1)) (enumerate_from n columns)
 
--- the columns from a position on that aren't hidden, as they are drawn with some widths
+-- the infos of the shown columns of a list that begins at position n
 abbrev pub infos_from : ℕ → List ColumnValue → List ℕ → List (ℕ × ColumnInfo)
 infos_from n columns widths =
     filter (λ (p : ℕ × ColumnInfo). not p.1.is_hidden) (enumerate_from n (map (λ (p : ColumnValue × ℕ). info_of p.0 p.1) (zip columns widths)))
@@ -39,12 +39,12 @@ module _ (all : List ℕ) (Known : ℕ × ColumnValue → Type 0) (Holds : ℕ �
           All-cons Holds (n, info_of column w) (infos_from (n + 1) columns widths) (gives n column w here (All-head Known (n, column) (columns_from (n + 1) columns) each))
           (rest (All-tail Known (n, column) (columns_from (n + 1) columns) each))
 
--- with the width at its position
+-- a property of each shown column with the width at its position holds of its info
 pub infos-at : (table : TableValue) (widths : List ℕ) (Known : ℕ × ColumnValue → Type 0) (Holds : ℕ × ColumnInfo → Type 0) → All Known (shown_columns table)
     → ((i : ℕ) (column : ColumnValue) (w : ℕ) → w ≡ slice_index widths i → Known (i, column) → Holds (i, info_of column w)) → All Holds (shown_infos (infos_of table widths))
 infos-at table widths Known Holds each gives = from widths Known Holds gives [] 0 table.columns widths refl refl each
 
--- whatever its width
+-- a property of each shown column holds of its info, for any width
 pub infos-known : (table : TableValue) (widths : List ℕ) (Known : ℕ × ColumnValue → Type 0) (Holds : ℕ × ColumnInfo → Type 0) → length widths ≡ length table.columns → All Known (shown_columns table)
     → ((i : ℕ) (column : ColumnValue) (w : ℕ) → Known (i, column) → Holds (i, info_of column w)) → All Holds (shown_infos (infos_of table widths))
 infos-known table widths Known Holds same each gives = infos-at table widths Known Holds each (λ i column w at known. gives i column w known)

@@ -1,4 +1,4 @@
--- What was taken from an iterator that gives some items.
+-- Items that were taken from an iterator.
 use Rattle.std.specs.Prelude.{◌≡◌, ◌<◌, ◌++◌, ◌∷◌, [], ℕ, List, Option, Some, length, take}
 use Rattle.std.specs.Iterator.{AlwaysYields, Count, Drains, Yields}
 use Rattle.std.specs.Vec.Iter.{into_iter_items, into_iter_steps}
@@ -11,7 +11,7 @@ use Rattle.comfy_parts.specs.Items.{GivesAll}
 use Rattle.comfy_parts.specs.ItemsGiven.{vec_gives}
 
 module _ {S A : Type 0} (steps : S → Option A → S → Type 0) where
-  -- what is left isn't empty where an item came
+  -- if an item came, the items that were left before it aren't empty
   beginning : (at behind : S) (items taken more : List A) (x : A) → items ≡ taken ++ more → AlwaysYields steps (λ y. y) at more → steps at (Some x) behind → (n : ℕ) × (n < length items) × (taken ≡ take n items)
   beginning at behind items taken [] x e always step = absurd (always x behind step)
   beginning at behind items taken (y ∷ more) x e always step =
@@ -19,22 +19,22 @@ module _ {S A : Type 0} (steps : S → Option A → S → Type 0) where
       (length taken, omega (arith, counted), sym (ap (take (length taken)) e ∙ take-append_seam taken (y ∷ more)))
 
 module _ {S A : Type 0} {can_next : S → Type 0} {steps : S → Option A → S → Type 0} {remaining : S → Count} where
-  -- all of them, where it ended
+  -- if the iterator ended, all items were taken
   pub all_given : (from : S) (items taken : List A) → GivesAll can_next steps remaining from items → Drains steps from taken → taken ≡ items
   all_given from items taken gives drains = sym (map-id taken) ∙ gives_Drains steps (λ x. x) taken items from gives.in_order drains
 
-  -- a beginning that isn't all, where one more came
+  -- if one more item came, not all items were taken
   pub not_all_given : (from at behind : S) (items taken : List A) (x : A) → GivesAll can_next steps remaining from items → Yields steps from taken at → steps at (Some x) behind → (n : ℕ) × (n < length items) × (taken ≡ take n items)
   not_all_given from at behind items taken x gives yields step =
       let left = gives_left steps (λ y. y) taken items from at gives.in_order yields in
       beginning steps at behind items taken left.0 x (left.1 ∙ ap (λ xs. xs ++ left.0) (map-id taken)) left.2 step
 
--- what was taken from the iterator of a `Vec` stood before what is left
+-- the items taken from the iterator of a `Vec` come before the items that are left
 pub taken_from_vec : {A Z : Type 0} (xs : List A) (s t : IntoIter A Z) → Yields into_iter_steps s xs t → into_iter_items s ≡ xs ++ into_iter_items t
 taken_from_vec [] s t is = ap into_iter_items is
 taken_from_vec (x ∷ xs) s t (j, step, more) = step.0 ∙ ap (λ items. x ∷ items) (taken_from_vec xs j t more)
 
--- all of them, where it ended
+-- if the iterator of a `Vec` ended, all its items were taken
 pub drained_from_vec : {A Z : Type 0} (xs : List A) (s : IntoIter A Z) → Drains into_iter_steps s xs → xs ≡ into_iter_items s
 drained_from_vec xs s drains =
     sym (map-id xs) ∙ gives_Drains into_iter_steps (λ x. x) xs (into_iter_items s) s (vec_gives s (into_iter_items s) refl) drains

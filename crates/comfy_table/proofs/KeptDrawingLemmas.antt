@@ -1,4 +1,4 @@
--- What stays true of texts as they are drawn stays true of the lines: of frame lines, rows and the whole drawing.
+-- A property that texts keep as they are drawn holds of frame lines, of rows, and of the whole drawing.
 use Rattle.std.proofs.lemmas.Bool.{cond_both}
 use Rattle.std.proofs.Common.{◌≡◌, ◌<◌, ℕ, zero, suc, Bool, true, false, List, [], ◌∷◌, ◌++◌, Option, Some, None, length, map, refl, sym, ap, ap₂, ◌∙◌, subst, arith, slice_index_or}
 use Rattle.std.specs.List.{All, AllZip, flat_map, join_by, repeat, range_with_len, slice_get}
@@ -28,20 +28,20 @@ use Rattle.comfy_table.specs.TableValue.{TableValue, header_and_rows, measured_r
 
 -- ---- styles
 
--- the four characters of a frame line are of the kind
+-- the four characters of a frame line belong to the kind
 pub record IsClearFrame (C : Text → Type 0) (line : LineStyle) : Type 0 where
   pub left : C (character line.left)
   pub fill : C (character line.fill)
   pub junction : C (character line.junction)
   pub right : C (character line.right)
 
--- so are the three characters of a content line
+-- the three characters of a content line belong to the kind
 pub record IsClearContent (C : Text → Type 0) (line : ContentLineStyle) : Type 0 where
   pub left : C (character line.left)
   pub junction : C (character line.junction)
   pub right : C (character line.right)
 
--- and those of all lines of a style
+-- the characters of all lines of a style belong to the kind
 pub record IsClearStyle (C : Text → Type 0) (style : TableStyle) : Type 0 where
   pub top_border : IsClearFrame C style.top_border
   pub header_lines : IsClearContent C style.header_lines
@@ -50,7 +50,7 @@ pub record IsClearStyle (C : Text → Type 0) (style : TableStyle) : Type 0 wher
   pub row_separator : IsClearFrame C style.row_separator
   pub bottom_border : IsClearFrame C style.bottom_border
 
--- such is a style whose characters all are
+-- the same, from the list of a style's characters
 pub style_clear : (C : Text → Type 0) (style : TableStyle) → IsStyleOf C style → IsClearStyle C style
 style_clear C style each =
     record {
@@ -65,22 +65,22 @@ style_clear C style each =
     at : (k : ℕ) → k < 22 → C (character (slice_index_or (style_characters style) k None))
     at k below = each k None below
 
--- the cell that a row has in a column is text of the kind, if it has one
+-- the cell of a row in a column has texts of the kind, if there is one
 abbrev pub IsClearAt : (Text → Type 0) → RowValue → ℕ × ColumnInfo → Type 0
 IsClearAt C row p = (cell : CellValue) → slice_get row.cells p.0 ≡ Some cell → All C cell.text_lines
 
--- so are the cells of a row that are drawn, and all of them are whole characters
+-- the cells of a row that are drawn have texts of the kind, and all cells consist of whole characters
 record IsClearRow (C : Text → Type 0) (infos : List ColumnInfo) (row : RowValue) : Type 0 where
   clear : All (IsClearAt C row) (shown_infos infos)
   whole : IsRowOf IsUtf8 row
 
 module _ (C : Text → Type 0) (R : Text → Text → Type 0) (joins : KeptByJoining C R) where
-  -- a text, written or not
+  -- R holds of a text that is written only if `written` is true
   keeps_when : (written : Bool) (text : Text) → R text text → R (if written then text else []) (if written then text else [])
   keeps_when true text own = own
   keeps_when false text own = keeps_nothing C R joins
 
-  -- a text, some number of times
+  -- R holds of a text that is repeated
   keeps_repeat : (n : ℕ) (text : Text) → R text text → R (repeat n text) (repeat n text)
   keeps_repeat zero text own = keeps_nothing C R joins
   keeps_repeat (suc n) text own = joins.of_both text (repeat n text) text (repeat n text) own (keeps_repeat n text own)
@@ -111,7 +111,7 @@ module _ (C : Text → Type 0) (R : Text → Text → Type 0) (joins : KeptByJoi
       (keeps_between (if draws_vertical_lines style then character junction else []) shown texts (keeps_when (draws_vertical_lines style) (character junction) (joins.of_kind (character junction) j)) each)
       (keeps_when (draws_right_border style) (character right) (joins.of_kind (character right) r)))
 
-  -- a frame line, where it is drawn
+  -- a frame line, if it is drawn
   pub frame_kept : (style : TableStyle) (line : LineStyle) (widths : List ℕ) → IsClearFrame C line → AllZip R (optional_frame_line style line widths) (optional_frame_line style line widths)
   frame_kept style line widths clear =
       cond_both (is_drawn line) _ [] (λ (lines : List Text). AllZip R lines lines)
@@ -124,7 +124,7 @@ module _ (C : Text → Type 0) (R : Text → Text → Type 0) (joins : KeptByJoi
 module _ (C : Text → Type 0) (R : Text → Text → Type 0) (kept : KeptByDrawing C R) where
   -- ---- rows
 
-  -- the pieces of a cell, and the unstyled ones of the cell as it is measured
+  -- the pieces of a cell, and the unstyled pieces of the measured cell
   cell_pieces_kept : (table : TableValue) (row : RowValue) (info : ColumnInfo) (cell : CellValue) → C table.indicator → All IsUtf8 (cell_measured table.custom_styling cell).text_lines → All C (cell_measured table.custom_styling cell).text_lines
       → AllZip R (cell_pieces (unstyled table) row info (cell_measured table.custom_styling cell)) (cell_pieces table row info cell)
   cell_pieces_kept table row info cell mark whole clear =
@@ -160,7 +160,7 @@ module _ (C : Text → Type 0) (R : Text → Text → Type 0) (kept : KeptByDraw
     abbrev measured : RowValue → RowValue
     measured row = row_measured table.custom_styling row
 
-    -- styling changes no height
+    -- styling doesn't change heights
     row_height-unstyled : (row : RowValue) → IsClearRow C infos (measured row) → row_height (unstyled table) infos (measured row) ≡ row_height table infos row
     row_height-unstyled row cells = ap greatest (heights (shown_infos infos) cells.clear)
       where
@@ -172,7 +172,7 @@ module _ (C : Text → Type 0) (R : Text → Text → Type 0) (kept : KeptByDraw
             (sym (AllZip-long R (pieces_at (unstyled table) (measured row) p) (pieces_at table row p) (pieces_kept table row p mark cells.whole (All-head (IsClearAt C (measured row)) p ps each))))
             (heights ps (All-tail (IsClearAt C (measured row)) p ps each))
 
-    -- the lines of a row, and the unstyled ones
+    -- the lines of a row, and its unstyled lines
     row_kept : (line : ContentLineStyle) (row : RowValue) → IsClearContent C line → IsClearRow C infos (measured row) → AllZip R (drawn_row (unstyled table) infos line (measured row)) (drawn_row table infos line row)
     row_kept line row clear cells =
         subst (λ h. AllZip R (map (content_line table.style line) (map (row_line (unstyled table) infos (measured row)) (range_with_len 0 h))) (drawn_row table infos line row)) (sym (row_height-unstyled row cells))
@@ -188,7 +188,7 @@ module _ (C : Text → Type 0) (R : Text → Text → Type 0) (kept : KeptByDraw
 
     -- ---- the drawing
 
-    -- all lines, and the unstyled ones
+    -- all lines, and the unstyled lines
     drawing_kept : IsClearStyle C table.style → All (λ (row : RowValue). IsClearRow C infos (measured row)) (header_and_rows table) → AllZip R (drawing_of_infos (unstyled table) infos) (drawing_of_infos table infos)
     drawing_kept style each =
         AllZip-append R (optional_frame_line table.style table.style.top_border (outer_widths infos)) _ (optional_frame_line table.style table.style.top_border (outer_widths infos)) _
@@ -224,13 +224,13 @@ rows_clear : (C : Text → Type 0) (infos : List ColumnInfo) (table : TableValue
     → All (λ (row : RowValue). IsClearRow C infos (row_measured table.custom_styling row)) (header_and_rows table)
 rows_clear C infos table each = All-of_map (IsClearRow C infos) (row_measured table.custom_styling) (header_and_rows table) (subst (All (IsClearRow C infos)) (measured_rows-is table) each)
 
--- the drawn cells are of the kind where all are
+-- the cells that are drawn have texts of the kind, if all cells do
 pub drawn_of_all : (C : Text → Type 0) (infos : List ColumnInfo) (rows : List RowValue) → All (IsRowOf C) rows → All (λ (row : RowValue). All (IsClearAt C row) (shown_infos infos)) rows
 drawn_of_all C infos rows each =
     All-weaker (IsRowOf C) (λ (row : RowValue). All (IsClearAt C row) (shown_infos infos))
     (λ row cells. All-every (IsClearAt C row) (shown_infos infos) (λ p cell found. All-at (λ (c : CellValue). All C c.text_lines) row.cells p.0 cell cells found)) rows each
 
--- it stays true of all lines, beside the unstyled ones
+-- the property holds of all lines and the unstyled lines
 pub keeps_drawing : (C : Text → Type 0) (R : Text → Text → Type 0) → KeptByDrawing C R → (table : TableValue) (infos : List ColumnInfo) → C table.indicator → IsStyleOf C table.style → All (IsRowOf IsUtf8) (measured_rows table)
     → All (λ (row : RowValue). All (IsClearAt C row) (shown_infos infos)) (measured_rows table) → AllZip R (drawing_of_infos (unstyled table) infos) (drawing_of_infos table infos)
 keeps_drawing C R kept table infos mark style whole clear =

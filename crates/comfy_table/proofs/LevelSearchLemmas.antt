@@ -1,4 +1,5 @@
--- The search for a level: what the columns need at a level grows no more than the room, and where the average no longer passes it the level is found.
+-- The search for a level: raising it, columns need no more than the room, and it is found when the average is no longer
+-- above it.
 use Rattle.std.proofs.Common.{◌≡◌, ◌<◌, ◌≤◌, ℕ, ◌+◌, ◌-◌, ◌*◌, ◌/◌, Bool, true, false, cond, ◌==◌, List, [], ◌∷◌, length, sum_by, Option, Some, None, option_map, is_none, unwrap_or, filter, refl, ap, ◌∙◌, arith, suc-mul, mul_comm, div-mul-le_self}
 use Rattle.std.specs.List.{cons_option}
 use Rattle.std.proofs.lemmas.List.Sums.{sum_by-cons}
@@ -12,51 +13,51 @@ use Rattle.comfy_table.proofs.TakingLemmas.{count_at-claims_of}
 
 -- ---- one column
 
--- what a column takes where a level settles it, and else this much
+-- the width that a column takes if a level settles it, and otherwise `other`
 abbrev pub need_at : ℕ → ℕ → ColumnNeeds → ℕ
 need_at level other column = unwrap_or (settled_at (Some level) column) other
 
--- what is needed at a level is at most the level
+-- the need at a level is at most the level
 need_within : (level : ℕ) (column : ColumnNeeds) → 1 ≤ level → need_at level level column ≤ level
 need_within level column one = grind arith
 
--- and at least 1
+-- the need at a level is at least 1
 need_some : (level : ℕ) (column : ColumnNeeds) → 1 ≤ level → 1 ≤ need_at level level column
 need_some level column one = grind arith
 
--- a column needs no more at a higher level than where the lower one settles it and it else has the higher
+-- a column needs no more at a higher level than at the lower one, if it gets the higher level when it isn't settled
 need_higher : (level higher : ℕ) (column : ColumnNeeds) → 1 ≤ higher → level ≤ higher → need_at higher higher column ≤ need_at level higher column
 need_higher level higher column one above = grind arith
 
 -- ---- all columns
 
--- what columns need
+-- the sum of the needs of columns
 abbrev pub needed : ℕ → ℕ → List Positioned → ℕ
 needed level other columns = sum_by (λ (p : Positioned). need_at level other p.1) columns
 
--- how many columns a level leaves
+-- the number of columns that a level leaves
 abbrev pub left_count : ℕ → List Positioned → ℕ
 left_count level columns = length (filter (λ (p : Positioned). is_none (settled_at (Some level) p.1)) columns)
 
--- at a higher level they need no more
+-- at a higher level the columns need no more
 needed_higher : (level higher : ℕ) (columns : List Positioned) → 1 ≤ higher → level ≤ higher → needed higher higher columns ≤ needed level higher columns
 needed_higher level higher [] one above = omega arith
 needed_higher level higher (p ∷ more) one above =
     omega (arith, need_higher level higher p.1 one above, needed_higher level higher more one above, sum_by-cons (λ (q : Positioned). need_at higher higher q.1) p more, sum_by-cons (λ (q : Positioned). need_at level higher q.1) p more)
 
--- at most the level each
+-- the columns need at most the level each
 needed_within : (level : ℕ) (columns : List Positioned) → 1 ≤ level → needed level level columns ≤ length columns * level
 needed_within level [] one = omega arith
 needed_within level (p ∷ more) one =
     omega (arith, need_within level p.1 one, needed_within level more one, sum_by-cons (λ (q : Positioned). need_at level level q.1) p more, suc-mul (length more) level)
 
--- and at least 1 each
+-- the columns need at least 1 each
 needed_some : (level : ℕ) (columns : List Positioned) → 1 ≤ level → length columns ≤ needed level level columns
 needed_some level [] one = omega arith
 needed_some level (p ∷ more) one =
     omega (arith, need_some level p.1 one, needed_some level more one, sum_by-cons (λ (q : Positioned). need_at level level q.1) p more)
 
--- it is what the level settles, and the other number for each column that it leaves
+-- the sum is the total that the level settles, and `other` for each column that it leaves
 needed-is : (level other : ℕ) (columns : List Positioned) → needed level other columns ≡ total (settled_claims (Some level) columns) + left_count level columns * other
 needed-is level other [] = omega arith
 needed-is level other (p ∷ more) = sum_by-cons (λ (q : Positioned). need_at level other q.1) p more ∙ by_settled (settled_at (Some level) p.1) (needed-is level other more)
@@ -68,49 +69,49 @@ needed-is level other (p ∷ more) = sum_by-cons (λ (q : Positioned). need_at l
     by_settled None rest = omega (arith, rest, suc-mul (left_count level more) other)
     by_settled (Some width) rest = omega (arith, rest, sum_by-cons (λ (t : Claim). t.1) (p.0, width) (settled_claims (Some level) more))
 
--- what a level settles and leaves are all columns
+-- the columns that a level settles and leaves are all columns
 settled_and_left : (level : ℕ) (columns : List Positioned) → length (settled_claims (Some level) columns) + left_count level columns ≡ length columns
 settled_and_left level [] = refl
 settled_and_left level (p ∷ more) = grind (arith, settled_and_left level more)
 
--- the columns without its claims are those that it leaves
+-- the columns without settled claims are the columns that it leaves
 pub left_count-is : (level : ℕ) (columns : List Positioned) → IsOneEach columns → length (without_claims (settled_claims (Some level) columns) columns) ≡ left_count level columns
 left_count-is level columns one =
     omega (arith, settled_and_left level columns, length-without (settled_claims (Some level) columns) columns one (λ i. count_at-claims_of (λ (p : Positioned). settled_at (Some level) p.1) i columns))
 
 -- ---- the search
 
--- the average beside what a level settles
+-- the average room of the columns that a level leaves
 abbrev pub raised_from : ℕ → List Positioned → ℕ → ℕ
 raised_from room columns level = average room columns (settled_claims (Some level) columns)
 
--- at the average of all columns there is room for what they need
+-- at the average of all columns, the room is enough for their needs
 pub needed_at_first : (room level : ℕ) (columns : List Positioned) → 0 < level → level ≡ room / length columns → needed level level columns ≤ room
 needed_at_first room level columns some is =
     omega (arith, needed_within level columns some, ap (λ (n : ℕ). n * length columns) is, div-mul-le_self room (length columns), mul_comm (length columns) level)
 
 module _ (room : ℕ) (columns : List Positioned) (one : IsOneEach columns) where
-  -- what the average beside a level takes
+  -- the columns that a level leaves have room for their average
   raised_room : (level raised : ℕ) → raised ≡ raised_from room columns level → left_count level columns * raised ≤ room - total (settled_claims (Some level) columns)
   raised_room level raised is = grind (arith, left_count-is)
 
-  -- and at that average where it is higher
+  -- at that average the room is enough too, if it is higher
   pub needed_at_next : (level raised : ℕ) → level < raised → raised ≡ raised_from room columns level → needed level level columns ≤ room → needed raised raised columns ≤ room
   needed_at_next level raised above is enough =
       omega (arith, needed_higher level raised columns (omega arith) (omega arith), needed-is level raised columns, needed-is level level columns, raised_room level raised is, enough)
 
-  -- where it is not, the level is found
+  -- if the average isn't higher, the level is found
   pub level_found : (level raised : ℕ) → 0 < level → raised ≤ level → raised ≡ raised_from room columns level → needed level level columns ≤ room → IsLevel room columns (Some level)
   level_found level raised some below is enough = grind (arith, needed_some, needed-is, left_count-is, le-div, mul_comm)
 
--- columns that have no room on average have a level that settles nothing
+-- columns whose average room is 0 have a level that settles nothing
 pub level_without_average : (room : ℕ) (columns : List Positioned) → room / length columns ≡ 0 → (level : Option ℕ) × IsLevel room columns level × (settled_claims level columns ≡ [])
 level_without_average room [] none = (Some 1, (omega arith, omega arith, omega arith, λ some. absurd (omega arith)), refl)
 level_without_average room (p ∷ more) none = grind (arith, settled_claims-none)
 
 -- ---- the undecided columns
 
--- columns that pass a test have one for each place, where all have
+-- the columns that pass a test have at most one for each position, if all columns do
 one_each-filter : (test : Positioned → Bool) (columns : List Positioned) → IsOneEach columns → IsOneEach (filter test columns)
 one_each-filter test columns one i = omega (arith, fewer columns, one i)
   where
@@ -123,6 +124,6 @@ one_each-filter test columns one i = omega (arith, fewer columns, one i)
     fewer [] = omega arith
     fewer (p ∷ more) = by_test p more (test p) (fewer more)
 
--- no place has two undecided columns
+-- each position has at most one undecided column
 pub one_each-undecided : (needs : List ColumnNeeds) (widths : List (Option ℕ)) → IsOneEach (undecided_among needs widths)
 one_each-undecided needs widths = one_each-filter (λ (p : Positioned). is_undecided widths p.0) (places_of needs) (one_each-places 0 needs)

@@ -1,4 +1,4 @@
--- How many columns a text adds to what follows it, and so how many a framed line has.
+-- The number of terminal columns that a text adds before other texts, and so the terminal columns of a framed line.
 use Rattle.std.proofs.Common.{◌≡◌, ℕ, zero, suc, ◌+◌, ◌-◌, Bool, true, false, List, [], ◌∷◌, ◌++◌, length, sum, refl, ap, ◌∙◌, subst, arith, append_assoc, append-nil}
 use Rattle.std.specs.List.{repeat, join_by, flat_map, AllZip}
 use Rattle.std.specs.Prelude.{if◌then◌else◌, encode_utf8}
@@ -13,7 +13,7 @@ use Rattle.comfy_table.proofs.CountLemmas.{sum-between, sum-separated}
 abbrev pub IsAny : Text → Type 0
 IsAny rest = Unit {0}
 
--- what may follow a text: an end, and a character that adds one column
+-- a text may follow: an empty one may, and one that begins with a character that adds one terminal column
 pub record IsFollowing (Follows : Text → Type 0) : Type 0 where
   pub ends : Follows []
   pub seals : (c : ℕ) → AddsOneColumn c → (rest : Text) → Follows (encode_utf8 c ++ rest)
@@ -30,11 +30,11 @@ apart_follows =
       spaced = λ rest text utf8. let alone = measure-space [] rest IsUtf8-nil in let none = measure-nil in measure-space text rest utf8 ∙ omega (arith, alone, none);
     }
 
--- before any rest that may follow, the text adds n columns
+-- the text adds n terminal columns before any rest that may follow
 pub record HasMeasure (Follows : Text → Type 0) (n : ℕ) (text : Text) : Type 0 where
   pub measures : (rest : Text) → Follows rest → measure (text ++ rest) ≡ n + measure rest
 
--- before any rest that may follow, the text may follow
+-- the text may follow, before any rest that may follow
 abbrev pub Fronts : (Text → Type 0) → Text → Type 0
 Fronts Follows text = (rest : Text) → Follows rest → Follows (text ++ rest)
 
@@ -42,42 +42,42 @@ Fronts Follows text = (rest : Text) → Follows rest → Follows (text ++ rest)
 pub measure-is : (Follows : Text → Type 0) (n : ℕ) (text : Text) → IsFollowing Follows → HasMeasure Follows n text → measure text ≡ n
 measure-is Follows n text follows has = grind (arith, measure-nil, append-nil)
 
--- a number that equals n is the same measure
+-- a number that equals n serves as n
 pub HasMeasure-same : (Follows : Text → Type 0) (m n : ℕ) (text : Text) → m ≡ n → HasMeasure Follows m text → HasMeasure Follows n text
 HasMeasure-same Follows m n text same has = subst (λ k. HasMeasure Follows k text) same has
 
--- what adds n before every text adds it before these
+-- a text that adds n before every text adds n before these
 pub HasMeasure-any : (Follows : Text → Type 0) (n : ℕ) (text : Text) → HasMeasure IsAny n text → HasMeasure Follows n text
 HasMeasure-any Follows n text has = record { measures = λ rest _. has.measures rest tt }
 
 -- ---- characters and texts
 
--- a character that adds one column
+-- a character that adds one terminal column
 pub HasMeasure-character : (c : ℕ) → AddsOneColumn c → HasMeasure IsAny 1 (encode_utf8 c)
 HasMeasure-character c adds =
     record { measures = λ rest _. let all = adds [] rest IsUtf8-nil in let none = measure-nil in omega (arith, all, none) }
 
--- an empty text adds none
+-- an empty text adds no terminal columns
 pub HasMeasure-nil : HasMeasure IsAny 0 []
 HasMeasure-nil = record { measures = λ rest _. omega arith }
 
--- a text adds its measure before what stands apart
+-- a text adds its measure before a text that can't join it
 pub HasMeasure-text : (text : Text) → IsUtf8 text → HasMeasure IsApart (measure text) text
 HasMeasure-text text utf8 = record { measures = λ rest apart. apart text utf8 }
 
--- n spaces add n
+-- n spaces add n terminal columns
 pub HasMeasure-spaces : (n : ℕ) → HasMeasure IsAny n (spaces n)
 HasMeasure-spaces n = record { measures = λ rest _. measure-spaces_before n rest }
 
--- two texts add what both add, where the second may follow the first
+-- two texts add the sum of what they add, if the second may follow the first
 pub HasMeasure-append : (Follows : Text → Type 0) (m n : ℕ) (xs ys : Text) → HasMeasure Follows m xs → Fronts Follows ys → HasMeasure Follows n ys → HasMeasure Follows (m + n) (xs ++ ys)
 HasMeasure-append Follows m n xs ys front fronts back = grind (arith, append_assoc)
 
--- two texts of which the first adds its columns before every text
+-- two texts add the sum, if the first adds its terminal columns before every text
 pub HasMeasure-behind : (Follows : Text → Type 0) (m n : ℕ) (xs ys : Text) → HasMeasure IsAny m xs → HasMeasure Follows n ys → HasMeasure Follows (m + n) (xs ++ ys)
 HasMeasure-behind Follows m n xs ys front back = grind (arith, append_assoc)
 
--- a text of one character, n times, adds n
+-- a text of one terminal column, repeated n times, adds n
 pub HasMeasure-repeat : (n : ℕ) (text : Text) → HasMeasure IsAny 1 text → HasMeasure IsAny n (repeat n text)
 HasMeasure-repeat zero text one = HasMeasure-nil
 HasMeasure-repeat (suc n) text one =
@@ -85,7 +85,7 @@ HasMeasure-repeat (suc n) text one =
 
 -- ---- framed lines
 
--- a character that is written or not
+-- a character that is written only if `b` is true
 pub HasMeasure-when : (b : Bool) (text : Text) → HasMeasure IsAny 1 text → HasMeasure IsAny (if b then 1 else 0) (if b then text else [])
 HasMeasure-when true text one = one
 HasMeasure-when false text one = HasMeasure-nil
@@ -95,13 +95,13 @@ pub Fronts-when : (Follows : Text → Type 0) (b : Bool) (c : ℕ) → IsFollowi
 Fronts-when Follows true c follows adds rest may = follows.seals c adds rest
 Fronts-when Follows false c follows adds rest may = may
 
--- a piece of this width, which may follow another one with what stands between them
+-- a piece of this width, which may follow another piece with a separator between them
 pub record IsPiece (Follows : Text → Type 0) (between : Text) (width : ℕ) (piece : Text) : Type 0 where
   pub has : HasMeasure Follows width piece
   pub fronts : Fronts Follows (between ++ piece)
 
 module _ (Follows : Text → Type 0) (b : Bool) (separator : Text) (one : HasMeasure IsAny 1 separator) where
-  -- what stands between two pieces
+  -- the separator between two pieces
   abbrev between : Text
   between = if b then separator else []
 

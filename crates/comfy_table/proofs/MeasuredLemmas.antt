@@ -1,4 +1,4 @@
--- A table as it is measured: its rows, and what holds of them.
+-- A table as it is measured: its rows, and their properties.
 use Rattle.std.proofs.Common.{◌≡◌, ◌<◌, ℕ, zero, suc, Bool, true, false, List, [], ◌∷◌, Option, Some, None, map, option_map, refl, ap, arith, subst, sym}
 use Rattle.std.specs.List.{All, slice_get}
 use Rattle.std.specs.Prelude.{if◌then◌else◌}
@@ -25,13 +25,13 @@ rows_measured true rows = refl
 rows_measured false [] = refl
 rows_measured false (row ∷ rows) = ap (λ (more : List RowValue). row ∷ more) (rows_measured false rows)
 
--- and so is a header
+-- a header is measured as a row is
 pub header_measured : (custom : Bool) (header : Option RowValue) → (if custom then option_map visible_row header else header) ≡ option_map (row_measured custom) header
 header_measured true header = refl
 header_measured false None = refl
 header_measured false (Some row) = refl
 
--- the cell of a row at a position
+-- the cell of a row at a position is measured by itself
 pub get_measured : (custom : Bool) (cells : List CellValue) (i : ℕ) → slice_get (if custom then map visible_cell cells else cells) i ≡ option_map (cell_measured custom) (slice_get cells i)
 get_measured true [] i = refl
 get_measured true (cell ∷ cells) zero = refl
@@ -40,11 +40,11 @@ get_measured false [] i = refl
 get_measured false (cell ∷ cells) zero = refl
 get_measured false (cell ∷ cells) (suc i) = get_measured false cells i
 
--- so are all of them
+-- all rows are measured one by one
 pub measured_rows-is : (table : TableValue) → measured_rows table ≡ map (row_measured table.custom_styling) (header_and_rows table)
 measured_rows-is table = grind (arith, rows_measured)
 
--- what follows for each row as it is measured
+-- a property that rows keep as they are measured holds of all measured rows
 pub All-measured : (table : TableValue) (P : RowValue → Type 0) → ((row : RowValue) → P row → P (visible_row row)) → All P (header_and_rows table) → All P (measured_rows table)
 All-measured table P gives each =
     subst (All P) (sym (measured_rows-is table))
@@ -54,7 +54,7 @@ All-measured table P gives each =
 
 -- ---- cells as they are measured
 
--- text lines keep what they keep
+-- text lines keep the invariant of text lines in their visible texts
 visible_text_lines : (texts : List Text) → HasTextLines texts → HasTextLines (map visible_text texts)
 visible_text_lines texts own =
     record {
@@ -63,11 +63,11 @@ visible_text_lines texts own =
       whole = All-map IsUtf8 visible_text texts (All-weaker IsUtf8 (λ text. IsUtf8 (visible_text text)) visible_text-whole texts own.whole);
     }
 
--- the cells of a row keep what cells keep
+-- the cells of a row have the invariant of cells
 abbrev pub HasCells : RowValue → Type 0
 HasCells row = All IsCell row.cells
 
--- and they still do as they are measured
+-- they still have it as they are measured
 pub measured_kept : (table : TableValue) → All HasCells (header_and_rows table) → All HasCells (measured_rows table)
 measured_kept table each =
     All-measured table HasCells
@@ -78,7 +78,7 @@ measured_kept table each =
 abbrev pub IsRowOf : (Text → Type 0) → RowValue → Type 0
 IsRowOf P row = All (λ (cell : CellValue). All P cell.text_lines) row.cells
 
--- so have those of rows that keep what cells keep, where it follows
+-- rows whose cells have the invariant have the property, if it follows from the invariant
 pub rows_of : (P : Text → Type 0) → ((texts : List Text) → HasTextLines texts → All P texts) → (rows : List RowValue) → All HasCells rows → All (IsRowOf P) rows
 rows_of P gives rows each =
     All-weaker HasCells (IsRowOf P) (λ row own. All-weaker IsCell (λ (cell : CellValue). All P cell.text_lines) (λ cell is. gives cell.text_lines is.text_lines) row.cells own) rows each

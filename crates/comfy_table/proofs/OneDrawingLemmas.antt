@@ -13,11 +13,11 @@ use Rattle.comfy_table.specs.HiddenColumns.{is_shown}
 use Rattle.comfy_table.specs.TableValue.{TableValue, shown_columns, table_width}
 use Rattle.comfy_table.specs.Widths.{disabled_width, shown_needs}
 
--- the columns from a position on that pass a test
+-- the columns from a position on that pass a test, each with its position
 abbrev passing : (ColumnValue → Bool) → ℕ → List ColumnValue → List (ℕ × ColumnValue)
 passing test at columns = filter (λ (p : ℕ × ColumnValue). test p.1) (enumerate_from at columns)
 
--- numbers that are the same at hidden columns and at shown ones are the same at the first column, and at later ones
+-- numbers that are equal at hidden and at shown columns are equal at the first column, and at the later ones
 parts : (ws vs : List ℕ) (at : ℕ) (column : ColumnValue) (hidden shown : List (ℕ × ColumnValue)) (b : Bool)
     → widths_at ws (cond b ((at, column) ∷ hidden) hidden) ≡ widths_at vs (cond b ((at, column) ∷ hidden) hidden)
     → widths_at ws (cond (not b) ((at, column) ∷ shown) shown) ≡ widths_at vs (cond (not b) ((at, column) ∷ shown) shown)
@@ -25,7 +25,7 @@ parts : (ws vs : List ℕ) (at : ℕ) (column : ColumnValue) (hidden shown : Lis
 parts ws vs at column hidden shown true one others = (ap (λ (xs : List ℕ). slice_index_or xs 0 0) one, ap (drop 1) one, others)
 parts ws vs at column hidden shown false others one = (ap (λ (xs : List ℕ). slice_index_or xs 0 0) one, others, ap (drop 1) one)
 
--- so they are the same at all columns
+-- so they are equal at all columns
 same_at_columns : (ws vs : List ℕ) (at : ℕ) (columns : List ColumnValue)
     → widths_at ws (passing is_hidden_column at columns) ≡ widths_at vs (passing is_hidden_column at columns)
     → widths_at ws (passing is_shown at columns) ≡ widths_at vs (passing is_shown at columns)
@@ -40,7 +40,7 @@ same_at_columns ws vs at (column ∷ columns) hidden shown (suc i) below =
     let there : at + suc i ≡ at + 1 + i = omega arith in
     ap (slice_index ws) there ∙ same_at_columns ws vs (at + 1) columns known.1 known.2 i (omega (arith, below)) ∙ ap (slice_index vs) (sym there)
 
--- lists of one length that are the same at each position are the same
+-- lists of one length that are equal at each position are equal
 same_lists : (ws vs : List ℕ) → length ws ≡ length vs → ((i : ℕ) → i < length ws → slice_index ws i ≡ slice_index vs i) → ws ≡ vs
 same_lists [] [] long each = refl
 same_lists [] (v ∷ vs) long each = absurd (omega (arith, long))
@@ -48,7 +48,7 @@ same_lists (w ∷ ws) [] long each = absurd (omega (arith, long))
 same_lists (w ∷ ws) (v ∷ vs) long each =
     ap₂ (λ (x : ℕ) (xs : List ℕ). x ∷ xs) (each 0 (omega arith)) (same_lists ws vs (omega (arith, long)) (λ i below. each (suc i) (omega (arith, below))))
 
--- the widths of a table are one list
+-- two lists of widths of a table are equal
 pub arranged_is_one : (table : TableValue) (ws vs : List ℕ) → IsArranged table ws → IsArranged table vs → ws ≡ vs
 arranged_is_one table ws vs first second =
     same_lists ws vs (first.one_for_each ∙ sym second.one_for_each) (λ i below. moved i (omega (arith, below, first.one_for_each)))
@@ -66,6 +66,6 @@ arranged_is_one table ws vs first second =
         ∙ same_at_columns ws vs 0 table.columns (first.hidden_widths ∙ sym second.hidden_widths) (of_shown (width_kept table.arrangement (table_width table)) _ _ first.shown_widths second.shown_widths) i below
         ∙ ap (slice_index vs) (sym here)
 
--- so its drawing is one
+-- so two drawings of a table are equal
 pub drawing_is_one : (table : TableValue) (lines others : List Text) → DrawingIsOne table lines others
 drawing_is_one table lines others (ws, first, is) (vs, second, are) = is ∙ ap (drawing table) (arranged_is_one table ws vs first second) ∙ sym are

@@ -14,7 +14,7 @@ use Rattle.comfy_table.proofs.MeasuredLemmas.{cell_measured}
 use Rattle.comfy_table.specs.DrawnLines.{drawn_line}
 use Rattle.comfy_table.specs.Lines.{as_measured, cell_lines, uncut_lines}
 
--- the only width of what is measured of a single text line
+-- the measured width of a single text line
 pub only_width : (custom : Bool) (texts : List Text) (text : Text) (widths : List ℕ) → texts ≡ text ∷ [] → widths ≡ map measure (if custom then map visible_text texts else texts)
     → map measure (if custom then map visible_text texts else texts) ≡ slice_index_or widths 0 0 ∷ []
 only_width custom texts text widths single are = one ∙ ap (λ (ns : List ℕ). slice_index_or ns 0 0 ∷ []) (sym (are ∙ one))
@@ -23,11 +23,11 @@ only_width custom texts text widths single are = one ∙ ap (λ (ns : List ℕ).
     one = ap (λ (ts : List Text). map measure (if custom then map visible_text ts else ts)) single ∙ elim custom as (λ b. map measure (if b then visible_text text ∷ [] else text ∷ []) ≡ measure (if b then visible_text text else text) ∷ []) [ true ↦ refl | false ↦ refl ]
 
 module _ (custom : Bool) (w d : ℕ) (cell : CellValue) (text : Text) (columns : ℕ) where
-  -- the cell has this one line
+  -- the cell has only this line
   abbrev pub IsOneLine : Type 0
   IsOneLine = record { columns = columns; written = text } ∷ [] ≡ map drawn_line (uncut_lines custom w d cell)
 
-  -- so has a cell of one text line that fits and has no text of its own
+  -- a cell of one text line that fits, and that has no text of its own, has only this line
   pub measured_line : cell.text_lines ≡ text ∷ [] → map measure (cell_measured custom cell).text_lines ≡ columns ∷ [] → columns ≤ w → (custom && list_any has_escape cell.text_lines) ≡ false → IsOneLine
   measured_line single wide fits none =
       let measured : (cell_measured custom cell).text_lines ≡ text ∷ [] = as_it_is custom none ∙ single in
@@ -39,7 +39,7 @@ module _ (custom : Bool) (w d : ℕ) (cell : CellValue) (text : Text) (columns :
       as_it_is true none = sym (clear_lines cell.text_lines none)
       as_it_is false none = refl
 
-  -- or is written as it is
+  -- a cell of one text line that fits, and that is written as it is, has only this line
   pub whole_line : cell.text_lines ≡ text ∷ [] → map measure (cell_measured custom cell).text_lines ≡ columns ∷ [] → columns ≤ w
       → custom ≡ true → line_text [] text 0 (length (visible_text text)) ≡ text → IsOneLine
   whole_line single wide fits on whole =

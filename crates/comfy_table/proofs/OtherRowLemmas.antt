@@ -1,4 +1,4 @@
--- The rows that a table has change nothing in how one row is drawn.
+-- One row is drawn the same in a table with other rows.
 use Rattle.std.proofs.Common.{◌≡◌, ℕ, Bool, true, false, List, [], ◌++◌, Option, Some, None, length, map, append_assoc, refl, ap, ◌∙◌}
 use Rattle.std.specs.List.{join_by, range_with_len, slice_get}
 use Rattle.std.specs.Prelude.{flat_map, if◌then◌else◌, slice_index_or}
@@ -44,14 +44,14 @@ module _ (table : TableValue) (rows : List RowValue) (infos : List ColumnInfo) w
   part_same is_first is_last drawn =
       ap (λ (lines : List Text). lines ++ (if is_last then optional_frame_line table.style table.style.bottom_border (outer_widths infos) else [])) (rows_below_same is_first drawn)
 
-  -- a row is as high
+  -- the height of the row is the same
   pub height_same : (row : RowValue) → row_height other infos row ≡ row_height table infos row
   height_same row = λ i. of_pieces (λ (p : ℕ × ColumnInfo). pieces_same row p.1 (slice_get row.cells p.0) i)
     where
       of_pieces : (ℕ × ColumnInfo → List Text) → ℕ
       of_pieces pieces = greatest (map (λ (p : ℕ × ColumnInfo). length (pieces p)) (shown_infos infos))
 
--- all rows make the drawing
+-- the part with all rows is the whole drawing
 pub part-whole : (table : TableValue) (infos : List ColumnInfo) → part_of_drawing table infos true true table.rows ≡ drawing_of_infos table infos
 part-whole table infos =
     let top = optional_frame_line table.style table.style.top_border (outer_widths infos) in

@@ -17,7 +17,7 @@ use Rattle.comfy_table.specs.TableValue.{TableValue, visible_row, with_other_row
 -- ---- parts of joined lists
 
 module _ {X Y : Type 0} (P : Y → Type 0) (f : X → List Y) (separator : List Y) where
-  -- what holds of each element of lists, joined, holds of those without the first list
+  -- a property of each element of joined lists holds without the first list
   without_first : (x : X) (xs : List X) → AllByRecursion P (join_by f separator (x ∷ xs)) → AllByRecursion P (join_by f separator xs)
   without_first x [] each = tt
   without_first x (y ∷ ys) each =
@@ -25,13 +25,13 @@ module _ {X Y : Type 0} (P : Y → Type 0) (f : X → List Y) (separator : List 
       let both = every-parts P (separator ++ f y) (flat_map (λ z. separator ++ f z) ys) others in
       every-append P (f y) (flat_map (λ z. separator ++ f z) ys) (every-parts P separator (f y) both.0).1 both.1
 
-  -- from a list on
+  -- a property of each element of joined lists holds from a list on
   joined_from : (n : ℕ) (xs : List X) → AllByRecursion P (join_by f separator xs) → AllByRecursion P (join_by f separator (drop n xs))
   joined_from zero xs each = each
   joined_from (suc n) [] each = tt
   joined_from (suc n) (x ∷ xs) each = joined_from n xs (without_first x xs each)
 
-  -- up to a list
+  -- a property of each element of joined lists holds up to a list
   front_of : (g : X → List Y) (n : ℕ) (xs : List X) → AllByRecursion P (flat_map g xs) → AllByRecursion P (flat_map g (take n xs))
   front_of g zero xs each = tt
   front_of g (suc n) [] each = tt
@@ -48,7 +48,7 @@ module _ {X Y : Type 0} (P : Y → Type 0) (f : X → List Y) (separator : List 
 
 -- ---- lines of parts
 
--- a table with other rows is drawn as the table draws them
+-- the drawing of a table with other rows, with the same borders and header
 pub other_rows_drawn : (table : TableValue) (rows : List RowValue) (infos : List ColumnInfo)
     → drawing_of_infos (with_other_rows rows table) infos
     ≡ optional_frame_line table.style table.style.top_border (outer_widths infos) ++ (drawn_header table infos table.header ++ (drawn_rows table infos rows ++ optional_frame_line table.style table.style.bottom_border (outer_widths infos)))
@@ -59,7 +59,7 @@ other_rows_drawn table rows infos = λ i. framed (header_same table rows infos t
         optional_frame_line table.style table.style.top_border (outer_widths infos)
         ++ (header ++ (join_by drawn (optional_frame_line table.style table.style.row_separator (outer_widths infos)) rows ++ optional_frame_line table.style table.style.bottom_border (outer_widths infos)))
 
--- what holds of each line of a table holds of each line of a part
+-- a property of each line of a table holds of each line of a part
 part_keeps_lines : (P : Text → Type 0) (table : TableValue) (infos : List ColumnInfo) (first count : ℕ) → All P (drawing_of_infos table infos) → All P (drawing_of_infos (with_rows_alone first count table) infos)
 part_keeps_lines P table infos first count all =
     All-from_recursion P _ (subst (AllByRecursion P) (sym (other_rows_drawn table (take count (drop first table.rows)) infos))
@@ -91,7 +91,7 @@ part_keeps_lines P table infos first count all =
         joined_to P (drawn_row table infos table.style.content_lines) separator count (drop first table.rows)
         (joined_from P (drawn_row table infos table.style.content_lines) separator first table.rows three.0)
 
--- so each is a line of the table
+-- so each line of a part is a line of the table
 pub part_has_lines_of_table : (table : TableValue) (infos : List ColumnInfo) (first count : ℕ) → PartHasLinesOfTable table infos first count
 part_has_lines_of_table table infos first count =
     part_keeps_lines (Contains (drawing_of_infos table infos)) table infos first count (All-contains_itself (drawing_of_infos table infos))

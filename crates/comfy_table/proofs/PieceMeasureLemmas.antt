@@ -1,4 +1,4 @@
--- The pieces of lines that fit are as wide as their column.
+-- The pieces of lines that fit are as wide as their columns.
 use Rattle.std.proofs.Common.{◌≡◌, ◌≤◌, ℕ, zero, suc, ◌+◌, ◌-◌, Bool, true, false, List, [], ◌∷◌, ◌++◌, Option, length, map, sum, refl, sym, ap, ◌∙◌, subst, arith, append_assoc}
 use Rattle.std.specs.List.{repeat, AllZip}
 use Rattle.std.specs.Prelude.{if◌then◌else◌, encode_utf8, unwrap_or}
@@ -28,7 +28,7 @@ HasMeasure-joined Follows style left junction right widths pieces follows first 
     (Fronts-when Follows (draws_right_border style) (unwrap_or right 0x20) follows last)
     (HasMeasure-any Follows _ _ (HasMeasure-when (draws_right_border style) (character right) (HasMeasure-character _ last)))))
 
--- the pieces of a frame line have the widths
+-- the fills of a frame line have the whole widths of the columns
 fills : (between : Text) (fill : Option ℕ) (widths : List ℕ) → IsOneColumn fill → AllZip (IsPiece IsAny between) widths (map (λ (width : ℕ). repeat width (character fill)) widths)
 fills between fill [] one = tt
 fills between fill (w ∷ widths) one =
@@ -43,12 +43,12 @@ HasMeasure-frame_line style line widths left fill junction right =
 
 -- ---- pieces
 
--- spaces may follow wherever what follows them may
+-- spaces may follow, if the text after them may
 Fronts-spaces : (Follows : Text → Type 0) (n : ℕ) → IsFollowing Follows → Fronts Follows (spaces n)
 Fronts-spaces Follows zero follows rest may = may
 Fronts-spaces Follows (suc n) follows rest may = follows.spaced (spaces n ++ rest)
 
--- a space at the front
+-- a text that begins with at least one space may follow
 pub spaced-blank : (Follows : Text → Type 0) (n : ℕ) (rest : Text) → IsFollowing Follows → 1 ≤ n → Follows (spaces n ++ rest)
 spaced-blank Follows zero rest follows some = absurd (omega (arith, some))
 spaced-blank Follows (suc n) rest follows some = follows.spaced (spaces n ++ rest)
@@ -57,20 +57,20 @@ pub spaced-front : (Follows : Text → Type 0) (n : ℕ) (more rest : Text) → 
 spaced-front Follows zero more rest follows some = absurd (omega (arith, some))
 spaced-front Follows (suc n) more rest follows some = follows.spaced ((spaces n ++ more) ++ rest)
 
--- spaces of which the last some are at least one
+-- a text that begins with at least one space can't join a text before it
 spaced-end : (a n : ℕ) (rest : Text) → 1 ≤ n → IsApart ((spaces a ++ spaces n) ++ rest)
 spaced-end zero zero rest some = absurd (omega (arith, some))
 spaced-end zero (suc n) rest some = apart_follows.spaced (spaces n ++ rest)
 spaced-end (suc a) n rest some = apart_follows.spaced ((spaces a ++ spaces n) ++ rest)
 
--- what stands after a line in its column
+-- the text after a line in its column: spaces and the right padding
 abbrev behind : CellValue → ColumnInfo → Text → Text
 behind cell info line = spaces_after cell info (measure line) ++ spaces info.padding.1
 
 HasMeasure-behind_line : (cell : CellValue) (info : ColumnInfo) (line : Text) → HasMeasure IsAny ((free_places info (measure line) - free_before (cell_alignment cell info) (free_places info (measure line))) + info.padding.1) (behind cell info line)
 HasMeasure-behind_line cell info line = HasMeasure-behind IsAny _ _ _ _ (HasMeasure-spaces _) (HasMeasure-spaces info.padding.1)
 
--- what stands before it
+-- a piece is as wide as its column, if its line and the text after it are as wide as they should be together
 HasMeasure-padded : (Follows : Text → Type 0) (cell : CellValue) (info : ColumnInfo) (line : Text) → IsFittingLine info.content_width line
     → HasMeasure Follows (measure line + ((free_places info (measure line) - free_before (cell_alignment cell info) (free_places info (measure line))) + info.padding.1)) (line ++ behind cell info line)
     → HasMeasure Follows (info_width info) (unstyled_piece cell info line)
@@ -78,7 +78,7 @@ HasMeasure-padded Follows cell info line fitting last =
     HasMeasure-same Follows _ _ _ (whole_width (cell_alignment cell info) info.padding.0 (measure line) info.padding.1 info.content_width fitting.fits)
     (HasMeasure-behind Follows info.padding.0 _ _ _ (HasMeasure-spaces info.padding.0) (HasMeasure-behind Follows _ _ _ _ (HasMeasure-spaces _) last))
 
--- before what stands apart, the piece of a line that fits is as wide as its column
+-- before a text that can't join it, the piece of a line that fits is as wide as its column
 pub piece-apart : (cell : CellValue) (info : ColumnInfo) (line : Text) → IsFittingLine info.content_width line → HasMeasure IsApart (info_width info) (unstyled_piece cell info line)
 piece-apart cell info line fitting =
     HasMeasure-padded IsApart cell info line fitting
@@ -86,7 +86,7 @@ piece-apart cell info line fitting =
     (λ rest may. subst IsApart (sym (append_assoc (spaces_after cell info (measure line)) (spaces info.padding.1) rest)) (Fronts-spaces IsApart _ apart_follows (spaces info.padding.1 ++ rest) (Fronts-spaces IsApart info.padding.1 apart_follows rest may)))
     (HasMeasure-any IsApart _ _ (HasMeasure-behind_line cell info line)))
 
--- with a padding at its right before everything
+-- with a padding at its right, the piece is as wide before every text
 pub piece-any : (cell : CellValue) (info : ColumnInfo) (line : Text) → 1 ≤ info.padding.1 → IsFittingLine info.content_width line → HasMeasure IsAny (info_width info) (unstyled_piece cell info line)
 piece-any cell info line some fitting = HasMeasure-padded IsAny cell info line fitting (record { measures = λ rest _. all rest })
   where
@@ -96,24 +96,24 @@ piece-any cell info line some fitting = HasMeasure-padded IsAny cell info line f
         let second = (HasMeasure-behind_line cell info line).measures rest tt in
         ap measure (append_assoc line (behind cell info line) rest) ∙ first ∙ omega (arith, second)
 
--- ---- pieces beside one another
+-- ---- pieces side by side
 
--- a piece as wide as its column, which may follow another one, whatever junction is drawn
+-- a piece that is as wide as its column, and may follow another piece with any junction
 pub record IsGoodPiece (Follows : Text → Type 0) (v : Bool) (width : ℕ) (piece : Text) : Type 0 where
   pub has : HasMeasure Follows width piece
   pub fronts : (c : ℕ) → AddsOneColumn c → Fronts Follows ((if v then encode_utf8 c else []) ++ piece)
 
--- after a junction
+-- such a piece after a junction
 pub good-junction : (v : Bool) (width : ℕ) (piece : Text) → v ≡ true → HasMeasure IsApart width piece → IsGoodPiece IsApart v width piece
 good-junction true width piece drawn has =
     record { has = has; fronts = λ c adds rest may. subst IsApart (sym (append_assoc (encode_utf8 c) piece rest)) (apart_follows.seals c adds (piece ++ rest)) }
 good-junction false width piece drawn has = absurd (cc drawn)
 
--- with a space at its front
+-- such a piece with a space at its front
 pub good-front : (v : Bool) (width : ℕ) (piece : Text) → ((rest : Text) → IsApart (piece ++ rest)) → HasMeasure IsApart width piece → IsGoodPiece IsApart v width piece
 good-front true width piece front has = good-junction true width piece refl has
 good-front false width piece front has = record { has = has; fronts = λ c adds rest may. front rest }
 
--- what measures its width before everything
+-- such a piece that measures its width before every text
 pub good-any : (v : Bool) (width : ℕ) (piece : Text) → HasMeasure IsAny width piece → IsGoodPiece IsAny v width piece
 good-any v width piece has = record { has = has; fronts = λ c adds rest may. tt }

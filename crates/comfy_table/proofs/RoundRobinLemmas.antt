@@ -1,4 +1,4 @@
--- The loop in which columns take a width in turn: what it keeps, and what it leads to.
+-- The loop in which columns take a width in turn: its invariant, and its result.
 use Rattle.std.proofs.Common.{◌≡◌, ◌<◌, ◌≤◌, ℕ, zero, suc, ◌+◌, ◌-◌, ◌*◌, ◌/◌, true, List, [], ◌∷◌, ◌++◌, length, Option, Some, None, slice_get, not, ◌&&◌, ◌==◌, refl, sym, ap, ap₂, ◌∙◌, subst, arith, inl, inr, ⊎_elim}
 use Rattle.std.specs.Prelude.{◌⊎◌, slice_set}
 use Rattle.std.proofs.lemmas.Bool.{cases_lt, eq-eqb, and_parts}
@@ -14,41 +14,41 @@ use Rattle.comfy_table.proofs.TakingLemmas.{claims_of}
 use Rattle.comfy_table.proofs.TurnLemmas.{IsBetween, none_next, some_next}
 use Rattle.comfy_table.proofs.UndecidedLemmas.{is_undecided-set, length-undecided_among, length-with_claims, undecided_among-with_claims}
 
--- one of the last places before this one, of so many, going round n places
+-- position i is one of the last `passed` positions before `place`, going round n positions
 abbrev pub IsBehind : ℕ → ℕ → ℕ → ℕ → Type 0
 IsBehind n place passed i = (i < n) × (((i < place) × (place ≤ i + passed)) ⊎ ((place ≤ i) × (n + place ≤ i + passed)))
 
--- one position on, it is the position itself or was passed before
+-- after one step, a passed position is the one of this step, or was passed before
 behind_one_more : (n place passed i : ℕ) → place < n → IsBehind n (position_after n place) (passed + 1) i → (place ≡ i) ⊎ IsBehind n place passed i
 behind_one_more n place passed i within = grind arith
 
--- at first none was passed
+-- at first no position is passed
 none_behind : (n i : ℕ) → IsBehind n 0 0 i → ⊥
 none_behind n i behind = grind arith
 
--- what was passed, and the position itself, are passed at the next one
+-- the passed positions and the current one are passed at the next position
 behind_next : (n place passed i : ℕ) → place < n → passed < n → IsBehind n place passed i ⊎ (place ≡ i) → IsBehind n (position_after n place) (passed + 1) i
 behind_next n place passed i within fewer behind = grind arith
 
--- all positions are passed where as many were
+-- after n steps without a claim, all positions are passed
 all_behind : (n place passed i : ℕ) → place < n → n ≤ passed → i < n → IsBehind n place passed i
 all_behind n place passed i within all below = grind (arith, cases_lt)
 
--- the positions since one that is passed are passed
+-- the positions between a passed position and the current one are passed
 between_behind : (n place passed from i : ℕ) → place < n → i < n → IsBehind n place passed from ⊎ (place ≡ from) → IsBetween from place i → IsBehind n place passed i
 between_behind n place passed from i within below since between = grind arith
 
--- the last one taken is that from which the next is looked for
+-- the position of the last claim is the one from which the next claim is looked for
 place_after-push : (candidates : List Positioned) (offer : List Claim → Positioned → Option ℕ) (from : ℕ) (order : List Claim) (t : Claim) → place_after candidates offer from (order ++ t ∷ []) ≡ t.0
 place_after-push candidates offer from [] t = refl
 place_after-push candidates offer from (s ∷ order) t = place_after-push candidates offer s.0 order t
 
--- one claim more
+-- one more claim
 with_claims-push : (order : List Claim) (t : Claim) (widths : List (Option ℕ)) → with_claims (order ++ t ∷ []) widths ≡ slice_set (with_claims order widths) t.0 (Some t.1)
 with_claims-push [] t widths = refl
 with_claims-push (s ∷ order) t widths = with_claims-push order t (slice_set widths s.0 (Some s.1))
 
--- a width that is set is one undecided column fewer
+-- setting a width leaves one undecided column fewer
 pub count-set : (widths : List (Option ℕ)) (i width : ℕ) → is_undecided widths i ≡ true → undecided_count (slice_set widths i (Some width)) + 1 ≡ undecided_count widths
 count-set [] i width left = absurd (cc left)
 count-set (None ∷ widths) zero width left = omega arith
@@ -56,11 +56,11 @@ count-set (Some w ∷ widths) zero width left = absurd (cc left)
 count-set (None ∷ widths) (suc i) width left = omega (arith, count-set widths i width left)
 count-set (Some w ∷ widths) (suc i) width left = count-set widths i width left
 
--- one undecided column fewer outweighs the places that are passed
+-- one undecided column fewer outweighs the passed positions
 pub fewer_undecided : (count count' n passed passed' : ℕ) → count' + 1 ≡ count → passed < n → count' * (n + 1) + (n - passed') < count * (n + 1) + (n - passed)
 fewer_undecided count count' n passed passed' fewer below = grind arith
 
--- a column that takes a width is undecided
+-- a column that takes a width is undecided, and the rule gives it this width
 pub record Takes (rule : Rule) (average : ℕ) (needs : List ColumnNeeds) (widths : List (Option ℕ)) (place width : ℕ) : Type 0 where
   pub column : ColumnNeeds
   pub found : slice_get needs place ≡ Some column
@@ -68,15 +68,15 @@ pub record Takes (rule : Rule) (average : ℕ) (needs : List ColumnNeeds) (width
   pub takes : width_by_rule rule average column ≡ Some width
 
 module _ (rule : Rule) (average : ℕ) (needs : List ColumnNeeds) (widths : List (Option ℕ)) (place : ℕ) where
-  -- the width at a place
+  -- the column at a position that takes a width
   pub width_at-some : (width : ℕ) → width_at rule average needs widths place ≡ Some width → Takes rule average needs widths place width
   width_at-some width is = grind arith
 
-  -- it leaves one undecided column fewer
+  -- after it there is one undecided column fewer
   pub count-taken : (width : ℕ) → width_at rule average needs widths place ≡ Some width → undecided_count (slice_set widths place (Some width)) + 1 ≡ undecided_count widths
   count-taken width is = count-set widths place width (width_at-some width is).left
 
-  -- without one, an undecided column takes nothing
+  -- an undecided column at a position without a width takes none by the rule
   pub width_at-none : width_at rule average needs widths place ≡ None → (d : ColumnNeeds) → slice_get needs place ≡ Some d → is_undecided widths place ≡ true → width_by_rule rule average d ≡ None
   width_at-none is d found left = grind arith
 
@@ -85,11 +85,11 @@ module _ (rule : Rule) (needs : List ColumnNeeds) (old : Budget) where
   abbrev candidates : List Positioned
   candidates = undecided_among needs old.widths.items
 
-  -- what they are offered
+  -- the widths that the columns are offered
   abbrev offer : List Claim → Positioned → Option ℕ
   offer = offer_by_rule rule old.room candidates
 
-  -- what the loop keeps: the columns taken so far, and that the last places that were passed take nothing
+  -- the invariant of the loop: the claims so far, and the columns at the last passed positions take nothing
   pub record IsTurn (now : Budget) (place passed average : ℕ) : Type 0 where
     pub order : List Claim
     pub so_far : IsTakenSoFar candidates offer 0 [] order
@@ -99,7 +99,7 @@ module _ (rule : Rule) (needs : List ColumnNeeds) (old : Budget) where
     pub nothing : (i : ℕ) (d : ColumnNeeds) → slice_get needs i ≡ Some d → IsBehind (length needs) place passed i → is_undecided now.widths.items i ≡ true → width_by_rule rule average d ≡ None
     pub since : IsBehind (length needs) place passed (place_after candidates offer 0 order) ⊎ (place ≡ place_after candidates offer 0 order)
 
-  -- at first nothing is taken, and no place was passed
+  -- at first no claim is taken, and no position is passed
   pub turn_begins : (average : ℕ) → average ≡ average_room old → IsTurn old 0 0 average
   turn_begins average is = record {
     order = [];
@@ -116,21 +116,21 @@ module _ (rule : Rule) (needs : List ColumnNeeds) (old : Budget) where
     left_is : without_claims turn.order candidates ≡ undecided_among needs now.widths.items
     left_is = grind (arith, undecided_among-with_claims)
 
-    -- they are counted
+    -- there are as many widths as columns
     length_now : length now.widths.items ≡ length needs
     length_now = ap length turn.taken.widths ∙ length-with_claims turn.order old.widths.items ∙ same_length
 
-    -- their average room
+    -- the average room of the columns that are left
     average_now : (old.room - total turn.order) / length (without_claims turn.order candidates) ≡ average
     average_now =
         ap₂ (λ (room n : ℕ). room / n) (sym turn.taken.room) (ap length left_is ∙ length-undecided_among needs now.widths.items length_now) ∙ sym turn.average_is
 
-    -- the next one is looked for among the undecided columns, at the average
+    -- the next claim is looked for among the undecided columns, at the average
     next_is : (from : ℕ) → next_taken candidates offer from turn.order ≡ slice_get (claims_of (λ (p : Positioned). width_by_rule rule average p.1) (going_round from (undecided_among needs now.widths.items))) 0
     next_is from =
         ap₂ (λ (a : ℕ) (ps : List Positioned). slice_get (claims_of (λ (p : Positioned). width_by_rule rule a p.1) (going_round from ps)) 0) average_now left_is
 
-    -- a place that takes nothing is passed
+    -- a step in which the column at a position takes nothing
     pub turn_passes : passed < length needs → width_at rule average needs now.widths.items place ≡ None → IsTurn now (position_after (length needs) place) (passed + 1) average
     turn_passes fewer none =
         let place_within : place < length needs → position_after (length needs) place < length needs = λ within. grind arith in
@@ -147,7 +147,7 @@ module _ (rule : Rule) (needs : List ColumnNeeds) (old : Budget) where
           since = inl (behind_next (length needs) place passed (place_after candidates offer 0 turn.order) within fewer turn.since);
         }
 
-    -- where as many places were passed as there are columns, none takes anything any more
+    -- after as many steps without a claim as there are columns, no column takes a width any more
     pub turn_ends : length needs ≤ passed → HasGoneRound rule needs old now
     turn_ends all = (
       turn.order,
@@ -159,7 +159,7 @@ module _ (rule : Rule) (needs : List ColumnNeeds) (old : Budget) where
       turn.taken,
     )
 
-    -- a place that takes a width is passed too, and the average may have changed
+    -- a step in which the column at a position takes a width, and the average may change
     pub turn_takes : (width : ℕ) → passed < length needs → width_at rule average needs now.widths.items place ≡ Some width → (new : Budget) (passed' average' : ℕ)
         → new.widths.items ≡ slice_set now.widths.items place (Some width) → new.room ≡ now.room - width → average' ≡ average_room new → (passed' ≡ 1) ⊎ ((average' ≡ average) × (passed' ≡ passed + 1))
         → IsTurn new (position_after (length needs) place) passed' average'
@@ -192,7 +192,7 @@ module _ (rule : Rule) (needs : List ColumnNeeds) (old : Budget) where
             ⊎_elim (λ one. subst (λ (n : ℕ). IsBehind (length needs) (position_after (length needs) place) n place) (sym one) (behind_next (length needs) place 0 place below (omega (arith, below)) (inr refl)))
             (λ more. subst (λ (n : ℕ). IsBehind (length needs) (position_after (length needs) place) n place) (sym more.1) (behind_next (length needs) place passed place below fewer (inr refl))) by
 
-        -- the columns that are left after the next position were left after this one
+        -- the columns that are left after the next position were left before it
         nothing_new : ((j w : ℕ) → is_undecided (slice_set now.widths.items place (Some w)) j ≡ (is_undecided now.widths.items j && not (place == j)))
             → (i : ℕ) (d : ColumnNeeds) → slice_get needs i ≡ Some d → IsBehind (length needs) (position_after (length needs) place) passed' i → is_undecided new.widths.items i ≡ true → width_by_rule rule average' d ≡ None
         nothing_new set i d found behind left =

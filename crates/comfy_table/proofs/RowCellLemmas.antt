@@ -1,4 +1,4 @@
--- Cells of texts of one line without escape sequences.
+-- Cells of texts without escape sequences.
 use Rattle.std.proofs.Common.{◌≡◌, ◌≤◌, ◌+◌, ℕ, zero, suc, Bool, true, false, ◌&&◌, ◌||◌, ◌==◌, List, [], ◌∷◌, ◌++◌, length, map, refl, ap, ap₂, sym, ◌∙◌, arith, append-nil, slice_index_or}
 use Rattle.std.proofs.lemmas.Bool.{and_parts, cond_both, or_parts}
 use Rattle.std.proofs.lemmas.Bool.Decides.{nat_tests}
@@ -62,7 +62,7 @@ onto_first-clear : (b : ℕ) (lines : List Text) → (b == 0x1B) ≡ false → l
 onto_first-clear b [] own clear = rw own refl
 onto_first-clear b (line ∷ lines) own clear = rw own clear
 
--- no line of such a text has one
+-- no line of such a text has an escape sequence
 pub lines_clear : (text : Text) → has_escape text ≡ false → list_any has_escape (plain_cell text).text_lines ≡ false
 lines_clear [] clear = refl
 lines_clear (b ∷ bs) clear =
@@ -72,7 +72,7 @@ lines_clear (b ∷ bs) clear =
 
 -- ---- cells without escape sequences
 
--- what is measured of such a cell is the cell
+-- such a cell is measured as it is
 pub clear_measured : (table : TableValue) (cell : CellValue) → list_any has_escape cell.text_lines ≡ false → measured_cell table cell ≡ cell
 clear_measured table cell none = ap (λ (lines : List Text). record cell { text_lines = lines }) (by_styling table.custom_styling)
   where
@@ -80,16 +80,16 @@ clear_measured table cell none = ap (λ (lines : List Text). record cell { text_
     by_styling true = sym (clear_lines cell.text_lines none)
     by_styling false = refl
 
--- the lines of one text line are those of the cell
+-- the lines of a cell of one text line are the lines of this text line
 pub lines_of_one : (w d : ℕ) (cell : CellValue) (text : Text) → cell.text_lines ≡ text ∷ [] → cell_lines w d cell ≡ lines_of_text w d text
 lines_of_one w d cell text single = ap (flat_map (lines_of_text w d)) single ∙ append-nil (lines_of_text w d text)
 
--- nothing of it is custom styled
+-- no line of such a cell needs custom styling
 pub unescaped : (custom : Bool) (cell : CellValue) → list_any has_escape cell.text_lines ≡ false → (custom && list_any has_escape cell.text_lines) ≡ false
 unescaped true cell none = none
 unescaped false cell none = refl
 
--- the longest line of one text line that fits is that line
+-- the longest line of one text line that fits is this text line
 pub fitting_longest : (w d columns : ℕ) (lines : List Text) → map measure lines ≡ columns ∷ [] → columns ≤ w → greatest (map (text_longest_line w d) lines) ≡ columns
 fitting_longest w d columns [] are fits = absurd (omega (arith, ap length are))
 fitting_longest w d columns (text ∷ []) are fits =

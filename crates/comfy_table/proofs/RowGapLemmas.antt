@@ -25,7 +25,7 @@ module _ {X : Type 0} (gaps : RowGapsValue) (f : X → Text) where
       let more = join_by_more f gaps.junction (y ∷ ys) (suc i) x below is in
       grind (arith, more, append_assoc)
 
-  -- a piece more, where spaces wait at the text's end: the next gap takes them
+  -- one piece more, if the text lacks spaces at its end: the next gap takes them
   pub gap_more : (xs : List X) (i : ℕ) (x : X) (start line gap before piece : Text) → i < length xs → x ≡ slice_index_or xs i x
       → line ++ before ≡ start ++ joined_to xs i → gap ≡ gap_before i gaps → piece ≡ f x
       → line ++ (before ++ (gap ++ piece)) ≡ start ++ joined_to xs (i + 1)
@@ -37,7 +37,7 @@ module _ {X : Type 0} (gaps : RowGapsValue) (f : X → Text) where
       ∙ ap (λ (t : Text). start ++ (joined_to xs i ++ (gap_before i gaps ++ t))) one
       ∙ ap (λ (t : Text). start ++ t) (joined_more xs i x below is)
 
-  -- and all of them
+  -- all pieces
   pub joined_all : (xs : List X) → 0 < length xs → joined_to xs (length xs) ++ gaps.right ≡ gap_line gaps (map f xs)
   joined_all xs some =
       let more : nat_lt 0 (length xs) ≡ true = grind (arith, nat_tests, some) in

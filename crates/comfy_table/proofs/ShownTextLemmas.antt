@@ -1,4 +1,4 @@
--- What holds of the texts in shown columns.
+-- Properties of the texts in shown columns.
 use Rattle.std.proofs.Common.{◌≡◌, ℕ, List, [], ◌∷◌, Option, Some, None, length, refl, slice_index_or, subst}
 use Rattle.std.specs.List.{All, cons_option, filter_map, slice_get}
 use Rattle.std.proofs.lemmas.List.Elements.{All-cons, All-head, All-nil, All-tail, All-weaker}
@@ -13,7 +13,7 @@ use Rattle.comfy_table.specs.Laws.{EachShownText}
 use Rattle.comfy_table.specs.Pieces.{shown_infos}
 use Rattle.comfy_table.specs.TableValue.{TableValue, column_cells, measured_rows, shown_columns}
 
--- what holds of the cells at a position holds of each row's cell there
+-- a property of the cells at a position holds of each row's cell there
 each_row : (P : CellValue → Type 0) (i : ℕ) (rows : List RowValue) → All P (filter_map (λ (row : RowValue). slice_get row.cells i) rows)
     → All (λ (row : RowValue). (cell : CellValue) → slice_get row.cells i ≡ Some cell → P cell) rows
 each_row P i [] each = All-nil (λ (row : RowValue). (cell : CellValue) → slice_get row.cells i ≡ Some cell → P cell)
@@ -33,7 +33,7 @@ each_row P i (row ∷ rows) each = by_cell (slice_get row.cells i) (λ cell foun
     by_cell (Some own) is each rest =
         All-cons Holds row rows (λ cell found. subst P (some_same own cell (is cell found)) (All-head P own later each)) (rest (All-tail P own later each))
 
--- what holds of the texts in shown columns holds of the cells that are drawn
+-- a property of the texts in shown columns holds of the cells that are drawn
 pub drawn_of_shown : (P : Text → Type 0) (table : TableValue) (widths : List ℕ) → length widths ≡ length table.columns → EachShownText P table
     → All (λ (row : RowValue). All (IsClearAt P row) (shown_infos (infos_of table widths))) (measured_rows table)
 drawn_of_shown P table widths long each k default under =
@@ -46,13 +46,13 @@ drawn_of_shown P table widths long each k default under =
     at : ℕ → RowValue → RowValue
     at k default = slice_index_or (measured_rows table) k default
 
--- what follows from it
+-- a weaker property holds too
 pub shown_weaker : (P Q : Text → Type 0) (table : TableValue) → ((text : Text) → P text → Q text) → EachShownText P table → EachShownText Q table
 shown_weaker P Q table gives each =
     All-weaker (λ (p : ℕ × ColumnValue). All (λ (cell : CellValue). All P cell.text_lines) (column_cells table p.0)) (λ (p : ℕ × ColumnValue). All (λ (cell : CellValue). All Q cell.text_lines) (column_cells table p.0))
     (λ p. All-weaker (λ (cell : CellValue). All P cell.text_lines) (λ (cell : CellValue). All Q cell.text_lines) (λ cell. All-weaker P Q gives cell.text_lines) (column_cells table p.0)) (shown_columns table) each
 
--- what holds of all texts holds of those in shown columns
+-- a property of all texts holds of the texts in shown columns
 pub shown_of_all : (P : Text → Type 0) (table : TableValue) → All (IsRowOf P) (measured_rows table) → EachShownText P table
 shown_of_all P table each =
     All-every (λ (p : ℕ × ColumnValue). All (λ (cell : CellValue). All P cell.text_lines) (column_cells table p.0)) (shown_columns table) (λ p. of_rows p.0 (measured_rows table) each)

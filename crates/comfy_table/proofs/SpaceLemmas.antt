@@ -15,11 +15,11 @@ use Rattle.comfy_table.specs.Styling.{styled}
 use Rattle.comfy_table.specs.declared.utils.formatting.piece.Styles.{Styles}
 use Rattle.comfy_table.specs.declared.utils.formatting.piece.Styles.TheVariants.{Nowhere, RoundTexts, RoundPieces}
 
--- two runs side by side
+-- two runs one after the other
 pub spaces-append : (m n : ℕ) → spaces m ++ spaces n ≡ spaces (m + n)
 spaces-append m n = replicate-append-replicate m n 0x20
 
--- a run of n, and what is left of more than n
+-- a run of n, and the rest of more than n spaces
 pub spaces-taken : (text run : Text) (n left : ℕ) → run ≡ spaces n → n < left → (text ++ run) ++ spaces (left - length run) ≡ text ++ spaces left
 spaces-taken text run n left is more = grind (arith, length-replicate, append_assoc, spaces-append)
 
@@ -31,7 +31,7 @@ spaces-front run n left is within = grind (arith, length-replicate, take-replica
 pub space-at : (run : Text) (n i d : ℕ) → run ≡ spaces n → i < length run → slice_index_or run i d ≡ 0x20
 space-at run n i d is below = grind (arith, length-replicate, get_or-replicate)
 
--- the spaces before a line are among its free places
+-- the spaces before a line are at most the free terminal columns
 pub free_before-le : (alignment : CellAlignment) (free : ℕ) → free_before alignment free ≤ free
 free_before-le Left free = omega arith
 free_before-le Right free = omega arith
@@ -48,7 +48,7 @@ no_styles cell text background foreground attributes = grind (arith, background,
 module _ (cell : CellValue) (info : ColumnInfo) (columns left right : ℕ)
     (is_left : left ≡ info.padding.0 + free_before (cell_alignment cell info) (free_places info columns))
     (is_right : right ≡ free_places info columns - free_before (cell_alignment cell info) (free_places info columns) + info.padding.1) where
-  -- a text between the spaces that a line leaves and the paddings
+  -- a text between the paddings and the spaces that its line leaves
   pub padded-is : (text : Text) → spaces left ++ (text ++ spaces right) ≡ padded cell info columns text
   padded-is text =
       let before = free_before (cell_alignment cell info) (free_places info columns) in
@@ -58,7 +58,7 @@ module _ (cell : CellValue) (info : ColumnInfo) (columns left right : ℕ)
       ∙ append_assoc (spaces info.padding.0) (spaces before) (text ++ spaces (free_places info columns - before + info.padding.1))
       ∙ ap (λ (t : Text). spaces info.padding.0 ++ (spaces before ++ (text ++ t))) (sym (spaces-append (free_places info columns - before) info.padding.1))
 
-  -- the piece of a line of a cell without styles, with its text styled, and styled as a whole
+  -- the piece of a line without styles is the same in each place for styles
   pub bare-is : (styles : Styles) (text : Text) → ((t : Text) → styled cell t ≡ t) → spaces left ++ (text ++ spaces right) ≡ piece_with styles cell info (record { columns = columns; written = text })
   bare-is Nowhere text bare = padded-is text
   bare-is RoundTexts text bare = padded-is text ∙ sym (ap (padded cell info columns) (bare text))
@@ -70,11 +70,11 @@ module _ (cell : CellValue) (info : ColumnInfo) (columns left right : ℕ)
   pub all-styled : (text : Text) → styled cell (spaces left ++ (text ++ spaces right)) ++ [] ≡ styled cell (padded cell info columns text)
   all-styled text = append-nil (styled cell (spaces left ++ (text ++ spaces right))) ∙ ap (styled cell) (padded-is text)
 
--- the last text appended on success
+-- after the last text is appended, the whole text is as wanted
 pub last-pushed : {T E : Type 0} (r : Result T E) (new before c : Text) (wanted : Text) → (new ≡ before ++ c → new ≡ wanted) → OnOk r (new ≡ before ++ c) → OnOk r (new ≡ wanted)
 last-pushed (Ok x) new before c wanted gives pushed = gives pushed
 last-pushed (Err e) new before c wanted gives pushed = pushed
 
--- spaces are whole characters
+-- spaces are UTF-8
 pub spaces-utf8 : (n : ℕ) → IsUtf8 (spaces n)
 spaces-utf8 n = IsUtf8-from_ascii (spaces n) (IsAscii-from_all (spaces n) (All-replicate (λ (b : ℕ). b < 128) n 0x20 (omega arith)))

@@ -1,4 +1,4 @@
--- All lines of a table whose lines fit measure the same.
+-- All lines of a table whose lines fit take the same number of terminal columns.
 use Rattle.std.proofs.lemmas.Bool.{cond_both}
 use Rattle.std.proofs.Common.{◌≡◌, ◌<◌, ◌≤◌, ◌⊎◌, inl, inr, ℕ, ◌+◌, Bool, List, [], Some, None, length, sum, ◌∙◌, subst, arith, slice_index_or}
 use Rattle.std.specs.List.{All, slice_get}
@@ -27,11 +27,11 @@ use Rattle.comfy_table.proofs.PieceMeasureLemmas.{HasMeasure-frame_line, HasMeas
 use Rattle.comfy_parts.proofs.CallerLemmas.{AllZip-map, At-or, IsFittingLine}
 use Rattle.comfy_parts.specs.Columns.{IsApart, IsOneColumn, style_characters}
 
--- a piece of the cell that a row has in a column, or the blank one
+-- the pieces of a row in a column are good: as wide as the column, and able to follow others
 abbrev ArePiecesGood : (Text → Type 0) → TableValue → RowValue → ℕ × ColumnInfo → Type 0
 ArePiecesGood Follows table row p = All (IsGoodPiece Follows (draws_vertical_lines table.style) (info_width p.1)) (pieces_at (unstyled table) row p)
 
--- the pieces of lines that fit are good, where every piece of a line that fits is, and the blank one
+-- the pieces in a column are good, if those of lines that fit are, and the blank piece
 pieces-good : (Follows : Text → Type 0) (table : TableValue) (row : RowValue) (p : ℕ × ColumnInfo) → ((cell : CellValue) → slice_get row.cells p.0 ≡ Some cell → HasFittingLines table row p.1 cell)
     → IsGoodPiece Follows (draws_vertical_lines table.style) (info_width p.1) (blank_piece p.1)
     → ((cell : CellValue) (line : Text) → IsFittingLine p.1.content_width line → IsGoodPiece Follows (draws_vertical_lines table.style) (info_width p.1) (unstyled_piece cell p.1 line))
@@ -44,15 +44,15 @@ pieces-good Follows table row p fit blank each =
 
 module _ (table : TableValue) (infos : List ColumnInfo) (Follows : Text → Type 0) (follows : IsFollowing Follows) (characters : All IsOneColumn (style_characters table.style))
     (blanks : All (λ (p : ℕ × ColumnInfo). IsGoodPiece Follows (draws_vertical_lines table.style) (info_width p.1) (blank_piece p.1)) (shown_infos infos)) where
-  -- the columns of a line
+  -- the terminal columns of a line
   abbrev total_of : ℕ
   total_of = border_count table.style (length (outer_widths infos)) + sum (outer_widths infos)
 
-  -- a line has them
+  -- a line measures this total
   abbrev HasTotal : Text → Type 0
   HasTotal = HasMeasure Follows total_of
 
-  -- each line of a row has them
+  -- each line of a row measures this total
   row_measured : (line : ContentLineStyle) (row : RowValue) → IsOneColumn line.left → IsOneColumn line.junction → IsOneColumn line.right
       → All (ArePiecesGood Follows table row) (shown_infos infos) → All HasTotal (drawn_row (unstyled table) infos line row)
   row_measured line row left junction right each = All-row HasTotal (unstyled table) infos line row at
@@ -69,7 +69,7 @@ module _ (table : TableValue) (infos : List ColumnInfo) (Follows : Text → Type
           let good : Good p (slice_index_or (pieces_at (unstyled table) row p) k (blank_piece p.1)) = At-or (Good p) (pieces_at (unstyled table) row p) k (blank_piece p.1) (each j other below) (blanks j other below) in
           record { has = good.has; fronts = good.fronts _ junction }))
 
-  -- a frame line that is drawn has them
+  -- a frame line that is drawn measures this total
   frame_measured : (line : LineStyle) → IsOneColumn line.left → IsOneColumn line.fill → IsOneColumn line.junction → IsOneColumn line.right → All HasTotal (optional_frame_line table.style line (outer_widths infos))
   frame_measured line left fill junction right =
       cond_both (is_drawn line) _ [] (All HasTotal)
@@ -77,7 +77,7 @@ module _ (table : TableValue) (infos : List ColumnInfo) (Follows : Text → Type
       (HasMeasure-any Follows _ _ (HasMeasure-frame_line table.style line (outer_widths infos) left fill junction right)) (All-nil HasTotal))
       (λ _. All-nil HasTotal)
 
-  -- all lines have them
+  -- all lines measure this total before any rest that may follow
   drawing_measured : All (λ row. All (ArePiecesGood Follows table row) (shown_infos infos)) (measured_rows table) → All HasTotal (drawing_of_infos (unstyled table) infos)
   drawing_measured each =
       let at : (k : ℕ) → k < 22 → IsOneColumn (slice_index_or (style_characters table.style) k None) = λ k below. characters k None below in
@@ -89,13 +89,13 @@ module _ (table : TableValue) (infos : List ColumnInfo) (Follows : Text → Type
       (λ row own. row_measured table.style.header_lines row (at 4 (omega arith)) (at 5 (omega arith)) (at 6 (omega arith)) own)
       (λ row own. row_measured table.style.content_lines row (at 11 (omega arith)) (at 12 (omega arith)) (at 13 (omega arith)) own) each
 
-  -- so all lines measure them
+  -- so all lines measure this total
   pub drawing_straight : All (λ row. All (ArePiecesGood Follows table row) (shown_infos infos)) (measured_rows table) → All (λ line. measure line ≡ total_of) (drawing_of_infos (unstyled table) infos)
   drawing_straight each = All-weaker HasTotal (λ line. measure line ≡ total_of) (λ line has. measure-is Follows _ line follows has) (drawing_of_infos (unstyled table) infos) (drawing_measured each)
 
 -- ---- all tables
 
--- where all lines of cells fit, all lines, frame lines too, are equally many columns wide
+-- if all lines of cells fit, all lines, also frame lines, are equally wide
 straight_lines : (table : TableValue) (widths : List ℕ) → All IsOneColumn (style_characters table.style) → TextsStandApart table → EachCell (HasFittingLines table) table widths → IsArranged table widths
     → All (λ line. measure line ≡ line_total table widths) (drawing (unstyled table) widths)
 straight_lines table widths characters apart lines_fit arranged =
@@ -140,12 +140,12 @@ straight_lines table widths characters apart lines_fit arranged =
         (good-any v _ _ (HasMeasure-spaces _))
         (λ cell line fitting. good-any v _ _ (piece-any cell (slice_index_or (shown_infos infos) j other).1 line (padded j other below) fitting)))
 
--- what follows from two facts of each cell
+-- a property that follows from two properties of each cell holds of each cell
 each_cell : (table : TableValue) (widths : List ℕ) (P Q R : RowValue → ColumnInfo → CellValue → Type 0) → ((row : RowValue) (info : ColumnInfo) (cell : CellValue) → P row info cell → Q row info cell → R row info cell)
     → EachCell P table widths → EachCell Q table widths → EachCell R table widths
 each_cell table widths P Q R gives ps qs k default under j other below cell found = grind arith
 
--- so they are in a straight table
+-- so all lines of a straight table are equally wide
 pub straight : (table : TableValue) (widths : List ℕ) → IsUtf8 table.indicator → EachCell (IsWholeCell table) table widths → IsArranged table widths → IsStraightTable table widths
     → All (λ line. measure line ≡ line_total table widths) (drawing (unstyled table) widths)
 straight table widths indicator whole arranged is = straight_lines table widths is.characters is.apart (by_case is.fits) arranged

@@ -1,4 +1,4 @@
--- What stays true of texts as they are drawn: of styled texts, and of their pieces.
+-- Properties that texts keep as they are drawn: as styled texts, and as pieces.
 use Rattle.std.proofs.Common.{◌≡◌, length, is_some, ℕ, zero, suc, ◌/◌, ◌%◌, Bool, true, false, ◌&&◌, ◌==◌, List, [], ◌∷◌, ◌++◌, Option, Some, None, refl, ap₂, ◌∙◌, subst, arith, append-nil}
 use Rattle.std.specs.List.{list_all, flat_map, filter}
 use Rattle.std.specs.Fmt.{digits, digits_onto, digit_glyph, decimal}
@@ -18,15 +18,15 @@ use Rattle.comfy_table.specs.Pieces.{padded, piece}
 use Rattle.comfy_table.specs.Styling.{sequence, color_code, foreground_code, background_code, attribute_code, all_attributes, has_attribute, attribute_sequences, optional_sequence, style_begin, style_end, styled}
 use Rattle.comfy_table.specs.TableValue.{TableValue, should_style}
 
--- ---- what is drawn
+-- ---- properties that drawing keeps
 
--- what is told of each text and what is shown of it holds of texts of the kind C, and stays true as texts are joined
+-- a relation between a text and its visible part: it holds of texts of the kind C, and texts keep it as they are joined
 pub record KeptByJoining (C : Text → Type 0) (R : Text → Text → Type 0) : Type 0 where
   pub kind : IsKind C
   pub of_kind : (text : Text) → C text → R text text
   pub of_both : (shown others xs ys : Text) → R shown xs → R others ys → R (shown ++ others) (xs ++ ys)
 
--- and it stays true as they are drawn, where what is shown is of that kind
+-- texts also keep it as they are drawn, if their visible parts are of the kind C
 pub record KeptByDrawing (C : Text → Type 0) (R : Text → Text → Type 0) : Type 0 where
   pub joins : KeptByJoining C R
   pub of_sequence : (code : Text) → list_all is_parameter code ≡ true → R [] (sequence code)
@@ -53,32 +53,32 @@ digits_onto-parameters (suc k) n acc all =
     by_test true rest = longer
     by_test false rest = rest
 
--- a written number is parameters
+-- a number in decimal consists of parameters
 pub decimal-parameters : (n : ℕ) → list_all is_parameter (decimal n) ≡ true
 unfolding digits
 decimal-parameters n = digits_onto-parameters 64 n [] refl
 
--- two texts of parameters are parameters together
+-- two texts of parameters make a text of parameters
 both_parameters : (xs ys : Text) → list_all is_parameter xs ≡ true → list_all is_parameter ys ≡ true → list_all is_parameter (xs ++ ys) ≡ true
 both_parameters xs ys front back = list_all-append is_parameter xs ys ∙ ap₂ (λ a b. a && b) front back
 
--- the number of a colour is parameters
+-- the code of a colour consists of parameters
 color_code-parameters : (color : Color) → list_all is_parameter (color_code color) ≡ true
 color_code-parameters (colors.AnsiValue v) = both_parameters (codes "5;") (decimal v) refl (decimal-parameters v)
 color_code-parameters (colors.Rgb r g b) = grind (arith, both_parameters, decimal-parameters)
 color_code-parameters _ = refl
 
--- so is the code of a foreground
+-- the code of a foreground consists of parameters
 foreground-parameters : (color : Color) → list_all is_parameter (foreground_code color) ≡ true
 foreground-parameters colors.Reset = refl
 foreground-parameters color = color_code-parameters color
 
--- and that of a background
+-- the code of a background consists of parameters
 background-parameters : (color : Color) → list_all is_parameter (background_code color) ≡ true
 background-parameters colors.Reset = refl
 background-parameters color = color_code-parameters color
 
--- ---- what stays true of joined texts
+-- ---- joined texts
 
 module _ (C : Text → Type 0) (R : Text → Text → Type 0) (joins : KeptByJoining C R) where
   -- an empty text
@@ -92,7 +92,7 @@ module _ (C : Text → Type 0) (R : Text → Text → Type 0) (joins : KeptByJoi
       joins.of_both (0x20 ∷ []) (spaces n) (0x20 ∷ []) (spaces n) (joins.of_kind (0x20 ∷ []) joins.kind.space) (keeps_spaces n)
 
 module _ (C : Text → Type 0) (R : Text → Text → Type 0) (kept : KeptByDrawing C R) where
-  -- ---- sequences, of which nothing is shown
+  -- ---- sequences, which have no visible part
 
   -- the sequence of a colour
   keeps_optional_sequence : (code : Color → Text) (color : Option Color) → ((c : Color) → list_all is_parameter (code c) ≡ true) → R [] (optional_sequence code color)
@@ -109,7 +109,7 @@ module _ (C : Text → Type 0) (R : Text → Text → Type 0) (kept : KeptByDraw
       cond_both (p a) (a ∷ filter p more) (filter p more) (λ chosen. R [] (flat_map (λ (a : Attribute). sequence (attribute_code a)) chosen))
       (λ _. kept.joins.of_both [] [] (sequence (attribute_code a)) _ (kept.of_sequence (attribute_code a) both.0) rest) (λ _. rest)
 
-  -- what stands before a styled text
+  -- the sequences before a styled text
   pub keeps_style_begin : (cell : CellValue) → R [] (style_begin cell)
   keeps_style_begin cell =
       kept.joins.of_both [] [] (optional_sequence background_code cell.background) (optional_sequence foreground_code cell.foreground ++ attribute_sequences cell.attributes)
@@ -117,7 +117,7 @@ module _ (C : Text → Type 0) (R : Text → Text → Type 0) (kept : KeptByDraw
       (kept.joins.of_both [] [] (optional_sequence foreground_code cell.foreground) (attribute_sequences cell.attributes)
       (keeps_optional_sequence foreground_code cell.foreground foreground-parameters) (keeps_attributes (has_attribute cell.attributes) all_attributes refl))
 
-  -- what stands after a styled text
+  -- the sequences after a styled text
   pub keeps_style_end : (cell : CellValue) → R [] (style_end cell)
   keeps_style_end cell =
       cond_both (length cell.attributes == 0) _ _ (R [])
@@ -137,7 +137,7 @@ module _ (C : Text → Type 0) (R : Text → Text → Type 0) (kept : KeptByDraw
   keeps_padded : (cell : CellValue) (info : ColumnInfo) (columns : ℕ) (shown text : Text) → R shown text → R (padded cell info columns shown) (padded cell info columns text)
   keeps_padded cell info columns shown text own = grind (arith, kept.joins.of_both, keeps_spaces C R kept.joins)
 
-  -- the piece of a line, and the unstyled piece of what is measured of it
+  -- the piece of a line, and the unstyled piece of its measured text
   pub keeps_piece : (table : TableValue) (cell : CellValue) (info : ColumnInfo) (line : CellLine) → R line.measured line.written → R (unstyled_piece cell info line.measured) (piece table cell info line)
   keeps_piece table cell info line own = by_tests (should_style table) table.style_text_only
     where

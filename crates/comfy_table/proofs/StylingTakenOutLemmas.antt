@@ -1,4 +1,4 @@
--- The sequences taken out of the styled lines, the unstyled lines are left.
+-- Without their sequences, the styled lines of a drawing are its unstyled lines.
 use Rattle.std.proofs.Common.{◌≡◌, ℕ, List, [], ◌∷◌, length, map, refl, sym, ap₂, ◌∙◌, subst, arith}
 use Rattle.std.specs.List.{All, AllZip}
 use Rattle.std.specs.Str.{IsUtf8}
@@ -14,7 +14,7 @@ use Rattle.comfy_table.specs.Drawing.{drawing, infos_of}
 use Rattle.comfy_table.specs.Laws.{HasNoEscape, IsFreeOfEscapes, unstyled}
 use Rattle.comfy_table.specs.TableValue.{TableValue, measured_rows}
 
--- what texts without ESC show, they still show as they are drawn
+-- the visible part of a text without ESC stays the same as the text is drawn
 shows_kept : KeptByDrawing HasNoEscape Shows
 shows_kept =
     record {
@@ -26,7 +26,7 @@ shows_kept =
           subst (λ s. Shows s (closed text)) same (Shows-visible (closed text) (subst HasNoEscape (sym same) clear));
     }
 
--- lines that show these have them as their visible texts
+-- if these are the visible parts of lines, they are their visible texts
 visible_texts-are : (shown texts : List Text) → AllZip Shows shown texts → map visible_text texts ≡ shown
 visible_texts-are [] [] each = refl
 visible_texts-are [] (text ∷ texts) each = absurd each
@@ -34,7 +34,8 @@ visible_texts-are (s ∷ shown) [] each = absurd each
 visible_texts-are (s ∷ shown) (text ∷ texts) each =
     ap₂ (λ x xs. x ∷ xs) (visible_text-is s text each.0) (visible_texts-are shown texts each.1)
 
--- the sequences taken out of the drawn lines, the unstyled lines are left; bytes that are no UTF-8 could be cut so that an ESC arises
+-- without their sequences, the drawn lines are the unstyled lines. Texts have to be UTF-8: other bytes could be cut so
+-- that an ESC comes to be.
 pub styling_taken_out : (table : TableValue) (widths : List ℕ) → length widths ≡ length table.columns → All (IsRowOf IsUtf8) (measured_rows table) → IsFreeOfEscapes table → map visible_text (drawing table widths) ≡ drawing (unstyled table) widths
 styling_taken_out table widths long whole free =
     visible_texts-are (drawing (unstyled table) widths) (drawing table widths) (keeps_drawing HasNoEscape Shows shows_kept table (infos_of table widths) free.style.indicator (byte_style 0x1B table.style (omega arith) free.style.characters) whole (drawn_of_shown HasNoEscape table widths long free.text_lines))

@@ -18,16 +18,16 @@ use Rattle.comfy_table.specs.TableLaws.{FrameCounts, FrameKeepsToWidth, FrameFil
 use Rattle.comfy_table.specs.TableValue.{TableValue, shown_columns}
 use Rattle.comfy_table.specs.Widths.{shown_count, shown_needs, needs_of}
 
--- a table's frame lines have the line's total
+-- a table's frame lines have as many characters as the line's total
 pub frame_counts : (table : TableValue) (widths : List ℕ) (line : LineStyle) → FrameCounts table widths line
 frame_counts table widths line same = grind (arith, frame_lines_count, length-infos_from)
 
--- under `Dynamic` they keep to the width, or to the least total
+-- under `Dynamic` they have at most the table's width, or the least total if that is more
 pub frame_keeps_to_width : (table : TableValue) (w : ℕ) (widths : List ℕ) (line : LineStyle) → FrameKeepsToWidth table w widths line
 frame_keeps_to_width table w widths line none dynamic known arranged =
     omega (arith, frame_counts table widths line arranged.one_for_each, keeps_to_width table w widths none dynamic known arranged)
 
--- under `DynamicFullWidth` they have exactly that
+-- under `DynamicFullWidth` they have exactly that many
 pub frame_fills_width : (table : TableValue) (w : ℕ) (widths : List ℕ) (line : LineStyle) → FrameFillsWidth table w widths line
 frame_fills_width table w widths line none full known some arranged =
     frame_counts table widths line arranged.one_for_each ∙ fills_width table w widths none full known some arranged
@@ -44,7 +44,7 @@ length-shown_needs table = length-map (shown_columns table) (needs_of table)
 pub table_is_levelled : (table : TableValue) (w : ℕ) (widths : List ℕ) → TableIsLevelled table w widths
 table_is_levelled table w widths none dynamic known some arranged = grind (arith, dynamic_is_levelled, all_unconstrained, length-shown_needs, dynamic_widths)
 
--- under `DynamicFullWidth` they fill the room too
+-- under `DynamicFullWidth` they keep to a level, and fill the room
 pub table_is_full : (table : TableValue) (w : ℕ) (widths : List ℕ) → TableIsFull table w widths
 table_is_full table w widths none full known some arranged =
     dynamic_is_full (room_beside_borders table w) (shown_needs table) (shown_contents table widths) (all_unconstrained table none) (omega (arith, some, length-shown_needs table))

@@ -1,4 +1,4 @@
--- Columns that are taken one after another: each once, and what the shrunk ones leave of the room.
+-- Columns that take widths one after another: each once, and the room after the columns that shrink.
 use Rattle.std.proofs.Common.{◌≡◌, ◌<◌, ◌≤◌, ℕ, suc, ◌+◌, ◌-◌, ◌*◌, ◌/◌, Bool, true, false, cond, ◌==◌, List, [], ◌∷◌, ◌++◌, length, max, Option, Some, None, refl, sym, ap, subst, arith, append-nil, sub-le, div-le_self, le_trans, not, length-append}
 use Rattle.std.specs.Prelude.{⊤}
 use Rattle.std.specs.List.{AllByRecursion}
@@ -11,12 +11,12 @@ use Rattle.comfy_table.proofs.ClaimLemmas.{count_at, has_claim, IsOneEach, IsAmo
 use Rattle.comfy_table.proofs.TakingLemmas.{next_taken-where, next_taken-none}
 use Rattle.comfy_parts.proofs.CallerLemmas.{every-always, every-both, every-filter, every-weaker}
 
--- every column stands at its place
+-- every column is at its position
 pub every_stands : (columns : List Positioned) → AllByRecursion (λ (p : Positioned). 0 < count_at p.0 columns) columns
 every_stands [] = tt
 every_stands (p ∷ more) = grind (arith, every-weaker, every_stands more)
 
--- what is left of columns with one for each place has one for each place
+-- the columns that are left have at most one for each position, if all columns do
 pub one_each-without : (taken : List Claim) (columns : List Positioned) → IsOneEach columns → IsOneEach (without_claims taken columns)
 one_each-without taken columns one i = le_trans (fewer columns) (one i)
   where
@@ -30,11 +30,11 @@ one_each-without taken columns one i = le_trans (fewer columns) (one i)
     fewer (p ∷ more) = by_test p more (not (has_claim taken p.0)) (fewer more)
 
 module _ (candidates : List Positioned) (one : IsOneEach candidates) where
-  -- one more column that is left keeps each taken once
+  -- one more claim of a column that is left keeps at most one claim for each
   among-push : (taken : List Claim) (t : Claim) → IsAmong taken candidates → 0 < count_at t.0 (without_claims taken candidates) → IsAmong (taken ++ t ∷ []) candidates
   among-push taken t among left i = grind (arith, count_at-append, count_at-without)
 
-  -- each is taken once
+  -- each column takes at most one width
   pub taken_among : (offer : List Claim → Positioned → Option ℕ) (from : ℕ) (taken order : List Claim) → IsAmong taken candidates → IsTakenAfter candidates offer from taken order → IsAmong (taken ++ order) candidates
   taken_among offer from taken [] among ends = subst (λ (ts : List Claim). IsAmong ts candidates) (sym (append-nil taken)) among
   taken_among offer from taken (t ∷ more) among goes =
@@ -42,7 +42,7 @@ module _ (candidates : List Positioned) (one : IsOneEach candidates) where
       subst (λ (ts : List Claim). IsAmong ts candidates) (append_assoc taken (t ∷ []) more)
       (taken_among offer t.0 (taken ++ t ∷ []) more (among-push taken t among next.left) goes.1)
 
-  -- at the end nothing is offered to those left
+  -- at the end no column that is left is offered a width
   pub taken_ends : (offer : List Claim → Positioned → Option ℕ) (from : ℕ) (taken order : List Claim) → IsTakenAfter candidates offer from taken order
       → AllByRecursion (λ (p : Positioned). offer (taken ++ order) p ≡ None) (without_claims (taken ++ order) candidates)
   taken_ends offer from taken [] ends =
@@ -51,13 +51,13 @@ module _ (candidates : List Positioned) (one : IsOneEach candidates) where
       subst (λ (ts : List Claim). AllByRecursion (λ (p : Positioned). offer ts p ≡ None) (without_claims ts candidates)) (append_assoc taken (t ∷ []) more)
       (taken_ends offer t.0 (taken ++ t ∷ []) more goes.1)
 
-  -- one more taken is one fewer left
+  -- one more claim is one column fewer that is left
   length-push : (taken : List Claim) (t : Claim) → IsAmong taken candidates → IsAmong (taken ++ t ∷ []) candidates
       → length (without_claims taken candidates) ≡ suc (length (without_claims (taken ++ t ∷ []) candidates))
   length-push taken t among more =
       omega (arith, length-without taken candidates one among, length-without (taken ++ t ∷ []) candidates one more, length-append taken (t ∷ []))
 
--- the column is among those of P, and shrinks at a width that is a level at least
+-- the column has P, and shrinks at a width of at least the level
 pub record HasShrunk (P : Positioned → Type 0) (room level : ℕ) (t : Claim) : Type 0 where
   pub column : ColumnNeeds
   pub left : P (t.0, column)
@@ -67,20 +67,20 @@ pub record HasShrunk (P : Positioned → Type 0) (room level : ℕ) (t : Claim) 
   pub free : column.longest at + 3 ≤ at
   pub takes : t.1 ≡ max 1 (column.longest at)
 
--- the claims and the level for each column that is left have room
+-- the claims, and the level for each column that is left, have room
 abbrev pub HasRoom : ℕ → List Positioned → ℕ → List Claim → Type 0
 HasRoom room candidates level taken = total taken + length (without_claims taken candidates) * level ≤ room
 
--- what a column shrinks to
+-- the width that a column shrinks to
 shrinks : (b : ℕ) (column : ColumnNeeds) (width : ℕ) → shrunk_at b column ≡ Some width → (column.longest b + 3 ≤ b) × (width ≡ max 1 (column.longest b))
 shrinks b column width same = grind arith
 
--- a column that shrinks takes no more than its part
+-- a column that shrinks takes at most its part
 room_after : (room taken left level b width : ℕ) → taken + suc left * level ≤ room → b ≡ (room - taken) / suc left → width ≤ b → (level ≤ b) × (taken + width + left * level ≤ room)
 room_after room taken left level b width room_enough average_is fits = grind arith
 
 module _ (room : ℕ) (candidates : List Positioned) (one : IsOneEach candidates) (P : Positioned → Type 0) (each : AllByRecursion P candidates) (level : ℕ) where
-  -- the shrunk columns, and the room that they leave
+  -- the columns that shrink, and the room that they leave
   pub shrunk_where : (from : ℕ) (taken order : List Claim) → IsAmong taken candidates → HasRoom room candidates level taken
       → IsTakenAfter candidates (shrunk_offer room candidates) from taken order → AllByRecursion (HasShrunk P room level) order × HasRoom room candidates level (taken ++ order)
   shrunk_where from taken [] among enough ends = (tt, subst (HasRoom room candidates level) (sym (append-nil taken)) enough)
@@ -101,7 +101,7 @@ module _ (room : ℕ) (candidates : List Positioned) (one : IsOneEach candidates
         subst (HasRoom room candidates level) (append_assoc taken (t ∷ []) more) later.1,
       )
 
--- with less than one place for each column none shrinks
+-- with less room than one terminal column for each column, no column shrinks
 pub none_shrinks : (room : ℕ) (candidates : List Positioned) (order : List Claim) → room < length candidates → IsTakenAfter candidates (shrunk_offer room candidates) 0 [] order → order ≡ []
 none_shrinks room candidates [] short goes = refl
 none_shrinks room candidates (t ∷ more) short goes =

@@ -1,4 +1,4 @@
--- Kinds of texts that joining and parting keep: texts without a byte, and texts without some characters.
+-- Kinds of texts that joining and splitting keep: texts without a byte, and texts without some characters.
 use Rattle.std.proofs.Common.{◌≡◌, ◌<◌, ◌-◌, ◌==◌, ℕ, Bool, false, List, [], ◌∷◌, ◌++◌, Option, encode_utf8, nat_lt, refl, sym, ap, ◌∙◌, subst, arith, append_assoc, append-nil, unwrap_or}
 use Rattle.std.specs.List.{All, list_any}
 use Rattle.std.specs.Str.{IsUtf8, NoCharPasses, NonePass, encode_utf8_all}
@@ -14,14 +14,14 @@ use Rattle.comfy_table.specs.Frame.{character}
 use Rattle.comfy_table.specs.Laws.{IsStyleWithout}
 use Rattle.comfy_table.specs.Lines.{fitting_indicator, cut_text}
 
--- such a kind, to which spaces belong
+-- such a kind, which includes spaces
 pub record IsKind (C : Text → Type 0) : Type 0 where
   pub nothing : C []
   pub space : C (0x20 ∷ [])
   pub joined : (xs ys : Text) → C xs → C ys → C (xs ++ ys)
   pub parts : (xs ys : Text) → IsUtf8 xs → C (xs ++ ys) → C xs × C ys
 
--- the characters of the style belong to it
+-- the characters of the style belong to the kind
 abbrev pub IsStyleOf : (Text → Type 0) → TableStyle → Type 0
 IsStyleOf C style = All (λ (c : Option ℕ). C (character c)) (style_characters style)
 
@@ -41,7 +41,7 @@ module _ (p : ℕ → Bool) where
   one_none : (c : ℕ) → p c ≡ false → NoCharPasses p (encode_utf8 c)
   one_none c fails = (c ∷ [], append-nil (encode_utf8 c), (fails, tt))
 
-  -- characters and what follows them
+  -- if no character of a text passes the test, none of its front and none of the rest does
   parts_none : (front cs : List ℕ) (back : Text) → encode_utf8_all cs ≡ encode_utf8_all front ++ back → NonePass p cs → NonePass p front × NoCharPasses p back
   parts_none [] cs back is none = (tt, (cs, is, none))
   parts_none (c ∷ front) cs back is none =
@@ -69,11 +69,11 @@ module _ (p : ℕ → Bool) where
 -- ---- lines of cells
 
 module _ (C : Text → Type 0) (kind : IsKind C) where
-  -- the lines of a text that belongs to the kind belong to it
+  -- the lines of a text of the kind belong to it
   pub lines-kept : (w d : ℕ) (text : Text) → IsUtf8 text → C text → All C (lines_of_text w d text)
   lines-kept w d text utf8 own = lines_of_text-each C (λ xs ys front back. kind.parts xs ys front) w d text utf8 own
 
-  -- so does a cut line
+  -- a cut line of texts of the kind belongs to it
   pub cut_text-kept : (w : ℕ) (indicator line : Text) → C indicator → IsUtf8 line → C line → C (cut_text w indicator line)
   cut_text-kept w indicator line mark utf8 own =
       let k = w - measure (fitting_indicator w indicator) in

@@ -1,4 +1,4 @@
--- No column of a printable table without constraints is more than three places wider than its content.
+-- No column of a printable table without constraints is more than three terminal columns wider than its content.
 use Rattle.std.proofs.Common.{◌≡◌, ◌≤◌, ℕ, ◌+◌, Bool, true, false, List, [], ◌∷◌, length, map, flat_map, min, max, Option, Some, None, unwrap_or, nat_le, MatchOption, refl, sym, ap, ◌∙◌, subst, arith, length-append, le_trans}
 use Rattle.std.specs.Prelude.{if◌then◌else◌}
 use Rattle.std.specs.Int.{is_in_range}
@@ -53,12 +53,12 @@ pub every-le-greatest : {X : Type 0} (f : X → ℕ) (xs : List X) → AllByRecu
 every-le-greatest f [] = tt
 every-le-greatest {X} f (x ∷ xs) = (omega arith, every-weaker (λ (y : X). f y ≤ greatest (map f xs)) (λ (y : X). f y ≤ greatest (map f (x ∷ xs))) xs (λ y least. omega (arith, least)) (every-le-greatest f xs))
 
--- up to a cap, the greatest is within a bound that each keeps to
+-- the greatest number, capped, is within a bound that each number, capped, keeps to
 greatest-le : {X : Type 0} (cap bound : ℕ) (f : X → ℕ) (xs : List X) → AllByRecursion (λ (x : X). min cap (f x) ≤ bound) xs → min cap (greatest (map f xs)) ≤ bound
 greatest-le cap bound f [] each = omega arith
 greatest-le cap bound f (x ∷ xs) each = omega (arith, each.0, greatest-le cap bound f xs each.1)
 
--- up to 65535, the lines of a printable cell are within its content
+-- the lines of a printable cell measure at most its content, if both are capped at 65535
 cell_lines-le : (table : TableValue) (delimiter : Option ℕ) (w : ℕ) (cell : CellValue) → IsPrintableCell table delimiter cell
     → AllByRecursion (λ (line : Text). min 65535 (measure line) ≤ cell_content_width cell) (cell_lines w (cell_delimiter table delimiter cell) cell)
 cell_lines-le table delimiter w cell plain =
@@ -68,7 +68,7 @@ cell_lines-le table delimiter w cell plain =
     (every-both (λ (text : Text). is_printable_ascii text ≡ true) (λ (text : Text). measure text ≤ greatest (map measure cell.text_lines)) cell.text_lines
     (recursion_from_All (λ (text : Text). is_printable_ascii text ≡ true) cell.text_lines plain.0) (every-le-greatest measure cell.text_lines))
 
--- up to 65535, the longest line of a column of printable cells is within its content
+-- the longest line of a column of printable cells measures at most its content, if both are capped at 65535
 longest_line-le : (table : TableValue) (i : ℕ) (delimiter : Option ℕ) (w : ℕ) → AllByRecursion (IsPrintableCell table delimiter) (column_cells table i) → min 65535 (longest_line table i delimiter w) ≤ column_content_width table i
 longest_line-le table i delimiter w plain =
     let cells = column_cells table i in
@@ -79,17 +79,17 @@ longest_line-le table i delimiter w plain =
     (λ line short. le_trans short facts.1) (cell_lines-le table delimiter w cell facts.0))
     (every-both (IsPrintableCell table delimiter) (λ (cell : CellValue). cell_content_width cell ≤ content) cells plain (every-le-greatest cell_content_width cells)))
 
--- ---- widths over needs
+-- ---- widths and needs
 
--- up to 65535, no line is longer than the content
+-- no line of the column is longer than its content, if both are capped at 65535
 abbrev IsWithinContent : ColumnNeeds → Type 0
 IsWithinContent column = (b : ℕ) → min 65535 (column.longest b) ≤ column.content
 
--- where that holds of a column, it has at most three places more than its content
+-- if that holds of a column, it is at most three terminal columns wider than its content
 abbrev IsThreeOver : ColumnNeeds → ℕ → Type 0
 IsThreeOver column width = IsWithinContent column → width ≤ column.content + 3
 
--- each content width is so
+-- each content width is at most that wide
 three_over : (room : ℕ) (columns : List ColumnNeeds) → AllByRecursion IsUnconstrained columns → (lower : List Claim) (level : Option ℕ) (shrunk : List Claim) (widths : List ℕ) → IsArrangedBy room columns false (steps_with lower level shrunk) widths
     → content_room room columns ≤ 65535 → AllZip IsThreeOver columns (contents_after room columns (steps_with lower level shrunk))
 three_over room columns plain lower None shrunk widths arranged small =
@@ -102,7 +102,7 @@ three_over room columns plain lower (Some level) shrunk widths arranged small =
       even = λ column b width free wider at_least kept tight low high within. omega (arith, within b, tight, low, high, kept, small);
     })
 
--- widths that are so where each column's lines are within its content
+-- the widths are at most that wide, if each column's lines are within its content
 with_needs : (columns : List ColumnNeeds) (widths : List ℕ) → AllByRecursion IsWithinContent columns → AllZip IsThreeOver columns widths → AllZip (λ (column : ColumnNeeds) (width : ℕ). width ≤ column.content + 3) columns widths
 with_needs [] [] within each = tt
 with_needs [] (w ∷ widths) within each = absurd each
@@ -111,7 +111,7 @@ with_needs (column ∷ more) (w ∷ widths) within each = (each.0 within.0, with
 
 -- ---- a table
 
--- the needs of columns of printable cells
+-- columns of printable cells have lines within their contents
 every_within : (table : TableValue) (columns : List (ℕ × ColumnValue)) → AllByRecursion (λ (p : ℕ × ColumnValue). All (IsPrintableCell table p.1.delimiter) (column_cells table p.0)) columns
     → AllByRecursion IsWithinContent (map (needs_of table) columns)
 every_within table [] plain = tt
@@ -120,7 +120,7 @@ every_within table (p ∷ more) plain = (
   every_within table more plain.1,
 )
 
--- widths by content alone are so too
+-- widths by content alone are at most that wide too
 disabled-le : (table : TableValue) (columns : List (ℕ × ColumnValue)) → AllByRecursion (λ (p : ℕ × ColumnValue). p.1.constraint ≡ None) columns
     → AllZip (λ (column : ColumnNeeds) (width : ℕ). width ≤ column.content + 3) (map (needs_of table) columns) (map (disabled_width table) columns)
 disabled-le table [] none = tt
@@ -129,7 +129,7 @@ disabled-le table (p ∷ more) none = (omega (arith, is), disabled-le table more
     is : disabled_width table p ≡ max 1 (column_content_width table p.0)
     is = ap (λ (o : Option ColumnConstraint). unwrap_or (fixed_by_constraint table (shown_count table) (column_content_width table p.0) (column_padding p.1) o) (capped_content (column_content_width table p.0) (column_padding p.1) (upper_boundary table (shown_count table) o))) none.0
 
--- the visible widths of a table of at most 65535 places
+-- the shown widths of a table of at most 65535 terminal columns
 three_places : (table : TableValue) (visible : List ℕ) → ((w : ℕ) → table_width table ≡ Some w → w ≤ 65535) → NoConstraints table → HasPrintableCells table → table.arrangement ≡ Dynamic → AreShownWidths table visible
     → AllZip (λ (column : ColumnNeeds) (width : ℕ). width ≤ column.content + 3) (shown_needs table) visible
 three_places table visible small none plain dynamic are =
@@ -151,7 +151,7 @@ three_places table visible small none plain dynamic are =
         let each = three_over room (shown_needs table) (unconstrained_shown table none) steps.lower steps.level steps.shrunk visible arranged (omega (arith, known)) in
         with_needs (shown_needs table) visible within (subst (AllZip IsThreeOver (shown_needs table)) (sym arranged.widths_are) each)
 
--- no column is more than three places wider than its content
+-- no column is more than three terminal columns wider than its content
 pub is_at_most_three_over : (table : TableValue) (w : ℕ) (widths : List ℕ) → IsAtMostThreeOver table w widths
 is_at_most_three_over table w widths small none plain dynamic known arranged =
     three_places table (shown_contents table widths) (λ v is. omega (arith, small, ap (λ (o : Option ℕ). unwrap_or o 0) (sym is ∙ known))) none plain dynamic arranged.shown_widths

@@ -9,25 +9,25 @@ use Rattle.comfy_table.specs.Dynamic.{Positioned, Claim, going_round, places_of}
 use Rattle.comfy_table.specs.Widths.{ColumnNeeds}
 use Rattle.comfy_table.proofs.TakingLemmas.{claims_of}
 
--- the places from one up to another, going round
+-- the positions from one up to another, going round
 abbrev pub IsBetween : ℕ → ℕ → ℕ → Type 0
 IsBetween from p i = ((from ≤ i) × (i < p)) ⊎ ((p < from) × ((from ≤ i) ⊎ (i < p)))
 
--- the first of two lists is that of the first one, where it has one
+-- the first element of two joined lists is that of the first list, if it has one
 first_of_both : (ts us : List Claim) (t : Claim) → slice_get ts 0 ≡ Some t → slice_get (ts ++ us) 0 ≡ Some t
 first_of_both [] us t is = absurd (cc is)
 first_of_both (s ∷ ts) us t is = is
 
 module _ (offer : Positioned → Option ℕ) (test left : ℕ → Bool) where
-  -- the columns at places that pass both tests
+  -- the columns at positions that pass both tests
   abbrev passing : List Positioned → List Positioned
   passing columns = filter (λ (p : Positioned). test p.0) (filter (λ (p : Positioned). left p.0) columns)
 
-  -- a column in front of them to which nothing is offered
+  -- a column in front of them that is offered no width
   passing_over : (k : ℕ) (x : ColumnNeeds) (more : List Positioned) (claims : List Claim) → (test k ≡ true → left k ≡ true → offer (k, x) ≡ None) → claims_of offer (passing more) ≡ claims → claims_of offer (passing ((k, x) ∷ more)) ≡ claims
   passing_over k x more claims none rest = grind arith
 
-  -- where nothing is offered to any of them, there is no claim
+  -- if no column is offered a width, there is no claim
   none_among : (k : ℕ) (columns : List ColumnNeeds) → ((j q : ℕ) (d : ColumnNeeds) → slice_get columns j ≡ Some d → k + j ≡ q → test q ≡ true → left q ≡ true → offer (q, d) ≡ None)
       → claims_of offer (passing (enumerate_from k columns)) ≡ []
   none_among k [] none = refl
@@ -35,7 +35,7 @@ module _ (offer : Positioned → Option ℕ) (test left : ℕ → Bool) where
       passing_over k x (enumerate_from (k + 1) columns) [] (none 0 k x refl (omega arith))
       (none_among (k + 1) columns (λ j q d found at. none (suc j) q d found (omega (arith, at))))
 
-  -- the first to which a width is offered has the first claim
+  -- the first column that is offered a width has the first claim
   first_among : (k i p : ℕ) (c : ColumnNeeds) (width : ℕ) (columns : List ColumnNeeds) → slice_get columns i ≡ Some c → k + i ≡ p → test p ≡ true → left p ≡ true → offer (p, c) ≡ Some width
       → ((j q : ℕ) (d : ColumnNeeds) → slice_get columns j ≡ Some d → k + j ≡ q → q < p → test q ≡ true → left q ≡ true → offer (q, d) ≡ None)
       → slice_get (claims_of offer (passing (enumerate_from k columns))) 0 ≡ Some (p, width)
@@ -55,17 +55,17 @@ module _ (offer : Positioned → Option ℕ) (test left : ℕ → Bool) where
       ∙ first_among (k + 1) i p c width columns found (omega (arith, at)) tests is offered (λ j q d found at. none (suc j) q d found (omega (arith, at)))
 
 module _ (needs : List ColumnNeeds) (widths : List (Option ℕ)) (offer : Positioned → Option ℕ) where
-  -- going round the undecided columns: those from a place on, and then those before it
+  -- the claims going round the undecided columns: from a position on, and then before it
   claims_round : (from : ℕ) → claims_of offer (going_round from (undecided_among needs widths))
       ≡ claims_of offer (passing offer (λ n. nat_le from n) (is_undecided widths) (places_of needs)) ++ claims_of offer (passing offer (λ n. nat_lt n from) (is_undecided widths) (places_of needs))
   claims_round from = filter_map-append (λ (p : Positioned). option_map (λ (width : ℕ). (p.0, width)) (offer p)) _ _
 
-  -- where nothing is offered to any, none is next
+  -- if no column is offered a width, there is no next claim
   pub none_next : (from : ℕ) → ((i : ℕ) (d : ColumnNeeds) → slice_get needs i ≡ Some d → is_undecided widths i ≡ true → offer (i, d) ≡ None)
       → slice_get (claims_of offer (going_round from (undecided_among needs widths))) 0 ≡ None
   none_next from none = grind (arith, claims_round, none_among)
 
-  -- the first to which a width is offered is next
+  -- the first column that is offered a width has the next claim
   pub some_next : (from p : ℕ) (c : ColumnNeeds) (width : ℕ) → slice_get needs p ≡ Some c → is_undecided widths p ≡ true → offer (p, c) ≡ Some width
       → ((i : ℕ) (d : ColumnNeeds) → slice_get needs i ≡ Some d → IsBetween from p i → is_undecided widths i ≡ true → offer (i, d) ≡ None)
       → slice_get (claims_of offer (going_round from (undecided_among needs widths))) 0 ≡ Some (p, width)

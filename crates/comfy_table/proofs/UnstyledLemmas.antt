@@ -1,4 +1,4 @@
--- Where no styles are written and cells have no styling of their own, a drawing is the unstyled one.
+-- A drawing is the unstyled drawing, if no styles are written and cells have no styling of their own.
 use Rattle.std.proofs.Common.{◌≡◌, ℕ, false, List, ◌++◌, Option, Some, None, map, length, slice_get, slice_index_or, refl, arith}
 use Rattle.std.specs.List.{join_by, range_with_len}
 use Rattle.comfy_parts.specs.CellValue.{CellValue, ColumnInfo, RowValue}

@@ -24,7 +24,7 @@ all-le-greatest f [] = All-nil (λ x. f x ≤ greatest [])
 all-le-greatest f (x ∷ xs) =
     All-cons (λ y. f y ≤ greatest (map f (x ∷ xs))) x xs (omega arith) (All-weaker (λ y. f y ≤ greatest (map f xs)) (λ y. f y ≤ greatest (map f (x ∷ xs))) (λ y below. omega (arith, below)) xs (all-le-greatest f xs))
 
--- without a constraint the width by content is the content
+-- the width by content of a column without a constraint is its content
 unconstrained_width : (table : TableValue) (i : ℕ) (column : ColumnValue) → column.constraint ≡ None → disabled_width table (i, column) ≡ max 1 (column_content_width table i)
 unconstrained_width table i column none =
     ap (λ (c : Option ColumnConstraint). unwrap_or (fixed_by_constraint table (shown_count table) (column_content_width table i) (column_padding column) c) (capped_content (column_content_width table i) (column_padding column) (upper_boundary table (shown_count table) c))) none
@@ -33,7 +33,7 @@ unconstrained_width table i column none =
 abbrev pub LinesFitColumn : RowValue → ColumnInfo → CellValue → Type 0
 LinesFitColumn row info cell = All (λ line. measure line ≤ info.content_width) cell.text_lines
 
--- the short text lines of a table that keeps to no width are, be they cut or not
+-- if a table keeps to no width, its short text lines are no wider than their columns, also in rows that cut them
 pub whole_lines_fit : (table : TableValue) (widths : List ℕ) → width_kept table.arrangement (table_width table) ≡ None → NoConstraints table
     → All (λ (row : RowValue). All (λ (cell : CellValue). All (λ line. measure line ≤ 65535) cell.text_lines) row.cells) (measured_rows table) → IsArranged table widths → EachCell LinesFitColumn table widths
 whole_lines_fit table widths no_width no_constraints short arranged = each
@@ -42,7 +42,7 @@ whole_lines_fit table widths no_width no_constraints short arranged = each
     shown =
         subst (λ (o : Option ℕ). MatchOption o (widths_at widths (shown_columns table) ≡ map (disabled_width table) (shown_columns table)) (λ w. IsDynamicLayout (room_beside_borders table w) (shown_needs table) (is_full_width table.arrangement) (widths_at widths (shown_columns table)))) no_width arranged.shown_widths
 
-    -- a column without a constraint at its width by content
+    -- a column without a constraint, with its width by content
     Known : ℕ × ColumnValue → Type 0
     Known p = (p.1.constraint ≡ None) × (slice_index widths p.0 ≡ disabled_width table p)
 

@@ -28,7 +28,7 @@ module _ (table : TableValue) where
   widened-at (c ∷ cells) (w ∷ widths) zero below = refl
   widened-at (c ∷ cells) (w ∷ widths) (suc i) below = widened-at cells widths i (omega arith)
 
-  -- as many as before
+  -- widening keeps the number of widths
   pub widened-length : (cells : List CellValue) (widths : List ℕ) → length (widened table cells widths) ≡ length widths
   widened-length [] widths = refl
   widened-length (c ∷ cells) [] = refl
@@ -36,19 +36,20 @@ module _ (table : TableValue) where
 
 -- ---- all rows
 
--- with what a row needs, where there is one
+-- the widths, raised to the contents of a row, if there is one
 abbrev pub widened_by : TableValue → Option RowValue → List ℕ → List ℕ
 widened_by table None widths = widths
 widened_by table (Some row) widths = widened table row.cells widths
 
--- as many as columns; each is, with what rows need that are left, the content of its column
+-- there is one width for each column, and raised to the contents of the rows that are left it is the content of the
+-- column
 pub record AreContentsWith (table : TableValue) (rows : List RowValue) (widths : List ℕ) : Type 0 where
   pub count : length widths ≡ length table.columns
   pub each : (i : ℕ) → i < length table.columns
       → max (slice_index_or widths i 0) (greatest (map (of_measured table cell_content_width) (cells_at rows i))) ≡ column_content_width table i
 
 module _ (table : TableValue) where
-  -- before the first row the header has been looked at
+  -- before the first row, the widths are raised to the contents of the header
   pub before_rows : (header : Option RowValue) → table.header ≡ header → AreContentsWith table table.rows (widened_by table header (replicate (length table.columns) 0))
   before_rows None is =
       record {
@@ -82,7 +83,7 @@ module _ (table : TableValue) where
             omega (arith, at, all);
       }
 
-  -- behind the last row
+  -- after the last row, the widths are the contents
   pub no_row_left : (widths : List ℕ) → AreContentsWith table [] widths → widths ≡ max_content_widths table
   no_row_left widths so =
       let n = length table.columns in

@@ -1,4 +1,4 @@
--- Under every constraint each dynamic width is at least 1, so the lines of a table keep to the wider bound.
+-- With any constraints each dynamic width is at least 1, so the lines of a table keep to the wider bound.
 use Rattle.std.proofs.Common.{◌≡◌, ◌<◌, ◌≤◌, ℕ, ◌+◌, ◌-◌, ◌/◌, Bool, true, false, List, [], ◌∷◌, ◌++◌, length, map, max, sum, Option, Some, None, option_map, refl, arith}
 use Rattle.std.specs.Prelude.{sum_by, ⊤}
 use Rattle.std.specs.List.{AllByRecursion, enumerate_from}
@@ -24,41 +24,41 @@ use Rattle.comfy_table.specs.TableLaws.{KeepsToWiderTotal, KeepsToWiderTotalInFu
 use Rattle.comfy_table.specs.TableValue.{TableValue, shown_columns, column_content_width}
 use Rattle.comfy_table.specs.Widths.{ColumnNeeds, needs_of, shown_needs, shown_count, without_padding, even_spread, fixed_by_boundary, fixed_by_constraint, resolved_width}
 
--- a claim of at least one place
+-- the claim is at least one terminal column wide
 abbrev HasPlace : Claim → Type 0
 HasPlace t = 1 ≤ t.1
 
--- a fixed width, where there is one, has a place
+-- a fixed width is at least 1, if there is one
 abbrev HasEarlyPlace : ColumnNeeds → Type 0
 HasEarlyPlace column = (width : ℕ) → column.fixed ≡ Some width → 1 ≤ width
 
--- ---- what is offered has a place
+-- ---- offered widths are at least 1
 
--- by a lower boundary
+-- the width of a lower boundary
 lower-some : (b padding : ℕ) (o : Option ℕ) (width : ℕ) → lower_of_boundary b padding o ≡ Some width → 1 ≤ width
 lower-some b padding None width is = absurd (cc is)
 lower-some b padding (Some l) width is = grind arith
 
--- by shrinking
+-- the width that a column shrinks to
 shrunk-some : (b : ℕ) (column : ColumnNeeds) (width : ℕ) → shrunk_at b column ≡ Some width → 1 ≤ width
 shrunk-some b column width is = grind arith
 
--- by a level
+-- the width that a level settles
 settled-some : (level : Option ℕ) (column : ColumnNeeds) (width : ℕ) → settled_at level column ≡ Some width → 1 ≤ width
 settled-some None column width is = absurd (cc is)
 settled-some (Some level) column width is = grind arith
 
--- fixed, by a boundary that the content does not pass
+-- the fixed width of a boundary that the content doesn't pass
 boundary-some : (content padding : ℕ) (o : Option ℕ) (width : ℕ) → fixed_by_boundary content padding o ≡ Some width → 1 ≤ width
 boundary-some content padding None width is = absurd (cc is)
 boundary-some content padding (Some l) width is = grind arith
 
--- fixed, by a resolved width
+-- the fixed width of an absolute width
 absolute-some : (padding : ℕ) (o : Option ℕ) (width : ℕ) → option_map (without_padding padding) o ≡ Some width → 1 ≤ width
 absolute-some padding None width is = absurd (cc is)
 absolute-some padding (Some x) width is = let same : max 1 (x - padding) ≡ width = cc is in omega (arith, same)
 
--- fixed, by any constraint
+-- the fixed width of any constraint
 fixed-some : (table : TableValue) (n content padding : ℕ) (c : Option ColumnConstraint) (width : ℕ) → fixed_by_constraint table n content padding c ≡ Some width → 1 ≤ width
 fixed-some table n content padding None width is = absurd (cc is)
 fixed-some table n content padding (Some Hidden) width is = absurd (cc is)
@@ -68,13 +68,13 @@ fixed-some table n content padding (Some (LowerBoundary lower)) width is = bound
 fixed-some table n content padding (Some (UpperBoundary upper)) width is = absurd (cc is)
 fixed-some table n content padding (Some (Boundaries lower upper)) width is = boundary-some content padding (resolved_width table n lower) width is
 
--- the fixed widths of a table's columns have a place
+-- the fixed widths of a table's columns
 every_early : (table : TableValue) (columns : List (ℕ × ColumnValue)) → AllByRecursion HasEarlyPlace (map (needs_of table) columns)
 every_early table [] = tt
 every_early table (p ∷ more) =
     (fixed-some table (shown_count table) (column_content_width table p.0) (column_padding p.1) p.1.constraint, every_early table more)
 
--- ---- all claims have a place
+-- ---- all claims are at least 1
 
 -- claims that are taken one after another
 every_taken : (candidates : List Positioned) (offer : List Claim → Positioned → Option ℕ) → ((ts : List Claim) (p : Positioned) (width : ℕ) → offer ts p ≡ Some width → 1 ≤ width)
@@ -110,7 +110,7 @@ module _ (room : ℕ) (columns : List ColumnNeeds) (fair : AllByRecursion HasEar
       (every_taken (unsettled room columns steps) _ (λ ts p width is. shrunk-some (average (room_of_unsettled room columns steps) (unsettled room columns steps) ts) p.1 width is) 0 [] steps.shrunk arranged.shrunk_taken)
       (every_even (even_columns room columns steps) (room_left room columns steps)))))
 
-  -- so the contents have
+  -- so the contents are at least 1
   every_content : AllByRecursion (λ (w : ℕ). 1 ≤ w) (contents_after room columns steps)
   every_content =
       every-map (λ (w : ℕ). 1 ≤ w) (λ (p : Positioned). claim_at (all_claims room columns steps) p.0) (places_of columns)
@@ -118,13 +118,13 @@ module _ (room : ℕ) (columns : List ColumnNeeds) (fair : AllByRecursion HasEar
       (λ p stands. claim_at-where (λ i w. 1 ≤ w) p.0 (all_claims room columns steps) every_claim (omega (arith, stands, count_at-all_claims room columns full steps widths arranged p.0)))
       (every_stands (places_of columns)))
 
-  -- and each width, under every constraint
+  -- each width is at least 1, with any constraints
   every_width_has_place : AllByRecursion (λ (w : ℕ). 1 ≤ w) widths
   every_width_has_place = grind (arith, every_added, every_content)
 
 -- ---- the wider bound
 
--- with full width they keep to it too, also where no column is shown
+-- with full width the widths keep to the wider bound too, even if no column is shown
 abbrev pub KeepsToWiderBoundInFull : ℕ → List ColumnNeeds → Steps → List ℕ → Type 0
 KeepsToWiderBoundInFull room columns steps widths =
     IsArrangedBy room columns true steps widths
@@ -143,21 +143,21 @@ line_total-parts table w widths full steps arranged by =
     let drawn = sum-outer_widths table widths arranged.one_for_each (every_width_has_place (room_beside_borders table w) (shown_needs table) (every_early table (shown_columns table)) full steps (shown_contents table widths) by) in
     omega (arith, drawn, paddings_of_needs table (shown_columns table))
 
--- under `Dynamic` a line keeps to the width, or to the wider total
+-- under `Dynamic` a line is at most as wide as the table's width, or the wider total if that is more
 pub keeps_to_wider_total : (table : TableValue) (w : ℕ) (widths : List ℕ) → KeepsToWiderTotal table w widths
 keeps_to_wider_total table w widths dynamic known arranged =
     let found = dynamic_widths table Dynamic w widths refl dynamic known arranged in
     let bound = keeps_to_wider_bound (room_beside_borders table w) (shown_needs table) found.0 (shown_contents table widths) found.1 in
     (found.0, found.1, omega (arith, bound, line_total-parts table w widths false found.0 arranged found.1))
 
--- under `DynamicFullWidth` a line keeps to the width, or to the wider total
+-- under `DynamicFullWidth` a line is at most as wide as the table's width, or the wider total if that is more
 pub keeps_to_wider_total_in_full : (table : TableValue) (w : ℕ) (widths : List ℕ) → KeepsToWiderTotalInFull table w widths
 keeps_to_wider_total_in_full table w widths full known arranged =
     let found = dynamic_widths table DynamicFullWidth w widths refl full known arranged in
     let bound = keeps_to_wider_bound_in_full (room_beside_borders table w) (shown_needs table) found.0 (shown_contents table widths) found.1 in
     (found.0, found.1, omega (arith, bound, line_total-parts table w widths true found.0 arranged found.1))
 
--- and it has exactly that many characters, where a column is shown
+-- under `DynamicFullWidth` it is exactly that wide, if a column is shown
 pub fills_wider_total : (table : TableValue) (w : ℕ) (widths : List ℕ) → FillsWiderTotal table w widths
 fills_wider_total table w widths full known some arranged =
     let found = dynamic_widths table DynamicFullWidth w widths refl full known arranged in

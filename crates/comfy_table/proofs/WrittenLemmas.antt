@@ -1,4 +1,5 @@
--- The lines of a cell in a row with what is written for them: which sequences are open, and what stays true of both as they are drawn.
+-- The lines of a cell in a row with their written texts: the sequences that are open, and properties that drawing
+-- keeps.
 use Rattle.std.proofs.Common.{◌≡◌, ℕ, ◌-◌, Bool, true, false, List, [], ◌∷◌, Option, Some, None, length, map, take, drop, nat_le, refl, sym, subst, arith, slice_index_or}
 use Rattle.std.specs.List.{All, AllByRecursion, AllZip}
 use Rattle.std.specs.Prelude.{if◌then◌else◌}
@@ -22,7 +23,7 @@ use Rattle.comfy_table.specs.Laws.{CutLinesAreClosed, LinesAreResumedInRow, None
 use Rattle.comfy_table.specs.Lines.{as_measured, cell_delimiter, cell_lines, cut_line, cut_text, cut_to_limit, uncut_count, uncut_lines}
 use Rattle.comfy_table.specs.TableValue.{TableValue}
 
--- those that aren't cut stand as they were
+-- the lines that aren't cut stay the same
 uncut-are : (cut : CellLine → CellLine) (limit : Option ℕ) (lines : List CellLine) → take (uncut_count limit lines) (cut_to_limit cut limit lines) ≡ take (uncut_count limit lines) lines
 uncut-are cut None lines = refl
 uncut-are cut (Some h) lines = grind (arith, nat_tests, take-append-le, take-take, length-take)
@@ -31,11 +32,11 @@ uncut-are cut (Some h) lines = grind (arith, nat_tests, take-append-le, take-tak
 cut-is : (cut : CellLine → CellLine) (h : ℕ) (lines : List CellLine) → drop (uncut_count (Some h) lines) (cut_to_limit cut (Some h) lines) ≡ (if nat_le (length lines) h then [] else map cut (take 1 (drop (h - 1) lines)))
 cut-is cut h lines = grind (arith, nat_tests, drop_all, drop_at, length-take)
 
--- a line that is written as it is measured, closed
+-- a line that is written as it is measured, with its sequences closed
 abbrev IsClosedLine : CellLine → Type 0
 IsClosedLine line = line.written ≡ closed line.measured
 
--- so is the line that is cut
+-- the line that is cut is such a line
 closed_behind : (w : ℕ) (indicator : Text) (limit : Option ℕ) (lines : List CellLine) → AllByRecursion IsClosedLine (drop (uncut_count limit lines) (cut_to_limit (cut_line true w indicator) limit lines))
 closed_behind w indicator None lines = subst (AllByRecursion IsClosedLine) (sym (drop_all (length lines) lines (omega arith))) tt
 closed_behind w indicator (Some h) lines =
@@ -67,7 +68,7 @@ module _ (table : TableValue) (row : RowValue) (info : ColumnInfo) (cell : CellV
       (All-cut Ends Ends (cut_line true w table.indicator) row.max_height (line_texts w d cell.text_lines) (All-from_recursion Ends (line_texts w d cell.text_lines) (lines_closed w d cell.text_lines)) (λ line own. own)
       (λ h limited below line own. none_open (cut_text w table.indicator line.measured)))
 
-  -- before each visible byte of a line that isn't cut the sequences are open that are active there
+  -- before each visible byte of a line that isn't cut, the open sequences are those that are active there
   pub lines_are_resumed : table.custom_styling ≡ true → LinesAreResumedInRow table row info cell
   lines_are_resumed on =
       let n : ℕ = uncut_count row.max_height (line_texts w d cell.text_lines) in
@@ -75,15 +76,15 @@ module _ (table : TableValue) (row : RowValue) (info : ColumnInfo) (cell : CellV
       (subst (AllZip IsResumedLine (take n (line_starts w d cell.text_lines))) (sym (uncut-are (cut_line true w table.indicator) row.max_height (line_texts w d cell.text_lines)))
       (AllZip-take IsResumedLine n (line_starts w d cell.text_lines) (line_texts w d cell.text_lines) (lines_resumed w d cell.text_lines)))
 
-  -- a line that is cut is written as it is measured, closed
+  -- a line that is cut is written as it is measured, with its sequences closed
   pub cut_lines_are_closed : table.custom_styling ≡ true → CutLinesAreClosed table row info cell
   cut_lines_are_closed on =
       subst (λ custom. All IsClosedLine (drop (uncut_count row.max_height (uncut_lines custom w d cell)) (lines_with custom))) (sym on)
       (All-from_recursion IsClosedLine (drop (uncut_count row.max_height (line_texts w d cell.text_lines)) (lines_with true)) (closed_behind w table.indicator row.max_height (line_texts w d cell.text_lines)))
 
-  -- ---- what stays true of what is measured and what is written
+  -- ---- properties of measured and written texts
 
-  -- what is measured of a line has a property that the lines of each text have
+  -- the measured texts of lines have a property that the lines of each text have
   measured_each : (P : Text → Type 0) (custom : Bool) → ((text : Text) → P text → All P (lines_of_text w d text)) → All P (cell_measured custom cell).text_lines → All P (cell_lines w d (cell_measured custom cell))
   measured_each P custom gives each =
       All-flat_map P (lines_of_text w d) (cell_measured custom cell).text_lines (All-weaker P (λ text. All P (lines_of_text w d text)) gives (cell_measured custom cell).text_lines each)
@@ -93,16 +94,16 @@ module _ (table : TableValue) (row : RowValue) (info : ColumnInfo) (cell : CellV
       All-of_map P (λ (line : CellLine). line.measured) (uncut_lines custom w d cell) (subst (All P) (sym (whole-measured custom w d cell)) each)
 
   module _ (C : Text → Type 0) (R : Text → Text → Type 0) (kept : KeptByDrawing C R) where
-    -- whole characters of the kind
+    -- the text consists of whole characters and is of the kind
     abbrev Own : Text → Type 0
     Own text = IsUtf8 text × C text
 
-    -- what is measured of the lines is such a text, where the text lines are
+    -- the measured texts of lines are such texts, if the text lines are
     own_lines : (custom : Bool) → All Own (cell_measured custom cell).text_lines → All Own (cell_lines w d (cell_measured custom cell))
     own_lines custom own =
         measured_each Own custom (λ text is k default below. (lines_of_text-utf8 w d text is.0 k default below, lines-kept C kept.joins.kind w d text is.0 is.1 k default below)) own
 
-    -- the lines that aren't cut
+    -- R holds of the measured and the written text of each line before the cut
     keeps_whole : (custom : Bool) → All Own (cell_measured custom cell).text_lines → All (λ (line : CellLine). R line.measured line.written) (uncut_lines custom w d cell)
     keeps_whole true own =
         λ k default below.
@@ -113,12 +114,12 @@ module _ (table : TableValue) (row : RowValue) (info : ColumnInfo) (cell : CellV
     keeps_whole false own =
         All-map (λ (line : CellLine). R line.measured line.written) as_measured (cell_lines w d cell) (All-weaker Own (λ line. R line line) (λ line is. kept.joins.of_kind line is.1) (cell_lines w d cell) (own_lines false own))
 
-    -- one that is cut
+    -- R holds of both texts of a line that is cut
     keeps_cut : (custom : Bool) (line : CellLine) → C (cut_text w table.indicator line.measured) → R (cut_text w table.indicator line.measured) (cut_line custom w table.indicator line).written
     keeps_cut true line own = kept.of_closed (cut_text w table.indicator line.measured) own
     keeps_cut false line own = kept.joins.of_kind (cut_text w table.indicator line.measured) own
 
-    -- all lines
+    -- R holds of both texts of all lines of the cell in its row
     pub keeps_lines : (custom : Bool) → C table.indicator → All IsUtf8 (cell_measured custom cell).text_lines → All C (cell_measured custom cell).text_lines → All (λ (line : CellLine). R line.measured line.written) (lines_with custom)
     keeps_lines custom mark utf8 clear =
         All-cut (λ line. R line.measured line.written × Own line.measured) (λ line. R line.measured line.written) (cut_line custom w table.indicator) row.max_height (uncut_lines custom w d cell)

@@ -1,5 +1,5 @@
--- What is one in all drawings of a table, and what a row that is added at the end of a table leaves
--- as it was.
+-- Drawings of one table are equal, and a row that is added at the end of a table leaves the lines
+-- above it unchanged.
 -- Source: this library's own.
 use Rattle.std.specs.Prelude.{◌≡◌, ℕ, ◌≤◌, List, [], ◌++◌, None, Some, length, nat_lt, slice_get, if◌then◌else◌}
 use Rattle.comfy_parts.specs.CellValue.{CellValue, ColumnInfo, RowValue}
@@ -21,11 +21,12 @@ module _ (table : TableValue) (infos : List ColumnInfo) where
       optional_frame_line table.style table.style.top_border (outer_widths infos)
       ++ (drawn_header table infos table.header ++ drawn_rows table infos table.rows)
 
-  -- the bottom border, where there is one
+  -- the bottom border, if there is one
   abbrev pub bottom_lines : List Text
   bottom_lines = optional_frame_line table.style table.style.bottom_border (outer_widths infos)
 
-  -- the lines that a further row adds: the row separator where a row stands before it, and its own
+  -- the lines that a further row adds: the row separator, if there is a row before it, and its own
+  -- lines
   abbrev pub added_lines : RowValue → List Text
   added_lines row =
       (if nat_lt 0 (length table.rows)
@@ -42,7 +43,7 @@ IsWithinContents table row =
     (i : ℕ) (cell : CellValue) → slice_get row.cells i ≡ Some cell
     → cell_content_width (measured_cell table cell) ≤ column_content_width table i
 
--- the second lines are the first ones, with those that the row adds above the bottom border
+-- `others` has the lines of the drawing, and the lines of the added row above the bottom border
 abbrev pub AddsBelow : TableValue → RowValue → List ℕ → List Text → List Text → Type 0
 AddsBelow table row widths lines others =
     (lines ≡ lines_above_bottom table (infos_of table widths)
@@ -51,13 +52,13 @@ AddsBelow table row widths lines others =
     ++ (added_lines table (infos_of table widths) row
     ++ bottom_lines table (infos_of table widths)))
 
--- so it is over the same widths
+-- over the same widths, the row is added above the bottom border, and all other lines stay
 abbrev pub RowIsAddedBelow : TableValue → RowValue → List ℕ → Type 0
 RowIsAddedBelow table row widths =
     HasColumnsFor table row
     → AddsBelow table row widths (drawing table widths) (drawing (with_row row table) widths)
 
--- and of all drawings, where no width is kept and no column gets wider
+-- all drawings keep their lines if no width is kept and no column gets wider
 abbrev pub ShownLinesStay : TableValue → RowValue → List Text → List Text → Type 0
 ShownLinesStay table row lines others =
     width_kept table.arrangement (table_width table) ≡ None → HasColumnsFor table row

@@ -1,12 +1,12 @@
--- Private: the widths of all columns, where those of the visible ones are given.
+-- Private: the widths of all columns, made from the widths of the shown ones.
 -- Source: this library's own.
 use Rattle.std.specs.Prelude.{ℕ, List, [], ◌∷◌, drop, max, slice_index_or, if◌then◌else◌}
 use Rattle.std.specs.List.{enumerate_from}
 use Rattle.comfy_parts.specs.CellValue.{ColumnValue, is_hidden_column}
 use Rattle.comfy_table.specs.TableValue.{TableValue, column_content_width}
 
--- the given widths go to the shown columns, in list order, and 1 where there are no more; a hidden
--- column has its content's
+-- the shown columns get these widths in list order, and 1 if there are no more widths; a hidden
+-- column gets its content's width
 abbrev pub given_in_order : TableValue → List ℕ → List (ℕ × ColumnValue) → List ℕ
 given_in_order table widths [] = []
 given_in_order table widths (p ∷ columns) =

@@ -1,9 +1,9 @@
--- A table whose widths are found.
+-- Tables with widths for their columns, whose rows may be kept elsewhere.
 -- Source: this library's own.
 use Rattle.std.specs.Prelude.{List}
 use Rattle.comfy_parts.specs.CellValue.{ColumnInfo}
 
--- the contents of a table, and what its columns are drawn by
+-- the source of a table, with the widths and settings of its columns
 pub record ArrangedContents (C : Type 0) : Type 0 where
   pub contents : C
   pub infos : List ColumnInfo

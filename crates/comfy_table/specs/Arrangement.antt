@@ -13,12 +13,12 @@ use Rattle.comfy_table.specs.Frame.{border_count}
 use Rattle.comfy_table.specs.TableValue.{TableValue, table_width, shown_columns, column_content_width}
 use Rattle.comfy_table.specs.Widths.{disabled_width, shown_needs, shown_count}
 
--- the width that a dynamic arrangement keeps to; none under `Disabled`
+-- the width that a dynamic arrangement keeps to; `None` under `Disabled`, or if no width is known
 abbrev pub width_kept : ContentArrangement → Option ℕ → Option ℕ
 width_kept Disabled width = None
 width_kept _ width = width
 
--- what is left over is spread over all columns
+-- room that is left over is spread over all columns
 abbrev pub is_full_width : ContentArrangement → Bool
 is_full_width DynamicFullWidth = true
 is_full_width _ = false
@@ -36,7 +36,8 @@ hidden_columns table =
 abbrev pub widths_at : List ℕ → List (ℕ × ColumnValue) → List ℕ
 widths_at widths columns = map (λ (p : ℕ × ColumnValue). slice_index widths p.0) columns
 
--- the content widths of the shown columns: by content alone where no width is kept, else dynamic
+-- the content widths of the shown columns: by their own needs if no width is kept, and otherwise
+-- dynamic
 abbrev pub AreShownWidths : TableValue → List ℕ → Type 0
 AreShownWidths table widths =
     MatchOption (width_kept table.arrangement (table_width table))
@@ -44,19 +45,19 @@ AreShownWidths table widths =
     (λ w. IsDynamicLayout (room_beside_borders table w) (shown_needs table)
     (is_full_width table.arrangement) widths)
 
--- one content width for each column, in list order; a hidden column has its content's
+-- one content width for each column, in list order; that of a hidden column is its content's width
 pub record IsArranged (table : TableValue) (widths : List ℕ) : Type 0 where
   pub one_for_each : length widths ≡ length table.columns
   pub hidden_widths : widths_at widths (hidden_columns table)
       ≡ map (λ (p : ℕ × ColumnValue). max 1 (column_content_width table p.0)) (hidden_columns table)
   pub shown_widths : AreShownWidths table (widths_at widths (shown_columns table))
 
--- the columns with their widths, as they are drawn
+-- these are the columns with their widths and settings, in list order
 abbrev pub AreInfosOf : TableValue → List ColumnInfo → Type 0
 AreInfosOf table infos =
     (widths : List ℕ) × IsArranged table widths × (infos ≡ infos_of table widths)
 
--- the lines are the drawing of the table over its widths
+-- the lines are the drawing of the table over its own widths
 abbrev pub IsDrawingOf : TableValue → List Text → Type 0
 IsDrawingOf table lines =
     (widths : List ℕ) × IsArranged table widths × (lines ≡ drawing table widths)

@@ -1,4 +1,4 @@
--- Private: the lines of a cell of a row as they are kept.
+-- Private: the lines of a cell, one or a list.
 -- Source: this library's own.
 use Rattle.std.specs.Prelude.{List, [], ◌∷◌, Option, Some, None}
 use Rattle.comfy_parts.specs.CellValue.{CellValue}
@@ -8,7 +8,7 @@ use Rattle.comfy_table.specs.declared.utils.formatting.cell_lines.CellLines.{Cel
 use Rattle.comfy_table.specs.declared.utils.formatting.cell_lines.CellLines.TheVariants.{Multiple, Single}
 use Rattle.comfy_table.specs.declared.utils.formatting.row_cell.CellSource.{CellSource}
 
--- its lines, from the top
+-- the lines as a list, from the top
 abbrev pub lines_of : CellLines → List DrawnLine
 lines_of (Single line) = line ∷ []
 lines_of (Multiple lines) = lines.items

@@ -1,4 +1,4 @@
--- Private: the sequence of a colour, by what begins and what resets such.
+-- Private: the sequence of a colour, made from its two possible beginnings.
 -- Source: this library's own.
 use Rattle.std.specs.Prelude.{[], ◌++◌, Option, Some, None, codes}
 use Rattle.comfy_parts.specs.Text.{Text}
@@ -6,7 +6,7 @@ use Rattle.comfy_parts.specs.declared.style.color.Color.{Color}
 use Rattle.comfy_parts.specs.declared.style.color.Color.TheVariants as colors
 use Rattle.comfy_table.specs.Styling.{color_code}
 
--- the one that resets, or what begins the others, and the code
+-- `reset` for `Color::Reset`; for any other colour `begin`, the colour's code, and `m`
 abbrev pub color_sequence : Text → Text → Option Color → Text
 color_sequence begin reset None = []
 color_sequence begin reset (Some colors.Reset) = reset

@@ -10,7 +10,7 @@ use Rattle.comfy_table.specs.Frame.{content_line, optional_frame_line}
 use Rattle.comfy_table.specs.Pieces.{row_lines, shown_infos}
 use Rattle.comfy_table.specs.TableValue.{TableValue}
 
--- each column with its content width, hidden ones too, in list order
+-- each column with its content width and settings, in list order, including hidden columns
 abbrev pub infos_of : TableValue → List ℕ → List ColumnInfo
 infos_of table widths = map (λ (p : ColumnValue × ℕ). info_of p.0 p.1) (zip table.columns widths)
 
@@ -23,45 +23,47 @@ module _ (table : TableValue) (infos : List ColumnInfo) where
   abbrev pub drawn_row : ContentLineStyle → RowValue → List Text
   drawn_row line row = map (content_line table.style line) (row_lines table infos row)
 
-  -- the header's lines and the header separator, where there is a header
+  -- the header's lines and the header separator, if there is a header
   abbrev pub drawn_header : Option RowValue → List Text
   drawn_header None = []
   drawn_header (Some header) =
       drawn_row table.style.header_lines header
       ++ optional_frame_line table.style table.style.header_separator (outer_widths infos)
 
-  -- the rows' lines, with the row separator between each two rows
+  -- the lines of rows, with the row separator between them
   abbrev pub drawn_rows : List RowValue → List Text
   drawn_rows rows =
       join_by (drawn_row table.style.content_lines)
       (optional_frame_line table.style table.style.row_separator (outer_widths infos)) rows
 
-  -- top border and header
+  -- the top border and the header
   abbrev pub lines_above : List Text
   lines_above =
       optional_frame_line table.style table.style.top_border (outer_widths infos)
       ++ drawn_header table.header
 
-  -- the lines of rows that stand below others: the row separator is above each of them
+  -- the lines of rows below other rows, with the row separator above each of them
   abbrev pub further_rows : List RowValue → List Text
   further_rows rows =
       flat_map (λ (row : RowValue).
       optional_frame_line table.style table.style.row_separator (outer_widths infos)
       ++ drawn_row table.style.content_lines row) rows
 
-  -- the lines of rows below top border and header, or of rows below others
+  -- the lines of rows, below the top border and the header if the first row is among them, or below
+  -- other rows
   abbrev pub rows_below : Bool → List RowValue → List Text
   rows_below true rows = lines_above ++ drawn_rows rows
   rows_below false rows = further_rows rows
 
-  -- some of the rows, from the top border on or below others, up to the bottom border or not
+  -- the part of the drawing with these rows, with the lines above them, and with the bottom border
+  -- if the last row is among them
   abbrev pub part_of_drawing : Bool → Bool → List RowValue → List Text
   part_of_drawing is_first is_last rows =
       rows_below is_first rows ++ (if is_last
       then optional_frame_line table.style table.style.bottom_border (outer_widths infos)
       else [])
 
-  -- top border, header, rows, bottom border
+  -- the top border, the header, the rows, and the bottom border
   abbrev pub drawing_of_infos : List Text
   drawing_of_infos =
       optional_frame_line table.style table.style.top_border (outer_widths infos)

@@ -11,7 +11,7 @@ use Rattle.comfy_table.specs.Pieces.{row_lines}
 use Rattle.comfy_table.specs.Styling.{styled}
 use Rattle.comfy_table.specs.TableValue.{TableValue}
 
--- a text between so many spaces
+-- a text between spaces on its two sides
 abbrev pub spaced : ℕ × ℕ → Text → Text
 spaced beside text = spaces beside.0 ++ (text ++ spaces beside.1)
 
@@ -20,17 +20,17 @@ abbrev pub styled_text : Option (CellValue × (ℕ × ℕ)) → Text → Text
 styled_text None text = text
 styled_text (Some styles) text = styled styles.0 (spaced styles.1 text)
 
--- what stands before the first piece of a line, between two, and after the last
+-- the gaps of a line: before the first piece, between two pieces, and after the last one
 pub record RowGapsValue : Type 0 where
   pub left : Text
   pub junction : Text
   pub right : Text
 
--- a character of the style, where it is drawn
+-- a character of the style, if it is drawn
 abbrev pub drawn_character : Bool → Option ℕ → Text
 drawn_character drawn part = if drawn then character part else []
 
--- the gaps of the drawn borders of a line
+-- the gaps of a content line in this style
 abbrev pub row_gaps : TableStyle → ContentLineStyle → RowGapsValue
 row_gaps style line =
     record {
@@ -39,7 +39,7 @@ row_gaps style line =
       right = drawn_character (draws_right_border style) line.right;
     }
 
--- a line of these pieces
+-- a line of pieces, with gaps around and between them
 abbrev pub gap_line : RowGapsValue → List Text → Text
 gap_line gaps pieces =
     gaps.left ++ (join_by (λ (piece : Text). piece) gaps.junction pieces ++ gaps.right)
@@ -48,15 +48,15 @@ gap_line gaps pieces =
 abbrev pub row_between : RowGapsValue → TableValue → List ColumnInfo → RowValue → List Text
 row_between gaps table infos row = map (gap_line gaps) (row_lines table infos row)
 
--- what each part of a table draws alike: the lines of the frame, where they are drawn, and the gaps
--- in the lines of the rows
+-- the lines that all parts of a table have in common: the frame lines, if they are drawn, and the
+-- gaps in the lines of rows
 pub record FrameValue : Type 0 where
   pub top : List Text
   pub separator : List Text
   pub bottom : List Text
   pub gaps : RowGapsValue
 
--- the frame over columns of these whole widths
+-- the frame lines and gaps over columns of these whole widths
 abbrev pub frame_of : TableStyle → List ℕ → FrameValue
 frame_of style widths =
     record {

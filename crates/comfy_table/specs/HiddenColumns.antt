@@ -1,4 +1,4 @@
--- A table without its hidden columns, and what these tell of a drawing.
+-- A table without its hidden columns, and their effect on a drawing: none.
 -- Source: this library's own.
 use Rattle.std.specs.Prelude.{◌≡◌, Bool, not, List, map, filter, option_map, zip}
 use Rattle.comfy_parts.specs.CellValue.{ColumnValue, RowValue, is_hidden_column}
@@ -10,14 +10,14 @@ use Rattle.comfy_table.specs.TableValue.{TableValue}
 abbrev pub is_shown : ColumnValue → Bool
 is_shown column = not (is_hidden_column column)
 
--- of what stands beside columns, that beside the shown ones; what stands beyond the columns goes
--- too
+-- the elements of a list at the positions of shown columns; elements after the last column are left
+-- out
 abbrev pub beside_shown : {X : Type 0} → List ColumnValue → List X → List X
 beside_shown {X} columns xs =
     map (λ (p : ColumnValue × X). p.1)
     (filter (λ (p : ColumnValue × X). is_shown p.0) (zip columns xs))
 
--- a row keeps the cells of shown columns, and its greatest height
+-- the row with only the cells of shown columns
 abbrev pub shown_row : List ColumnValue → RowValue → RowValue
 shown_row columns row = record row { cells = beside_shown columns row.cells }
 
@@ -30,13 +30,14 @@ without_hidden table =
       rows = map (shown_row table.columns) table.rows;
     }
 
--- the lines are the drawing of the one where they are that of the other
+-- the lines are a drawing of the table if and only if they are a drawing of the table without its
+-- hidden columns
 abbrev pub IsDrawnWithoutHidden : TableValue → List Text → Type 0
 IsDrawnWithoutHidden table lines =
     (IsDrawingOf table lines → IsDrawingOf (without_hidden table) lines)
     × (IsDrawingOf (without_hidden table) lines → IsDrawingOf table lines)
 
--- tables that are the same but for hidden columns have the same drawing
+-- tables that differ only in hidden columns have the same drawing
 abbrev pub HiddenColumnsTellNothing : TableValue → TableValue → List Text → List Text → Type 0
 HiddenColumnsTellNothing table other lines others =
     without_hidden table ≡ without_hidden other → IsDrawingOf table lines → IsDrawingOf other others

@@ -1,4 +1,4 @@
--- What drawings and widths promise beyond their definitions. Each is a statement at given values.
+-- Laws of drawings and widths, beyond their definitions. Each is a statement on given values.
 -- Source: this library's own.
 use Rattle.std.specs.Prelude.{◌≡◌, ◌⊎◌, ℕ, ◌+◌, ◌-◌, ◌<◌, ◌≤◌, Bool, true, false, List, [], ◌∷◌, ◌++◌, Option, Some, None, take, drop, length, max, sum, sum_by, All, chars, slice_get, map, IsUtf8, unwrap_or, ◌==◌}
 use Rattle.std.specs.Char.{IsScalar, is_control}
@@ -32,12 +32,12 @@ count line = length (chars line)
 abbrev pub unstyled : TableValue → TableValue
 unstyled table = record (measured_table table) { no_tty = true; enforce_styling = false }
 
--- the border characters of a line, and the whole widths of the shown columns
+-- the number of border characters of a line and the whole widths of the shown columns together
 abbrev pub line_total : TableValue → List ℕ → ℕ
 line_total table widths =
     border_count table.style (shown_count table) + sum (outer_widths (infos_of table widths))
 
--- borders, paddings and one terminal column for each shown column
+-- the least total: borders, paddings and one terminal column for each shown column
 abbrev pub least_total : TableValue → ℕ
 least_total table =
     border_count table.style (shown_count table)
@@ -50,22 +50,22 @@ IsPrintableCell table column_delimiter cell =
     All (λ line. is_printable_ascii line ≡ true) cell.text_lines
     × (is_in_range 0x20 0x7E (cell_delimiter table column_delimiter cell) ≡ true)
 
--- where a row cuts the cell of this column, the indicator that is written adds one column for each
--- of its characters
+-- if a row cuts the cell of this column, the indicator that is written adds one terminal column for
+-- each of its characters
 abbrev pub AddsOneColumnEachWhereWritten : TableValue → RowValue → ℕ × ColumnInfo → Type 0
 AddsOneColumnEachWhereWritten table row p =
     (cell : CellValue) (h : ℕ) → slice_get row.cells p.0 ≡ Some cell → row.max_height ≡ Some h
     → h < length (cell_lines p.1.content_width (cell_delimiter table p.1.delimiter cell) cell)
     → AddsOneColumnEach (fitting_indicator p.1.content_width table.indicator)
 
--- all known cells of the shown columns are printable ASCII
+-- all cells in shown columns are printable ASCII
 abbrev pub HasPrintableCells : TableValue → Type 0
 HasPrintableCells table =
     All (λ (p : ℕ × ColumnValue). All (IsPrintableCell table p.1.delimiter)
     (column_cells table p.0)) (shown_columns table)
 
--- all known cells of the shown columns are printable ASCII, and the indicator adds one column for
--- each of its characters wherever it is written
+-- all cells in shown columns are printable ASCII, and an indicator that is written adds one
+-- terminal column for each of its characters
 pub record IsPrintableTable (table : TableValue) (widths : List ℕ) : Type 0 where
   pub printable_cells : HasPrintableCells table
   pub indicator_adds_one_column_each :
@@ -78,15 +78,15 @@ pub record IsPrintableTable (table : TableValue) (widths : List ℕ) : Type 0 wh
 abbrev pub NoConstraints : TableValue → Type 0
 NoConstraints table = All (λ (p : ℕ × ColumnValue). p.1.constraint ≡ None) (shown_columns table)
 
--- under `Dynamic` a line keeps to the width, or to borders, paddings and one terminal column for
--- each column
+-- under `Dynamic` a line has at most the table's width, or the least total if that is more
 abbrev pub KeepsToWidth : TableValue → ℕ → List ℕ → Type 0
 KeepsToWidth table w widths =
     NoConstraints table → table.arrangement ≡ Dynamic → table_width table ≡ Some w
     → IsArranged table widths
     → line_total table widths ≤ max w (least_total table)
 
--- under `DynamicFullWidth` a line has exactly that width, where a column is shown
+-- under `DynamicFullWidth` a line has exactly the table's width, or the least total if that is
+-- more, if a column is shown
 abbrev pub FillsWidth : TableValue → ℕ → List ℕ → Type 0
 FillsWidth table w widths =
     NoConstraints table → table.arrangement ≡ DynamicFullWidth → table_width table ≡ Some w
@@ -94,8 +94,9 @@ FillsWidth table w widths =
     → IsArranged table widths
     → line_total table widths ≡ max w (least_total table)
 
--- with constraints, the whole widths of the fixed and lower columns stand for one terminal column
--- and their paddings; `room` is the width less the borders
+-- the least room that constraints leave for dynamic widths: all paddings, the content widths of the
+-- columns decided by fixed widths and lower boundaries, and one terminal column for each other
+-- column
 abbrev pub least_with_steps : List ColumnNeeds → Steps → ℕ
 least_with_steps columns steps =
     sum_by (λ (column : ColumnNeeds). column.padding) columns
@@ -104,7 +105,7 @@ least_with_steps columns steps =
 
 -- ---- widths
 
--- one list of widths is dynamic
+-- dynamic widths are unique
 abbrev pub DynamicIsOne : ℕ → List ColumnNeeds → Bool → List ℕ → List ℕ → Type 0
 DynamicIsOne room columns full widths others =
     IsDynamicLayout room columns full widths → IsDynamicLayout room columns full others
@@ -112,8 +113,8 @@ DynamicIsOne room columns full widths others =
 
 -- ---- texts
 
--- the lines of a cell that no height cuts, as they are measured, have all characters of its text,
--- in order, but for delimiters
+-- the lines of a cell that no height cuts, as they are measured, have all characters of its text in
+-- order, except for delimiters
 abbrev pub CellKeepsItsText : TableValue → RowValue → ColumnInfo → CellValue → Type 0
 CellKeepsItsText table row info cell =
     row.max_height ≡ None → IsScalar (cell_delimiter table info.delimiter cell)
@@ -125,25 +126,25 @@ CellKeepsItsText table row info cell =
 
 -- ---- styling and sequences
 
--- the byte ESC is not in the text
+-- the text has no byte ESC
 abbrev pub HasNoEscape : Text → Type 0
 HasNoEscape text = HasNo 0x1B text
 
--- no line feed is in the text
+-- the text has no line feed
 abbrev pub HasNoBreak : Text → Type 0
 HasNoBreak text = HasNo 0x0A text
 
--- these are the lines of a text: each is followed by a line feed, and none holds one
+-- the lines of a text: each is followed by a line feed, and no line has one
 pub record AreLinesOf (text : Text) (lines : List Text) : Type 0 where
   pub joined : text ≡ terminated_text_of lines
   pub unbroken : All HasNoBreak lines
 
--- the byte b is no character of the style
+-- no character of the style is the byte b; a missing one counts as a space
 abbrev pub IsStyleWithout : ℕ → TableStyle → Type 0
 IsStyleWithout b style =
     list_any (λ (c : Option ℕ). unwrap_or c 0x20 == b) (style_characters style) ≡ false
 
--- nor is it in the indicator
+-- neither the style nor the truncation indicator has the byte b
 pub record HasStyleWithout (b : ℕ) (table : TableValue) : Type 0 where
   pub indicator : HasNo b table.indicator
   pub characters : IsStyleWithout b table.style
@@ -155,12 +156,12 @@ EachShownText P table =
     (column_cells table p.0))
     (shown_columns table)
 
--- no shown text line as it is measured, no character of the style and no indicator holds ESC
+-- neither a shown text line, as it is measured, nor the style or the indicator has ESC
 pub record IsFreeOfEscapes (table : TableValue) : Type 0 where
   pub text_lines : EachShownText HasNoEscape table
   pub style : HasStyleWithout 0x1B table
 
--- neither a character of the style nor the indicator holds a line feed
+-- neither the style nor the indicator has a line feed
 abbrev pub HasUnbrokenStyle : TableValue → Type 0
 HasUnbrokenStyle table = HasStyleWithout 0x0A table
 
@@ -170,7 +171,8 @@ HasUnbrokenStyle table = HasStyleWithout 0x0A table
 abbrev pub HasNoControl : Text → Type 0
 HasNoControl text = NoCharPasses is_control text
 
--- no shown text line as it is measured, no indicator and no character of the style holds one
+-- neither a shown text line, as it is measured, nor the style or the indicator has a control
+-- character
 pub record IsFreeOfControls (table : TableValue) : Type 0 where
   pub text_lines : EachShownText HasNoControl table
   pub indicator : HasNoControl table.indicator
@@ -180,17 +182,17 @@ pub record IsFreeOfControls (table : TableValue) : Type 0 where
 
 -- ---- texts of lines
 
--- the lines of a text, joined by line feeds, stand between its line feeds
+-- splitting the joined lines at line feeds gives the lines, if there is a line
 abbrev pub JoinedLinesAreFound : List Text → Type 0
 JoinedLinesAreFound lines =
     0 < length lines → All HasNoBreak lines → slice_split (λ b. b == 0x0A) (text_of lines) ≡ lines
 
--- no lines have the text of one empty line
+-- no lines give the same text as one empty line
 abbrev pub NoLinesAreOneEmptyLine : Type 0
 NoLinesAreOneEmptyLine = text_of [] ≡ text_of ([] ∷ [])
 
--- lines that are each followed by a line feed stand between the line feeds too, and an empty text
--- stands after the last one
+-- splitting lines that are each followed by a line feed gives the lines, and an empty text after
+-- them
 abbrev pub TerminatedLinesAreFound : List Text → Type 0
 TerminatedLinesAreFound lines =
     All HasNoBreak lines
@@ -198,28 +200,28 @@ TerminatedLinesAreFound lines =
 
 -- ---- custom styling
 
--- with custom styling, no sequence stands open at the end of a line's text before the cell's own
--- styling, cut lines too
+-- with custom styling no sequence is open at the end of a line's text, before the cell's own
+-- styling begins; this holds of cut lines too
 abbrev pub NoneIsOpenAtTheEnd : TableValue → RowValue → ColumnInfo → CellValue → Type 0
 NoneIsOpenAtTheEnd table row info cell =
     All (λ (line : CellLine). open_after (parts line.written) ≡ [])
     (row_cell_lines table row info cell)
 
--- how many lines of a cell in a row stand as they are
+-- the number of lines of a cell in a row that aren't cut
 abbrev pub uncut_in_row : TableValue → RowValue → ColumnInfo → CellValue → ℕ
 uncut_in_row table row info cell =
     uncut_count row.max_height (uncut_lines table.custom_styling info.content_width
     (cell_delimiter table info.delimiter cell) cell)
 
--- with custom styling, before each visible byte of a line that isn't cut the sequences are open
--- that are active there in the cell
+-- with custom styling, before each visible byte of a line that isn't cut, the open sequences are
+-- those that are active there in the cell
 abbrev pub LinesAreResumedInRow : TableValue → RowValue → ColumnInfo → CellValue → Type 0
 LinesAreResumedInRow table row info cell =
     AllZip IsResumedLine (take (uncut_in_row table row info cell)
     (line_starts info.content_width (cell_delimiter table info.delimiter cell) cell.text_lines))
     (take (uncut_in_row table row info cell) (row_cell_lines table row info cell))
 
--- with custom styling, a line that is cut is written as it is measured, closed
+-- with custom styling, a line that is cut is written as it is measured, with its sequences closed
 abbrev pub CutLinesAreClosed : TableValue → RowValue → ColumnInfo → CellValue → Type 0
 CutLinesAreClosed table row info cell =
     All (λ (line : CellLine). line.written ≡ closed line.measured)
@@ -232,27 +234,27 @@ abbrev pub LeavesNoneOpen : Text → Type 0
 LeavesNoneOpen line = open_after (parts line) ≡ []
 
 -- the styling of a cell ends with a reset, or writes nothing: the cell has no colours of its own,
--- or an attribute
+-- or it has an attribute
 abbrev pub EndsItsStyling : CellValue → Type 0
 EndsItsStyling cell =
     ((cell.background ≡ None) × (cell.foreground ≡ None)) ⊎ (0 < length cell.attributes)
 
--- so do all cells whose styling is written
+-- the styling of each cell ends with a reset or writes nothing, if styling is written
 abbrev pub EndsStyling : TableValue → Type 0
 EndsStyling table =
     (should_style table ≡ false) ⊎ All (λ (row : RowValue). All EndsItsStyling row.cells)
     (header_and_rows table)
 
--- each shown column has a padding at its right, or no ESC is measured in its cells: so no sequence
--- begins in a text and ends outside it
+-- each shown column has a padding at its right, or its cells have no ESC as they are measured; so
+-- no sequence begins in a text and ends outside of it
 abbrev pub EndsSequencesInTexts : TableValue → Type 0
 EndsSequencesInTexts table =
     All (λ (p : ℕ × ColumnValue). (1 ≤ p.1.padding.1)
     ⊎ All (λ (cell : CellValue). All HasNoEscape cell.text_lines) (column_cells table p.0))
     (shown_columns table)
 
--- only texts of cells hold sequences, but for styling that ends: neither the style nor the
--- indicator holds ESC, and no sequence ends outside its text
+-- except for styling that ends, only texts of cells have sequences: neither the style nor the
+-- indicator has ESC, and no sequence ends outside of its text
 pub record HasSequencesInTextsAlone (table : TableValue) : Type 0 where
   pub styling : EndsStyling table
   pub style : HasStyleWithout 0x1B table

@@ -1,4 +1,4 @@
--- The table that is made of parts.
+-- The table that is made from parts.
 -- Source: this library's own.
 use Rattle.comfy_table.specs.TableValue.{TableValue, indicator_of}
 use Rattle.comfy_table.specs.declared.table.parts.TableParts.{TableParts}

@@ -1,4 +1,4 @@
--- Cells that are drawn without a row being made of them.
+-- Cells that are drawn without making a row of them.
 -- Source: this library's own.
 use Rattle.std.specs.Prelude.{ℕ, List, [], Option, map, max, option_map}
 use Rattle.comfy_parts.specs.CellValue.{CellValue, ColumnInfo, RowValue}
@@ -12,7 +12,7 @@ use Rattle.comfy_table.specs.declared.utils.formatting.row_cell.RowCell.TheVaria
 use Rattle.comfy_table.specs.declared.utils.formatting.row_cell.RowSource.{RowSource}
 use Rattle.comfy_table.specs.declared.utils.formatting.row_cell.RowSource.TheVariants.{Listed, Whole}
 
--- the cell itself
+-- the cell as a value, borrowed or made
 abbrev pub cell_of : RowCell → CellValue
 cell_of (Lent cell) = cell
 cell_of (Several cell) = cell
@@ -23,19 +23,19 @@ cell_in (Line cell) = cell.now
 cell_in (Lines cell) = cell.now
 cell_in (Own cell) = cell.now
 
--- a row of these cells with this greatest height; 0 counts as 1
+-- a row of these cells with this greatest height; a height of 0 counts as 1
 abbrev pub row_with : List CellValue → Option ℕ → RowValue
 row_with cells limit = record { cells = cells; max_height = option_map (max 1) limit }
 
--- the row itself
+-- the row as a value
 abbrev pub row_in : RowSource → RowValue
 row_in (Whole row) = row.now
 row_in (Listed cells limit) = row_with (map cell_of cells.now) limit
 
--- a row of at most this number of lines
+-- a row without cells that has at most `limit` lines
 abbrev pub row_within : Option ℕ → RowValue
 row_within limit = record { cells = []; max_height = limit }
 
--- the lines of a cell in such a row
+-- the lines of a cell in a row of at most `limit` lines
 abbrev pub lines_within : TableValue → Option ℕ → ColumnInfo → CellValue → List CellLine
 lines_within table limit info cell = row_cell_lines table (row_within limit) info cell

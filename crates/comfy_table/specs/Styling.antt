@@ -1,4 +1,4 @@
--- Colours and attributes as the sequences that a terminal takes them in: ESC, `[`, a code, `m`.
+-- Colours and attributes as escape sequences: ESC, `[`, a code, `m`.
 -- Source: style_line of comfy-table 8.0.1 over crossterm: SGR sequences of ECMA-48 (ISO 6429).
 use Rattle.std.specs.Prelude.{Bool, List, [], ◌∷◌, ◌++◌, Option, Some, None, length, filter, flat_map, codes, decimal, bytes_eq, if◌then◌else◌, is_some, ◌==◌}
 use Rattle.std.specs.List.{list_any}
@@ -9,12 +9,12 @@ use Rattle.comfy_parts.specs.declared.style.attribute.Attribute.TheVariants as a
 use Rattle.comfy_parts.specs.declared.style.color.Color.{Color}
 use Rattle.comfy_parts.specs.declared.style.color.Color.TheVariants as colors
 
--- the sequence of a code
+-- the escape sequence of a code
 abbrev pub sequence : Text → Text
 sequence code = codes "\u{1b}[" ++ (code ++ codes "m")
 
--- how a colour is written after `38;` or `48;`: by its number of sixteen or of 256, or by its three
--- parts
+-- the code of a colour after `38;` or `48;`: `5;` and its number, or `2;` and its red, green and
+-- blue parts
 abbrev pub color_code : Color → Text
 color_code colors.Reset = []
 color_code colors.Black = codes "5;0"
@@ -90,43 +90,43 @@ all_attributes =
     ∷ attributes.Encircled ∷ attributes.OverLined ∷ attributes.NotFramedOrEncircled
     ∷ attributes.NotOverLined ∷ []
 
--- whether the attribute is in the list; no two attributes share a code
+-- the attribute is in the list; attributes are compared by their codes, which are all different
 abbrev pub has_attribute : List Attribute → Attribute → Bool
 has_attribute given a =
     list_any (λ (b : Attribute). bytes_eq (attribute_code a) (attribute_code b)) given
 
--- the sequences of these attributes, each once and in the order of all attributes, however often
--- and in whatever order they were given
+-- the sequences of the given attributes, each once and in the order of `all_attributes`, even if
+-- some are given several times or in another order
 abbrev pub attribute_sequences : List Attribute → Text
 attribute_sequences given =
     flat_map (λ (a : Attribute). sequence (attribute_code a))
     (filter (has_attribute given) all_attributes)
 
--- the sequence of a colour, where there is one
+-- the sequence of a colour, if there is one
 abbrev pub optional_sequence : (Color → Text) → Option Color → Text
 optional_sequence code None = []
 optional_sequence code (Some color) = sequence (code color)
 
--- what stands before a styled text: background, foreground, attributes
+-- the sequences before a styled text: background, foreground, attributes
 abbrev pub style_begin : CellValue → Text
 style_begin cell =
     optional_sequence background_code cell.background
     ++ (optional_sequence foreground_code cell.foreground ++ attribute_sequences cell.attributes)
 
--- without an attribute: `49` for a background, and then `39` for a foreground
+-- the sequences after a styled text without attributes: `49` for a background, and then `39` for a
+-- foreground
 abbrev pub style_end_without_attributes : Option Color → Option Color → Text
 style_end_without_attributes background foreground =
     (if is_some background then sequence (codes "49") else [])
     ++ (if is_some foreground then sequence (codes "39") else [])
 
--- what stands after a styled text: `0` where the cell has an attribute
+-- the sequences after a styled text: `0` if the cell has an attribute
 abbrev pub style_end : CellValue → Text
 style_end cell =
     if length cell.attributes == 0
     then style_end_without_attributes cell.background cell.foreground
     else sequence (codes "0")
 
--- a text between the sequences of a cell's colours and attributes; a cell without any leaves it as
--- it is
+-- a text between the sequences of a cell's colours and attributes, if the cell has any
 abbrev pub styled : CellValue → Text → Text
 styled cell text = style_begin cell ++ (text ++ style_end cell)

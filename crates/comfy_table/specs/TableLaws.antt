@@ -1,4 +1,4 @@
--- The laws of frame lines and of dynamic widths, said of whole tables. Each is a statement at given
+-- The laws of frame lines and of dynamic widths, for whole tables. Each is a statement on given
 -- values: `widths` are the content widths of all columns, w is the table's width.
 -- Source: this library's own.
 use Rattle.std.specs.Prelude.{◌≡◌, ℕ, ◌+◌, ◌<◌, ◌≤◌, true, false, List, Some, map, length, max, min, sum, sum_by, nat_lt, All}
@@ -25,15 +25,15 @@ shown_contents table widths = widths_at widths (shown_columns table)
 
 -- ---- frame lines, whatever the texts
 
--- whatever the style, a table's frame lines have the line's total
+-- a frame line has as many characters as the borders and the whole widths together, in any style
 abbrev pub FrameCounts : TableValue → List ℕ → LineStyle → Type 0
 FrameCounts table widths line =
     length widths ≡ length table.columns
     → count (frame_line table.style line (outer_widths (infos_of table widths)))
     ≡ line_total table widths
 
--- under `Dynamic` a frame line keeps to the width, or to borders, paddings and one terminal column
--- for each shown column
+-- under `Dynamic` a frame line has at most as many characters as the table's width, or as the least
+-- total if that is more
 abbrev pub FrameKeepsToWidth : TableValue → ℕ → List ℕ → LineStyle → Type 0
 FrameKeepsToWidth table w widths line =
     NoConstraints table → table.arrangement ≡ Dynamic → table_width table ≡ Some w
@@ -41,7 +41,7 @@ FrameKeepsToWidth table w widths line =
     → count (frame_line table.style line (outer_widths (infos_of table widths)))
     ≤ max w (least_total table)
 
--- under `DynamicFullWidth` it has exactly that many characters, where a column is shown
+-- under `DynamicFullWidth` it has exactly that many characters, if a column is shown
 abbrev pub FrameFillsWidth : TableValue → ℕ → List ℕ → LineStyle → Type 0
 FrameFillsWidth table w widths line =
     NoConstraints table → table.arrangement ≡ DynamicFullWidth → table_width table ≡ Some w
@@ -52,13 +52,14 @@ FrameFillsWidth table w widths line =
 
 -- ---- totals under every constraint
 
--- borders, the whole widths of the fixed and lower columns, and the paddings and one terminal
--- column of each other shown column
+-- the wider total: the borders, the whole widths of columns decided by fixed widths and lower
+-- boundaries, and the paddings and one terminal column for each other shown column
 abbrev pub wider_total : TableValue → Steps → ℕ
 wider_total table steps =
     border_count table.style (shown_count table) + least_with_steps (shown_needs table) steps
 
--- under `Dynamic` a line keeps to the width, or to this total of the steps that led to the widths
+-- under `Dynamic` a line has at most the table's width, or the wider total of the steps to these
+-- widths if that is more
 abbrev pub KeepsToWiderTotal : TableValue → ℕ → List ℕ → Type 0
 KeepsToWiderTotal table w widths =
     table.arrangement ≡ Dynamic → table_width table ≡ Some w → IsArranged table widths
@@ -66,8 +67,8 @@ KeepsToWiderTotal table w widths =
     (shown_contents table widths)
     × (line_total table widths ≤ max w (wider_total table steps))
 
--- under `DynamicFullWidth` a line keeps to the width, or to this total, also where no column is
--- shown
+-- under `DynamicFullWidth` a line has at most the table's width, or the wider total if that is
+-- more, even if no column is shown
 abbrev pub KeepsToWiderTotalInFull : TableValue → ℕ → List ℕ → Type 0
 KeepsToWiderTotalInFull table w widths =
     table.arrangement ≡ DynamicFullWidth → table_width table ≡ Some w → IsArranged table widths
@@ -75,7 +76,7 @@ KeepsToWiderTotalInFull table w widths =
     (shown_contents table widths)
     × (line_total table widths ≤ max w (wider_total table steps))
 
--- and it has exactly that many characters, where a column is shown
+-- under `DynamicFullWidth` it has exactly that width, if a column is shown
 abbrev pub FillsWiderTotal : TableValue → ℕ → List ℕ → Type 0
 FillsWiderTotal table w widths =
     table.arrangement ≡ DynamicFullWidth → table_width table ≡ Some w → 0 < shown_count table
@@ -94,7 +95,7 @@ TableIsLevelled table w widths =
     → IsArranged table widths
     → IsLevelled (room_beside_borders table w) (shown_needs table) (shown_contents table widths)
 
--- under `DynamicFullWidth` they fill the room too
+-- under `DynamicFullWidth` they keep to a level, and fill the room
 abbrev pub TableIsFull : TableValue → ℕ → List ℕ → Type 0
 TableIsFull table w widths =
     NoConstraints table → table.arrangement ≡ DynamicFullWidth → table_width table ≡ Some w
@@ -102,8 +103,8 @@ TableIsFull table w widths =
     → IsArranged table widths
     → IsFull (room_beside_borders table w) (shown_needs table) (shown_contents table widths)
 
--- under `Dynamic` every shown column gets its content, where all of them fit with borders and
--- paddings
+-- under `Dynamic` every shown column is as wide as its content, if all of them fit together with
+-- borders and paddings
 abbrev pub TableKeepsContents : TableValue → ℕ → List ℕ → Type 0
 TableKeepsContents table w widths =
     NoConstraints table → table.arrangement ≡ Dynamic → table_width table ≡ Some w
@@ -114,7 +115,7 @@ TableKeepsContents table w widths =
     → shown_contents table widths ≡ map (λ (column : ColumnNeeds). max 1 column.content)
     (shown_needs table)
 
--- under `Dynamic` the level is the best: where a column doesn't fit, no contents within the room
+-- under `Dynamic` the level is the best: if a content is above the level, no widths within the room
 -- give each shown column its content or one more than the level
 abbrev pub TableLevelIsBest : TableValue → ℕ → ℕ → List ℕ → Type 0
 TableLevelIsBest table w level widths =
@@ -132,7 +133,7 @@ TableLevelIsBest table w level widths =
 -- ---- widths of printable ASCII
 
 -- under `Dynamic` and without constraints no shown column is more than three terminal columns wider
--- than its content; a content counts at most 65535, so a wider table could give a column more
+-- than its content. This needs a table's width of at most 65535, since no content counts more.
 abbrev pub IsAtMostThreeOver : TableValue → ℕ → List ℕ → Type 0
 IsAtMostThreeOver table w widths =
     w ≤ 65535 → NoConstraints table → HasPrintableCells table → table.arrangement ≡ Dynamic
@@ -141,15 +142,15 @@ IsAtMostThreeOver table w widths =
     → AllZip (λ (column : ColumnNeeds) width. width ≤ column.content + 3) (shown_needs table)
     (shown_contents table widths)
 
--- the lines of a cell's text lines at a narrower width are those at b, each but for at most one
--- delimiter after it
+-- the lines of a cell's text lines at the narrower width are its lines at width b, except for at
+-- most one delimiter after each
 abbrev pub ShrinkingKeepsLinesOf : ℕ → ℕ → ℕ → CellValue → Type 0
 ShrinkingKeepsLinesOf narrower b d cell =
     All (λ (text : Text). AllZip (SameButOneDelimiter d) (lines_of_text narrower d text)
     (lines_of_text b d text)) cell.text_lines
 
--- where the longest line of a column at b leaves three terminal columns of b free, all its cells
--- keep their lines at the width of that line
+-- if the longest line of a column at width b leaves three or more terminal columns of b free, all
+-- its cells keep their lines at the width of that line
 abbrev pub ShrinkingKeepsCells : TableValue → ℕ × ColumnValue → ℕ → Type 0
 ShrinkingKeepsCells table p b =
     All (IsPrintableCell table p.1.delimiter) (column_cells table p.0)

@@ -1,4 +1,4 @@
--- What a table ends as, once a call that lends it on, or a part of it, has returned.
+-- The final value of a table after a call that lends it, or a part of it.
 -- Source: this library's own.
 use Rattle.std.specs.Prelude.{ℕ, List, Option, Result, length, slice_set}
 use Rattle.std.specs.Borrow.{Fml, MutBor, Array, Lends, LendsIf, LendsIfOk, RestsIfErr, follows}
@@ -13,28 +13,28 @@ use Rattle.comfy_parts.specs.declared.style.table_style.TableStyle.{TableStyle}
 use Rattle.comfy_table.specs.TableValue.{TableValue, IsWithRowsBeforeOne}
 use Rattle.comfy_table.specs.contracts.table.Table as table
 
--- where the call failed, the table stays as it was
+-- if the call fails, the table is unchanged
 abbrev pub TableStaysIfErr : {E : Type 0} → MutBor TableValue → Result (MutBor TableValue) E → Fml
 TableStaysIfErr t r = LendsIfOk table.the_row table.the_row t r (λ x. x) t.now
 
--- where the call failed, the table has some first rows of these, and not all
+-- if the call fails, the table has the first of these rows, but not all
 abbrev pub TableHasFirstRowsIfErr : {E : Type 0} → List RowValue → MutBor TableValue
     → Result (MutBor TableValue) E
     → Fml
 TableHasFirstRowsIfErr rows t r =
     RestsIfErr table.the_row t (λ x. x.ghost_name) r (IsWithRowsBeforeOne rows t.now)
 
--- the column at i is the last one written, and nothing else changes
+-- the column at i is the last one that was written, and nothing else of the table changes
 abbrev pub LendsColumn : MutBor TableValue → ℕ → Option (MutBor ColumnValue) → Fml
 LendsColumn t i r =
     LendsIf table.the_row column.the_row t r
     (λ c. record t.now { columns = slice_set t.now.columns i c }) t.now
 
--- the style is the last one written, and nothing else changes
+-- the style is the last one that was written, and nothing else of the table changes
 abbrev pub LendsStyle : MutBor TableValue → MutBor TableStyle → Fml
 LendsStyle t r = Lends table.the_row style.the_row t r (λ s. record t.now { style = s })
 
--- the columns are the last ones written, and nothing else changes
+-- the columns are the last ones that were written, and nothing else of the table changes
 abbrev pub LendsColumns : MutBor TableValue → IterMut ColumnValue → Fml
 LendsColumns t it =
     follows table.the_row (Array column.the_row 0) t.ghost_name (iter_mut_name it)
@@ -42,13 +42,13 @@ LendsColumns t it =
       columns = refill (length t.now.columns) t.now.columns cs;
     })
 
--- the row at i is the last one written, and nothing else changes
+-- the row at i is the last one that was written, and nothing else of the table changes
 abbrev pub LendsRow : MutBor TableValue → ℕ → Option (MutBor RowValue) → Fml
 LendsRow t i r =
     LendsIf table.the_row row.the_row t r
     (λ c. record t.now { rows = slice_set t.now.rows i c }) t.now
 
--- the rows are the last ones written, and nothing else changes
+-- the rows are the last ones that were written, and nothing else of the table changes
 abbrev pub LendsRows : MutBor TableValue → IterMut RowValue → Fml
 LendsRows t it =
     follows table.the_row (Array row.the_row 0) t.ghost_name (iter_mut_name it)

@@ -6,7 +6,7 @@ use Rattle.comfy_parts.specs.Text.{Text}
 use Rattle.comfy_parts.specs.declared.style.cell.CellAlignment.{CellAlignment}
 use Rattle.comfy_table.specs.declared.utils.formatting.text_style.TextStyle.{TextStyle}
 
--- a cell in this style, without a text
+-- a cell without a text in this style
 abbrev pub styling : TextStyle → CellValue
 styling style =
     record (plain_cell []) {
@@ -24,7 +24,7 @@ style_alone cell =
       attributes = cell.attributes;
     }
 
--- a cell in this style, if there is one
+-- a cell without a text in this style, if there is one
 abbrev pub styled_by : Option TextStyle → CellValue
 styled_by None = plain_cell []
 styled_by (Some style) = styling style

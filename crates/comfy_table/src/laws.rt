@@ -1,7 +1,7 @@
-//! What tables promise beyond the clauses of their calls. Each function does nothing: its clauses
-//! are the law, so that a proof of yours can cite it. `IsArranged table widths` says which widths
-//! the columns of a table have; `arrange_content` gives them. The laws of wrapping are re-exported
-//! here too.
+//! Laws: what holds of all tables beyond the clauses of their functions. Each function here does
+//! nothing. Its clauses are the law, so that a caller's proof can cite it. `IsArranged table
+//! widths` says that the columns of a table have these widths; `arrange_content` returns them. The
+//! laws of wrapping are re-exported here too.
 
 ghost use Rattle.std.specs.Prelude.{ℕ, Bool, List};
 ghost use Rattle.comfy_parts.specs.CellValue.{CellValue, ColumnInfo, ColumnValue, NoFewerColumns, RowValue};
@@ -29,24 +29,24 @@ pub use comfy_parts::laws::{
     spaces_and_borders_add_one_column, wrapped_lines_are_one_list,
 };
 
-/// After columns were appended for a row of n cells, there are as many columns as before or n,
-/// whichever is more.
+/// Appending columns for a row of n cells gives as many columns as before or n, whichever is more.
 #[tactic(auto, using(comfy_parts::proofs::CallerLemmas::no_fewer_columns))]
 pub fn columns_only_grow()
     ensures { (n : ℕ) (columns : List ColumnValue) → NoFewerColumns n columns }
 {}
 
 /// A frame line has as many characters as the borders and the whole widths of the shown columns
-/// together, whatever the texts.
+/// take together, whatever the texts are.
 #[tactic(auto, using(crate::proofs::TableLemmas::frame_counts))]
 pub fn frame_lines_have_one_count()
     ensures { (table : TableValue) (widths : List ℕ) (line : LineStyle)
         → FrameCounts table widths line }
 {}
 
-/// Where no shown column has a constraint, a frame line has at most as many characters as the set
-/// width, or as borders, paddings and one character for each shown column, under `Dynamic`. Under
-/// `DynamicFullWidth` it has exactly so many, where a column is shown.
+/// Let no shown column have a constraint. Under `Dynamic` a frame line has at most as many
+/// characters as the set width, or as the borders, the paddings and one character for each shown
+/// column, whichever is more. Under `DynamicFullWidth` it has exactly that many, if a column is
+/// shown.
 pub fn frame_lines_keep_to_the_width()
     ensures dynamic { (table : TableValue) (w : ℕ) (widths : List ℕ) (line : LineStyle)
         → FrameKeepsToWidth table w widths line }
@@ -54,25 +54,27 @@ pub fn frame_lines_keep_to_the_width()
         → FrameFillsWidth table w widths line }
 {}
 
-/// Lines without line feeds are found in their texts. Joined by line feeds they stand between
-/// these, if there is a line; no lines have the text of one empty line. Where each is followed by a
-/// line feed, an empty text stands after the last one.
+/// Lines without line feeds can be found again in their joined text. If there is a line, they are
+/// the texts between the line feeds. No lines give the same text as one empty line. If each line is
+/// followed by a line feed, an empty text comes after the last one.
 pub fn lines_are_found_in_their_texts()
     ensures joined { (lines : List Text) → JoinedLinesAreFound lines }
     ensures none { NoLinesAreOneEmptyLine }
     ensures terminated { (lines : List Text) → TerminatedLinesAreFound lines }
 {}
 
-/// ESC is a control character: a table without these has none. So its lines without their sequences
-/// are its drawing without styling (field `sequences.without_sequences` of `IsTableDrawing`).
+/// A table without control characters has no ESC, which is one of them. So its lines without their
+/// sequences are its drawing without styling (field `sequences.without_sequences` of
+/// `IsTableDrawing`).
 pub fn tables_without_controls_have_no_escape()
     ensures { (table : TableValue) → IsFreeOfControls table → IsFreeOfEscapes table }
 {}
 
-/// A drawn table is straight, as `IsTableDrawing` asks for equally wide lines, where each character
-/// of each text fits its column and U+FE01 stands nowhere directly beside U+FE0E or U+FE0F.
-/// Delimiters and the characters of the style add one terminal column there, and no texts of two
-/// columns touch. Where a row has a greatest height, no text joins the indicator.
+/// A drawn table is straight (`IsStraightTable`), so all its lines are equally wide, under
+/// conditions on single characters. Each character of each text fits its column, and U+FE01 is
+/// nowhere directly beside U+FE0E or U+FE0F. Each delimiter and each character of the style adds
+/// one terminal column. No texts of two columns touch. If a row has a greatest height, no text
+/// joins the indicator.
 pub fn tables_of_fitting_characters_are_straight()
     ensures { (table : TableValue) (lines : List Text) → FittingTablesAreStraight table lines }
 {}
@@ -83,33 +85,33 @@ pub fn the_ellipsis_adds_one_column()
     ensures { AddsOneColumnEach ellipsis }
 {}
 
-/// A new table in a style whose characters add one terminal column each, with a header and rows,
-/// has straight edges: all its lines are equally many terminal columns wide, for texts of every
-/// script. No row is cut, and no text line has more than 65535 terminal columns.
+/// A new table with a header and rows has straight edges, if each character of its style adds one
+/// terminal column: all lines take the same number of terminal columns, for texts of every script.
+/// No row may have a greatest height, and no text line more than 65535 terminal columns.
 pub fn new_tables_are_straight()
     ensures { (style : TableStyle) (header : RowValue) (rows : List RowValue) (lines : List Text)
         → NewTablesAreStraight style header rows lines }
 {}
 
-/// A new table with `custom_styling`, in a style without ESC, with a header and rows, leaves no
-/// sequence open: none is open after any of its lines, whatever the texts.
+/// A new table with `custom_styling`, a header and rows, in a style without ESC, leaves no sequence
+/// open after any of its lines, whatever the texts are.
 pub fn new_tables_leave_no_sequence_open()
     ensures { (style : TableStyle) (header : RowValue) (rows : List RowValue) (lines : List Text)
         → NewTablesLeaveNoneOpen style header rows lines }
 {}
 
-/// Where no shown column has a constraint, borders and whole widths together keep to the set width,
-/// or to borders, paddings and one terminal column for each shown column, whichever is more. Under
-/// `DynamicFullWidth` they are exactly that wide, where a column is shown.
+/// Let no shown column have a constraint. The borders and whole widths together are at most the set
+/// width, or the borders, the paddings and one terminal column for each shown column, whichever is
+/// more. Under `DynamicFullWidth` they are exactly that wide, if a column is shown.
 pub fn widths_keep_to_the_width()
     ensures dynamic { (table : TableValue) (w : ℕ) (widths : List ℕ) → KeepsToWidth table w widths }
     ensures full { (table : TableValue) (w : ℕ) (widths : List ℕ) → FillsWidth table w widths }
 {}
 
-/// Under every constraint borders and whole widths together keep to the set width or to a least
-/// total, whichever is more. The total is borders, the whole widths of the columns that a
-/// constraint decides first, and paddings and one terminal column for each other column. Under
-/// `DynamicFullWidth` they are exactly that wide, where a column is shown.
+/// With any constraints, the borders and whole widths together are at most the set width or a least
+/// total, whichever is more. The total is the sum of the borders, the whole widths of the columns
+/// that a constraint decides first, and the paddings and one terminal column for each other column.
+/// Under `DynamicFullWidth` they are exactly that wide, if a column is shown.
 pub fn widths_keep_to_the_wider_total()
     ensures dynamic { (table : TableValue) (w : ℕ) (widths : List ℕ)
         → KeepsToWiderTotal table w widths }
@@ -118,67 +120,66 @@ pub fn widths_keep_to_the_wider_total()
     ensures full { (table : TableValue) (w : ℕ) (widths : List ℕ) → FillsWiderTotal table w widths }
 {}
 
-/// Only one list of widths is a dynamic arrangement.
+/// A dynamic arrangement has one list of widths.
 pub fn dynamic_widths_are_one_list()
     ensures { (room : ℕ) (columns : List ColumnNeeds) (full : Bool) (widths others : List ℕ)
         → DynamicIsOne room columns full widths others }
 {}
 
-/// Without constraints, and with room for one terminal column each, there is one level: columns
-/// whose content is at most the level get their content, and each other column gets at least the
-/// level or what its lines need.
+/// Without constraints, and with room for one terminal column in each column, there is one level.
+/// Columns whose content is at most the level get their content as their width. Each other column
+/// gets at least the level, or the width that its lines need.
 pub fn dynamic_widths_are_levelled()
     ensures dynamic { (table : TableValue) (w : ℕ) (widths : List ℕ)
         → TableIsLevelled table w widths }
     ensures full { (table : TableValue) (w : ℕ) (widths : List ℕ) → TableIsFull table w widths }
 {}
 
-/// Under `Dynamic` and without constraints the level is the best one: no contents within the room
-/// give each column its content or one more than the level.
+/// Under `Dynamic` and without constraints the level is the best one: if a content is above it, no
+/// widths within the room give each column its content or one more than the level.
 #[tactic(auto, using(crate::proofs::TableLemmas::table_level_is_best))]
 pub fn the_level_is_the_best()
     ensures { (table : TableValue) (w level : ℕ) (widths : List ℕ)
         → TableLevelIsBest table w level widths }
 {}
 
-/// Without constraints, where all contents fit the set width with borders and paddings, `Dynamic`
-/// gives each column its content, or 1.
+/// Without constraints, and if all contents fit the set width together with borders and paddings,
+/// `Dynamic` makes each column as wide as its content, and at least 1.
 pub fn contents_that_fit_are_kept()
     ensures { (table : TableValue) (w : ℕ) (widths : List ℕ) → TableKeepsContents table w widths }
 {}
 
-/// In printable ASCII and without constraints, `Dynamic` makes no column more than three terminal
+/// For printable ASCII and without constraints, `Dynamic` makes no column more than three terminal
 /// columns wider than its content.
 pub fn columns_are_at_most_three_wider()
     ensures { (table : TableValue) (w : ℕ) (widths : List ℕ) → IsAtMostThreeOver table w widths }
 {}
 
-/// In printable ASCII a column that is made as narrow as its longest line keeps its lines, each but
-/// for at most one delimiter at its end.
+/// For printable ASCII, making a column as narrow as its longest line keeps its lines, except for
+/// at most one delimiter at the end of each.
 #[tactic(auto, using(crate::proofs::ColumnLemmas::shrinking_keeps_cells))]
 pub fn shrinking_keeps_the_lines()
     ensures { (table : TableValue) (p : ℕ × ColumnValue) (b : ℕ) → ShrinkingKeepsCells table p b }
 {}
 
-/// The lines of a cell that no height cuts, as they are measured, have all characters of its text,
-/// in order, but for delimiters. What is drawn of a cell are these lines with paddings and spaces,
-/// and with sequences where styles are written.
+/// The lines of a cell that no height cuts, as they are measured, have all characters of its text
+/// in order, except for delimiters. A cell is drawn as these lines with paddings and spaces, and
+/// with sequences if styles are written.
 #[tactic(auto, using(crate::proofs::KeptLemmas::cell_keeps_its_text))]
 pub fn cells_keep_their_text()
     ensures { (table : TableValue) (row : RowValue) (info : ColumnInfo) (cell : CellValue)
         → CellKeepsItsText table row info cell }
 {}
 
-/// A table has one drawing: two lists of lines that the clauses of `Table::lines` allow are the
-/// same.
+/// A table has one drawing: two lists of lines that the clauses of `Table::lines` allow are equal.
 pub fn drawings_are_one()
     ensures { (table : TableValue) (lines others : List Text) → DrawingIsOne table lines others }
 {}
 
-/// What was shown stays. With a further row, over the same widths, a drawing has the lines that it
-/// had, and above its bottom border those of the row, after the row separator where a row stands
-/// before it. Where no width is kept, as under `Disabled`, that holds of all drawings if each cell
-/// of the row has a column and is at most as wide as its content.
+/// Lines that were drawn stay the same if a row is added, over the same widths. The lines of the
+/// new row come above the bottom border, after the row separator if there is a row before it. If no
+/// width is kept, as under `Disabled`, this holds of all drawings, if each cell of the new row has
+/// a column and is at most as wide as the column's content.
 pub fn shown_lines_stay()
     ensures same_widths { (table : TableValue) (row : RowValue) (widths : List ℕ)
         → RowIsAddedBelow table row widths }
@@ -186,17 +187,17 @@ pub fn shown_lines_stay()
         → ShownLinesStay table row lines others }
 {}
 
-/// Hidden columns tell nothing. A table has the drawing that it has without them and their cells,
-/// so tables that differ only in these have the same lines.
+/// Hidden columns have no effect. A table has the drawing that it would have without its hidden
+/// columns and their cells, so tables that differ only in these have the same lines.
 pub fn hidden_columns_tell_nothing()
     ensures removed { (table : TableValue) (lines : List Text) → IsDrawnWithoutHidden table lines }
     ensures same { (table other : TableValue) (lines others : List Text)
         → HiddenColumnsTellNothing table other lines others }
 {}
 
-/// Each line of a part of a table is a line of the table over the same widths, so what holds of all
-/// of these holds of it. A part without styling is that part of the table without styling, and all
-/// rows make the whole table.
+/// Each line of a part of a table is a line of the whole table over the same widths, so a property
+/// of all lines of the table holds of the part's lines too. A part without styling is this part of
+/// the table without styling. The part of all rows is the whole table.
 pub fn parts_have_lines_of_the_table()
     ensures lines { (table : TableValue) (infos : List ColumnInfo) (first count : ℕ)
         → PartHasLinesOfTable table infos first count }

@@ -1,8 +1,8 @@
-//! Tables drawn as text: built from cells, arranged, and framed.
+//! Tables drawn as text: made from cells, arranged, and framed.
 //!
-//! The functions of `laws` have empty bodies and do nothing when they run. A clause has to stand on
-//! a function to be proved, and a caller's proof gains it by a call: theirs are laws that no other
-//! call carries.
+//! The functions of `laws` have empty bodies and do nothing when they run. They exist because only
+//! a clause of a function can be proved, and because a caller's proof gets a clause by calling its
+//! function. Their clauses are laws that no other function has.
 #![tactic(auto)]
 
 pub mod for_records;
@@ -27,8 +27,8 @@ pub use table::row_writer::RowWriter;
 pub use table::terminal::Terminal;
 pub use utils::formatting::drawing::PartEnds;
 
-/// A row of values of several types, as an array of their cells: of each value that a cell can be
-/// made of (`IntoCell`). It stands in a function that returns a `Result`.
+/// A row of values of different types, as an array of cells. Each value has a type that a cell can
+/// be made of (`IntoCell`). The macro uses `?`, so it needs a function that returns a `Result`.
 ///
 /// ```
 /// table.add_row(row![alloc; "17", 12u32, true])?;

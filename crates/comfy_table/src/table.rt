@@ -49,7 +49,7 @@ pub struct Table {
     pub(crate) style: TableStyle,
     pub(crate) arrangement: ContentArrangement,
     pub(crate) delimiter: Option<char>,
-    // none: the indicator of a new table, U+2026
+    // `None` for the indicator of a new table, `…` (U+2026)
     pub(crate) indicator: Option<String>,
     pub(crate) set_width: Option<u16>,
     pub(crate) terminal: Terminal,
@@ -109,7 +109,7 @@ impl Model for Table {
 }
 
 impl Table {
-    /// A table without header, rows and columns, in the style `ASCII_FULL`. It takes no memory.
+    /// A table without header, rows and columns, in the style `ASCII_FULL`. Takes no memory.
     pub fn new(alloc: Global) -> Table
         ensures { result ≡ new_table ascii_full }
     {
@@ -131,9 +131,10 @@ impl Table {
         }
     }
 
-    /// Replaces the header, and appends default columns until there are as many as its cells.
-    /// Returns the table for further calls. After `OutOfMemory` the table is unchanged and the new
-    /// header is dropped; a caller's own proof can use that of `try_set_header` only.
+    /// Replaces the header, and appends default columns until there are as many as the header has
+    /// cells. Returns the table for further calls. After `OutOfMemory` the table is unchanged and
+    /// the new header is dropped. A caller's own proof can use this only if it calls
+    /// `try_set_header` instead.
     ///
     /// ```
     /// table
@@ -148,9 +149,9 @@ impl Table {
         into_reference(self.with_header_set(row))
     }
 
-    /// Appends a row, and default columns until there are as many as its cells. Returns the table
-    /// for further calls. After `OutOfMemory` the table is unchanged and the row is dropped; a
-    /// caller's own proof can use that of `try_add_row` only.
+    /// Appends a row, and default columns until there are as many as the row has cells. Returns the
+    /// table for further calls. After `OutOfMemory` the table is unchanged and the row is dropped.
+    /// A caller's own proof can use this only if it calls `try_add_row` instead.
     ///
     /// ```
     /// table.add_row(["17", "dock 3"])?.add_row((18u32, "rented"))?;
@@ -163,9 +164,9 @@ impl Table {
         into_reference(self.with_row_added(row))
     }
 
-    /// Replaces the header, and appends default columns until there are as many as its cells. This
-    /// is for callers that go on with the table after `OutOfMemory`: then it is unchanged and the
-    /// new header is dropped, and the caller's own proof can use that.
+    /// Replaces the header, and appends default columns until there are as many as the header has
+    /// cells. Use it to go on with the table after `OutOfMemory`: the table is then unchanged and
+    /// the new header is dropped, and the caller's own proof can use that.
     pub fn try_set_header<T: IntoRow>(&mut self, row: T) -> Result<()>
         ensures ok { OnOk result (self.new ≡ with_header (T.row_of row) self.old) }
         ensures err { OnErr result (self.new ≡ self.old) }
@@ -176,23 +177,23 @@ impl Table {
         Ok(())
     }
 
-    /// Appends a row, and default columns until there are as many as its cells. This is for callers
-    /// that go on with the table after `OutOfMemory`: then it is unchanged and the row is dropped,
-    /// and the caller's own proof can use that.
+    /// Appends a row, and default columns until there are as many as the row has cells. Use it to
+    /// go on with the table after `OutOfMemory`: the table is then unchanged and the row is
+    /// dropped, and the caller's own proof can use that.
     pub fn try_add_row<T: IntoRow>(&mut self, row: T) -> Result<()>
         ensures ok { OnOk result (self.new ≡ with_row (T.row_of row) self.old) }
         ensures err { OnErr result (self.new ≡ self.old) }
     {
         let added = row.into_row(*self.rows.allocator())?;
-        // The row's place is reserved first: nothing can fail once the columns have grown.
+        // The row's place is reserved first, so that nothing can fail after the columns have grown.
         self.rows.try_reserve(1)?;
         grow_columns(&mut self.columns, added.cell_count())?;
         self.rows.push(added).unwrap();
         Ok(())
     }
 
-    /// Appends default columns until there are this many, for rows that stand elsewhere. After
-    /// `OutOfMemory` the table is as it was.
+    /// Appends default columns until there are at least `count`, for rows that are kept outside of
+    /// the table. After `OutOfMemory` the table is unchanged.
     pub fn grow_columns(&mut self, count: usize) -> Result<()>
         ensures ok { OnOk result (self.new ≡ record self.old {
           columns = columns_grown_to count self.old.columns;
@@ -202,7 +203,8 @@ impl Table {
         grow_columns(&mut self.columns, count)
     }
 
-    // `set_header` with the reference in a struct: so its clause on `OutOfMemory` can be proved.
+    // `set_header` with the reference in a struct, so that its clause on `OutOfMemory` can be
+    // proved.
     fn with_header_set<T: IntoRow>(&mut self, row: T) -> Result<TableReference<'_>>
         ensures* err { sem 𝓛 (TableStaysIfErr self.entry (reference_of result)) }
         ensures same_reference { IfOk (reference_of result)
@@ -214,7 +216,7 @@ impl Table {
         Ok(TableReference { table: self })
     }
 
-    // `add_row` with the reference in a struct: so its clause on `OutOfMemory` can be proved.
+    // `add_row` with the reference in a struct, so that its clause on `OutOfMemory` can be proved.
     fn with_row_added<T: IntoRow>(&mut self, row: T) -> Result<TableReference<'_>>
         ensures* err { sem 𝓛 (TableStaysIfErr self.entry (reference_of result)) }
         ensures same_reference { IfOk (reference_of result)
@@ -227,7 +229,7 @@ impl Table {
     }
 }
 
-// A copy has the same value, in memory of its own.
+// A clone has the same value, in memory of its own.
 impl Clone for Table {
     ghost is_clone = { λ source copy. copy ≡ source };
 
@@ -256,7 +258,7 @@ struct TableReference<'a> {
     table: &'a mut Table,
 }
 
-// The reference, taken out of its struct.
+// Takes the reference out of its struct.
 fn into_reference<'a>(changed: Result<TableReference<'a>>) -> Result<&'a mut Table>
     ensures { result ≡ reference_of changed.entry }
 {
@@ -269,7 +271,8 @@ fn into_reference<'a>(changed: Result<TableReference<'a>>) -> Result<&'a mut Tab
     }
 }
 
-// Appends default columns until there are as many as `count`, or none where memory is refused.
+// Appends default columns until there are at least `count`. After `OutOfMemory` the columns are
+// unchanged.
 fn grow_columns(columns: &mut Vec<Column>, count: usize) -> Result<()>
     ensures ok { OnOk result (columns.new.items ≡ columns_grown_to count columns.old.items) }
     ensures err { OnErr result (columns.new.items ≡ columns.old.items) }

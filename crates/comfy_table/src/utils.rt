@@ -1,4 +1,4 @@
-//! How a table becomes drawn lines.
+//! Turns a table into drawn lines.
 
 ghost use Rattle.std.specs.Prelude.{All, IsUtf8, ◌≡◌, List, IfOk, OnOk};
 ghost use Rattle.comfy_table.specs.Arrangement.{IsDrawingOf};
@@ -26,7 +26,7 @@ pub fn build_table(table: &Table) -> Result<Lines>
     Ok(Lines::new(lines))
 }
 
-// Appends the lines of a table as a whole.
+// Appends all lines of a table to an output.
 pub(crate) fn draw<O: Output>(table: &Table, output: &mut O) -> Result<()>
     ensures { OnOk result ((lines : List Text) × IsTableDrawing table.now lines
         × (O.kept output.new ≡ with_lines O.kept_of lines (O.kept output.old))) }

@@ -1,4 +1,4 @@
--- Of which beginnings of an input it was asked whether they are enough.
+-- The beginnings of an input that are tested.
 use Rattle.std.proofs.Common.{◌≡◌, ◌⊎◌, inl, inr, ℕ, suc, ◌+◌, ◌<◌, ◌≤◌, ◌*◌, ◌^◌, Bool, true, false, [], ◌++◌, Option, Some, Result, refl, sym, ap, ◌∙◌, subst, length, take, append-nil, length-append, arith}
 use Rattle.std.proofs.Math.Nat.{pow-suc}
 use Rattle.std.proofs.Math.Pow.{pow_mono}
@@ -9,9 +9,9 @@ use Rattle.devices.specs.Device.{Bytes}
 use Rattle.devices.specs.Outcome.{Beginning, Extent, NoneIsEnough, Whole, asked_at, asked_front}
 use Rattle.devices.specs.Transfer.{IsAnswer, IsAnswered, Moves}
 
--- ---- places
+-- ---- lengths
 
--- it is asked of no short input
+-- no beginning shorter than 65536 bytes is tested
 pub asked_some : (n : ℕ) → 65536 ≤ asked_at n
 asked_some n = let some : 0 < 2 ^ n = pow_pos n in omega (arith, some)
 
@@ -21,14 +21,13 @@ asked_twice n = let more : 2 ^ suc n ≡ 2 ^ n * 2 = pow-suc 2 n in omega (arith
 asked_mono : (m n : ℕ) → m ≤ n → asked_at m ≤ asked_at n
 asked_mono m n before = let more : 2 ^ m ≤ 2 ^ n = pow_mono before in omega (arith, more)
 
--- it isn't asked of an input without bytes
+-- no beginning of an empty input is tested
 pub none_asked : (IsNotEnough : Bytes → Type 0) → NoneIsEnough IsNotEnough []
 none_asked IsNotEnough n reaches = absurd (omega (arith, asked_some n, reaches))
 
 -- ---- reading
 
--- the next question is at so many bytes of what a source has, and none before said that they are
--- enough
+-- the next test is at `len` bytes of a source, and no beginning that was tested before is enough
 pub record IsAskedNext (IsNotEnough : Bytes → Type 0) (known : Option Bytes) (len : ℕ) : Type 0 where
   pub n : ℕ
   pub next : len ≡ asked_at n
@@ -36,7 +35,7 @@ pub record IsAskedNext (IsNotEnough : Bytes → Type 0) (known : Option Bytes) (
 
 module _ (IsNotEnough : Bytes → Type 0) (known now : Option Bytes) where
   module _ (len : ℕ) (read : Bytes) (asked : IsAskedNext IsNotEnough known len) (moved : Moves known now [] read) where
-    -- what was read is the front at the next question
+    -- the bytes that were read are the beginning for the next test
     at_front : length read ≡ len → (all : Bytes) → known ≡ Some all → read ≡ asked_front asked.n all
     at_front is all own =
         let was = moved all own in
@@ -48,7 +47,7 @@ module _ (IsNotEnough : Bytes → Type 0) (known now : Option Bytes) where
         let all_length : length all ≡ length read + length was.0 = ap length was.2 ∙ length-append read was.0 in
         omega (arith, all_length, is, asked.next)
 
-    -- where that isn't enough, it is asked again at twice as many bytes
+    -- if this beginning isn't enough, the next test is at twice as many bytes
     pub asked_again : length read ≡ len → IsNotEnough read → IsAskedNext IsNotEnough known (len * 2)
     asked_again is none = record { n = suc asked.n; next = ap (λ k. k * 2) asked.next ∙ asked_twice asked.n; none_before = λ all own m below. by_order all own m (cases_lt m asked.n) below }
       where
@@ -59,7 +58,7 @@ module _ (IsNotEnough : Bytes → Type 0) (known now : Option Bytes) where
             subst (λ k. IsNotEnough (asked_front k all)) same (subst IsNotEnough (at_front is all own) none)
 
     module _ {A E : Type 0} (IsOutput : Extent → Bytes → A → Type 0) (IsRefusal : Extent → Bytes → E → Type 0) (answer : Result A E) where
-      -- an answer for a beginning, where the source's end wasn't read
+      -- a result for a beginning, if the source's end wasn't read
       pub answered_by_beginning : (ended : Bool) → length read ≡ len → ((all : Bytes) → ended ≡ true → known ≡ Some all → all ≡ []) → IsAnswer IsOutput IsRefusal Beginning read answer
           → IsAnswered IsNotEnough IsOutput IsRefusal known ended answer
       answered_by_beginning ended is at_end made =
@@ -71,7 +70,7 @@ module _ (IsNotEnough : Bytes → Type 0) (known now : Option Bytes) where
               let nothing : length all ≡ 0 = ap length (none refl own) in
               absurd (omega (arith, nothing, reaches is all own, asked_some asked.n))
 
-      -- or for the whole input
+      -- a result for the whole input
       pub answered_by_whole : (ended : Bool) → length read < len → ended ≡ true → ((left : Bytes) → now ≡ Some left → left ≡ []) → IsAnswer IsOutput IsRefusal Whole read answer
           → IsAnswered IsNotEnough IsOutput IsRefusal known ended answer
       answered_by_whole ended fewer whole at_end made = (Whole, (read, made, whole, λ all own. (same all own, none all own)))

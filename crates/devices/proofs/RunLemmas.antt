@@ -1,4 +1,4 @@
--- What is so after a run that wrote nothing, or a part of an output.
+-- The facts of a run that wrote nothing, or a part of an output.
 use Rattle.std.proofs.Common.{◌≡◌, ◌++◌, inl, inr, true, false, [], Some, Err, ap, append_assoc, arith, length-append, refl, sym, subst, ◌∙◌}
 use Rattle.devices.proofs.AskedLemmas.{none_asked}
 use Rattle.devices.specs.Device.{Bytes}
@@ -21,7 +21,7 @@ module _ (T : Type 0) {A E : Type 0} (IsNotEnough : Bytes → Type 0) (IsOutput 
         says = record { no_device_failed = record { no_read_failed = failed; no_write_failed = unfailed }; nothing_written = nothing; fine = left };
       })
 
-  -- there is no output for what was read
+  -- the bytes that were read have no output
   pub after_refused : (e : E) (facts : RunFacts) → IsAnswered IsNotEnough IsRendered IsRefusal (Some facts.input) facts.end_was_read (Err e) → NoDeviceFailed facts → facts.written ≡ []
       → IsAfter IsNotEnough IsOutput IsRefusal {T = T} (Err (Refused e)) facts
   after_refused e facts (Whole, (input, fault, whole, known)) unfailed nothing =
@@ -36,7 +36,7 @@ module _ (T : Type 0) {A E : Type 0} (IsNotEnough : Bytes → Type 0) (IsOutput 
         says = record { no_device_failed = record { no_read_failed = unfailed.no_read_failed; no_write_failed = unfailed.no_write_failed }; whole = refl; fault = subst (λ t. IsRefusal Beginning t e) own.3 fault; nothing_written = nothing };
       })
 
--- of pieces some were written, and of the next one a part
+-- if some pieces were written, and a part of the next one, a part of the output was written
 pub part_written : (written part piece behind left whole : Bytes) → written ++ left ≡ whole → left ≡ piece ++ behind → IsBeginningOnly part piece → IsBeginningOnly (written ++ part) whole
 part_written written part piece behind left whole all next beginning =
     record {

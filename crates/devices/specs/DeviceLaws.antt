@@ -1,9 +1,9 @@
--- What every source over memory keeps.
+-- The law of every source over memory.
 -- Source: this library's own.
 use Rattle.std.specs.Prelude.{◌≡◌, true, List, ℕ, [], Option, Some, None, is_none}
 use Rattle.devices.specs.Device.{MemorySourceValue, left_in}
 
--- of no rest nothing is left
+-- if `rest` is `None`, no byte is left
 pub nothing_left : (rest : Option (List ℕ)) (fails_at : ℕ) (failed : _) → is_none rest ≡ true
     → (left : List ℕ)
     → Some (left_in (record { rest = rest; fails_at = fails_at; failed = failed })) ≡ Some left
@@ -11,7 +11,7 @@ pub nothing_left : (rest : Option (List ℕ)) (fails_at : ℕ) (failed : _) → 
 nothing_left None fails_at failed ended left e = cc
 nothing_left (Some bytes) fails_at failed ended left e = absurd (cc)
 
--- after the end there is no byte
+-- after the end, no byte is left
 pub none_is_left_in_memory : (s : MemorySourceValue) → is_none s.rest ≡ true → (left : List ℕ)
     → Some (left_in s) ≡ Some left
     → left ≡ []

@@ -1,12 +1,12 @@
--- What happens in a run, and what is said of it by what its devices tell before and after it.
+-- The facts of a run, by the states of its devices before and after it.
 -- Source: this library's own.
 use Rattle.std.specs.Prelude.{ℕ, ◌≡◌, ◌<◌, ◌≤◌, ◌*◌, ◌^◌, ◌⊎◌, Bool, true, false, [], ◌++◌, Some, length, take}
 use Rattle.devices.specs.Device.{Bytes}
 use Rattle.devices.specs.declared.device.Sink as sink
 use Rattle.devices.specs.declared.device.Source as source
 
--- what happened in a call: all bytes of the source, whether its end was seen, the bytes that were
--- written, and whether the reader and the writer failed
+-- the facts of a call: all bytes of the source, true if its end was read, the bytes that were
+-- written, true if the source failed, and true if the sink failed
 pub record RunFacts : Type 0 where
   pub input : Bytes
   pub end_was_read : Bool
@@ -14,7 +14,7 @@ pub record RunFacts : Type 0 where
   pub read_failed : Bool
   pub write_failed : Bool
 
--- a beginning of the bytes, not all of them
+-- the first bytes are a beginning of the second ones, but not all of them
 pub record IsBeginningOnly (part whole : Bytes) : Type 0 where
   pub rest : Bytes
   pub joins : whole ≡ part ++ rest
@@ -25,88 +25,90 @@ pub record NoDeviceFailed (facts : RunFacts) : Type 0 where
   pub no_read_failed : facts.read_failed ≡ false
   pub no_write_failed : facts.write_failed ≡ false
 
--- the whole input was read, exactly an output for it was written, and no call of a device failed
+-- the whole input was read, an output for it was written as a whole, and no device failed
 pub record IsAfterOk (IsOutput : Bytes → Bytes → Type 0) (facts : RunFacts) : Type 0 where
   pub no_device_failed : NoDeviceFailed facts
   pub whole : facts.end_was_read ≡ true
   pub output : IsOutput facts.input facts.written
 
--- the source failed and the sink didn't, and nothing was written; the end was read only of a source
--- that had nothing left
+-- the source failed and the sink didn't, and nothing was written; if the end was read, the source
+-- had no byte
 pub record IsAfterRead (facts : RunFacts) : Type 0 where
   pub failed : facts.read_failed ≡ true
   pub no_write_failed : facts.write_failed ≡ false
   pub nothing_written : facts.written ≡ []
   pub nothing_left : facts.end_was_read ≡ true → facts.input ≡ []
 
--- the whole input was read, and a beginning of an output for it was written, not all of it
+-- the whole input was read, and a beginning of an output for it was written, but not all of it
 pub record IsPartWritten (IsOutput : Bytes → Bytes → Type 0) (facts : RunFacts) : Type 0 where
   pub whole : facts.end_was_read ≡ true
   pub output : Bytes
   pub is_output : IsOutput facts.input output
   pub beginning : IsBeginningOnly facts.written output
 
--- the sink failed and the source didn't, and a part of an output was written
+-- the sink failed and the source didn't, and a beginning of an output was written
 pub record IsAfterWrite (IsOutput : Bytes → Bytes → Type 0) (facts : RunFacts) : Type 0 where
   pub failed : facts.write_failed ≡ true
   pub no_read_failed : facts.read_failed ≡ false
   pub part : IsPartWritten IsOutput facts
 
--- memory was refused for the rest of an output: no call of a device failed, and a part was written
+-- memory ran out for the rest of an output: no device failed, and a beginning of the output was
+-- written
 pub record IsAfterUnfinished (IsOutput : Bytes → Bytes → Type 0) (facts : RunFacts) : Type 0 where
   pub no_device_failed : NoDeviceFailed facts
   pub part : IsPartWritten IsOutput facts
 
--- the input has no output: it was read whole, nothing was written, and no call of a device failed
+-- the input has no output: it was read as a whole, nothing was written, and no device failed
 pub record IsAfterFault (IsFault : Bytes → Type 0) (facts : RunFacts) : Type 0 where
   pub no_device_failed : NoDeviceFailed facts
   pub whole : facts.end_was_read ≡ true
   pub fault : IsFault facts.input
   pub nothing_written : facts.written ≡ []
 
--- memory was refused: nothing was written, and no call of a device failed; an input that was read
--- whole has no other fault
+-- memory ran out: nothing was written, and no device failed; if the whole input was read, it has no
+-- other fault
 pub record IsAfterOutOfMemory (IsFine : Bytes → Type 0) (facts : RunFacts) : Type 0 where
   pub no_device_failed : NoDeviceFailed facts
   pub nothing_written : facts.written ≡ []
   pub fine : facts.end_was_read ≡ true → IsFine facts.input
 
--- how much of an input was looked at
+-- the part of an input that was read
 pub data Extent : Type 0 where
   Whole : Extent
   Beginning : Extent
 
--- P holds, of a whole input
+-- P holds, and the whole input was read
 abbrev pub OfWhole : Type 0 → Extent → Type 0
 OfWhole P Whole = P
 OfWhole P Beginning = ⊥
 
--- how many bytes were read where it is asked whether they are enough: 65536, and twice as many each
+-- the lengths at which a beginning of an input is tested: 65536 bytes, and then twice as many each
 -- time
 abbrev pub asked_at : ℕ → ℕ
 asked_at n = 65536 * 2 ^ n
 
--- the beginning of an input of which that is asked
+-- the beginning of an input that is tested
 abbrev pub asked_front : ℕ → Bytes → Bytes
 asked_front n input = take (asked_at n) input
 
 module _ (IsNotEnough : Bytes → Type 0) where
-  -- no beginning of which it is asked is enough
+  -- no tested beginning is enough
   abbrev pub NoneIsEnough : Bytes → Type 0
   NoneIsEnough input = (n : ℕ) → asked_at n ≤ length input → IsNotEnough (asked_front n input)
 
-  -- the input is long enough for this question, and no shorter beginning was enough
+  -- the input is long enough for the n-th test, and no shorter beginning was enough
   pub record IsAsked (n : ℕ) (input : Bytes) : Type 0 where
     pub reaches : asked_at n ≤ length input
     pub none_before : (m : ℕ) → m < n → IsNotEnough (asked_front m input)
 
-  -- it went by the whole input: where that was read to its end, no beginning was enough
+  -- the result is that for the whole input; if that was read to its end, no tested beginning was
+  -- enough
   pub record IsByWhole (Says : RunFacts → Type 0) (facts : RunFacts) : Type 0 where
     pub none_is_enough : facts.end_was_read ≡ true → NoneIsEnough facts.input
     pub says : Says facts
 
-  -- it went by the first beginning that was enough as if that were all of the input: what stands
-  -- behind wasn't looked at, and the end wasn't read
+  -- the result is that for the first beginning that was enough, as if it were the whole input; the
+  -- bytes after it don't count, and the end wasn't read
   pub record IsByBeginning (Says : RunFacts → Type 0) (facts : RunFacts) : Type 0 where
     pub n : ℕ
     pub is_asked : IsAsked n facts.input
@@ -116,8 +118,8 @@ module _ (IsNotEnough : Bytes → Type 0) where
   abbrev pub IsByExtent : (Extent → RunFacts → Type 0) → RunFacts → Type 0
   IsByExtent Says facts = IsByWhole (Says Whole) facts ⊎ IsByBeginning (Says Beginning) facts
 
--- what happened between two times to a source and a sink, where both said their bytes at the first
--- and hadn't failed
+-- a claim about what happened to a source and a sink between two times, if their bytes were known
+-- at the first time, and neither had failed
 abbrev pub Between : {R W : Type 0} → source.Ghosts R → sink.Ghosts W → R × W → R × W
     → (RunFacts → Type 0) → Type 0
 Between of_source of_sink old new Says =

@@ -1,4 +1,4 @@
--- What a run ensures, by its result.
+-- The contract of a run, by its result.
 -- Source: this library's own.
 use Rattle.std.specs.Prelude.{◌≡◌, ⊤, Bool, true, false, [], Result, Ok, Err, IfOk}
 use Rattle.devices.specs.Device.{Bytes}
@@ -8,22 +8,22 @@ use Rattle.devices.specs.declared.transfer.ReadError.TheVariants as read
 use Rattle.devices.specs.declared.transfer.Stop.{Stop}
 use Rattle.devices.specs.declared.transfer.Stop.TheVariants.{OutOfMemory, Read, Refused, Unfinished, Write}
 
--- the result says that the source failed
+-- the result means that the source failed
 abbrev pub is_read_fault : {T E : Type 0} → Result T (Stop E) → Bool
 is_read_fault (Err Read) = true
 is_read_fault _ = false
 
--- the result says that the sink failed
+-- the result means that the sink failed
 abbrev pub is_write_fault : {T E : Type 0} → Result T (Stop E) → Bool
 is_write_fault (Err Write) = true
 is_write_fault _ = false
 
--- why a run stopped whose source wasn't read to its end
+-- the reason why a run stopped, if its source wasn't read to its end
 abbrev pub stop_of : {E : Type 0} → ReadError → Stop E
 stop_of read.Source = Read
 stop_of read.OutOfMemory = OutOfMemory
 
--- a refusal is that of some input
+-- a refusal is one for some input
 abbrev pub IsRefusalOfSome : {E : Type 0} → (Extent → Bytes → E → Type 0) → Stop E → Type 0
 IsRefusalOfSome IsRefusal (Refused e) =
     (extent : Extent) × (input : Bytes) × IsRefusal extent input e
@@ -33,8 +33,8 @@ IsRefusalOfSome IsRefusal _ = ⊤
 abbrev pub IsSomeEnough : (Extent → Bytes → Bytes → Type 0) → Type 0
 IsSomeEnough IsOutput = (beginning : Bytes) × (output : Bytes) × IsOutput Beginning beginning output
 
--- what the facts of a run are, by its result; nothing is left where the end was read and there was
--- no memory for the input
+-- the facts of a run, by its result; if the end was read and memory ran out for the input, the
+-- input is empty
 module _ {E : Type 0} (IsNotEnough : Bytes → Type 0)
     (IsOutput : Extent → Bytes → Bytes → Type 0) (IsRefusal : Extent → Bytes → E → Type 0) where
   abbrev pub IsAfterIn : {T : Type 0} → Result T (Stop E) → Extent → RunFacts → Type 0
@@ -49,7 +49,7 @@ module _ {E : Type 0} (IsNotEnough : Bytes → Type 0)
   abbrev pub IsAfter : {T : Type 0} → Result T (Stop E) → RunFacts → Type 0
   IsAfter result facts = IsByExtent IsNotEnough (IsAfterIn result) facts
 
--- findings are those about the whole input, or about a beginning of it that was enough
+-- the findings are those about the whole input, or about a beginning that was enough
 abbrev pub AreFindings : {N E : Type 0} → (Bytes → Type 0) → (Extent → Bytes → N → Type 0)
     → Result N E → RunFacts → Type 0
 AreFindings IsNotEnough AreFindingsOf result facts =

@@ -1,4 +1,4 @@
--- What reading a source returns, to its end or up to a place.
+-- The results of reading a source, to its end or to its first bytes.
 -- Source: this library's own.
 use Rattle.std.specs.Prelude.{ℕ, ◌≡◌, Bool, true, false, ◌++◌, Option, Some, Result, Err, MatchResult}
 use Rattle.devices.specs.Device.{Bytes}
@@ -7,24 +7,24 @@ use Rattle.devices.specs.declared.transfer.Rendered.{Rendered}
 use Rattle.devices.specs.declared.transfer.ReadError.{ReadError}
 use Rattle.devices.specs.declared.transfer.ReadError.TheVariants.{Source}
 
--- the result says that the source failed
+-- the result means that the source failed
 abbrev pub is_source_fault : {T : Type 0} → Result T ReadError → Bool
 is_source_fault (Err Source) = true
 is_source_fault _ = false
 
--- what a source gave stands behind the bytes that were there, and the rest is left
+-- the bytes that a source returned were appended, and the rest of its bytes is left
 abbrev pub Moves : Option Bytes → Option Bytes → Bytes → Bytes → Type 0
 Moves old new had has =
     (input : Bytes) → old ≡ Some input → (left : Bytes) × (new ≡ Some left)
     × (had ++ input ≡ has ++ left)
 
--- what is still to come of pieces is an output for an input, and the findings are those about it
+-- the remaining pieces are an output for an input, and the findings are those about it
 abbrev pub IsRenderedBy : {P N : Type 0} → (P → Bytes) → (Extent → Bytes → Bytes → Type 0)
     → (Extent → Bytes → N → Type 0) → Extent → Bytes → Rendered P N → Type 0
 IsRenderedBy rest IsOutput AreFindingsOf extent input rendered =
     IsOutput extent input (rest rendered.pieces) × AreFindingsOf extent input rendered.findings
 
--- an answer is an output for an input, or why there is none
+-- the result is an output for an input, or the reason why it has none
 abbrev pub IsAnswer : {A E : Type 0} → (Extent → Bytes → A → Type 0)
     → (Extent → Bytes → E → Type 0) → Extent → Bytes → Result A E → Type 0
 IsAnswer IsOutput IsRefusal extent input answer =
@@ -32,8 +32,8 @@ IsAnswer IsOutput IsRefusal extent input answer =
 
 module _ {A E : Type 0} (IsNotEnough : Bytes → Type 0) (IsOutput : Extent → Bytes → A → Type 0)
     (IsRefusal : Extent → Bytes → E → Type 0) where
-  -- it is one for what was looked at of a source's bytes: for all of them where its end was read
-  -- and no beginning was enough, else for the first beginning that was
+  -- the result is for all bytes of a source, if its end was read and no tested beginning was
+  -- enough, and otherwise for the first beginning that was enough
   abbrev pub IsAnsweredIn : Extent → Option Bytes → Bool → Result A E → Type 0
   IsAnsweredIn Whole known ended answer =
       (input : Bytes) × IsAnswer IsOutput IsRefusal Whole input answer × (ended ≡ true)

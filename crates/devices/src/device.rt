@@ -1,26 +1,28 @@
-//! Where bytes come from, and where they go to.
+//! Sources of bytes, and sinks for bytes.
 
 ghost use Rattle.std.specs.Prelude.{◌≡◌, ◌<◌, ◌≤◌, ◌++◌, ◌||◌, List, ℕ, Bool, true, length, take, drop, is_err, IfOk, OnErr, Option, Some, []};
 ghost use Rattle.devices.specs.Device.{is_end};
 
-/// A call of a device failed. It is returned exactly where the device has failed, and then by every
+/// A call of a device failed. A device returns this exactly if it has failed, and then from every
 /// later call.
 #[derive(Clone, Copy, Debug, PartialEq, Eq)]
 pub struct DeviceFault;
 
-/// Where bytes come from.
+/// A source of bytes.
 pub trait Source {
-    // the bytes that are left, where they are known
+    // the bytes that are left, if they are known
     ghost remaining: { Self → Option (List ℕ) };
 
-    // whether it has failed
+    // true if the source has failed
     ghost has_failed: { Self → Bool };
 
-    // whether its end was read: whether a call returned 0 for a buffer that isn't empty
+    // true if the end was read: a call with a buffer that isn't empty returned 0
     ghost end_was_read: { Self → Bool };
 
-    /// Puts bytes at the front of the buffer, and returns how many; 0 for a buffer that isn't empty
-    /// is the end.
+    /// Writes bytes to the front of the buffer, and returns their number. For a buffer that isn't
+    /// empty, 0 means the end.
+    ///
+    /// The only error is that the source has failed. Then every later call fails too.
     fn read(&mut self, buffer: &mut [u8]) -> Result<usize, DeviceFault>
         ensures bound { IfOk result (λ count. count ≤ length buffer.old) }
         ensures fault { has_failed self.new ≡ is_err result }
@@ -35,21 +37,24 @@ pub trait Source {
         ensures end_read { end_was_read self.new
             ≡ (end_was_read self.old || is_end result (length buffer.old)) };
 
-    // after the end there is no byte
+    // no byte is left after the end
     ghost ended: { (s : Self) → end_was_read s ≡ true → (left : List ℕ) → remaining s ≡ Some left
         → left ≡ [] };
 }
 
-/// Where bytes go to.
+/// A sink for bytes.
 pub trait Sink {
-    // the bytes that it has taken, where they are known
+    // the bytes that the sink has taken, if they are known
     ghost taken: { Self → Option (List ℕ) };
 
-    // whether it has failed
+    // true if the sink has failed
     ghost has_failed: { Self → Bool };
 
-    /// Takes bytes from the front of the piece, and returns how many: at least one of a piece that
-    /// isn't empty. A call that faults takes none.
+    /// Takes bytes from the front of the piece, and returns their number: at least one if the piece
+    /// isn't empty.
+    ///
+    /// The only error is that the sink has failed. A failed call takes no byte, and every later
+    /// call fails too.
     fn write(&mut self, piece: &[u8]) -> Result<usize, DeviceFault>
         ensures bound { IfOk result (λ count. count ≤ length piece.now) }
         ensures some { IfOk result (λ count. 0 < length piece.now → 0 < count) }

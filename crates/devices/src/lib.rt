@@ -1,5 +1,5 @@
-//! Where bytes come from and where they go to: readers, writers and memory; all of a piece for a
-//! sink, and a run from a source to a sink; a process's arguments.
+//! Sources and sinks of bytes, over readers, writers and memory. A piece can be written as a whole,
+//! and a run reads a source and writes to a sink. The arguments of a process are here too.
 #![tactic(auto)]
 
 mod device;

@@ -1,9 +1,9 @@
-//! Calls that only ask the process.
+//! Calls that read facts of the process.
 
 use std::{env, io};
 
-/// The program's name, and the arguments after it. The error's kind is `InvalidData` where one of
-/// them isn't text; any other error is want of memory.
+/// Returns the program's name, and the arguments after it. The error has the kind `InvalidData` if
+/// one of them isn't UTF-8. Any other error is that memory runs out.
 pub fn arguments_of_process(rt: &HostRuntime) -> io::Result<Vec<String>> {
     let mut arguments = Vec::new(rt.alloc());
     for argument in env::args(rt)? {

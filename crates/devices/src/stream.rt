@@ -1,4 +1,4 @@
-//! Devices over readers and writers, which keep whether those have failed.
+//! Devices over readers and writers. They remember a failure of these.
 
 ghost use Rattle.std.specs.Prelude.{◌≡◌, ◌||◌, ◌↔◌, IfErr, IfOk, None, Ok, Some, is_err, is_some, false, true};
 ghost use Rattle.std.specs.IoError.{error_kind};
@@ -9,12 +9,12 @@ use crate::device::{DeviceFault, Sink, Source};
 use std::io::{self, ErrorKind, Read, Write};
 use std::marker::Model;
 
-/// A source over a reader. Every error of the reader is a failure; over `Uninterrupted` a signal is
-/// none.
+/// A source over a reader. Every error of the reader is a failure. Put the reader in
+/// `Uninterrupted`, so that calls that a signal interrupts are repeated.
 #[derive(Drop)]
 pub struct FromReader<R> {
     reader: R,
-    // the kind of the error with which it failed
+    // the kind of the error with which the reader failed
     fault: Option<ErrorKind>,
     ended: bool,
 }
@@ -28,7 +28,7 @@ impl<R> Model for FromReader<R> {
 }
 
 impl<R: Read> FromReader<R> {
-    /// A source of the bytes that the reader gives from here on. It takes no memory.
+    /// A source of the bytes that the reader has left. It takes no memory.
     pub fn new(reader: R) -> FromReader<R>
         ensures { result ≡ record { reader = reader; fault = None; ended = false } }
     {
@@ -39,14 +39,14 @@ impl<R: Read> FromReader<R> {
         }
     }
 
-    /// The kind of the error with which the reader failed; none where it didn't.
+    /// The kind of the error with which the reader failed. `None` if it hasn't failed.
     pub fn fault(&self) -> Option<ErrorKind>
         ensures { result ≡ self.now.fault }
     {
         self.fault
     }
 
-    // What the reader said of so much room, as the source keeps and answers it.
+    // Stores the reader's result for a buffer of `room` bytes, and returns it as a device does.
     fn note_result(&mut self, said: io::Result<usize>, room: usize) -> Result<usize, DeviceFault>
         ensures count { IfOk result (λ count. said ≡ Ok count) }
         ensures fault { is_err result ≡ is_err said }
@@ -91,13 +91,14 @@ impl<R: Read> Source for FromReader<R> {
     }
 }
 
-/// A sink over a writer. Every error of the writer is a failure, and so is a piece that isn't empty
-/// of which it takes nothing; over `Uninterrupted` a signal is none.
+/// A sink over a writer. Every error of the writer is a failure. If the writer takes nothing of a
+/// piece that isn't empty, that is a failure too. Put the writer in `Uninterrupted`, so that calls
+/// that a signal interrupts are repeated.
 #[derive(Drop)]
 pub struct ToWriter<W> {
     writer: W,
     failed: bool,
-    // the kind of the error with which it failed, where it said one
+    // the kind of the error with which the writer failed, if it returned one
     fault: Option<ErrorKind>,
 }
 
@@ -121,14 +122,15 @@ impl<W: Write> ToWriter<W> {
         }
     }
 
-    /// The kind of the error with which the writer failed; none where it didn't, or said none.
+    /// The kind of the error with which the writer failed. `None` if it hasn't failed, or failed
+    /// without an error.
     pub fn fault(&self) -> Option<ErrorKind>
         ensures { result ≡ self.now.fault }
     {
         self.fault
     }
 
-    // What the writer said of a piece of this many bytes, as the sink keeps and answers it.
+    // Stores the writer's result for a piece of `bytes` bytes, and returns it as a device does.
     fn note_result(&mut self, said: io::Result<usize>, bytes: usize) -> Result<usize, DeviceFault>
         ensures count { IfOk result (λ count. said ≡ Ok count) }
         ensures fault { is_err result ≡ (is_err said || is_end said bytes) }

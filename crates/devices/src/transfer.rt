@@ -1,4 +1,4 @@
-//! Whole outputs: all of a piece for a sink; and a run that reads a source and writes a sink.
+//! Writes a whole piece to a sink, and runs from a source to a sink.
 
 ghost use Rattle.std.specs.Prelude.{◌≡◌, ◌<◌, ◌++◌, ◌⊎◌, List, ℕ, [], true, false, Err, Ok, Some, OnOk, OnErr, IfNone, IfOk, IfErr, IfSome, vec_len};
 ghost use Rattle.devices.specs.Outcome.{Between, Extent, IsBeginningOnly};
@@ -10,19 +10,19 @@ use crate::device::{DeviceFault, Sink, Source};
 use comfy_parts::pieces::Pieces;
 use std::alloc::{AllocError, Global};
 
-// How many bytes are asked for at a time. To clear a larger block takes longer than a small input
-// takes to be drawn.
+// The most bytes that are read in one call. To clear a larger block takes longer than to draw a
+// small input.
 const BLOCK: usize = 4096;
 
-// How many bytes are read before it is first asked whether they are enough.
+// The number of bytes that are read before the first test if they are enough.
 const FIRST: usize = 65536;
 
-/// Why a source wasn't read to its end.
+/// The reason why a source wasn't read to its end.
 #[derive(Clone, Copy, Debug, PartialEq, Eq)]
 pub enum ReadError {
     /// A call of the source failed.
     Source,
-    /// There was no memory for its bytes.
+    /// Memory ran out for its bytes.
     OutOfMemory,
 }
 
@@ -34,18 +34,18 @@ impl From<AllocError> for ReadError {
     }
 }
 
-/// Why a run stopped.
+/// The reason why a run stopped.
 #[derive(Debug, Drop)]
 pub enum Stop<E> {
     /// A call of the source failed.
     Read,
     /// A call of the sink failed.
     Write,
-    /// There was no memory for the input.
+    /// Memory ran out for the input.
     OutOfMemory,
-    /// There was no memory for a piece of the output, so that not all of it was written.
+    /// Memory ran out for a piece of the output, so only a part of the output was written.
     Unfinished,
-    /// The input was read whole, and has no output.
+    /// The input has no output. It was read as a whole, or its beginning was enough to refuse it.
     Refused(E),
 }
 
@@ -63,34 +63,35 @@ impl<E> From<ReadError> for Stop<E> {
 /// An output, and the findings about its input.
 #[derive(Drop)]
 pub struct Rendered<P, N> {
-    /// The text that is written.
+    /// The text that is to be written, in pieces.
     pub pieces: P,
-    /// The findings.
+    /// The findings about the input.
     pub findings: N,
 }
 
-/// A maker of a drawing, or of any other text, of an input.
+/// Makes the output for an input: a drawing, or any other text.
 pub trait Render {
-    /// Why an input has no output.
+    /// The reason why an input has no output.
     type Error: Drop;
-    /// The text that is written.
+    /// The text that is to be written, in pieces.
     type Output: Pieces + Drop;
     /// The findings about an input that has an output.
     type Findings: Drop;
 
-    // whether a beginning of an input isn't enough for an output, so that more has to be read
+    // true if the beginning of an input isn't enough for an output, so that more has to be read
     ghost is_not_enough: { Self → List ℕ → Type 0 };
 
-    // which bytes are an output for a whole input, or for a beginning of one that is enough
+    // true if these bytes are an output for a whole input, or for a beginning that is enough
     ghost is_output: { Self → Extent → List ℕ → List ℕ → Type 0 };
 
-    // whether these are the findings about it
+    // true if these are the findings about such an input
     ghost are_findings: { Self → Extent → List ℕ → Self.Findings → Type 0 };
 
-    // whether this is why such an input has no output
+    // true if this is the reason why such an input has no output
     ghost is_refusal: { Self → Extent → List ℕ → Self.Error → Type 0 };
 
-    /// The output for an input that was read whole.
+    /// Makes the output for an input that was read as a whole. The error is the reason why it has
+    /// none.
     fn render(
         &self,
         alloc: Global,
@@ -100,8 +101,8 @@ pub trait Render {
             (IsRenderedBy Self.Output.rest (is_output self.now) (are_findings self.now))
             (is_refusal self.now) Extent.Whole input.items result };
 
-    /// The output for an input of which these bytes were read, after which more may follow, where
-    /// they are enough; none where more have to be read.
+    /// Makes the output for an input from its beginning, after which more bytes may follow. `None`
+    /// if the beginning isn't enough, and more bytes have to be read.
     fn render_beginning(
         &self,
         alloc: Global,
@@ -113,8 +114,8 @@ pub trait Render {
         ensures none { IfNone result (is_not_enough self.now read.now) };
 }
 
-// Appends the bytes of the source, until there are this many, or to its end. Returns whether the
-// end was read.
+// Appends bytes of the source until there are `len`, or to its end. Returns true if the end was
+// read.
 fn read_up_to<R: Source>(source: &mut R, bytes: &mut Vec<u8>, len: usize) -> Result<bool, ReadError>
     requires { vec_len bytes.old < len }
     ensures fault { R.has_failed source.new ≡ is_source_fault result }
@@ -143,8 +144,8 @@ fn read_up_to<R: Source>(source: &mut R, bytes: &mut Vec<u8>, len: usize) -> Res
     }
 }
 
-/// Writes the whole piece. Where the sink fails, a beginning of the piece was written, not all of
-/// it.
+/// Writes the whole piece. The only error is that the sink fails. Then a beginning of the piece was
+/// written, perhaps no byte, but not all of the piece.
 pub fn write_all<W: Sink>(sink: &mut W, piece: &[u8]) -> Result<(), DeviceFault>
     ensures written { OnOk result ((had : List ℕ) → W.taken sink.old ≡ Some had
         → W.taken sink.new ≡ Some (had ++ piece.now)) }
@@ -164,16 +165,21 @@ pub fn write_all<W: Sink>(sink: &mut W, piece: &[u8]) -> Result<(), DeviceFault>
     Ok(())
 }
 
-/// Reads the source, and writes the output for it to the sink. Returns the findings about it.
+/// Reads the source, and writes the output for it to the sink. Returns the findings about the
+/// input.
 ///
-/// It is read whole, or until its beginning is enough: this is asked at 65536 bytes, at twice as
-/// many, and so on, so that it depends on the input alone, however the source parts it. Each piece
-/// of the output is written as it comes.
+/// The source is read as a whole, or until its beginning is enough. This is tested at 65536 bytes,
+/// at twice as many, and so on. So the result doesn't depend on the sizes in which the source
+/// returns its bytes. Each piece of the output is written when it comes.
 ///
-/// After `Read` the source has failed and the sink hasn't, after `Write` the sink and not the
-/// source, and after every other result neither. After `Write` and `Unfinished` a beginning of the
-/// output was written, not all of it, and nothing after every other error. `Unfinished` never comes
-/// where outputs are whole in memory.
+/// # Errors
+///
+/// After `Read` the source has failed and the sink hasn't. After `Write` the sink has failed and
+/// the source hasn't. After every other result neither has.
+///
+/// After `Write` and `Unfinished` a beginning of the output was written, perhaps no byte, but not
+/// all of the output. After every other error nothing was written. `Unfinished` can't come if
+/// outputs are in memory as a whole.
 pub fn run<R: Source, W: Sink, D: Render>(
     alloc: Global,
     source: &mut R,
@@ -212,7 +218,7 @@ pub fn run<R: Source, W: Sink, D: Render>(
     }
 }
 
-// The answer to all that the source has left, or of a beginning that is enough.
+// The result for all bytes that the source has left, or for a beginning that is enough.
 fn read_answer<R: Source, D: Render>(
     alloc: Global,
     source: &mut R,

@@ -1,4 +1,4 @@
-//! Readers and writers whose calls are made again where a signal interrupts them.
+//! Readers and writers that repeat a call if a signal interrupts it.
 
 ghost use Rattle.std.specs.Prelude.{◌≡◌};
 ghost use Rattle.std.specs.Io.{ReadsAtMost, WritesAtMost};
@@ -6,18 +6,19 @@ ghost use Rattle.std.specs.Io.KnownBytes.{ReadConsumes, WriteAppends};
 
 use std::io::{self, ErrorKind, Read, Write};
 
-// How often a call is made.
+// The number of tries for a call.
 const TRIES: u32 = 1000;
 
-/// A reader or a writer. A call of it that a signal interrupted took and gave nothing, and is made
-/// again, up to a thousand times; then it is an error as any other.
+/// A reader or a writer. If a signal interrupts a call, which then has read or written nothing, the
+/// call is made again, up to 1000 times in all. After that the interruption is an error like any
+/// other.
 #[derive(Drop)]
 pub struct Uninterrupted<S> {
     stream: S,
 }
 
 impl<S> Uninterrupted<S> {
-    /// Over this reader or writer.
+    /// Repeats the interrupted calls of this reader or writer.
     pub fn new(stream: S) -> Uninterrupted<S>
         ensures { result.stream ≡ stream }
     {
@@ -45,7 +46,7 @@ impl<W: Write> Write for Uninterrupted<W> {
     }
 }
 
-// One read, made again where it was interrupted.
+// Reads once. An interrupted call is made again.
 fn read_again<R: Read>(reader: &mut R, buffer: &mut [u8]) -> io::Result<usize>
     ensures bound { ReadsAtMost result buffer.new }
     ensures bytes { ReadConsumes (R.remaining reader.old) (R.remaining reader.new) result
@@ -60,7 +61,7 @@ fn read_again<R: Read>(reader: &mut R, buffer: &mut [u8]) -> io::Result<usize>
     reader.read(buffer)
 }
 
-// One write, made again where it was interrupted.
+// Writes once. An interrupted call is made again.
 fn write_again<W: Write>(writer: &mut W, piece: &[u8]) -> io::Result<usize>
     ensures bound { WritesAtMost result piece.now }
     ensures bytes { WriteAppends (W.contents writer.old) (W.contents writer.new) result piece.now }

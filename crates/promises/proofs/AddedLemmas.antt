@@ -1,4 +1,4 @@
--- What a further row leaves as it was.
+-- Adding a row keeps the lines of a drawing.
 use Rattle.std.proofs.Common.{◌≡◌, ◌<◌, ◌≤◌, ℕ, zero, suc, Bool, false, List, [], ◌∷◌, Option, Some, None, length, map, sym, ap, ◌∙◌, subst, arith, slice_index_or}
 use Rattle.std.specs.List.{cons_option, filter_map, slice_get}
 use Rattle.std.specs.Prelude.{if◌then◌else◌}
@@ -14,7 +14,7 @@ use Rattle.comfy_table.specs.TableValue.{TableValue, cell_content_width, column_
 use Rattle.promises.proofs.PlacedLemmas.{measured_plain}
 use Rattle.promises.specs.Added.{HasRoomFor, Stay}
 
--- a cell of one of these rows is at most as wide as the widest
+-- the content of a cell of one of these rows is at most the greatest content
 module _ (i : ℕ) (above : RowValue) (other : CellValue) (found : slice_get above.cells i ≡ Some other) where
   abbrev contents : List RowValue → ℕ
   contents rows = greatest (map cell_content_width (filter_map (λ (row : RowValue). slice_get row.cells i) rows))
@@ -30,7 +30,7 @@ module _ (i : ℕ) (above : RowValue) (other : CellValue) (found : slice_get abo
       by_cell None rest = rest
       by_cell (Some cell) rest = omega (arith, rest)
 
--- so a row that has room is within the contents
+-- so a row that has room is within the contents of the columns
 within_contents : (table : TableValue) (row : RowValue) → table.custom_styling ≡ false → HasRoomFor table row → IsWithinContents table row
 within_contents table row plain room i cell found =
     let wider = room.widths i cell found in
@@ -41,7 +41,7 @@ within_contents table row plain room i cell found =
     let column : contents i wider.0 wider.1 wider.3 (header_and_rows table) ≡ column_content_width table i = ap (contents i wider.0 wider.1 wider.3) (sym (measured_plain table plain)) in
     omega (arith, most, measured, column, wider.4)
 
--- lines stay where the row has room
+-- lines stay if the row has room
 pub lines_stay : (table : TableValue) (row : RowValue) (lines others : List Text) → ShownLinesStay table row lines others → IsDrawingOf table lines → IsDrawingOf (with_row row table) others
     → table.arrangement ≡ Disabled → table.custom_styling ≡ false → HasRoomFor table row → Stay table lines others
 lines_stay table row lines others law first second disabled plain room =

@@ -1,4 +1,4 @@
--- How callers meet the conditions of promises.
+-- Meeting the conditions of promises, for callers.
 use Rattle.std.proofs.Common.{get_or, ◌≡◌, ◌==◌, ◌&&◌, ◌≤◌, ◌<◌, ◌-◌, ℕ, Bool, true, false, not, List, [], ◌∷◌, ◌++◌, None, Some, Option, append-nil, refl, sym, ap, ◌∙◌, subst, arith, length, max, nat_le, ap₂, flat_map}
 use Rattle.std.specs.List.{All, join_by, list_all, range_with_len, slice_split}
 use Rattle.std.specs.Int.{is_in_range}
@@ -38,7 +38,7 @@ one_column c printable =
 each_one : (cs : List ℕ) → list_all (is_in_range 0x20 0x7E) cs ≡ true → list_all (character_fits 1) cs ≡ true
 each_one cs all = list_all-from_AllPass (character_fits 1) cs (λ k default below. one_column _ (AllPass-from_list_all (is_in_range 0x20 0x7E) cs all k default below))
 
--- no selector is among them
+-- no printable character is a variation selector
 agree : (cs : List ℕ) → list_all (is_in_range 0x20 0x7E) cs ≡ true → selectors_agree cs ≡ true
 agree [] all = refl
 agree (c ∷ []) all = refl
@@ -132,7 +132,7 @@ of_rows base header rows empty = all_added base header [] rows (with_header head
 -- ---- parts
 
 module _ {X Y : Type 0} (f : X → List Y) (between : List Y) where
-  -- what follows the first part
+  -- the lines after the first part
   later : (parts : List (List X)) → All (λ part. 0 < length part) parts
       → flat_map (λ x. between ++ f x) (flat_map (λ (part : List X). part) parts) ≡ flat_map (λ part. between ++ join_by f between part) parts
   later [] some = refl
@@ -151,7 +151,7 @@ module _ {X Y : Type 0} (f : X → List Y) (between : List Y) where
       ∙ sym (append_assoc (f x) (flat_map (λ z. between ++ f z) xs) (flat_map (λ z. between ++ f z) (flat_map (λ (part : List X). part) parts)))
       ∙ ap (λ t. (f x ++ flat_map (λ z. between ++ f z) xs) ++ t) (later parts (All-tail (λ (part : List X). 0 < length part) (x ∷ xs) parts some))
 
--- the drawing of all rows is those of the parts, put together
+-- the drawing of all rows consists of the parts, put together
 pub whole_of_parts : (table : TableValue) (infos : List ColumnInfo) (parts : List (List RowValue)) → PartsMakeTheWhole table infos parts
 whole_of_parts table infos parts rows some =
     ap (λ (rs : List RowValue). framed table infos (drawn_rows table infos rs)) (sym rows)

@@ -1,4 +1,4 @@
--- Columns as they are drawn, and what stands in them.
+-- The infos of columns, and the cells in them.
 use Rattle.std.proofs.Common.{◌≡◌, ℕ, ◌+◌, Bool, true, false, not, cond, List, [], ◌∷◌, ◌++◌, Some, length, map, refl, sym, ap, ap₂, ◌∙◌, subst, arith, append_assoc, length-append, max, slice_index_or}
 use Rattle.std.specs.Char.{IsScalar}
 use Rattle.std.specs.List.{All, enumerate_from, slice_get}
@@ -16,11 +16,11 @@ use Rattle.comfy_table.specs.Lines.{cell_delimiter}
 use Rattle.comfy_table.specs.Pieces.{shown_infos}
 use Rattle.comfy_table.specs.TableValue.{TableValue, measured_rows, shown_columns}
 
--- with the width at its position
+-- a column's info, with the width at its position
 abbrev pub drawn_column : List ℕ → ℕ × ColumnValue → ℕ × ColumnInfo
 drawn_column widths p = (p.0, info_of p.1 (slice_index widths p.0))
 
--- the shown columns from a position on
+-- the infos of the shown columns from a position on
 drawn_from : (all front : List ℕ) (n : ℕ) (columns : List ColumnValue) (widths : List ℕ) → all ≡ front ++ widths → length front ≡ n → length widths ≡ length columns
     → infos_from n columns widths ≡ map (drawn_column all) (columns_from n columns)
 drawn_from all front n [] widths splits at long = nothing_drawn widths
@@ -41,7 +41,7 @@ drawn_from all front n (column ∷ columns) (w ∷ widths) splits at long =
     by_test true rest = rest
     by_test false rest = ap₂ (λ (v : ℕ) (more : List (ℕ × ColumnInfo)). (n, info_of column v) ∷ more) here rest
 
--- all columns from a position on, with their contents
+-- the infos of all columns from a position on, with their contents
 all_from : (all front : List ℕ) (n : ℕ) (columns : List ColumnValue) (widths : List ℕ) → all ≡ front ++ widths → length front ≡ n → length widths ≡ length columns
     → map (λ (p : ColumnValue × ℕ). info_of p.0 p.1) (zip columns widths) ≡ map (λ (p : ℕ × ColumnValue). info_of p.1 (max 1 (slice_index all p.0))) (enumerate_from n columns)
 all_from all front n [] [] splits at long = refl
@@ -64,11 +64,11 @@ module _ (table : TableValue) (widths : List ℕ) (long : length widths ≡ leng
   pub columns-drawn : shown_infos (infos_of table widths) ≡ map (drawn_column widths) (shown_columns table)
   columns-drawn = drawn_from widths [] 0 table.columns widths refl refl long
 
--- what stands in a column of a row is whole characters, and so is the delimiter
+-- the cell of a row in a column consists of whole characters, and so does its delimiter
 abbrev pub IsWholeAt : TableValue → RowValue → ℕ × ColumnValue → Type 0
 IsWholeAt table row p = (cell : CellValue) → slice_get row.cells p.0 ≡ Some cell → IsScalar (cell_delimiter table p.1.delimiter cell) × All IsUtf8 cell.text_lines
 
--- delimiters and texts in shown columns are whole characters
+-- the delimiters and texts in shown columns consist of whole characters
 pub whole_at : (table : TableValue) (lines : List Text) (drawn : IsTableDrawing table lines) → All (λ (row : RowValue). All (IsWholeAt table row) (shown_columns table)) (measured_rows table)
 whole_at table lines drawn k default under =
     All-weaker (λ (p : ℕ × ColumnValue). HasScalar (drawn_column drawn.widths p)) (IsWholeAt table row)

@@ -1,4 +1,4 @@
--- Tables in callers' words are straight.
+-- Tables that meet callers' conditions are straight.
 use Rattle.std.proofs.Common.{◌≡◌, ◌≤◌, ◌==◌, ◌+◌, ◌&&◌, ◌||◌, inl, inr, ℕ, Bool, true, false, not, List, [], ◌∷◌, Option, Some, None, unwrap_or, refl, sym, ap, ap₂, ◌∙◌, length, subst, arith, slice_index_or, max, nat_le}
 use Rattle.std.specs.List.{All, list_all, slice_get}
 use Rattle.std.specs.Prelude.{chars, encode_utf8}
@@ -38,7 +38,7 @@ use Rattle.promises.specs.Tables.{CharactersFitColumns, EachShownText, EachText,
 
 -- ---- characters
 
--- what holds of a character of such a text
+-- a character measures at most n terminal columns, and isn't U+FE01
 abbrev within : ℕ → ℕ → Bool
 within n c = nat_le (measure (encode_utf8 c)) n && not (c == 0xFE01)
 
@@ -66,12 +66,12 @@ agree n (c ∷ d ∷ cs) all =
     let second = and_parts (nat_le (measure (encode_utf8 d)) n) (not (d == 0xFE01)) next.0 in
     ap (λ b. not b && selectors_agree (d ∷ cs)) (no_clash (c == 0xFE01) (d == 0xFE01) (is_presentation c) (is_presentation d) first.1 second.1) ∙ agree n (d ∷ cs) both.1
 
--- such a text fits each column that has room
+-- such a text fits each column of at least n terminal columns
 pub text_fits : (n w : ℕ) → n ≤ w → (text : Text) → HasCharactersWithin n text → characters_fit w text ≡ true
 text_fits n w room text all =
     ap (λ b. b && selectors_agree (chars text)) (each_fits n w room (chars text) all) ∙ agree n (chars text) all
 
--- characters have more room in a wider column
+-- characters that fit a column fit a wider one
 more : (n w : ℕ) → n ≤ w → (text : Text) → CharactersFit n text → CharactersFit w text
 more n w room text fits =
     let both = fitting-parts n text fits in
@@ -80,7 +80,7 @@ more n w room text fits =
 
 -- ---- delimiters
 
--- the first of those that are set, each of which adds one column, adds one
+-- the first delimiter that is set adds one terminal column, if each does
 first_set : (a b c : Option ℕ) → IsOneColumn a → IsOneColumn b → IsOneColumn c → AddsOneColumn (unwrap_or a (unwrap_or b (unwrap_or c 0x20)))
 first_set (Some x) b c one two three = one
 first_set None (Some y) c one two three = two
@@ -88,7 +88,7 @@ first_set None None c one two three = three
 
 -- ---- tables
 
--- each character of the cell has room in the column
+-- each character of the cell fits the column
 abbrev CellFits : RowValue → ColumnInfo → CellValue → Type 0
 CellFits row column cell = All (CharactersFit column.content_width) cell.text_lines
 
@@ -96,15 +96,15 @@ CellFits row column cell = All (CharactersFit column.content_width) cell.text_li
 pub unconstrained : (table : TableValue) → IsUnconstrained table → NoConstraints table
 unconstrained table free = placed (λ (column : ColumnValue). not (is_hidden_column column)) (λ column. column.constraint ≡ None) 0 table.columns free
 
--- what holds of all texts holds of those in shown columns as they are measured
+-- a property of all texts holds of the measured texts in shown columns
 abbrev pub TextsStay : TableValue → Type 1
 TextsStay table = (P : Text → Type 0) → EachText P table → laws.EachShownText P table
 
--- it does where no text is searched for sequences
+-- this is so if texts aren't searched for sequences
 pub plain_stay : (table : TableValue) → table.custom_styling ≡ false → TextsStay table
 plain_stay table plain P each = shown_of_all P table (subst (All (λ (row : RowValue). All (λ (cell : CellValue). All P cell.text_lines) row.cells)) (sym (measured_plain table plain)) each)
 
--- and where no shown one has a control character
+-- this is so if shown texts have no control characters
 pub free_stay : (table : TableValue) → EachShownText HasNoControl table → TextsStay table
 free_stay table free P each =
     measured_shown (λ (text : Text). P text × HasNoControl text) P table (λ text own. (own.0, subst P (sym (visible_clear text own.1)) own.0)) (shown_both P HasNoControl table each free)
@@ -120,7 +120,7 @@ module _ (table : TableValue) (frame : HasPlainFrame table) where
       (All-filter (λ (column : ColumnValue). not (is_hidden_column column)) (λ (column : ColumnValue). IsOneColumn column.delimiter) table.columns frame.column_delimiters))
       (λ i column w one. one)
 
-  -- where the characters of each cell fit its column
+  -- the table is straight, if the characters of each cell fit its column
   pub fitting : (lines : List Text) (drawn : IsTableDrawing table lines)
       → straight.EachCell CellFits table drawn.widths → straight.IsStraightTable table drawn.widths
   fitting lines drawn each = fitting_tables_are_straight table lines drawn frame.style apart fits
@@ -137,7 +137,7 @@ module _ (table : TableValue) (frame : HasPlainFrame table) where
             indicator = inr frame.indicator;
           }
 
-  -- characters of one column fit all columns
+  -- the table is straight, if each character fits one terminal column
   pub narrow : TextsStay table → (lines : List Text) (drawn : IsTableDrawing table lines)
       → EachText (CharactersFit 1) table → straight.IsStraightTable table drawn.widths
   narrow stay lines drawn each = fitting lines drawn fits
@@ -160,7 +160,7 @@ module _ (table : TableValue) (frame : HasPlainFrame table) where
           (drawn_of_shown (CharactersFit 1) table drawn.widths drawn.arranged.one_for_each
           (stay (CharactersFit 1) each) k default under j other below cell found)
 
-  -- and so do those that fit the columns which are returned
+  -- the table is straight, if the characters fit the columns that are returned
   pub as_returned : table.custom_styling ≡ false
       → (arranged : ArrangedValue) → IsArrangedTable table arranged
       → (lines : List Text) (drawn : IsTableDrawing table lines)
@@ -189,7 +189,7 @@ module _ (table : TableValue) (frame : HasPlainFrame table) where
           (λ i. let same : 0 + i ≡ i = omega arith in ap (slice_get infos) same) j other below in
           known k default under p.0 p.1 at.0 (not-true p.1.is_hidden at.1) cell found
 
-  -- a table as wide as its texts
+  -- the table is straight, if it is as wide as its texts
   pub whole : (widths : List ℕ) → measured_rows table ≡ header_and_rows table → table.arrangement ≡ Disabled → IsShownWhole table → straight.IsStraightTable table widths
   whole widths same disabled is =
       record {
@@ -208,7 +208,7 @@ pub equally_wide : (table : TableValue) (plain : IsPlain table) (lines : List Te
 equally_wide table plain lines drawn is =
     (line_total table drawn.widths, subst (All (λ line. measure line ≡ line_total table drawn.widths)) (sym (drawn.edges.unstyled_lines plain.no_styles plain.no_sequences)) (drawn.edges.straight is))
 
--- and with styles what they show is
+-- with styles, the lines of a straight table show equally many terminal columns
 pub shown_equally_wide : (table : TableValue) (lines : List Text) (drawn : IsTableDrawing table lines) → HasNoControls table → straight.IsStraightTable table drawn.widths → AreShownEquallyWide lines
 shown_equally_wide table lines drawn free is =
     let clear = free_of_controls table free in (

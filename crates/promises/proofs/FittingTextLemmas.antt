@@ -1,4 +1,4 @@
--- The text lines of a text whose characters fit.
+-- The text lines of a text whose characters fit a column.
 use Rattle.std.proofs.Common.{◌≡◌, ◌==◌, ◌&&◌, ℕ, Bool, true, false, List, [], ◌∷◌, ◌++◌, arith, chars, encode_utf8, encode_utf8_all, eqb-true, length, map, refl, sym, ap, ap₂, ◌∙◌, subst}
 use Rattle.std.proofs.Math.Utf8.{scalar as scalar_of}
 use Rattle.std.proofs.lemmas.Bool.{and_parts, or_parts}
@@ -18,14 +18,14 @@ use Rattle.comfy_parts.specs.Text.{HasNo, Text}
 abbrev is_feed : ℕ → Bool
 is_feed c = c == 0x0A
 
--- a front without a line feed goes on with the first part
+-- a front without a line feed joins the first part of the text after it
 onto_front : (front text first : Text) (others : List Text) → HasNo 0x0A front → slice_split is_feed text ≡ first ∷ others → slice_split is_feed (front ++ text) ≡ (front ++ first) ∷ others
 onto_front [] text first others clear are = are
 onto_front (b ∷ front) text first others clear are =
     let each = or_parts (b == 0x0A) (list_any is_feed front) clear in
     slice_split-cons_no is_feed b (front ++ text) each.0 ∙ ap (onto_first b) (onto_front front text first others each.1 are)
 
--- the parts of a text are the texts of its characters' parts
+-- splitting a text at line feeds splits the list of its characters there
 split : (cs : List ℕ) → slice_split is_feed (encode_utf8_all cs) ≡ map encode_utf8_all (slice_split is_feed cs)
 split [] = refl
 split (c ∷ cs) = by_test (c == 0x0A) refl (split cs)

@@ -1,4 +1,4 @@
--- What the frame takes.
+-- The room that the frame takes.
 use Rattle.std.proofs.Common.{◌≡◌, ◌<◌, ◌≤◌, ℕ, ◌+◌, ◌-◌, Bool, true, false, cond, not, List, [], ◌∷◌, Option, Some, length, max, refl, sym, subst, ap, arith}
 use Rattle.std.specs.List.{All, filter}
 use Rattle.std.specs.Prelude.{if◌then◌else◌, sum_by}
@@ -21,7 +21,7 @@ use Rattle.promises.proofs.FittingLemmas.{narrow, plain_stay, unconstrained}
 use Rattle.promises.specs.Tables.{EachText, HasPlainFrame, IsPlain}
 use Rattle.promises.specs.Widths.{IsFree, frame_room}
 
--- borders at both sides, and one between each two columns
+-- the borders are at most two at the sides, and one between each two columns
 pub borders : (style : TableStyle) (n : ℕ) → border_count style n ≤ 2 + (n - 1)
 borders style n = by_tests (draws_left_border style) (draws_right_border style) (draws_vertical_lines style)
   where
@@ -35,11 +35,11 @@ borders style n = by_tests (draws_left_border style) (draws_right_border style) 
     by_tests false false true = omega arith
     by_tests false false false = omega arith
 
--- a shown column with its paddings and a border
+-- the room of a shown column: its paddings, one terminal column for texts, and a border
 abbrev part : ColumnValue → ℕ
 part column = column.padding.0 + 1 + column.padding.1 + 1
 
--- what the shown columns from a position on take, and how many they are
+-- the room of the shown columns from a position on, and their number
 counted : (n : ℕ) (columns : List ColumnValue)
     → (sum_by (λ (p : ℕ × ColumnValue). column_padding p.1) (columns_from n columns) + (length (columns_from n columns) + length (columns_from n columns)) ≡ sum_by part (filter (λ (c : ColumnValue). not (is_hidden_column c)) columns))
     × (length (columns_from n columns) ≡ length (filter (λ (c : ColumnValue). not (is_hidden_column c)) columns))
@@ -59,20 +59,20 @@ counted n (column ∷ columns) = by_test (is_hidden_column column) (counted (n +
     by_test false rest =
         (omega (arith, rest.0, sum_by-cons (λ (p : ℕ × ColumnValue). column_padding p.1) (n, column) later, sum_by-cons part column others), omega (arith, rest.1))
 
--- borders, paddings and one terminal column for each shown column have room in it
+-- this room is enough for borders, paddings and one terminal column for each shown column
 least : (table : TableValue) → IsFree table → least_total table ≤ frame_room table
 least table free =
     let own = counted 0 table.columns in
     let some : 0 < shown_count table = omega (arith, own.1, free.0) in
     omega (arith, own.0, borders table.style (shown_count table))
 
--- a table with other settings has as plain a frame
+-- a plain frame stays plain with another width and arrangement
 same_frame : (table : TableValue) (width : Option ℕ) (arrangement : ContentArrangement) → HasPlainFrame table → HasPlainFrame (record table { set_width = width; arrangement = arrangement })
 same_frame table width arrangement is =
     record { style = is.style; delimiter = is.delimiter; column_delimiters = is.column_delimiters; cell_delimiters = is.cell_delimiters; indicator = is.indicator; paddings = is.paddings }
 
 module _ (old new : TableValue) (w : ℕ) (lines : List Text) where
-  -- under `Dynamic` no line is wider than the width, or than this
+  -- under `Dynamic` no line is wider than the width, or the frame if that is wider
   pub within : new ≡ record old { set_width = Some w; arrangement = Dynamic } → IsTableDrawing new lines → IsPlain old → HasPlainFrame old → IsFree old → EachText (CharactersFit 1) old
       → All (λ line. measure line ≤ max w (frame_room old)) lines
   within set =
@@ -85,7 +85,7 @@ module _ (old new : TableValue) (w : ℕ) (lines : List Text) where
       let enough : least_total table ≤ frame_room table = least table free in
       All-weaker (λ line. measure line ≤ max w (least_total table)) (λ line. measure line ≤ max w (frame_room old)) (λ line is. omega (arith, is, enough)) lines known)
 
-  -- under `DynamicFullWidth` each is as wide as the width, where that has room for it
+  -- under `DynamicFullWidth` each line is as wide as the width, if that has room for the frame
   pub over : new ≡ record old { set_width = Some w; arrangement = DynamicFullWidth } → IsTableDrawing new lines → IsPlain old → HasPlainFrame old → IsFree old → EachText (CharactersFit 1) old
       → frame_room old ≤ w → All (λ line. measure line ≡ w) lines
   over set =
@@ -99,7 +99,7 @@ module _ (old new : TableValue) (w : ℕ) (lines : List Text) where
       let enough : least_total table ≤ frame_room table = least table free in
       All-weaker (λ line. measure line ≡ max w (least_total table)) (λ line. measure line ≡ w) (λ line is. omega (arith, is, enough, room)) lines known)
 
--- under `Dynamic` no line of a straight table is wider than the width, or than what the frame takes
+-- under `Dynamic` no line of a straight table is wider than the width, or the frame if that is wider
 pub fitting_within : (table : TableValue) (w : ℕ) (lines : List Text) (drawn : IsTableDrawing table lines) → IsPlain table → IsFree table → straight.IsStraightTable table drawn.widths
     → table.arrangement ≡ Dynamic → table.set_width ≡ Some w → All (λ line. measure line ≤ max w (frame_room table)) lines
 fitting_within table w lines drawn plain free is dynamic width =

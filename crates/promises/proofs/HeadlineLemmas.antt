@@ -1,4 +1,4 @@
--- Every drawing is one of frame lines and of rows of padded lines.
+-- Every drawing consists of frame lines and of rows of padded lines.
 use Rattle.std.proofs.Common.{eq-zero-or-pos, ◌≢◌, ◌/◌, ap₂, ◌&&◌, ◌||◌, is_some, ◌≡◌, ◌⊎◌, inl, inr, ◌<◌, ◌≤◌, ℕ, zero, suc, ◌+◌, ◌-◌, Bool, true, false, List, [], ◌∷◌, ◌++◌, Option, Some, None, length, map, flat_map, refl, sym, ap, ◌∙◌, subst, arith, append_assoc, append-nil, length-append, slice_index_or, unwrap_or, max, nat_le, codes, sum, sum_by}
 use Rattle.std.specs.Char.{IsScalar}
 use Rattle.std.specs.List.{All, AllZip, filter_map, join_by, slice_get}
@@ -71,13 +71,13 @@ line_lines w d scalar text utf8 =
           (text_lines_fit w d text scalar utf8 (fitting_characters_fit w d text adds utf8 each));
     }
 
--- text line by text line
+-- the lines of each text line of a list
 all_lines : (w d : ℕ) → IsScalar d → (texts : List Text) → All IsUtf8 texts → AllZip (AreLinesOfText w d) texts (map (lines_of_text w d) texts)
 all_lines w d scalar [] utf8 = tt
 all_lines w d scalar (text ∷ texts) utf8 =
     (line_lines w d scalar text (All-head IsUtf8 text texts utf8), all_lines w d scalar texts (All-tail IsUtf8 text texts utf8))
 
--- one after another they are the lines of the cell
+-- they are the lines of the cell, one text line after another
 flat : (f : Text → List Text) (texts : List Text) → flat_map f texts ≡ flat_map (λ (of_text : List Text). of_text) (map f texts)
 flat f [] = refl
 flat f (text ∷ texts) = ap (λ (lines : List Text). f text ++ lines) (flat f texts)
@@ -85,7 +85,7 @@ flat f (text ∷ texts) = ap (λ (lines : List Text). f text ++ lines) (flat f t
 pub lines_of_cell : (w d : ℕ) (cell : CellValue) → IsScalar d → All IsUtf8 cell.text_lines → AreLinesOfCell w d cell (cell_lines w d cell)
 lines_of_cell w d cell scalar utf8 = (map (lines_of_text w d) cell.text_lines, all_lines w d scalar cell.text_lines utf8, flat (lines_of_text w d) cell.text_lines)
 
--- and no other lines are
+-- the lines of text lines are unique
 lines_are_one : (w d : ℕ) → IsScalar d → (texts : List Text) (of_texts : List (List Text)) → AllZip (AreLinesOfText w d) texts of_texts → of_texts ≡ map (lines_of_text w d) texts
 lines_are_one w d scalar [] [] zip = refl
 lines_are_one w d scalar [] (own ∷ of_texts) zip = absurd zip
@@ -96,14 +96,14 @@ lines_are_one w d scalar (text ∷ texts) (own ∷ of_texts) zip = ap₂ (λ (a 
     by_test true room = let fits : measure text ≤ w = grind (arith, nat_tests, room) in zip.0.whole fits
     by_test false wide = let tall : w < measure text = grind (arith, nat_tests, wide) in wrapped_is_one w d text own scalar (zip.0.slices tall)
 
--- what holds of all elements of lists holds of those of each
+-- a property of all elements of joined lists holds of the elements of each list
 flat_parts : {X Y : Type 0} (P : Y → Type 0) (f : X → List Y) (xs : List X) → All P (flat_map f xs) → All (λ x. All P (f x)) xs
 flat_parts P f [] each = All-nil (λ x. All P (f x))
 flat_parts P f (x ∷ xs) each =
     let both = every-parts P (f x) (flat_map f xs) (recursion_from_All P (flat_map f (x ∷ xs)) each) in
     All-cons (λ y. All P (f y)) x xs (All-from_recursion P (f x) both.0) (flat_parts P f xs (All-from_recursion P (flat_map f xs) both.1))
 
--- the longest line of a column at a width says how wide its lines are
+-- if the longest line of a column at a width is at most n, so are all its lines
 lines_within : (table : TableValue) (p : ℕ × ColumnValue) (b n : ℕ) → longest_line table p.0 p.1.delimiter b ≤ n
     → All (λ (row : RowValue). (cell : CellValue) → slice_get row.cells p.0 ≡ Some cell → IsScalar (cell_delimiter table p.1.delimiter cell)) (measured_rows table) → HasLinesWithin (measured_table table) p b n
 lines_within table p b n long scalar k default under cell lines found are =
@@ -129,7 +129,7 @@ styled_both other ys (byte b line text front) back = byte b (line ++ other) (tex
 styled_both other ys (sequence code line text all front) back =
     subst (λ (t : Text). IsStyled (line ++ other) (0x1B ∷ 0x5B ∷ t)) (sym (append_assoc code (0x6D ∷ text) ys)) (sequence code (line ++ other) (text ++ ys) all (styled_both other ys front back))
 
--- a text is what is visible of it, with sequences
+-- a text is its visible text with sequences
 styled_visible : (n : ℕ) (text : Text) → length text < n → IsStyled (visible_text text) text
 styled_visible zero text below = absurd (omega (arith, below))
 styled_visible (suc n) [] below = nothing
@@ -163,7 +163,7 @@ styled_kept =
         subst (λ (line : Text). IsStyled line (closed text)) (append-nil text)
         (styled_both [] _ (styled_same text) (cond_both _ [] (codes "\u{1b}[0m") (IsStyled []) (λ _. nothing) (λ _. sequence (codes "0") [] [] refl nothing)))
 
--- ---- rows of a table that is drawn without styles
+-- ---- rows of a table without styles
 
 -- the table without styles and custom styling
 abbrev pub bare : TableValue → TableValue
@@ -184,13 +184,13 @@ uncoloured cell none =
     none_there [] none = refl
     none_there (x ∷ xs) none = absurd (grind (arith, nat_tests, none))
 
--- spaces alone
+-- spaces are spaces without sequences among them
 spaces_alone : (styles : Bool) (n : ℕ) → AreSpaces styles n (spaces n)
 spaces_alone true n = styled_same (spaces n)
 spaces_alone false n = refl
 
 module _ (table : TableValue) (widths : List ℕ) (long : length widths ≡ length table.columns) where
-  -- the content of the column at a position
+  -- the content width of the column at a position, at least 1
   abbrev pub content_at : ℕ → ℕ
   content_at i = max 1 (slice_index widths i)
 
@@ -203,7 +203,7 @@ module _ (table : TableValue) (widths : List ℕ) (long : length widths ≡ leng
 
   -- ---- pieces
 
-  -- what is around the text that is written for a line of a cell
+  -- the parts of a piece around the written text of a line
   module _ (p : ℕ × ColumnValue) (cell : CellValue) (line : CellLine) where
     abbrev m : ℕ
     m = measure line.measured
@@ -220,7 +220,7 @@ module _ (table : TableValue) (widths : List ℕ) (long : length widths ≡ leng
     padded_is : (text : Text) → spaces left ++ (text ++ spaces right) ≡ padded cell (info_at p) m text
     padded_is text = padded-is cell (info_at p) m left right refl refl text
 
-    -- these are spaces, with the sequences of the cell if styles are written
+    -- these parts are spaces, with the sequences of the cell if styles are written
     record IsAround (before after whole : Text) : Type 0 where
       drawn : whole ≡ before ++ (line.written ++ after)
       front : IsStyled (spaces left) before
@@ -281,7 +281,7 @@ module _ (table : TableValue) (widths : List ℕ) (long : length widths ≡ leng
       by_tests false text_only coloured some =
           made false (spaces (left p cell (as_measured line))) (spaces (right p cell (as_measured line))) (piece_by p cell (as_measured line) false text_only) (sym (padded_is p cell (as_measured line) line)) refl refl
 
-  -- if there is no line
+  -- the piece of a column that has no line
   blank_is : (styles : Bool) (side : CellAlignment) (p : ℕ × ColumnValue) → IsPiece styles side p.1 (content_at p.0) [] (blank_piece (info_at p))
   blank_is styles side p =
       record {
@@ -322,7 +322,7 @@ module _ (table : TableValue) (widths : List ℕ) (long : length widths ≡ leng
         ap (λ (custom : Bool). cut_to_limit (cut_line custom (content_at p.0) table.indicator) row.max_height (uncut_lines custom (content_at p.0) (cell_delimiter table p.1.delimiter cell) cell)) none
         ∙ sym (map-cut as_measured (cut_text (content_at p.0) table.indicator) (cut_line false (content_at p.0) table.indicator) row.max_height _ (λ line. refl))
 
-    -- the cut lines of an optional cell
+    -- the cut lines of a cell, or of a missing one
     abbrev cut_of : RowValue → ℕ × ColumnValue → Option CellValue → List Text
     cut_of row p cell = unwrap_or (option_map (cut_at row p) cell) ([] ∷ [])
 
@@ -344,7 +344,7 @@ module _ (table : TableValue) (widths : List ℕ) (long : length widths ≡ leng
     as_many row p None = refl
     as_many row p (Some cell) = length-map (row_cell_lines table row (info_at p) cell) (piece table cell (info_at p)) ∙ ap length (row_lines-are row p cell) ∙ length-map (cut_at row p cell) as_measured
 
-    -- the pieces of some columns
+    -- the pieces of columns in a line
     pieces_are : (border : ContentLineStyle) (row : RowValue) (k : ℕ) (ps : List (ℕ × ColumnValue))
         → AllZip (λ (p : ℕ × ColumnValue). IsPiece (is_styled (should_style table) row p) (side_of row p) p.1 (content_at p.0) (slice_index_or (lines_in table content_at lines_at row p) k [])) ps (map (piece_in table widths long border row k) ps)
     pieces_are border row k [] = tt
@@ -359,13 +359,13 @@ module _ (table : TableValue) (widths : List ℕ) (long : length widths ≡ leng
 
   -- ---- written lines
 
-  -- the piece of a written line is between spaces
+  -- the piece of a written line has spaces around the written text
   written_is : (p : ℕ × ColumnValue) (cell : CellValue) (line : CellLine) → IsBetweenSpaces line.written (piece table cell (info_at p) line)
   written_is p cell line =
       let all = around p cell line (should_style table) table.style_text_only in
       record { left = left p cell line; right = right p cell line; before = all.0; after = all.1; drawn = all.2.drawn; are_spaces = (all.2.front, all.2.back) }
 
-  -- nothing is written if there is no line
+  -- a column that has no line has an empty written text
   nothing_written : (p : ℕ × ColumnValue) → IsBetweenSpaces [] (blank_piece (info_at p))
   nothing_written p =
       record {
@@ -377,7 +377,7 @@ module _ (table : TableValue) (widths : List ℕ) (long : length widths ≡ leng
         are_spaces = (styled_same (spaces (p.1.padding.0 + content_at p.0)), styled_same (spaces p.1.padding.1));
       }
 
-  -- the texts that are written of an optional cell
+  -- the written texts of a cell, or of a missing one
   abbrev written_of : RowValue → ℕ × ColumnValue → Option CellValue → List Text
   written_of row p cell = unwrap_or (option_map (λ (own : CellValue). map (λ (line : CellLine). line.written) (row_cell_lines table row (info_at p) own)) cell) ([] ∷ [])
 
@@ -395,7 +395,7 @@ module _ (table : TableValue) (widths : List ℕ) (long : length widths ≡ leng
   all_written borders row k [] = tt
   all_written borders row k (p ∷ ps) = (written_at row p (slice_get row.cells p.0) k, all_written borders row k ps)
 
-  -- with custom styling they resume their sequences
+  -- with custom styling the written texts resume their sequences
   texts_resume : table.custom_styling ≡ true → (row : RowValue) → row.max_height ≡ None → (p : ℕ × ColumnValue) (cell : Option CellValue) → MatchOption cell (written_of row p cell ≡ [] ∷ []) (λ own. ResumeTheirSequences own (written_of row p cell))
   texts_resume custom row uncut p None = refl
   texts_resume custom row uncut p (Some cell) =
@@ -423,7 +423,7 @@ module _ (table : TableValue) (widths : List ℕ) (long : length widths ≡ leng
       ap (map (λ (p : ℕ × ColumnInfo). info_width p.1)) (columns-drawn table widths long)
       ∙ map-map (λ (p : ℕ × ColumnInfo). info_width p.1) (drawn_column widths) (shown_columns table)
 
-  -- its rows are between frame lines, and each shows what its lines do
+  -- the rows are between frame lines, and Shows holds of each if it holds of a row's drawn lines
   module _ (Shows : ContentLineStyle → RowValue → List Text → Type 0) (shows : (borders : ContentLineStyle) (row : RowValue) → Shows borders row (drawn_row table infos borders row)) where
     header_is : (header : Option RowValue) → MatchOption header (drawn_header table infos header ≡ []) (λ row. (block : List Text) × Shows table.style.header_lines row block × (drawn_header table infos header ≡ block ++ framed table content_at table.style.header_separator))
     header_is None = refl
@@ -451,11 +451,11 @@ module _ (table : TableValue) (widths : List ℕ) (long : length widths ≡ leng
 
   -- ---- printable ASCII
 
-  -- what holds in a column of each row's cell holds of the column's cells
+  -- the cells of a column, row by row
   abbrev cells_below : ℕ → List CellValue
   cells_below i = filter_map (λ (row : RowValue). slice_get row.cells i) (header_and_rows table)
 
-  -- a table that is measured as it is
+  -- a table whose rows are measured as they are
   module _ (same : measured_rows table ≡ header_and_rows table) where
     cells-are : (i : ℕ) → column_cells table i ≡ cells_below i
     cells-are i = ap (filter_map (λ (row : RowValue). slice_get row.cells i)) same
@@ -467,7 +467,7 @@ module _ (table : TableValue) (widths : List ℕ) (long : length widths ≡ leng
         (All-found (IsPrintableCell table p.1.delimiter) (λ (row : RowValue). slice_get row.cells p.0) (header_and_rows table)
         (λ k default under cell found. printable k default under j other below cell found))
 
-    -- an indicator that adds one column for each character wherever it is written
+    -- an indicator that adds one terminal column for each character whenever it is written
     even_table : IsPrintable table
         → EachShownCell (λ row p cell. (h : ℕ) → row.max_height ≡ Some h → h < length (lines_at p cell) → AddsOneColumnEach (fitting_indicator (content_at p.0) table.indicator)) table
         → IsPrintableTable table widths
@@ -496,23 +496,23 @@ module _ (table : TableValue) (widths : List ℕ) (long : length widths ≡ leng
 
 -- ---- contents that have room
 
--- what the shown columns need is their whole widths
+-- the needs of the shown columns add up to their whole widths
 needed : (table : TableValue) (ps : List (ℕ × ColumnValue))
     → sum_by (λ (column : ColumnNeeds). max 1 column.content + column.padding) (map (needs_of table) ps) ≡ sum (map (λ (p : ℕ × ColumnValue). whole_width p.1 (max 1 (column_content_width table p.0))) ps)
 needed table [] = refl
 needed table (p ∷ ps) =
     omega (arith, needed table ps, sum_by-cons (λ (column : ColumnNeeds). max 1 column.content + column.padding) (needs_of table p) (map (needs_of table) ps), sum_by-cons (λ (n : ℕ). n) (whole_width p.1 (max 1 (column_content_width table p.0))) (map (λ (p : ℕ × ColumnValue). whole_width p.1 (max 1 (column_content_width table p.0))) ps))
 
--- what they need without contents are their paddings
+-- without contents their needs add up to the paddings
 sum-paddings : (table : TableValue) (ps : List (ℕ × ColumnValue)) → sum_by (λ (column : ColumnNeeds). column.padding) (map (needs_of table) ps) ≡ sum (map (λ (p : ℕ × ColumnValue). whole_width p.1 0) ps)
 sum-paddings table [] = refl
 sum-paddings table (p ∷ ps) =
     omega (arith, sum-paddings table ps, sum_by-cons (λ (column : ColumnNeeds). column.padding) (needs_of table p) (map (needs_of table) ps), sum_by-cons (λ (n : ℕ). n) (whole_width p.1 0) (map (λ (q : ℕ × ColumnValue). whole_width q.1 0) ps))
 
--- ---- what every drawing promises
+-- ---- the promises of every drawing
 
 module _ (table : TableValue) (widths : List ℕ) where
-  -- so is each table whose texts and delimiters are whole characters
+  -- a table whose texts and delimiters consist of whole characters has framed lines
   pub plain_lines : length widths ≡ length table.columns → All (λ (row : RowValue). All (IsWholeAt table row) (shown_columns table)) (measured_rows table) → IsFramedDrawing (measured_table table) (drawing (unstyled table) widths)
   plain_lines long whole =
       record {
@@ -527,11 +527,11 @@ module _ (table : TableValue) (widths : List ℕ) where
       measured : TableValue
       measured = measured_table table
 
-  -- its lines are those, with sequences
+  -- the drawn lines are the unstyled lines with sequences
   pub styled_lines : All (λ (row : RowValue). All (λ (cell : CellValue). All IsUtf8 cell.text_lines) row.cells) (measured_rows table) → AllZip IsStyled (drawing (unstyled table) widths) (drawing table widths)
   styled_lines whole = keeps_drawing Any IsStyled styled_kept table (infos_of table widths) tt (λ k default below. tt) whole (λ k default below j other under cell found i text inside. tt)
 
--- a table that is measured as it is
+-- a table without custom styling is framed
 pub framed_table : (table : TableValue) (widths : List ℕ) → table.custom_styling ≡ false → length widths ≡ length table.columns → All (λ (row : RowValue). All (IsWholeAt table row) (shown_columns table)) (header_and_rows table) → AllZip IsStyled (drawing (bare table) widths) (drawing table widths)
     → (should_style table ≡ false → drawing table widths ≡ drawing (bare table) widths) → IsFramedTable table (drawing table widths)
 framed_table table widths none long whole styled unstyled =
@@ -555,7 +555,7 @@ pub framed-plain : (table : TableValue) (widths : List ℕ) (none : table.custom
 unfolding framed_table
 framed-plain table widths none long whole styled unstyled = refl
 
--- a column has its width, at least 1
+-- a column has its own width, at least 1
 pub framed-width : (table : TableValue) (widths : List ℕ) (none : table.custom_styling ≡ false) (long : length widths ≡ length table.columns) (whole : All (λ (row : RowValue). All (IsWholeAt table row) (shown_columns table)) (header_and_rows table)) (styled : AllZip IsStyled (drawing (bare table) widths) (drawing table widths))
     (unstyled : should_style table ≡ false → drawing table widths ≡ drawing (bare table) widths) (i : ℕ) → (framed_table table widths none long whole styled unstyled).is_plain.width i ≡ max 1 (slice_index widths i)
 unfolding framed_table
@@ -623,7 +623,7 @@ headline table lines drawn =
     unconstrained_needs : NoConstraints table → All IsUnconstrained (shown_needs table)
     unconstrained_needs free = All-from_recursion IsUnconstrained (shown_needs table) (unconstrained_shown table free)
 
-    -- if a width is kept to, the widths are dynamic
+    -- if a width is kept, the widths are dynamic
     layout : (w : ℕ) → table_width table ≡ Some w → table.arrangement ≢ Disabled → IsDynamicLayout (room_beside_borders table w) (shown_needs table) (is_full_width table.arrangement) (shown_contents table drawn.widths)
     layout w known kept = dynamic_widths table table.arrangement w drawn.widths (keeps table.arrangement kept) refl known drawn.arranged
       where
@@ -632,12 +632,12 @@ headline table lines drawn =
         keeps arrangements.Dynamic kept = refl
         keeps arrangements.DynamicFullWidth kept = refl
 
-    -- as it is drawn
+    -- a width of at least 1 stays as wide
     as_drawn : (full : Bool) (content n : ℕ) → IsAsWide full (max 1 content) n → IsAsWide full (max 1 content) (max 1 n)
     as_drawn true content n wide = omega (arith, wide)
     as_drawn false content n same = omega (arith, same)
 
-    -- a level, or room for all lines at such a width
+    -- a column is as wide as the level, or has room for all its lines at a width of at least the level
     by_level : (level j : ℕ) (other : ℕ × ColumnValue) → j < length (shown_columns table)
         → (level ≤ slice_index drawn.widths (slice_index_or (shown_columns table) j other).0)
         ⊎ ((b : ℕ) × (level ≤ b) × (longest_line table (slice_index_or (shown_columns table) j other).0 (slice_index_or (shown_columns table) j other).1.delimiter b ≤ slice_index drawn.widths (slice_index_or (shown_columns table) j other).0))
@@ -647,7 +647,7 @@ headline table lines drawn =
     by_level level j other below (inr (b, at_least, room)) =
         inr (b, at_least, lines_within table (slice_index_or (shown_columns table) j other) b (max 1 (slice_index drawn.widths (slice_index_or (shown_columns table) j other).0)) (omega (arith, room)) (λ k default under cell found. (whole_at table lines drawn k default under j other below cell found).0))
 
-    -- an even share of the room
+    -- an even share of the room for texts
     share : (w : ℕ) → NoConstraints table → content_room (room_beside_borders table w) (shown_needs table) / length (shown_needs table) ≡ room_for_texts table w / length (shown_columns table)
     share w free =
         let paddings = sum-paddings table (shown_columns table) in
@@ -660,7 +660,7 @@ headline table lines drawn =
     no_width arrangements.Dynamic width (inr none) = none
     no_width arrangements.DynamicFullWidth width (inr none) = none
 
--- the columns that are returned beside the lines are those of the headline
+-- the columns that are returned with the lines are those of the headline
 pub columns_are : (table : TableValue) (arranged : ArrangedValue) → IsArrangedTable table arranged → (lines : List Text) → IsTableDrawing table lines → AreColumnsOf table lines arranged.infos
 unfolding headline plain_lines
 columns_are table arranged is lines drawn = (

@@ -1,4 +1,4 @@
--- Where the texts of a table are in its drawing.
+-- The texts of a table in its drawing.
 use Rattle.std.proofs.Common.{◌≡◌, inl, inr, ◌<◌, ◌≤◌, ℕ, Bool, true, false, List, [], ◌∷◌, ◌++◌, Option, Some, None, length, map, max, not, flat_map, refl, sym, ap, ap₂, ◌∙◌, subst, arith, slice_index_or, unwrap_or, nat_le}
 use Rattle.std.specs.List.{All, AllZip, slice_get, filter_map}
 use Rattle.std.specs.Prelude.{Contains, option_map, option_to_list, slice_index, MatchOption}
@@ -27,19 +27,19 @@ use Rattle.promises.specs.Kept.{AreShown, AreSlicesOf, ShowsRow, ShowsWholeRow}
 use Rattle.promises.specs.Shown.{IsStyled}
 use Rattle.promises.specs.Tables.{IsShownWhole}
 
--- the same is made of each
+-- two functions that agree on each element give the same list
 same_maps : {X Y : Type 0} (f g : X → Y) (xs : List X) → All (λ x. f x ≡ g x) xs → map f xs ≡ map g xs
 same_maps f g [] same = refl
 same_maps f g (x ∷ xs) same = ap₂ (λ (y : _) (ys : List _). y ∷ ys) (All-head (λ x. f x ≡ g x) x xs same) (same_maps f g xs (All-tail (λ x. f x ≡ g x) x xs same))
 
--- slices are slices wherever they end
+-- slices that end at given places are slices
 pub slices_anywhere : (Ends : Text → Text → Type 0) (d : ℕ) (text : Text) (lines : List Text) → IsSlicesWhere Ends d text lines → IsSlicesWhere (λ line tail. Unit {0}) d text lines
 slices_anywhere Ends d text [] only = only
 slices_anywhere Ends d text (line ∷ lines) (tail, slice, ends, more) = (tail, slice, tt, slices_anywhere Ends d tail lines more)
 
 -- ---- rows between frame lines
 
--- what the lines of each row show as well
+-- if each row's lines show something else too, so do the lines between frame lines
 module _ (Is : RowValue → Type 0) (Shows Others : ContentLineStyle → RowValue → List Text → Type 0)
     (gives : (borders : ContentLineStyle) (row : RowValue) (block : List Text) → Is row → Shows borders row block → Others borders row block) where
   rows_give : (borders : ContentLineStyle) (rows : List RowValue) (blocks : List (List Text)) → All Is rows → AllZip (Shows borders) rows blocks → AllZip (Others borders) rows blocks
@@ -63,7 +63,7 @@ module _ (Is : RowValue → Type 0) (Shows Others : ContentLineStyle → RowValu
       by_header None own none = none
       by_header (Some row) own (block, shows, made) = (block, gives table.style.header_lines row block (All-head Is row table.rows own) shows, made)
 
--- lines of parts are lines of equal parts
+-- the lines of parts are the lines of equal parts
 module _ (styles : Bool) (table : TableValue) (row : RowValue) (width : ℕ → ℕ) (parts others : ℕ × ColumnValue → List Text) where
   abbrev IsSame : ℕ × ColumnValue → Type 0
   IsSame p = parts p ≡ others p
@@ -89,11 +89,11 @@ module _ (styles : Bool) (table : TableValue) (row : RowValue) (width : ℕ → 
 
 module _ (table : TableValue) (width : ℕ → ℕ) (cell_lines : ℕ × ColumnValue → CellValue → List Text) (none : table.custom_styling ≡ false)
     (are : EachShownCell (λ row p cell. AreLinesOfCell (width p.0) (cell_delimiter table p.1.delimiter cell) cell (cell_lines p cell)) table) where
-  -- the lines of an optional cell
+  -- the cut lines of a cell
   abbrev cut_of : RowValue → ℕ × ColumnValue → CellValue → List Text
   cut_of row p cell = cut_to_limit (cut_text (width p.0) table.indicator) row.max_height (cell_lines p cell)
 
-  -- lines of texts are slices
+  -- the lines of texts are slices
   slices_of : (w d : ℕ) (texts : List Text) (of_texts : List (List Text)) → AllZip (AreLinesOfText w d) texts of_texts → AllZip (AreSlicesOf d) texts of_texts
   slices_of w d [] [] zip = tt
   slices_of w d [] (own ∷ of_texts) zip = absurd zip
@@ -104,7 +104,7 @@ module _ (table : TableValue) (width : ℕ → ℕ) (cell_lines : ℕ × ColumnV
       by_test true room = let fits : measure text ≤ w = grind (arith, nat_tests, room) in inl (zip.0.whole fits)
       by_test false wide = let tall : w < measure text = grind (arith, nat_tests, wide) in inr (slices_anywhere _ d text own (zip.0.slices tall))
 
-  -- what a row has of a table: its cells have these lines
+  -- the cells of a row have these lines
   abbrev HasLinesOf : RowValue → Type 0
   HasLinesOf row = All (λ (p : ℕ × ColumnValue). (cell : CellValue) → slice_get row.cells p.0 ≡ Some cell
       → AreLinesOfCell (width p.0) (cell_delimiter table p.1.delimiter cell) cell (cell_lines p cell)) (shown_columns table)
@@ -140,12 +140,12 @@ module _ (table : TableValue) (width : ℕ → ℕ) (cell_lines : ℕ × ColumnV
   own_lines w d (text ∷ texts) (own ∷ of_texts) fit zip =
       ap₂ (λ (a b : List Text). a ++ b) (zip.0.whole (All-head (λ (t : Text). measure t ≤ w) text texts fit)) (own_lines w d texts of_texts (All-tail (λ (t : Text). measure t ≤ w) text texts fit) zip.1)
 
-  -- the text lines of a row's cell, an empty one if it has no cell
+  -- the text lines of a row's cell, or one empty text line if it has no cell
   abbrev texts_in : RowValue → ℕ × ColumnValue → List Text
   texts_in row p = unwrap_or (option_map (λ (cell : CellValue). cell.text_lines) (slice_get row.cells p.0)) ([] ∷ [])
 
   module _ (by_content : All (λ (p : ℕ × ColumnValue). p.1.constraint ≡ None → width p.0 ≡ widest table p.0) (shown_columns table)) (whole : IsShownWhole table) where
-    -- a row that fits: nothing cuts it, and its texts fit their columns
+    -- a row that nothing cuts, and whose texts fit their columns
     pub record Fits (row : RowValue) : Type 0 where
       pub has : HasLinesOf row
       pub uncut : row.max_height ≡ None
@@ -195,21 +195,21 @@ module _ (table : TableValue) (width : ℕ → ℕ) (cell_lines : ℕ × ColumnV
     pub whole_shown : (lines : List Text) → IsFramedBy (AreContentLines table width cell_lines) table width lines → AreShown (ShowsWholeRow table) table lines
     whole_shown lines is = (width, frame_gives Fits (AreContentLines table width cell_lines) (ShowsWholeRow table width) shows_whole table width lines rows_fit is)
 
--- so of every drawing
+-- the texts are in every drawing of a table
 module _ (table : TableValue) (lines : List Text) (drawn : IsTableDrawing table lines) (plain : table.custom_styling ≡ false) where
-  -- and of one of other rows at its widths, each of which is a row of the table
+  -- some rows of the table, drawn at the table's widths
   module _ (rows : List RowValue) (within : All (Contains table.rows) rows) where
     abbrev pub part : TableValue
     part = with_other_rows rows table
 
-    -- what holds of each row of the table holds of each of these
+    -- a property of each row of the table holds of each of these rows
     measured_part : (P : RowValue → Type 0) → All P (measured_rows table) → All P (measured_rows part)
     measured_part P each =
         let both = every-parts P (option_to_list table.header) table.rows (recursion_from_All P _ (subst (All P) (measured_plain table plain) each)) in
         subst (All P) (sym (measured_plain part plain))
         (All-append P (option_to_list table.header) rows (All-from_recursion P _ both.0) (All-weaker (Contains table.rows) P (λ row own. All-contains P table.rows row (All-from_recursion P _ both.1) own) rows within))
 
-    -- it is framed as the table is
+    -- the drawing of these rows is framed as that of the table
     pub part_framed : IsFramedTable part (drawing part drawn.widths)
     part_framed =
         let same : unstyled part ≡ bare part = ap bare (measured-plain part plain) in
@@ -227,7 +227,7 @@ module _ (table : TableValue) (lines : List Text) (drawn : IsTableDrawing table 
     unfolding part_framed
     part_width i = framed-width part drawn.widths plain _ _ _ _ i
 
-  -- the headline, of the table as it is
+  -- the headline of the table
   is : IsHeadline table lines
   is = headline table lines drawn
 

@@ -1,4 +1,4 @@
--- How wide columns without constraints are, if a width is kept to.
+-- The widths of columns without constraints, if a width is kept.
 use Rattle.std.proofs.Common.{if◌then◌else◌, ◌≡◌, ◌<◌, ◌≤◌, ℕ, ◌+◌, ◌/◌, ◌==◌, ◌&&◌, Bool, true, false, List, [], ◌∷◌, length, map, max, nat_le, nat_lt, replicate, sum_by, MatchBool, refl, sym, ◌∙◌, subst, arith, eq-zero-or-pos, inl, inr, ◌⊎◌}
 use Rattle.std.specs.List.{All, AllZip}
 use Rattle.std.proofs.Math.Nat.{div-eq_of_lt}
@@ -14,7 +14,7 @@ use Rattle.comfy_table.specs.Levels.{HasLevel, IsLevelledColumn, IsShrunkOrLevel
 use Rattle.comfy_table.specs.Widths.{ColumnNeeds, even_spread}
 use Rattle.promises.specs.Headline.{IsAsWide}
 
--- what is added makes none less
+-- adding numbers makes none smaller
 added_at_least : (xs ys : List ℕ) → length xs ≡ length ys → AllZip (λ (x w : ℕ). x ≤ w) xs (added xs ys)
 added_at_least [] ys same = tt
 added_at_least (x ∷ xs) [] same = absurd (omega (arith, same))
@@ -24,11 +24,11 @@ same_at_least : (xs : List ℕ) → AllZip (λ (x w : ℕ). x ≤ w) xs xs
 same_at_least [] = tt
 same_at_least (x ∷ xs) = (omega arith, same_at_least xs)
 
--- a content keeps to a level, or is 1, as the level is
+-- a content keeps to a level, or both are 1
 abbrev IsKept : ℕ → ColumnNeeds → ℕ → Type 0
 IsKept level column x = IsLevelledColumn level column x ⊎ ((level ≡ 1) × (x ≡ 1))
 
--- what holds of contents holds of widths, which are as wide
+-- a property of contents holds of widths that are as wide, if it can be passed on
 grow : (full : Bool) (R S : ColumnNeeds → ℕ → Type 0) → ((column : ColumnNeeds) (x w : ℕ) → IsAsWide full x w → R column x → S column w) → (columns : List ColumnNeeds) (xs ws : List ℕ) → AllZip R columns xs → AllZip (IsAsWide full) xs ws → AllZip S columns ws
 grow full R S more [] [] [] zip least = tt
 grow full R S more [] [] (w ∷ ws) zip least = absurd least
@@ -41,24 +41,24 @@ no_less : (full : Bool) (x w : ℕ) → IsAsWide full x w → x ≤ w
 no_less false x w same = omega (arith, same)
 no_less true x w least = least
 
--- a content, or what is as wide
+-- a width that is as wide as a content
 as_wide : (full : Bool) (content x w : ℕ) → IsAsWide full x w → x ≡ content → IsAsWide full content w
 as_wide full content x w own same = subst (λ (n : ℕ). IsAsWide full n w) same own
 
--- a relation between what is made of each
+-- a relation between two functions of each element
 pub zip_maps : {X A B : Type 0} (R : A → B → Type 0) (f : X → A) (g : X → B) (xs : List X) → AllZip R (map f xs) (map g xs) → All (λ x. R (f x) (g x)) xs
 zip_maps R f g [] zip = All-nil (λ x. R (f x) (g x))
 zip_maps R f g (x ∷ xs) zip = All-cons (λ x. R (f x) (g x)) x xs zip.0 (zip_maps R f g xs zip.1)
 
 module _ (room : ℕ) (columns : List ColumnNeeds) (full : Bool) (free : All IsUnconstrained columns) (widths : List ℕ) (layout : IsDynamicLayout room columns full widths) where
-  -- before what is left is spread
+  -- the widths before the rest of the room is spread
   abbrev before : List ℕ
   before = contents_after room columns layout.0
 
   dynamic : IsDynamicLayout room columns false before
   dynamic = (layout.0, record { lower_taken = layout.1.lower_taken; level_found = layout.1.level_found; shrunk_taken = layout.1.shrunk_taken; widths_are = refl })
 
-  -- so the widths are as wide
+  -- so the final widths are as wide
   grown : AllZip (IsAsWide full) before widths
   grown = by_full full layout.1.widths_are
     where
@@ -90,7 +90,8 @@ module _ (room : ℕ) (columns : List ColumnNeeds) (full : Bool) (free : All IsU
       each (column ∷ cs) [] same = absurd (cc same)
       each (column ∷ cs) (x ∷ xs) same = (cc same, each cs xs (cc same))
 
-  -- a content up to a level is kept, and any other column has the level, or room for its longest line at such a width
+  -- a content of at most the level is kept, and any other column has the level, or room for its longest line at a width
+  -- of at least the level
   pub record KeepsLevel (level : ℕ) (column : ColumnNeeds) (w : ℕ) : Type 0 where
     pub narrow : column.content ≤ level → IsAsWide full (max 1 column.content) w
     pub wide : level < column.content → (level ≤ w) ⊎ ((b : ℕ) × (level ≤ b) × (column.longest b ≤ w))
@@ -103,7 +104,7 @@ module _ (room : ℕ) (columns : List ColumnNeeds) (full : Bool) (free : All IsU
   pub level_keeps : HasKeptLevel
   level_keeps = by_count (eq-zero-or-pos (length columns))
     where
-      -- what a level of the contents, or 1 for all, gives
+      -- the column keeps to the level, if its content does or both are 1
       kept : (level : ℕ) (column : ColumnNeeds) (x w : ℕ) → IsAsWide full x w → IsKept level column x → KeepsLevel level column w
       kept level column x w own (inr (one, small)) = record { narrow = λ few. as_wide full (max 1 column.content) x w own (omega (arith, few, one, small)); wide = λ more. inl (let least = no_less full x w own in omega (arith, one, small, least)) }
       kept level column x w own (inl is) =

@@ -38,7 +38,7 @@ measured-plain table plain =
 abbrev pub AnyText : Text → Type 0
 AnyText text = Unit {0}
 
--- what is true of each text beside itself, of texts that are joined, and of each cell's pieces
+-- a relation R that holds of each text and itself, of joined texts, and of each cell's pieces
 module _ (R : Text → Text → Type 0) (joins : KeptByJoining AnyText R) (W : CellValue → Type 0) (table : TableValue) (infos : List ColumnInfo)
     (pieces : (cell : CellValue) → W cell → (info : ColumnInfo) (line : CellLine) → R (piece (plainly table) cell info line) (piece table cell info line)) where
   pieces_kept : (row : RowValue) → All W row.cells → (p : ℕ × ColumnInfo) → AllZip R (pieces_at (plainly table) row p) (pieces_at table row p)
@@ -76,7 +76,7 @@ module _ (R : Text → Text → Type 0) (joins : KeptByJoining AnyText R) (W : C
   kept_frame : (line : LineStyle) → AllZip R (optional_frame_line table.style line (outer_widths infos)) (optional_frame_line table.style line (outer_widths infos))
   kept_frame line = frame_kept AnyText R joins table.style line (outer_widths infos) (any_frame line)
 
-  -- is true of the lines of all cells
+  -- R holds of the lines of all cells
   pub drawing_by_pieces : All Each (header_and_rows table) → AllZip R (drawing_of_infos (plainly table) infos) (drawing_of_infos table infos)
   drawing_by_pieces each =
       AllZip-append R (optional_frame_line table.style table.style.top_border (outer_widths infos)) _ (optional_frame_line table.style table.style.top_border (outer_widths infos)) _ (kept_frame table.style.top_border)
@@ -109,7 +109,7 @@ stays_joined =
       of_both = λ shown others xs ys front back. ap₂ (λ (a b : Text). a ++ b) front back;
     }
 
--- their texts are written as they are
+-- the texts of cells without colours are written unchanged
 pub uncoloured_text : (cell : CellValue) → IsUncoloured cell → (text : Text) → text ≡ styled cell text
 uncoloured_text cell is text =
     sym (ap (λ (c : CellValue). styled c text) (ap₂ (λ f b. record cell { foreground = f; background = b }) is.no_foreground is.no_background)
@@ -127,7 +127,7 @@ module _ (table : TableValue) where
       by_tests true false = uncoloured_text cell is (padded cell info n line.written)
       by_tests false text_only = refl
 
--- so are all lines
+-- all lines of a table without colours are the plain ones
 pub uncoloured_lines : (table : TableValue) (widths : List ℕ) → All (λ (row : RowValue). All IsUncoloured row.cells) (header_and_rows table) → table.custom_styling ≡ false → drawing table widths ≡ drawing (unstyled table) widths
 uncoloured_lines table widths each none =
     sym (same_lines (drawing (plainly table) widths) (drawing table widths) (drawing_by_pieces (λ (x y : Text). x ≡ y) stays_joined IsUncoloured table (infos_of table widths) (uncoloured_piece table) each))

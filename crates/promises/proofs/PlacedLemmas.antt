@@ -6,7 +6,7 @@ use Rattle.comfy_parts.specs.CellValue.{RowValue}
 use Rattle.comfy_table.proofs.MeasuredLemmas.{measured_rows-is, row_measured}
 use Rattle.comfy_table.specs.TableValue.{TableValue, header_and_rows, measured_rows}
 
--- what holds of each that passes a test holds of these beside their positions
+-- a property of each element that passes a test holds of these elements with their positions
 pub placed : {A : Type 0} (test : A → Bool) (P : A → Type 0) (n : ℕ) (xs : List A) → All P (filter test xs)
     → All (λ (p : ℕ × A). P p.1) (filter (λ (p : ℕ × A). test p.1) (enumerate_from n xs))
 placed {A} test P n [] each = All-nil (λ (p : ℕ × A). P p.1)
@@ -20,7 +20,7 @@ placed {A} test P n (x ∷ xs) each = by_test (test x) each (λ more. placed tes
     by_test true each rest = All-cons (λ (p : ℕ × A). P p.1) (n, x) later (All-head P x (filter test xs) each) (rest (All-tail P x (filter test xs) each))
     by_test false each rest = rest each
 
--- and each of these stands at its position, and passes the test
+-- each of these elements is at its position, and passes the test
 pub standing : {A : Type 0} (test : A → Bool) (all : List A) (n : ℕ) (xs : List A)
     → ((k : ℕ) → slice_get all (n + k) ≡ slice_get xs k)
     → All (λ (p : ℕ × A). (slice_get all p.0 ≡ Some p.1) × (test p.1 ≡ true))
@@ -48,7 +48,7 @@ standing {A} test all n (x ∷ xs) same = by_test (test x) refl (standing test a
 
 -- ---- rows as they are measured
 
--- a row that is looked at as it is stays
+-- rows that are measured without custom styling stay the same
 rows_stay : (rows : List RowValue) → map (row_measured false) rows ≡ rows
 rows_stay [] = refl
 rows_stay (row ∷ rows) = ap (λ (more : List RowValue). row ∷ more) (rows_stay rows)

@@ -1,4 +1,4 @@
--- Each promise of one drawing.
+-- One drawing keeps each promise.
 use Rattle.std.proofs.Common.{ℕ, List, Option, refl, ap₂}
 use Rattle.comfy_parts.specs.Text.{Text}
 use Rattle.comfy_parts.specs.declared.style.table.ContentArrangement.{ContentArrangement}

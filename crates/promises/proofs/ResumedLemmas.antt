@@ -1,4 +1,4 @@
--- The written lines of a cell resume its sequences, in order.
+-- The written lines of a cell resume its sequences, from top to bottom.
 use Rattle.std.proofs.Common.{◌≡◌, ◌<◌, ◌≤◌, ◌⊎◌, inl, inr, ℕ, zero, suc, ◌+◌, ◌-◌, Bool, true, false, List, [], ◌∷◌, ◌++◌, append_assoc, length, length-append, map, nat_le, take, refl, sym, ap, ◌∙◌, arith}
 use Rattle.std.specs.List.{AllByRecursion, AllZip}
 use Rattle.std.specs.Prelude.{encode_utf8, if◌then◌else◌, zip}
@@ -16,7 +16,7 @@ use Rattle.promises.specs.Headline.{AreInOrder, ResumeTheirSequences, ResumesSeq
 module _ (w d : ℕ) where
   -- ---- parts of a cell
 
-  -- a line begins in a text line of a cell
+  -- a line begins in one of the text lines of a cell
   abbrev IsIn : List Text → LineStart → CellLine → Type 0
   IsIn all from line = (later : List Text) × (all ≡ from.earlier ++ from.text ∷ later)
 
@@ -34,7 +34,7 @@ module _ (w d : ℕ) where
   abbrev line_at : List Text → Text → ℕ × Text → CellLine
   line_at earlier text p = record { measured = p.1; written = line_text earlier text p.0 (length p.1) }
 
-  -- the lines of one text line, and those of later ones
+  -- the lines of one text line, and the lines of later ones
   module _ (earlier : List Text) (text : Text) (rest : List LineStart) (lines : List CellLine) where
     abbrev Fits : ℕ → ℕ → ℕ → Type 0
     Fits n m at = (n < length earlier) ⊎ ((n ≡ length earlier) × (m ≤ at))

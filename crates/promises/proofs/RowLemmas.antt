@@ -1,4 +1,4 @@
--- The lines of a row, as they are drawn.
+-- The lines of a row, made from its pieces.
 use Rattle.std.proofs.Common.{◌≡◌, ◌<◌, ℕ, List, [], Option, None, length, map, ap, ◌∙◌, arith, slice_index_or, unwrap_or, max}
 use Rattle.std.specs.List.{range_with_len}
 use Rattle.std.specs.Prelude.{slice_index}
@@ -21,7 +21,7 @@ module _ (table : TableValue) (widths : List ℕ) (long : length widths ≡ leng
     abbrev pub lines_in : List Text
     lines_in = drawn_row table (infos_of table widths) line row
 
-    -- as many as the row is high
+    -- the number of lines is the height of the row
     pub height : length lines_in ≡ greatest (map (λ (p : ℕ × ColumnValue). length (pieces_at table row (drawn_column widths p))) (shown_columns table))
     height =
         length-map (map (row_line table (infos_of table widths) row) (range_with_len 0 (row_height table (infos_of table widths) row))) (content_line table.style line)
@@ -33,7 +33,7 @@ module _ (table : TableValue) (widths : List ℕ) (long : length widths ≡ leng
     abbrev pub piece_in : ℕ → ℕ × ColumnValue → Text
     piece_in k p = slice_index_or (pieces_at table row (drawn_column widths p)) k (blank_piece (info_of p.1 (slice_index widths p.0)))
 
-    -- line k is made of these
+    -- line k consists of these pieces
     pub line_is : (k : ℕ) → k < length lines_in → slice_index_or lines_in k [] ≡ content_line table.style line (map (piece_in k) (shown_columns table))
     line_is k below =
         let infos = infos_of table widths in
@@ -45,7 +45,7 @@ module _ (table : TableValue) (widths : List ℕ) (long : length widths ≡ leng
         (ap (map (λ (q : ℕ × ColumnInfo). slice_index_or (pieces_at table row q) k (blank_piece q.1))) (columns-drawn table widths long)
         ∙ map-map (λ (q : ℕ × ColumnInfo). slice_index_or (pieces_at table row q) k (blank_piece q.1)) (drawn_column widths) (shown_columns table))
 
--- without a constraint the width by content is the content
+-- the width by content of a column without a constraint is its content
 pub width_by_content : (table : TableValue) (i : ℕ) (column : ColumnValue) → column.constraint ≡ None → disabled_width table (i, column) ≡ max 1 (column_content_width table i)
 width_by_content table i column none =
     ap (λ (c : Option ColumnConstraint). unwrap_or (fixed_by_constraint table (shown_count table) (column_content_width table i) (column_padding column) c) (capped_content (column_content_width table i) (column_padding column) (upper_boundary table (shown_count table) c))) none

@@ -1,4 +1,4 @@
--- What is shown of a text holds no ESC: so its sequences are taken out, and nothing else.
+-- The shown part of a text has no ESC, so it is the text without exactly its sequences.
 use Rattle.std.proofs.Common.{◌≡◌, ◌⊎◌, inl, inr, ◌<◌, ◌==◌, ◌&&◌, ℕ, zero, suc, Bool, true, false, not, List, [], ◌∷◌, ◌++◌, Option, Some, None, flat_map, length, map, refl, sym, ap, ◌∙◌, subst, arith, append_assoc, length-append, slice_index_or}
 use Rattle.std.specs.Char.{is_control}
 use Rattle.std.specs.List.{All, cons_option, filter_map, slice_get}
@@ -23,7 +23,7 @@ use Rattle.promises.specs.Tables.{EachShownText, EachText}
 use Rattle.promises.specs.Shown.{HasNoControls, IsHarmless, Shows}
 use Rattle.promises.specs.Shown.Shows.{nothing, byte, sequence}
 
--- a text shows what is visible of it, where that holds no ESC
+-- a text shows its visible text, if that has no ESC
 pub shows_visible : (n : ℕ) (text : Text) → length text < n → HasNoEscape (visible_text text) → Shows text (visible_text text)
 shows_visible zero text below clear = absurd (omega (arith, below))
 shows_visible (suc n) [] below clear = nothing
@@ -41,7 +41,7 @@ shows_visible (suc n) (b ∷ rest) below clear = by_front (front_of (b ∷ rest)
         let both = or_parts (b == 0x1B) _ (subst HasNoEscape seen clear) in
         subst (Shows (b ∷ rest)) (sym seen) (byte b rest (visible_text rest) both.0 (later rest (omega (arith, below)) both.1))
 
--- two texts show what both show
+-- two joined texts show the joined texts that they show
 pub shows_both : {xs shown : Text} (ys other : Text) → Shows xs shown → Shows ys other → Shows (xs ++ ys) (shown ++ other)
 shows_both ys other nothing back = back
 shows_both ys other (byte b text shown clear front) back = byte b (text ++ ys) (shown ++ other) clear (shows_both ys other front back)
@@ -50,7 +50,7 @@ shows_both ys other (sequence code text shown all front) back =
 
 -- ---- lines
 
--- a control character that ends no line
+-- a control character other than a line feed
 abbrev is_stray : ℕ → Bool
 is_stray c = is_control c && not (c == 0x0A)
 
@@ -65,11 +65,11 @@ line_feed : NoCharPasses is_stray (0x0A ∷ [])
 unfolding encode
 line_feed = (0x0A ∷ [], refl, (refl, tt))
 
--- a line shows what is visible of it
+-- a line shows its visible text, if that has no control character
 pub line_shows : (line : Text) → HasNoControl (visible_text line) → Shows line (visible_text line)
 line_shows line none = shows_visible (suc (length line)) line (omega arith) (none_by_characters is_control 0x1B (omega arith) refl (visible_text line) none)
 
--- so do lines, joined by line feeds
+-- lines joined by line feeds are harmless
 joined : (lines : List Text) → All (λ line. HasNoControl (visible_text line)) lines → IsHarmless (text_of lines)
 joined [] none = ([], nothing, NoCharPasses-nil is_stray)
 joined (line ∷ []) none =
@@ -85,11 +85,11 @@ joined (line ∷ next ∷ lines) none =
 
 -- ---- tables
 
--- what is visible of a text without control characters is the text
+-- the visible text of a text without control characters is the text
 pub visible_clear : (text : Text) → HasNoControl text → visible_text text ≡ text
 visible_clear text none = visible_text-is text text (Shows-clear text (none_by_characters is_control 0x1B (omega arith) refl text none))
 
--- what holds of both of two facts
+-- a property that two properties make together
 pub shown_both : (P Q : Text → Type 0) (table : TableValue) → EachText P table → EachShownText Q table → EachShownText (λ text. P text × Q text) table
 shown_both P Q table each shown =
     All-weaker (λ (p : ℕ × ColumnValue). All (λ (row : RowValue). (cell : CellValue) → slice_get row.cells p.0 ≡ Some cell → All Q cell.text_lines) (header_and_rows table))
@@ -98,7 +98,7 @@ shown_both P Q table each shown =
     (All-at (λ (c : CellValue). All P c.text_lines) (slice_index_or (header_and_rows table) k default).cells p.0 cell (each k default under) found j text below, own k default under cell found j text below))
     (shown_columns table) shown
 
--- what holds of shown texts, and so of what is visible of them, holds of them as they are measured
+-- a property of shown texts and of their visible texts holds of the measured texts
 module _ (P Q : Text → Type 0) (table : TableValue) (gives : (text : Text) → P text → Q text × Q (visible_text text)) where
   abbrev Has : CellValue → Type 0
   Has cell = All Q cell.text_lines

@@ -52,7 +52,7 @@ taken (column ∷ columns) new =
     let right : column.padding.1 ≡ 1 = ap (λ (p : ℕ × ℕ). p.1) own in
     omega (arith, left, right, sum_by-cons (λ (c : ColumnValue). c.padding.0 + 1 + c.padding.1 + 1) column columns, taken columns (All-tail IsNewColumn column columns new))
 
--- rows of at most n cells make at most n columns
+-- rows of at most n cells give at most n columns
 pub few_columns : (n : ℕ) (rows : List RowValue) (table : TableValue) → length table.columns ≤ n → HaveCells n rows → length (with_rows rows table).columns ≤ n
 few_columns n [] table below each = below
 few_columns n (row ∷ rows) table below each =
@@ -84,7 +84,7 @@ module _ (style : TableStyle) (arrangement : ContentArrangement) (width : Option
   plain : IsPlain table
   plain = record { no_styles = ap should_style made.is; no_sequences = ap (λ (t : TableValue). t.custom_styling) made.is }
 
-  -- what holds of the rows holds of those of the table
+  -- a property of the header and the rows holds of those of the table
   of_all : (P : RowValue → Type 0) → All P (header ∷ rows) → All P (header_and_rows table)
   of_all P each = subst (All P) (sym its_rows) each
 
@@ -123,7 +123,7 @@ module _ (style : TableStyle) (arrangement : ContentArrangement) (width : Option
       let all = ap (λ (columns : List ColumnValue). sum_by (λ (column : ColumnValue). column.padding.0 + 1 + column.padding.1 + 1) columns) (all_shown table made.columns) ∙ taken table.columns made.columns in
       omega (arith, few, all)
 
-  -- where the table is as wide as its texts
+  -- the lines, if the table is as wide as its texts
   module _ (disabled : arrangement ≡ Disabled) (short : All IsShortRow (header ∷ rows)) where
     whole : IsShownWhole table
     whole =

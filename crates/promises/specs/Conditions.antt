@@ -10,7 +10,7 @@ use Rattle.comfy_table.specs.Frame.{optional_frame_line}
 use Rattle.comfy_table.specs.TableValue.{TableValue, ellipsis, with_other_rows}
 use Rattle.promises.specs.Tables.{EachCell}
 
--- a column is as it was made
+-- the column has default settings
 pub record IsNewColumn (column : ColumnValue) : Type 0 where
   pub padding : column.padding ≡ (1, 1)
   pub no_constraint : column.constraint ≡ None
@@ -24,13 +24,13 @@ pub record HasNewFrame (table : TableValue) : Type 0 where
   pub cells : EachCell (λ (cell : CellValue). cell.delimiter ≡ None) table
   pub indicator : table.indicator ≡ ellipsis
 
--- a table has neither columns nor rows
+-- the table has neither columns nor rows
 pub record IsEmpty (base : TableValue) : Type 0 where
   pub no_columns : base.columns ≡ []
   pub no_rows : base.rows ≡ []
 
--- the table has this header and these rows, each of their cells has a new column, and the settings
--- are those of the base
+-- the table has this header and these rows, a new column for each of their cells, and the settings
+-- of the base
 pub record IsOfRows (base : TableValue) (header : RowValue) (rows : List RowValue)
     (table : TableValue) : Type 0 where
   pub is : table ≡ record base { columns = table.columns; header = Some header; rows = rows }
@@ -40,20 +40,20 @@ pub record IsOfRows (base : TableValue) (header : RowValue) (rows : List RowValu
 
 -- ---- parts
 
--- the header and these lines, between the borders at the top and the bottom
+-- the header and these lines, between the top and the bottom border
 abbrev pub framed : TableValue → List ColumnInfo → List Text → List Text
 framed table infos lines =
     optional_frame_line table.style table.style.top_border (outer_widths infos)
     ++ (drawn_header table infos table.header
     ++ (lines ++ optional_frame_line table.style table.style.bottom_border (outer_widths infos)))
 
--- a drawing of other rows over the same columns
+-- the drawing of other rows over the same columns consists of these rows in the frame
 abbrev pub RowsAreFramed : TableValue → List ColumnInfo → List RowValue → Type 0
 RowsAreFramed table infos rows =
     drawing_of_infos (with_other_rows rows table) infos
     ≡ framed table infos (drawn_rows table infos rows)
 
--- parts that have all rows, in order, and each some
+-- parts that have all rows in order, and each at least one, make the whole drawing
 abbrev pub PartsMakeTheWhole : TableValue → List ColumnInfo → List (List RowValue) → Type 0
 PartsMakeTheWhole table infos parts =
     flat_map (λ (part : List RowValue). part) parts ≡ table.rows

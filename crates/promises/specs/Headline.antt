@@ -1,4 +1,4 @@
--- What a table draws: frame lines, and rows of padded lines of its cells' texts.
+-- The drawing of a table: frame lines, and rows of padded lines of its cells' texts.
 -- Source: this library's own.
 use Rattle.std.specs.Prelude.{◌≢◌, ◌-◌, ◌/◌, ◌&&◌, ◌||◌, drop, is_some, nat_lt, take, ◌≡◌, ◌⊎◌, ℕ, ◌+◌, ◌<◌, ◌≤◌, Bool, true, false, List, Option, [], ◌∷◌, ◌++◌, Some, None, All, EachIndex, MatchOption, filter_map, flat_map, length, map, max, option_map, slice_get, slice_index_or, sum, unwrap_or}
 use Rattle.std.specs.Int.{is_in_range}
@@ -24,15 +24,15 @@ use Rattle.promises.specs.Shown.{IsStyled}
 
 -- ---- the lines of a cell
 
--- the lines of a text line in a column of w terminal columns: the text itself where it fits, else
--- slices of it, which end where lines end and leave out only delimiters d; none is wider where each
--- character fits
+-- the lines of a text line in a column of w terminal columns: the text itself if it fits, or else
+-- slices of it, which end where lines end and leave out only the delimiter d. No line is wider than
+-- w, if each character fits.
 pub record AreLinesOfText (w d : ℕ) (text : Text) (lines : List Text) : Type 0 where
   pub whole : measure text ≤ w → lines ≡ text ∷ []
   pub slices : w < measure text → IsWrapped w d text lines
   pub fit : AddsOneColumn d → CharactersFit w text → All (λ line. measure line ≤ w) lines
 
--- those of all text lines of a cell, from top to bottom
+-- the lines of all text lines of a cell, from top to bottom
 abbrev pub AreLinesOfCell : ℕ → ℕ → CellValue → List Text → Type 0
 AreLinesOfCell w d cell lines =
     (of_texts : List (List Text)) × AllZip (AreLinesOfText w d) cell.text_lines of_texts
@@ -47,7 +47,7 @@ EachShownCell P table =
 
 -- ---- pieces
 
--- the paddings of a column, and w terminal columns for its content
+-- the whole width of a column: its paddings, and w terminal columns for its content
 abbrev pub whole_width : ColumnValue → ℕ → ℕ
 whole_width column w = column.padding.0 + w + column.padding.1
 
@@ -56,8 +56,8 @@ abbrev pub AreSpaces : Bool → ℕ → Text → Type 0
 AreSpaces true n text = IsStyled (spaces n) text
 AreSpaces false n text = text ≡ spaces n
 
--- a line between spaces, at least the column's paddings, as wide as the column unless the line
--- is wider, and at a side of it
+-- a line between spaces, which are at least the column's paddings. The piece is as wide as the
+-- column, unless the line is wider, and the line is at this side of it.
 pub record IsPiece (styles : Bool) (side : CellAlignment) (column : ColumnValue) (w : ℕ)
     (line piece : Text) : Type 0 where
   pub left : ℕ
@@ -68,7 +68,8 @@ pub record IsPiece (styles : Bool) (side : CellAlignment) (column : ColumnValue)
   pub are_spaces : AreSpaces styles left before × AreSpaces styles right after
   pub padded : (column.padding.0 ≤ left) × (column.padding.1 ≤ right)
   pub wide : left + measure line + right ≡ whole_width column (max w (measure line))
-  -- the spaces beyond the paddings are after the line, before it, or half of them, rounded up
+  -- the spaces beyond the paddings are after a left-aligned line, before a right-aligned one, and
+  -- half of them, rounded up, before a centred one
   pub aligned : left ≡ column.padding.0 + free_before side (w - measure line)
 
 -- the whole widths of the shown columns
@@ -76,31 +77,31 @@ abbrev pub widths_shown : TableValue → (ℕ → ℕ) → List ℕ
 widths_shown table width =
     map (λ (p : ℕ × ColumnValue). whole_width p.1 (width p.0)) (shown_columns table)
 
--- a line of the frame over these, where one of its characters is set
+-- a frame line over these columns, if one of its characters is set
 abbrev pub framed : TableValue → (ℕ → ℕ) → LineStyle → List Text
 framed table width line = optional_frame_line table.style line (widths_shown table width)
 
--- the side at which a cell of a column is drawn
+-- the side at which a cell is drawn in a column, or a missing one
 abbrev pub side_in : Option CellValue → ColumnValue → CellAlignment
 side_in None column = unwrap_or column.alignment Left
 side_in (Some cell) column = unwrap_or cell.alignment (unwrap_or column.alignment Left)
 
--- whether a cell has a colour or an attribute
+-- the cell has a colour or an attribute
 abbrev pub is_coloured : Option CellValue → Bool
 is_coloured None = false
 is_coloured (Some cell) =
     is_some cell.foreground || (is_some cell.background || nat_lt 0 (length cell.attributes))
 
--- whether styles are written for the cell of a row
+-- styles are written for the cell of a row
 abbrev pub is_styled : Bool → RowValue → ℕ × ColumnValue → Bool
 is_styled styles row p = styles && is_coloured (slice_get row.cells p.0)
 
--- the side at which the cell of a row is drawn: its own, or that of its column, or left
+-- the side at which the cell of a row is drawn: the cell's own, or else its column's, or else left
 abbrev pub side_of : RowValue → ℕ × ColumnValue → CellAlignment
 side_of row p = side_in (slice_get row.cells p.0) p.1
 
--- the lines of a row whose shown columns have these parts: as many as the longest part has, in each
--- the pieces of the shown columns, side by side between these borders
+-- the lines of a row whose shown columns have these parts: as many lines as the longest part has.
+-- Each line has the pieces of the shown columns, side by side between these borders.
 pub record AreLinesOfParts (styles : Bool) (table : TableValue) (row : RowValue) (width : ℕ → ℕ)
     (parts : ℕ × ColumnValue → List Text) (borders : ContentLineStyle) (lines : List Text)
     : Type 0 where
@@ -113,8 +114,8 @@ pub record AreLinesOfParts (styles : Bool) (table : TableValue) (row : RowValue)
 
 -- ---- sequences in texts
 
--- a written line of a cell shows a part of one of its text lines. Before each visible byte those
--- sequences are open that are active there in the cell
+-- a written line of a cell shows a part of one of its text lines. Before each visible byte, the
+-- open sequences are those that are active there in the cell.
 pub record ResumesSequences (cell : CellValue) (from : LineStart) (line : CellLine) : Type 0 where
   pub later : List Text
   pub in_cell : cell.text_lines ≡ from.earlier ++ from.text ∷ later
@@ -124,8 +125,8 @@ pub record ResumesSequences (cell : CellValue) (from : LineStart) (line : CellLi
       → open_after (parts_before k (parts line.written))
       ≡ active from.earlier from.text (from.at + k)
 
--- each line begins where the one above it ends, or after that: there are as many earlier text
--- lines, or more, and as many visible bytes before it, unless there are more text lines
+-- each line begins where the line above it ends, or later: in a later text line, or in the same one
+-- after at least as many visible bytes
 abbrev pub AreInOrder : ℕ → ℕ → List LineStart → List CellLine → Type 0
 AreInOrder earlier at [] lines = Unit {0}
 AreInOrder earlier at (from ∷ starts) [] = Unit {0}
@@ -133,7 +134,7 @@ AreInOrder earlier at (from ∷ starts) (line ∷ lines) =
     ((earlier < length from.earlier) ⊎ ((earlier ≡ length from.earlier) × (at ≤ from.at)))
     × AreInOrder (length from.earlier) (from.at + length line.measured) starts lines
 
--- so are the lines of a cell written, from top to bottom
+-- the written lines of a cell resume their sequences, from top to bottom
 abbrev pub ResumeTheirSequences : CellValue → List Text → Type 0
 ResumeTheirSequences cell texts =
     (starts : List LineStart) × (lines : List CellLine)
@@ -149,9 +150,9 @@ pub record IsBetweenSpaces (text piece : Text) : Type 0 where
   pub drawn : piece ≡ before ++ (text ++ after)
   pub are_spaces : IsStyled (spaces left) before × IsStyled (spaces right) after
 
--- each line of a row is pieces of the shown columns, side by side between these borders: what is
--- written of each, between spaces. With custom styling texts resume their sequences, unless the
--- row has a greatest height
+-- each line of a row consists of the pieces of the shown columns, side by side between these
+-- borders. A piece is a written text between spaces. With custom styling these texts resume their
+-- sequences, unless the row has a greatest height.
 pub record AreWrittenLines (table : TableValue) (borders : ContentLineStyle) (row : RowValue)
     (lines : List Text) : Type 0 where
   pub texts : ℕ × ColumnValue → List Text
@@ -164,10 +165,10 @@ pub record AreWrittenLines (table : TableValue) (borders : ContentLineStyle) (ro
 
 -- ---- the lines of a row
 
--- in a table whose columns have these widths, and whose cells these lines
+-- `width` has the widths of the columns, and `cell_lines` the lines of the cells
 module _ (table : TableValue) (width : ℕ → ℕ)
     (cell_lines : ℕ × ColumnValue → CellValue → List Text) where
-  -- the lines of a row's cell, cut at the row's greatest height; an empty one, if it has no cell
+  -- the lines of a row's cell, cut at the row's greatest height; one empty line if there is no cell
   abbrev pub lines_in : RowValue → ℕ × ColumnValue → List Text
   lines_in row p =
       unwrap_or (option_map (λ (cell : CellValue). cut_to_limit
@@ -179,15 +180,15 @@ module _ (table : TableValue) (width : ℕ → ℕ)
   AreLinesOfRow borders row lines =
       AreLinesOfParts false table row width (lines_in row) borders lines
 
-  -- the lines of a row; without custom styling they are pieces of these lines
+  -- the lines of a row; without custom styling their pieces are these lines
   pub record AreContentLines (borders : ContentLineStyle) (row : RowValue) (lines : List Text)
       : Type 0 where
     pub written : AreWrittenLines table borders row lines
     pub are : table.custom_styling ≡ false
         → AreLinesOfParts (should_style table) table row width (lines_in row) borders lines
 
--- the header, if there is one, and all rows, each in lines that show it, between frame lines over
--- the same widths
+-- the lines show the header, if there is one, and all rows, between frame lines over the same
+-- widths
 pub record IsFramedBy (Shows : ContentLineStyle → RowValue → List Text → Type 0)
     (table : TableValue) (width : ℕ → ℕ) (lines : List Text) : Type 0 where
   pub header : List Text
@@ -212,18 +213,18 @@ widest table i =
     max 1 (greatest (map cell_content_width (filter_map (λ (row : RowValue). slice_get row.cells i)
     (header_and_rows table))))
 
--- the terminal columns that a width leaves beside borders and paddings
+-- the terminal columns that a width leaves for texts, after borders and paddings
 abbrev pub room_for_texts : TableValue → ℕ → ℕ
 room_for_texts table w =
     w - (border_count table.style (length (shown_columns table))
     + sum (widths_shown table (λ i. 0)))
 
--- a column is as wide as a text, or at least as wide, if all columns may be widened
+-- a column is as wide as a text, or at least as wide if columns may be widened
 abbrev pub IsAsWide : Bool → ℕ → ℕ → Type 0
 IsAsWide false text width = width ≡ text
 IsAsWide true text width = text ≤ width
 
--- at a width w no line of a column's cells is wider than n
+-- no line of a column's cells is wider than n, if the column has width w
 abbrev pub HasLinesWithin : TableValue → ℕ × ColumnValue → ℕ → ℕ → Type 0
 HasLinesWithin table p w n =
     All (λ (row : RowValue). (cell : CellValue) (lines : List Text)
@@ -231,8 +232,8 @@ HasLinesWithin table p w n =
     → AreLinesOfCell w (cell_delimiter table p.1.delimiter cell) cell lines
     → All (λ line. measure line ≤ n) lines) (header_and_rows table)
 
--- a column whose widest text is at most a level is as wide as this text; any other is at least as
--- wide as the level, or has room for its lines at such a width
+-- a column whose widest text is at most the level is as wide as this text. Any other is at least as
+-- wide as the level, or has room for its lines at a width of at least the level.
 pub record KeepsToLevel (table : TableValue) (width : ℕ → ℕ) (level : ℕ) (p : ℕ × ColumnValue)
     : Type 0 where
   pub narrow : widest table p.0 ≤ level
@@ -248,49 +249,50 @@ pub record IsFramedDrawing (table : TableValue) (lines : List Text) : Type 0 whe
       (cell_delimiter table p.1.delimiter cell) cell (cell_lines p cell)) table
   pub frame : IsFramedBy (AreLinesOfRow table width cell_lines) table width lines
 
--- its lines, and how wide its columns are
+-- the lines of a table without styles, and the widths of its columns
 pub record IsPlainDrawing (table : TableValue) (lines : List Text) : Type 0 where
   pub framed : IsFramedDrawing table lines
-  -- without a width to keep to, a column is as wide as its widest text
+  -- if no width is kept, a column is as wide as its widest text
   pub by_content : (table.arrangement ≡ Disabled) ⊎ (table_width table ≡ None)
       → All (λ (p : ℕ × ColumnValue). p.1.constraint ≡ None → framed.width p.0 ≡ widest table p.0)
       (shown_columns table)
-  -- so is each if a width is kept that has room for all texts, or wider under `DynamicFullWidth`
+  -- if a width is kept that has room for all texts, each column is that wide too, or wider under
+  -- `DynamicFullWidth`
   pub keeps_contents : (w : ℕ) → table_width table ≡ Some w → NoConstraints table
       → table.arrangement ≢ Disabled
       → border_count table.style (length (shown_columns table))
       + sum (widths_shown table (widest table)) ≤ w
       → All (λ (p : ℕ × ColumnValue). IsAsWide (is_full_width table.arrangement)
       (widest table p.0) (framed.width p.0)) (shown_columns table)
-  -- if it has room for some alone, columns keep to a level, at least an even share of the room
+  -- if a width is kept, columns keep to a level, which is at least an even share of the room
   pub keeps_to_level : (w : ℕ) → table_width table ≡ Some w → NoConstraints table
       → table.arrangement ≢ Disabled
       → (level : ℕ) × (room_for_texts table w / length (shown_columns table) ≤ level)
       × All (KeepsToLevel table framed.width level) (shown_columns table)
-  -- each frame line counts as many characters, whatever the texts
+  -- all frame lines have the same number of characters, whatever the texts are
   pub total : ℕ
   pub frame_total : (line : LineStyle)
       → count (frame_line table.style line (widths_shown table framed.width))
       ≡ total
-  -- so does each line of printable ASCII, where the indicator adds one column for each character
-  -- wherever it is written
+  -- lines of printable ASCII have as many, if each indicator that is written adds one terminal
+  -- column for each of its characters
   pub plain_total : IsPrintable table
       → EachShownCell (λ row p cell. (h : ℕ) → row.max_height ≡ Some h
       → h < length (framed.cell_lines p cell)
       → AddsOneColumnEach (fitting_indicator (framed.width p.0) table.indicator)) table
       → All (λ line. count line ≡ total) lines
-  -- the width that was set, or the terminal's, holds where it has room for borders, paddings and
-  -- one column for each
+  -- under `Dynamic` lines keep to the width, set or the terminal's, or to borders, paddings and one
+  -- terminal column for each column if that is more
   pub keeps_to_width : (w : ℕ) → table_width table ≡ Some w → NoConstraints table
       → table.arrangement ≡ Dynamic
       → total ≤ max w (least_total table)
-  -- or is filled, where a column is shown
+  -- under `DynamicFullWidth` lines have exactly that width, if a column is shown
   pub fills_width : (w : ℕ) → table_width table ≡ Some w → NoConstraints table
       → table.arrangement ≡ DynamicFullWidth → 0 < length (shown_columns table)
       → total ≡ max w (least_total table)
 
--- lines are those of a table without styles, except for SGR sequences: if styles are written, these
--- are in pieces around the texts
+-- the lines are those of a table without styles, except for SGR sequences, which are in pieces
+-- around the texts if styles are written
 pub record IsFramedTable (table : TableValue) (lines : List Text) : Type 0 where
   pub plain : List Text
   pub is_plain : IsFramedDrawing table plain
@@ -305,8 +307,9 @@ pub record IsUncoloured (cell : CellValue) : Type 0 where
   pub no_background : cell.background ≡ None
   pub no_attributes : cell.attributes ≡ []
 
--- such are the lines of a table as it is measured, with custom styling of what is visible of its
--- texts, but for SGR sequences in its pieces, where styles are written or stand in texts
+-- the lines are those of the table as it is measured, except for SGR sequences. These are in
+-- pieces, if styles are written, or in texts. With custom styling a text is measured by its visible
+-- text.
 pub record IsHeadline (table : TableValue) (lines : List Text) : Type 0 where
   pub plain : List Text
   pub is_plain : IsPlainDrawing (measured_table table) plain
@@ -317,11 +320,11 @@ pub record IsHeadline (table : TableValue) (lines : List Text) : Type 0 where
   -- a table whose cells have neither colours nor attributes is drawn without sequences
   pub uncoloured : All (λ (row : RowValue). All IsUncoloured row.cells) (header_and_rows table)
       → table.custom_styling ≡ false → lines ≡ plain
-  -- with custom styling no line leaves a sequence open, if sequences are in texts alone
+  -- with custom styling no line leaves a sequence open, if only texts have sequences
   pub closed : table.custom_styling ≡ true → HasSequencesInTextsAlone table
       → All LeavesNoneOpen lines
 
--- the columns of a headline, as wide as there
+-- these are the columns with the widths of the drawing
 abbrev pub AreColumnsOf : TableValue → List Text → List ColumnInfo → Type 0
 AreColumnsOf table lines columns =
     (drawing : IsHeadline table lines)

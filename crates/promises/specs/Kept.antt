@@ -1,4 +1,4 @@
--- Where the texts of a table are in its lines.
+-- The texts of a table in its lines.
 -- Source: this library's own.
 use Rattle.std.specs.Prelude.{◌≡◌, ◌⊎◌, ℕ, false, List, [], ◌∷◌, None, All, MatchOption, flat_map, option_map, slice_get, unwrap_or}
 use Rattle.std.specs.List.{AllZip}
@@ -12,16 +12,16 @@ use Rattle.comfy_table.specs.TableValue.{TableValue, should_style, shown_columns
 use Rattle.promises.specs.Headline.{AreLinesOfParts, IsFramedBy}
 use Rattle.promises.specs.Tables.{IsShownWhole}
 
--- a text line, or slices of it, which leave out nothing but the character d
+-- a text line, or slices of it that leave out only the character d
 abbrev pub AreSlicesOf : ℕ → Text → List Text → Type 0
 AreSlicesOf d text slices =
     (slices ≡ text ∷ []) ⊎ IsSlicesWhere (λ line tail. Unit {0}) d text slices
 
--- in a table whose columns have these widths
+-- `width` has the widths of the columns
 module _ (table : TableValue) (width : ℕ → ℕ) where
-  -- the lines show a row: a slice of each shown cell is in its column, alone between borders and
-  -- spaces; those of a cell that no height cuts are the slices of its text lines, from top to
-  -- bottom, and a missing cell is blank
+  -- the lines show a row: each shown cell has its slices in its column, one in each line, between
+  -- borders and spaces. If no height cuts the row, they are the slices of the cell's text lines,
+  -- from top to bottom. A missing cell is blank.
   pub record ShowsRow (borders : ContentLineStyle) (row : RowValue) (lines : List Text)
       : Type 0 where
     pub slices : ℕ × ColumnValue → List Text
@@ -33,25 +33,26 @@ module _ (table : TableValue) (width : ℕ → ℕ) where
         × (slices p ≡ flat_map (λ (of_text : List Text). of_text) of_texts)))
         (shown_columns table)
 
-  -- the lines show a row unchanged: line k of each shown cell's text is in line k
+  -- the lines show a row unchanged: text line k of each shown cell is in line k
   abbrev pub ShowsWholeRow : ContentLineStyle → RowValue → List Text → Type 0
   ShowsWholeRow borders row lines =
       AreLinesOfParts (should_style table) table row width (λ p. unwrap_or
       (option_map (λ (cell : CellValue). cell.text_lines) (slice_get row.cells p.0)) ([] ∷ []))
       borders lines
 
--- the lines show the header and all rows of a table, below each other, between frame lines alone
+-- the lines show the header and all rows of a table, below each other, with only frame lines
+-- between them
 abbrev pub AreShown : ((ℕ → ℕ) → ContentLineStyle → RowValue → List Text → Type 0) → TableValue
     → List Text → Type 0
 AreShown Shows table lines = (width : ℕ → ℕ) × IsFramedBy (Shows width) table width lines
 
 -- ---- promises
 
--- in slices, which leave out nothing but the characters at which texts break
+-- all texts are in the lines, as slices that leave out only the characters at which texts break
 abbrev pub ShowAllTexts : TableValue → List Text → Type 0
 ShowAllTexts table lines = table.custom_styling ≡ false → AreShown (ShowsRow table) table lines
 
--- without a width to keep to, unchanged
+-- all texts are in the lines unchanged, if no width is kept
 abbrev pub ShowWholeTexts : TableValue → List Text → Type 0
 ShowWholeTexts table lines =
     table.custom_styling ≡ false → table.arrangement ≡ Disabled → IsShownWhole table

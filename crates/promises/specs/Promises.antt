@@ -1,4 +1,4 @@
--- What one drawing of a table keeps.
+-- The promises that one drawing of a table keeps.
 -- Source: this library's own.
 use Rattle.std.specs.Prelude.{◌≡◌, ℕ, List, Some}
 use Rattle.comfy_parts.specs.Text.{Text}
@@ -12,7 +12,7 @@ use Rattle.promises.specs.Shown.{HasNoControls, IsHarmless}
 use Rattle.promises.specs.Straight.{AreShownStraight, AreStraight, AreStraightWhereCharactersFit, AreStraightWhole}
 use Rattle.promises.specs.Widths.{FillWidth, KeepToWidth, KeepToWidthWhereCharactersFit}
 
--- each promise on a table's lines
+-- the lines keep each promise on a table's lines
 pub record KeepsPromises (table : TableValue) (lines : List Text) : Type 0 where
   pub headline : IsHeadline table lines
   pub straight : AreStraight table lines

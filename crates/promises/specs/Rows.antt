@@ -1,4 +1,4 @@
--- New tables of a header and rows, and what their drawings keep.
+-- New tables of a header and rows, and the promises of their drawings.
 -- Source: this library's own.
 use Rattle.std.specs.Prelude.{◌≡◌, ℕ, ◌+◌, ◌*◌, ◌<◌, ◌≤◌, List, ◌∷◌, Option, Some, None, All, length, max}
 use Rattle.comfy_parts.specs.CellValue.{CellValue, RowValue}
@@ -20,7 +20,7 @@ table_of style arrangement width header rows =
 
 -- ---- rows
 
--- a cell breaks at spaces, and each character of its texts fits one terminal column
+-- the cell breaks at spaces, and each character of its texts fits one terminal column
 pub record IsNarrowCell (cell : CellValue) : Type 0 where
   pub delimiter : cell.delimiter ≡ None
   pub characters : All (CharactersFit 1) cell.text_lines
@@ -34,10 +34,10 @@ HaveCells n rows = All (λ (row : RowValue). length row.cells ≤ n) rows
 
 -- ---- promises
 
--- what the lines of such a table keep: they are equally wide, where each character fits one
--- terminal column, or where the table is as wide as its texts; they keep to a width, or fill it,
--- where that has room for borders, paddings and one terminal column for each of n columns; and all
--- texts are in them, each in its row and column, unchanged where the table is as wide as its texts
+-- The promises on the lines of such a table. They are equally wide, if each character fits one
+-- terminal column, or if the table is as wide as its texts. They keep to a width, or fill it, if it
+-- has room for borders, paddings and one terminal column for each of n columns. All texts are in
+-- them, each in its row and column, and unchanged if the table is as wide as its texts.
 pub record KeepsRows (style : TableStyle) (arrangement : ContentArrangement) (width : Option ℕ)
     (header : RowValue) (rows : List RowValue) (lines : List Text) : Type 0 where
   pub straight : All IsNarrowRow (header ∷ rows) → AreEquallyWide lines

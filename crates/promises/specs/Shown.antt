@@ -1,4 +1,4 @@
--- Commands of a text to a terminal.
+-- The commands to a terminal in a text: SGR sequences.
 -- Source: this library's own.
 use Rattle.std.specs.Prelude.{◌≡◌, ◌==◌, ◌&&◌, ℕ, true, false, not, List, [], ◌∷◌, ◌++◌, Option, All, unwrap_or}
 use Rattle.std.specs.Char.{is_control}
@@ -10,8 +10,8 @@ use Rattle.comfy_parts.specs.VisibleText.{is_parameter}
 use Rattle.comfy_table.specs.TableValue.{TableValue}
 use Rattle.promises.specs.Tables.{EachShownText}
 
--- a text, and what it shows: the text without its SGR sequences, which set colours and
--- attributes. ESC stands nowhere but at the front of these
+-- a text, and the text that it shows: without its SGR sequences, which set colours and attributes.
+-- ESC is only at the beginning of these.
 pub data Shows : Text → Text → Type 0 where
   nothing : Shows [] []
   byte : (b : ℕ) (text shown : Text) → (b == 0x1B) ≡ false
@@ -26,20 +26,20 @@ pub data IsStyled : Text → Text → Type 0 where
   sequence : (code line styled : Text) → list_all is_parameter code ≡ true
       → IsStyled line styled → IsStyled line (0x1B ∷ 0x5B ∷ (code ++ 0x6D ∷ styled))
 
--- all that a terminal gets are characters, line ends, colours and attributes
+-- a terminal gets only characters, line ends, colours and attributes
 abbrev pub IsHarmless : Text → Type 0
 IsHarmless text =
     (shown : Text) × Shows text shown × NoCharPasses (λ c. is_control c && not (c == 0x0A)) shown
 
--- a line shows so many terminal columns
+-- the line shows n terminal columns
 abbrev pub ShowsColumns : ℕ → Text → Type 0
 ShowsColumns n line = (shown : Text) × Shows line shown × (measure shown ≡ n)
 
--- all lines show the same number
+-- all lines show the same number of terminal columns
 abbrev pub AreShownEquallyWide : List Text → Type 0
 AreShownEquallyWide lines = (n : ℕ) × All (ShowsColumns n) lines
 
--- no character of a shown text, of the indicator and of the style is a control character
+-- no shown text, nor the indicator or the style, has a control character
 pub record HasNoControls (table : TableValue) : Type 0 where
   pub texts : EachShownText (NoCharPasses is_control) table
   pub indicator : NoCharPasses is_control table.indicator

@@ -11,26 +11,27 @@ use Rattle.promises.specs.Headline.{AreColumnsOf}
 use Rattle.promises.specs.Shown.{AreShownEquallyWide, HasNoControls}
 use Rattle.promises.specs.Tables.{CharactersFitColumns, EachText, HasPlainFrame, IsPlain, IsShownWhole}
 
--- where each character fits one terminal column
+-- the lines are equally wide, if each character fits one terminal column
 abbrev pub AreStraight : TableValue → List Text → Type 0
 AreStraight table lines =
     IsPlain table → HasPlainFrame table → EachText (CharactersFit 1) table
     → AreEquallyWide lines
 
--- where the table is as wide as its texts
+-- the lines are equally wide, if the table is as wide as its texts
 abbrev pub AreStraightWhole : TableValue → List Text → Type 0
 AreStraightWhole table lines =
     IsPlain table → HasPlainFrame table → table.arrangement ≡ Disabled → IsShownWhole table
     → AreEquallyWide lines
 
--- these are the columns of the drawing; where each character fits its column
+-- these are the columns of the drawing, and its lines are equally wide if each character fits its
+-- column
 abbrev pub AreStraightWhereCharactersFit : TableValue → List ColumnInfo → List Text → Type 0
 AreStraightWhereCharactersFit table columns lines =
     AreColumnsOf table lines columns
     × (IsPlain table → HasPlainFrame table → CharactersFitColumns table columns
     → AreEquallyWide lines)
 
--- with colours and attributes, by what the lines show
+-- with colours and attributes, the lines show equally many terminal columns
 abbrev pub AreShownStraight : TableValue → List Text → Type 0
 AreShownStraight table lines =
     HasNoControls table → HasPlainFrame table → EachText (CharactersFit 1) table

@@ -1,4 +1,4 @@
--- Tables as callers make them, and how wide their lines are shown.
+-- Tables as callers make them, and the widths of their characters and texts.
 -- Source: this library's own.
 use Rattle.std.specs.Prelude.{◌≡◌, ◌==◌, ◌&&◌, ℕ, ◌≤◌, true, false, not, None, Some, List, All, chars, encode_utf8, filter, nat_le, slice_get}
 use Rattle.std.specs.List.{list_all}
@@ -9,7 +9,7 @@ use Rattle.comfy_table.specs.TableValue.{TableValue, header_and_rows, should_sty
 
 -- ---- the parts of a table
 
--- P holds of each cell, in the header too
+-- P holds of each cell, also in the header
 abbrev pub EachCell : (CellValue → Type 0) → TableValue → Type 0
 EachCell P table = All (λ (row : RowValue). All P row.cells) (header_and_rows table)
 
@@ -28,7 +28,7 @@ EachShownText P table =
 abbrev pub shown : TableValue → List ColumnValue
 shown table = filter (λ (column : ColumnValue). not (is_hidden_column column)) table.columns
 
--- none of these has a constraint
+-- no shown column has a constraint
 abbrev pub IsUnconstrained : TableValue → Type 0
 IsUnconstrained table = All (λ (column : ColumnValue). column.constraint ≡ None) (shown table)
 
@@ -44,8 +44,8 @@ abbrev pub HasCharactersWithin : ℕ → Text → Type 0
 HasCharactersWithin n text =
     list_all (λ c. nat_le (measure (encode_utf8 c)) n && not (c == 0xFE01)) (chars text) ≡ true
 
--- each character of the style adds one terminal column, wherever it stands; so does each at which
--- texts break; no text joins the indicator; and a space stands before each text
+-- each character of the style, and each at which texts break, adds one terminal column, wherever it
+-- is. No text joins the indicator, and a space is before each text.
 pub record HasPlainFrame (table : TableValue) : Type 0 where
   pub style : IsOneColumnStyle table.style
   pub delimiter : IsOneColumn table.delimiter
@@ -54,14 +54,14 @@ pub record HasPlainFrame (table : TableValue) : Type 0 where
   pub indicator : IsApart table.indicator
   pub paddings : All (λ (column : ColumnValue). 1 ≤ column.padding.0) (shown table)
 
--- the table is drawn as wide as its texts: no constraint, no row that is cut, no text line of more
--- than 65535 terminal columns
+-- the table is as wide as its texts: no column has a constraint, no row is cut, and no text line
+-- measures more than 65535 terminal columns
 pub record IsShownWhole (table : TableValue) : Type 0 where
   pub no_constraint : IsUnconstrained table
   pub uncut : All (λ (row : RowValue). row.max_height ≡ None) (header_and_rows table)
   pub short : EachText (λ text. measure text ≤ 65535) table
 
--- the characters of a cell's texts fit its column, where that is drawn
+-- the characters of a cell's texts fit its column, if the column is shown
 abbrev pub CharactersFitColumns : TableValue → List ColumnInfo → Type 0
 CharactersFitColumns table columns =
     All (λ (row : RowValue). (i : ℕ) (column : ColumnInfo) → slice_get columns i ≡ Some column

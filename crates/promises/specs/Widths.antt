@@ -9,12 +9,13 @@ use Rattle.comfy_table.specs.TableValue.{TableValue}
 use Rattle.promises.specs.Headline.{AreColumnsOf}
 use Rattle.promises.specs.Tables.{CharactersFitColumns, EachText, HasPlainFrame, IsPlain, IsUnconstrained, shown}
 
--- a border at each side of each shown column, its paddings, and one terminal column for texts
+-- the room for the frame: a border at each side of each shown column, its paddings, and one
+-- terminal column for its texts
 abbrev pub frame_room : TableValue → ℕ
 frame_room table =
     1 + sum_by (λ (column : ColumnValue). column.padding.0 + 1 + column.padding.1 + 1) (shown table)
 
--- a column is shown, and none of these has a constraint
+-- a column is shown, and no shown column has a constraint
 abbrev pub IsFree : TableValue → Type 0
 IsFree table = (0 < length (shown table)) × IsUnconstrained table
 
@@ -23,17 +24,18 @@ abbrev pub IsNarrow : TableValue → Type 0
 IsNarrow table =
     IsPlain table × HasPlainFrame table × IsFree table × EachText (CharactersFit 1) table
 
--- then no line is wider than the width, or than the frame
+-- the lines of such a table are at most as wide as the width, or the frame if that is wider
 abbrev pub KeepToWidth : TableValue → ℕ → List Text → Type 0
 KeepToWidth table w lines =
     IsNarrow table → All (λ line. measure line ≤ max w (frame_room table)) lines
 
--- or each is exactly as wide, where that has room for the frame
+-- the lines of such a table are exactly as wide as the width, if it has room for the frame
 abbrev pub FillWidth : TableValue → ℕ → List Text → Type 0
 FillWidth table w lines =
     IsNarrow table → frame_room table ≤ w → All (λ line. measure line ≡ w) lines
 
--- these are the columns of the drawing; no line is wider where each character fits its column
+-- these are the columns of the drawing, and its lines keep to the width if each character fits its
+-- column
 abbrev pub KeepToWidthWhereCharactersFit : TableValue → List ColumnInfo → List Text → Type 0
 KeepToWidthWhereCharactersFit table columns lines =
     AreColumnsOf table lines columns

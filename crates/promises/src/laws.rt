@@ -1,5 +1,5 @@
-//! What a caller's proof gains by a call: all promises of one drawing, and how their conditions are
-//! met. Each of these functions does nothing, and its clauses are laws.
+//! Laws for callers' proofs: all promises of one drawing, and how to meet their conditions. Each
+//! function here does nothing. Its clauses are the law.
 
 ghost use Rattle.std.specs.Prelude.{◌≡◌, All, IsUtf8, List, Option, decimal, true, ℕ};
 ghost use Rattle.comfy_parts.specs.CellValue.{ColumnInfo, RowValue, plain_cell};
@@ -14,14 +14,15 @@ ghost use Rattle.promises.specs.Promises.{KeepsPromises};
 ghost use Rattle.promises.specs.Rows.{IsNarrowCell, KeepsRows, table_of};
 ghost use Rattle.promises.specs.Tables.{HasPlainFrame};
 
-/// The lines of a drawing keep each promise that is made of a table's lines: a proof of yours that
-/// cites it has several of one drawing.
+/// The lines of a drawing keep all promises on a table's lines. A caller's proof that cites this
+/// law has several promises of one drawing.
 pub fn drawings_keep_the_promises()
     ensures { (table : TableValue) (lines : List Text) → IsTableDrawing table lines
         → KeepsPromises table lines }
 {}
 
-/// So do those of a new table of a header and rows, under conditions on the texts alone.
+/// The lines of a new table with a header and rows keep these promises, under conditions on the
+/// texts alone.
 pub fn tables_of_rows_keep_the_promises()
     ensures { (style : TableStyle) (arrangement : ContentArrangement) (width : Option ℕ)
         (header : RowValue) (rows : List RowValue) (lines : List Text) → IsOneColumnStyle style
@@ -35,7 +36,7 @@ pub fn printable_texts_are_narrow()
     ensures { (text : Text) → is_printable_ascii text ≡ true → IsNarrowCell (plain_cell text) }
 {}
 
-/// Where the characters of a text fit a column, as `characters_fit` says, so do those of its text
+/// If the characters of a text fit a column, as `characters_fit` says, so do those of its text
 /// lines.
 #[tactic(auto, using(crate::proofs::FittingTextLemmas::fitting_lines))]
 pub fn fitting_texts_have_fitting_lines()
@@ -43,14 +44,14 @@ pub fn fitting_texts_have_fitting_lines()
         → All (CharactersFit w) (plain_cell text).text_lines }
 {}
 
-/// What `Display` writes of a whole number is printable ASCII.
+/// The text that `Display` writes for a whole number is printable ASCII.
 #[tactic(auto, using(crate::proofs::ConditionLemmas::printable_number))]
 pub fn numbers_are_printable()
     ensures { (n : ℕ) → is_printable_ascii (decimal n) ≡ true }
 {}
 
-/// The frame of a table is plain if paddings, delimiters and indicator are those of a new table,
-/// and each character of the style adds one terminal column.
+/// The frame of a table is plain, if its paddings, delimiters and indicator are those of a new
+/// table, and each character of its style adds one terminal column.
 pub fn new_frames_are_plain()
     ensures { (table : TableValue) → HasNewFrame table → HasPlainFrame table }
 {}
@@ -66,15 +67,16 @@ pub fn frame_characters_make_plain_styles()
     ensures { (style : TableStyle) → has_frame_characters style ≡ true → IsOneColumnStyle style }
 {}
 
-/// A header and rows that an empty table gets are below each other, and each cell has a column.
+/// A header and rows that are added to an empty table are below each other, and each cell has a
+/// column.
 #[tactic(auto, using(crate::proofs::ConditionLemmas::of_rows))]
 pub fn rows_stand_below_each_other()
     ensures { (base : TableValue) (header : RowValue) (rows : List RowValue) → IsEmpty base
         → IsOfRows base header rows (with_rows rows (with_header header base)) }
 {}
 
-/// A part of a table is some of its rows inside the frame of the whole. Parts that have all rows,
-/// put together, are the whole drawing.
+/// A part of a table consists of some of its rows inside the frame of the whole table. Parts that
+/// together have all rows, in order, make the whole drawing.
 pub fn parts_are_framed_rows()
     ensures part { (table : TableValue) (infos : List ColumnInfo) (rows : List RowValue)
         → RowsAreFramed table infos rows }

@@ -1,7 +1,6 @@
-//! What users are promised, in their words. Each function calls the libraries and does nothing
-//! else, and its clauses speak of what the call returns and of the table that was passed. So a
-//! reader needs to believe no definition but those of the clauses: how widths are found isn't among
-//! them.
+//! Promises to users, in their words. Each function only calls the libraries, and its clauses are
+//! about the table that is passed and the result. So a reader has to believe only the definitions
+//! in these clauses. How widths are found, for example, isn't among them.
 #![tactic(auto)]
 
 pub mod harmless;

@@ -1,4 +1,5 @@
-//! Two drawings: hidden columns change nothing, and a further row leaves the lines above it.
+//! Promises on two drawings: hidden columns change nothing, and adding a row keeps the lines above
+//! it.
 
 ghost use Rattle.std.specs.Prelude.{IfOk};
 ghost use Rattle.promises.specs.Added.{AreSameButForHidden, StayWithRow};
@@ -16,11 +17,11 @@ pub fn lines_of_both(table: &Table, other: &Table) -> Result<(Lines, Lines)>
     Ok((lines, others))
 }
 
-/// The lines of a table before and after a row was added. All lines stay as they were, and further
-/// ones are above the bottom border.
+/// The lines of a table before and after a row is added. All lines stay the same, and the new ones
+/// are above the bottom border.
 ///
-/// This holds under `Disabled`, if `custom_styling` is off, the row has no more cells than there
-/// are columns, and each of its cells is below a cell that is at least as wide.
+/// This holds under `Disabled`, if `custom_styling` is off, the row has at most as many cells as
+/// there are columns, and each of its cells is below a cell that is at least as wide.
 pub fn lines_before_and_after(table: &mut Table, row: Row) -> Result<(Lines, Lines)>
     ensures { IfOk result (λ drawn. StayWithRow table.old row drawn.0 drawn.1) }
 {

@@ -5,7 +5,7 @@ ghost use Rattle.promises.specs.Straight.{AreShownStraight, AreStraight, AreStra
 
 use comfy_table::{ArrangedTable, Lines, Result, Table};
 
-/// All lines are equally wide, under every arrangement, width, constraint and height.
+/// All lines are equally wide, for every arrangement, width, constraint and height.
 ///
 /// This holds if each character of each text takes at most one terminal column, as
 /// `characters_fit(line, 1)` tests, the frame is plain (`HasPlainFrame`), no styles are written,
@@ -27,8 +27,8 @@ pub fn straight_whole_lines(table: &Table) -> Result<Lines>
     table.lines()
 }
 
-/// All lines are equally wide, for texts of every script and under every width. The columns of the
-/// drawing are returned with the lines.
+/// All lines are equally wide, for texts of every script and for every width. The widths of the
+/// columns are returned with the lines.
 ///
 /// This holds if each character of a shown text has room in its column, as
 /// `characters_fit(line, width)` tests for these columns, the frame is plain (`HasPlainFrame`), no
@@ -41,11 +41,11 @@ pub fn straight_fitting_lines(table: &Table) -> Result<(ArrangedTable<&Table>, L
     Ok((arranged, lines))
 }
 
-/// All lines show the same number of terminal columns, with colours and attributes too.
+/// All lines show the same number of terminal columns, even with colours and attributes.
 ///
 /// This holds if each character of each text takes at most one terminal column, as
 /// `characters_fit(line, 1)` tests, the frame is plain (`HasPlainFrame`), and shown texts,
-/// indicator and style hold no control character.
+/// indicator and style have no control character.
 pub fn straight_styled_lines(table: &Table) -> Result<Lines>
     ensures { IfOk result (λ lines. AreShownStraight table.now lines) }
 {

@@ -1,15 +1,15 @@
-//! A set width holds.
+//! Lines keep to a width that is set.
 
 ghost use Rattle.std.specs.Prelude.{IfOk};
 ghost use Rattle.promises.specs.Widths.{FillWidth, KeepToWidth, KeepToWidthWhereCharactersFit};
 
 use comfy_table::{ArrangedTable, ContentArrangement, Lines, Result, Table};
 
-/// Draws under `Dynamic` in a width. No line is wider than this width, or than the frame with all
-/// borders, the paddings and one terminal column for each shown column.
+/// Draws under `Dynamic` at a width. No line is wider than this width, or than the frame with all
+/// borders, the paddings and one terminal column for each shown column, whichever is more.
 ///
 /// This holds if each character of each text takes at most one terminal column, as
-/// `characters_fit(line, 1)` tests, a column is shown and none of these has a constraint, the frame
+/// `characters_fit(line, 1)` tests, a column is shown, no shown column has a constraint, the frame
 /// is plain (`HasPlainFrame`), no styles are written, and `custom_styling` is off.
 pub fn lines_within(table: &mut Table, width: u16) -> Result<Lines>
     ensures { IfOk result (λ lines. KeepToWidth table.old width lines) }
@@ -20,8 +20,8 @@ pub fn lines_within(table: &mut Table, width: u16) -> Result<Lines>
     table.lines()
 }
 
-/// Draws under `DynamicFullWidth` in a width. Each line is exactly as wide as this width, if that
-/// has room for the frame, and on the conditions of `lines_within`.
+/// Draws under `DynamicFullWidth` at a width. Each line is exactly this wide, if the width has room
+/// for the frame, under the conditions of `lines_within`.
 pub fn lines_over(table: &mut Table, width: u16) -> Result<Lines>
     ensures { IfOk result (λ lines. FillWidth table.old width lines) }
 {
@@ -31,13 +31,12 @@ pub fn lines_over(table: &mut Table, width: u16) -> Result<Lines>
     table.lines()
 }
 
-/// Under `Dynamic` no line is wider than the width that was set, or than the frame takes, for texts
-/// of every script. The columns of the drawing are returned with the lines.
+/// Under `Dynamic` no line is wider than the width that was set, or than the frame if that is more,
+/// for texts of every script. The widths of the columns are returned with the lines.
 ///
-/// This holds if each character of a shown text has room in its column, as
-/// `characters_fit(line, width)` tests for these columns, a column is shown and none of these has a
-/// constraint, the frame is plain (`HasPlainFrame`), no styles are written, and `custom_styling` is
-/// off.
+/// This holds if each character of a shown text has room in its column, as `characters_fit(line,
+/// width)` tests for these columns, a column is shown, no shown column has a constraint, the frame
+/// is plain (`HasPlainFrame`), no styles are written, and `custom_styling` is off.
 pub fn fitting_lines_within(table: &Table) -> Result<(ArrangedTable<&Table>, Lines)>
     ensures { IfOk result (λ drawn. KeepToWidthWhereCharactersFit table.now drawn.0.infos drawn.1) }
 {

@@ -1,6 +1,6 @@
-//! How tables make most of their cells, and what they read of them to draw them: the widths of
-//! their text lines, what is visible of these, and what is written for their lines. It is public
-//! for the crates of tables, and whoever calls these needs none of it.
+//! Functions with which a table makes and draws its cells. They give the widths of text lines,
+//! their visible texts, and the texts that are written for the lines of a cell. The module is
+//! public only for the crates that draw tables; programs don't need it.
 
 ghost use Rattle.std.specs.Prelude.{◌≡◌, [], IfOk, None, Some, if◌then◌else◌, length, map, string_bytes, true};
 ghost use Rattle.std.specs.List.{list_any};
@@ -16,8 +16,9 @@ use crate::error::Result;
 use crate::style::CellAlignment;
 use std::alloc::Global;
 
-/// The cell of printable ASCII, with this alignment; none for any other text. Whether the text is
-/// printable is asked once.
+/// Makes the cell of a printable ASCII text, with this alignment. `None` if the text isn't
+/// printable ASCII. A caller need not test that before, so the bytes are read only once. The only
+/// error is `OutOfMemory`.
 pub fn printable_cell(
     alloc: Global,
     text: &str,
@@ -35,8 +36,8 @@ pub fn printable_cell(
     Ok(Some(Cell::of_lines(alloc, text_lines, alignment)))
 }
 
-/// The text lines, in order, and the terminal columns that each takes. Without sequences they are
-/// what is visible of the text lines. Both were found when the cell was made.
+/// The text lines in order, and the width of each in terminal columns. If `without_sequences` is
+/// set, they are the visible texts of the text lines. Both were computed when the cell was made.
 pub fn measured_lines(cell: &Cell, without_sequences: bool) -> (&[String], &[usize])
     ensures texts { map string_bytes result.0.now
         ≡ (if without_sequences
@@ -52,28 +53,28 @@ pub fn measured_lines(cell: &Cell, without_sequences: bool) -> (&[String], &[usi
     }
 }
 
-/// Whether ESC is in the cell's text. If it isn't, the cell holds no sequence.
+/// Returns true if the cell's text contains ESC. Without ESC it contains no sequence.
 pub fn has_escape(cell: &Cell) -> bool
     ensures { result ≡ list_any has_escape cell.now.text_lines }
 {
     cell.text_lines.has_escape()
 }
 
-/// Whether a text line is written as it is where it is a cell's only line and SGR sequences count
-/// nothing. This is found faster than a copy is made.
+/// Returns true only if a text line, as the only line of its cell, is written unchanged with
+/// `custom_styling`. After false it may be unchanged too. The test is faster than a copy of the
+/// text.
 pub fn needs_no_rewrite(text: &str) -> bool
     ensures { result ≡ true → line_text [] text.now 0 (length (visible_text text.now)) ≡ text.now }
 {
     crate::content_split::needs_no_rewrite(text)
 }
 
-/// The texts that are written for the lines of the cell in a column where SGR sequences count
-/// nothing, from the top.
+/// The texts that are written for the lines of the cell with `custom_styling`, from the top.
 ///
-/// The lines themselves are those of `measured_lines` without sequences, wrapped at the column's
-/// content width. A line's text begins with the sequences that are active there, keeps those
-/// between its visible characters, and ends with `ESC[0m` where one is open then. Sequences of
-/// earlier text lines stay active.
+/// The lines are those of `measured_lines` without sequences, wrapped at the column's content
+/// width. A line's text begins with the sequences that are open at its start, and keeps those
+/// between its visible characters. It ends with `ESC[0m` if a sequence is then open. Sequences stay
+/// open into later text lines. The only error is `OutOfMemory`.
 pub fn written_lines(cell: &Cell, info: &ColumnDisplayInfo, delimiter: char) -> Result<Vec<String>>
     ensures { IfOk result (λ texts. map string_bytes texts.items
         ≡ map (λ (line : CellLine). line.written)

@@ -1,4 +1,4 @@
-//! The text lines of a cell, each with the columns that it takes.
+//! The text lines of a cell, and the width of each in terminal columns.
 
 ghost use Rattle.std.specs.Prelude.{◌≡◌, ◌==◌, ◌∷◌, [], true, false, nat_lt, IfOk, IfSome, map, string_bytes};
 ghost use Rattle.std.specs.List.{list_any, slice_split};
@@ -24,21 +24,22 @@ pub(crate) struct TextLines {
 
 #[derive(Drop)]
 enum Storage {
-    // a single text line without ESC, as most cells have: this takes no memory but its text's
+    // a single text line without ESC, as most cells have: it takes no memory except that of its
+    // text
     Plain { text: String, width: usize },
-    // any others, in a box, so that a cell stays small
+    // any other text lines, in a box, so that a cell stays small
     Boxed(Box<BoxedLines>),
 }
 
-// Text lines, and what is visible of them where ESC is in one. A table asks for the visible
-// ones again and again, and each time without memory, so they are kept.
+// Text lines, and their visible texts if one of them contains ESC. The visible texts are stored,
+// because a table reads them several times, and takes no memory for that.
 #[derive(Drop)]
 struct BoxedLines {
     raw: Texts,
     visible: Option<Texts>,
 }
 
-// Texts, and the columns that each takes, in the same order. A single one takes no list.
+// Texts, and the width of each in terminal columns, in the same order. A single text has no list.
 #[derive(Drop)]
 enum Texts {
     Single {
@@ -63,8 +64,7 @@ impl Model for TextLines {
 }
 
 impl TextLines {
-    // What is between the line feeds of a text. A text that is one text line is kept, and not
-    // copied.
+    // The pieces of a text between its line feeds. A text of one line isn't copied.
     pub(crate) fn of_text(alloc: Global, text: String) -> Result<TextLines>
         ensures value { IfOk result (λ lines. lines ≡ (plain_cell (string_bytes text)).text_lines) }
         ensures text_lines { IfOk result HasTextLines }
@@ -77,7 +77,7 @@ impl TextLines {
         TextLines::several(alloc, text)
     }
 
-    // The text line of printable ASCII, which is one, without ESC.
+    // The single text line of a printable ASCII text, which has neither line feed nor ESC.
     pub(crate) fn of_printable(alloc: Global, text: &str) -> Result<TextLines>
         requires printable { is_printable_ascii text.now ≡ true }
         ensures value { IfOk result (λ lines. lines ≡ (plain_cell text.now).text_lines) }
@@ -90,7 +90,8 @@ impl TextLines {
         })
     }
 
-    // Those of any text. Most are kept by themselves and don't come here.
+    // The general case: any number of lines, with or without ESC. Most texts are a `Plain` line,
+    // and don't come here.
     #[inline(never)]
     fn several(alloc: Global, text: String) -> Result<TextLines>
         ensures value { IfOk result (λ lines. lines ≡ (plain_cell (string_bytes text)).text_lines) }
@@ -104,7 +105,7 @@ impl TextLines {
         })
     }
 
-    // The text lines, and the columns that each takes.
+    // The text lines with their sequences, and the width of each in terminal columns.
     pub(crate) fn raw(&self) -> (&[String], &[usize])
         ensures texts { map string_bytes result.0.now ≡ self.now }
         ensures widths { result.1.now ≡ map measure self.now }
@@ -115,7 +116,7 @@ impl TextLines {
         }
     }
 
-    // What is visible of each text line, and the columns that it takes.
+    // The visible text of each text line, and its width in terminal columns.
     #[tactic(auto, using(crate::proofs::EscapedLemmas::clear_lines, crate::proofs::EscapedLemmas::clear_text))]
     pub(crate) fn visible(&self) -> (&[String], &[usize])
         ensures texts { map string_bytes result.0.now ≡ map visible_text self.now }
@@ -130,7 +131,7 @@ impl TextLines {
         }
     }
 
-    // Whether ESC is in a text line.
+    // Returns true if a text line contains ESC.
     pub(crate) fn has_escape(&self) -> bool
         ensures { result ≡ list_any has_escape self.now }
     {
@@ -142,7 +143,7 @@ impl TextLines {
 }
 
 impl Texts {
-    // What is between the line feeds of a text.
+    // The pieces of a text between its line feeds.
     fn of_text(alloc: Global, text: String) -> Result<Texts>
         ensures texts { IfOk result
             (λ lines. texts_of lines ≡ slice_split (λ b. b == 0x0A) (string_bytes text)) }
@@ -170,7 +171,7 @@ impl Texts {
         }
     }
 
-    // The texts, and the columns that each takes.
+    // The texts, and the width of each in terminal columns.
     fn measured(&self) -> (&[String], &[usize])
         ensures texts { map string_bytes result.0.now ≡ texts_of self.now }
         ensures widths { result.1.now ≡ widths_of self.now }
@@ -192,7 +193,7 @@ impl Texts {
         found
     }
 
-    // What is visible of each text line, where ESC is in one.
+    // The visible texts. `None` if no text contains ESC.
     fn visible(&self, alloc: Global) -> Result<Option<Texts>>
         ensures { IfOk result (IsVisible self.now) }
     {
@@ -221,15 +222,17 @@ fn visible_lines(alloc: Global, lines: &[String]) -> Result<Texts>
     Ok(Texts::Multiple { texts, widths })
 }
 
-// The columns of a text that is one text line without ESC; none for any other.
+// The width in terminal columns of a text that is one text line without ESC. `None` for any other
+// text.
 fn clear_width(text: &str) -> Option<usize>
     ensures { IfSome result (IsClearLine text.now) }
 {
-    // Printable ASCII is such a text, and each of its bytes takes a column.
+    // Printable ASCII is such a text, and each of its bytes takes one terminal column.
     if is_printable(text.as_bytes()) {
         return Some(text.len());
     }
-    // So is one whose columns add up, since a control character joins others.
+    // A text whose widths add up is one too, because a control character doesn't have a width of
+    // its own.
     if let Some(columns) = summed_columns(text) {
         return Some(columns);
     }
@@ -239,8 +242,8 @@ fn clear_width(text: &str) -> Option<usize>
     Some(joined_columns(text))
 }
 
-// Whether a text is one text line without ESC. Most texts show it by one look at their bytes: they
-// have no control character at all.
+// Returns true if a text is one text line without ESC. For most texts one pass over the bytes is
+// enough, because they have no control character at all.
 fn is_clear_line(text: &str) -> bool
     ensures unbroken { result ≡ true → list_any (λ b. b == 0x0A) text.now ≡ false }
     ensures clear { result ≡ true → has_escape text.now ≡ false }
@@ -251,7 +254,7 @@ fn is_clear_line(text: &str) -> bool
     !text.contains('\n') && !has_escape(text)
 }
 
-// A copy has the same lines, in memory of its own.
+// A copy has the same lines, in its own memory.
 impl Clone for TextLines {
     ghost is_clone = { λ source copy. copy ≡ source };
 

@@ -1,4 +1,4 @@
-//! What a column is drawn by.
+//! The settings and the width that a column is drawn with.
 
 ghost use Rattle.std.specs.Prelude.{◌≡◌};
 ghost use Rattle.comfy_parts.specs.CellValue.{info_of, info_width};
@@ -7,7 +7,8 @@ use crate::column::Column;
 use crate::style::CellAlignment;
 use std::marker::Model;
 
-/// What the cells of one column are drawn by: the column's settings and the width of its content.
+/// The settings of a column and the width of its content, with which the cells of the column are
+/// drawn.
 ///
 /// ```
 /// let info = ColumnDisplayInfo::new(&Column::new(0), 12);
@@ -15,15 +16,15 @@ use std::marker::Model;
 /// ```
 #[derive(Debug, Drop)]
 pub struct ColumnDisplayInfo {
-    /// The terminal columns left free to the left and to the right of the content.
+    /// The terminal columns left free on the left and on the right of the content, in this order.
     pub padding: (u16, u16),
-    /// The character at which the texts of the column may break, unless a cell has one of its own;
-    /// with none the table's is taken.
+    /// The character at which the texts of the column may break. A cell's own delimiter comes
+    /// before it. If it is `None`, the delimiter of the table applies.
     pub delimiter: Option<char>,
-    /// The terminal columns that the content has.
+    /// The terminal columns that a line of the content has.
     pub content_width: u16,
-    /// Where the texts of the column are, unless a cell has an alignment of its own; with none at
-    /// the left.
+    /// The alignment of the column's lines. A cell's own alignment comes before it. If it is
+    /// `None`, the lines are left-aligned.
     pub cell_alignment: Option<CellAlignment>,
     is_hidden: bool,
 }
@@ -51,8 +52,8 @@ impl Model for ColumnDisplayInfo {
 }
 
 impl ColumnDisplayInfo {
-    /// The settings of a column, with this many terminal columns for its content. A width of 0
-    /// becomes 1.
+    /// Makes an info of a column's settings and the width of its content in terminal columns. A
+    /// width of 0 becomes 1.
     pub fn new(column: &Column, content_width: u16) -> ColumnDisplayInfo
         ensures { result ≡ info_of column.now content_width }
     {
@@ -65,14 +66,14 @@ impl ColumnDisplayInfo {
         }
     }
 
-    /// The whole width in terminal columns: the content and its paddings.
+    /// The whole width of the column in terminal columns: its content and both paddings.
     pub fn width(&self) -> usize
         ensures { result ≡ info_width self.now }
     {
         self.padding.0 as usize + self.content_width as usize + self.padding.1 as usize
     }
 
-    /// Whether the column isn't drawn.
+    /// Returns true if the column isn't drawn.
     pub fn is_hidden(&self) -> bool
         ensures { result ≡ self.now.is_hidden }
     {

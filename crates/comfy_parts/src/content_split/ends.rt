@@ -1,5 +1,5 @@
-//! Where the lines of a wrapped text begin and end. An end is a number of bytes from a text's
-//! front.
+//! The positions at which the lines of a wrapped text begin and end. An end is a number of bytes
+//! from the front of a text.
 
 ghost use Rattle.std.specs.Prelude.{◌≡◌, IfSome, ℕ, ◌+◌, ◌*◌, ◌==◌, ◌≤◌, List, length, take, drop, true, false};
 ghost use Rattle.std.specs.List.{list_any};
@@ -14,7 +14,7 @@ use crate::content_split::own_width::{WIDE_LEN, begins_wide, own_width};
 use crate::content_split::prefix::split_long_word;
 use crate::content_split::width::{char_width, joined_columns};
 
-/// The text from its first character that is no delimiter.
+/// The text from its first character that isn't a delimiter.
 pub fn line_start(text: &str, delimiter: char) -> &str
     ensures begins { begins_with delimiter result.now ≡ false }
     ensures bound { length result.now ≤ length text.now }
@@ -29,7 +29,7 @@ pub fn line_start(text: &str, delimiter: char) -> &str
     rest
 }
 
-// The text before the first delimiter, and the text from there on.
+// The text before the first delimiter, and the text from this delimiter on.
 pub fn first_element(text: &str, delimiter: char) -> (&str, &str)
     ensures { IsFirstElement delimiter text.now result.0.now result.1.now }
 {
@@ -39,14 +39,14 @@ pub fn first_element(text: &str, delimiter: char) -> (&str, &str)
     }
 }
 
-/// The first element of a text, what follows it, and the terminal columns that it takes.
+/// The first element of a text, the text after it, and its width in terminal columns.
 pub fn measured_element(text: &str, delimiter: char) -> (&str, &str, usize)
     ensures element { IsFirstElement delimiter text.now result.0.now result.1.now }
     ensures columns { result.2 ≡ measure result.0.now }
     ensures bound { result.2 ≤ 2 * length result.0.now }
 {
-    // Where printable ASCII goes on to a delimiter or to the end, one walk over its bytes serves
-    // for both.
+    // If the text is printable ASCII up to a delimiter or to its end, one pass over these bytes
+    // finds the element and its width.
     let (word, behind) = text.split_at(printable_run(text.as_bytes(), delimiter));
     if ends_element(behind, delimiter) {
         return (word, behind, word.len());
@@ -59,12 +59,13 @@ pub fn measured_element(text: &str, delimiter: char) -> (&str, &str, usize)
     (word, behind, joined_columns(word))
 }
 
-// What follows the first element, and the element's terminal columns, where its characters join no
-// other: one walk counts these and finds the delimiter.
+// The text after the first element, and the width of the element in terminal columns. One pass
+// counts the columns and finds the delimiter. `None` if a character of the element may join others,
+// or if the delimiter is from U+4E00 to U+CFFF.
 fn summed_element(text: &str, delimiter: char) -> Option<(&str, usize)>
     ensures { IfSome result (λ r. IsSummed delimiter text.now r.0.now r.1) }
 {
-    // such a delimiter would be passed
+    // `begins_wide` would skip such a delimiter
     if ('\u{4e00}'..='\u{cfff}').contains(&delimiter) {
         return None;
     }
@@ -87,7 +88,7 @@ fn summed_element(text: &str, delimiter: char) -> Option<(&str, usize)>
     Some((rest, columns))
 }
 
-// Whether nothing is after an element, or a delimiter.
+// True only if the text after an element is empty or begins with a delimiter.
 fn ends_element(behind: &str, delimiter: char) -> bool
     ensures { result ≡ true → EndsElement delimiter behind.now }
 {
@@ -97,7 +98,7 @@ fn ends_element(behind: &str, delimiter: char) -> bool
     behind.starts_with(delimiter)
 }
 
-// The bytes of printable ASCII at a text's front, before the first delimiter.
+// The number of printable ASCII bytes at the front of a text, before the first delimiter.
 fn printable_run(bytes: &[u8], delimiter: char) -> usize
     ensures bound { result ≤ length bytes.now }
     ensures printable { is_printable_ascii (take result bytes.now) ≡ true }
@@ -117,28 +118,29 @@ fn printable_run(bytes: &[u8], delimiter: char) -> usize
 /// The measure of an element that had no room in a line.
 #[derive(Clone, Copy, Drop)]
 pub struct Measured {
-    // the bytes from its first character to the text's end
+    // the bytes from the first character of the element to the end of the text
     pub left: usize,
-    // its own bytes
+    // the bytes of the element
     pub first: usize,
-    // its terminal columns
+    // the width of the element in terminal columns
     pub columns: usize,
 }
 
-/// What a line takes of a text. The columns are known where the line ends between two elements.
+/// The part of a text that a line takes.
 #[derive(Clone, Copy, Drop)]
 pub struct Taken {
-    // its bytes
+    // the bytes of the line
     pub bytes: usize,
-    // the terminal columns of the line up to there, where they are known
+    // the width of the line in terminal columns; `None` if the line ends inside an element, or its
+    // delimiter may not add one terminal column
     pub columns: Option<usize>,
-    // the measure of the element that had no room, where one was measured
+    // the element that had no room, if one was measured
     pub measured: Option<Measured>,
 }
 
-/// What the line takes that begins at the text's front. The text's first element has `first` bytes
-/// and takes `columns` terminal columns; where it is wider than a line, any number above the line's
-/// width is passed for `columns`.
+/// The part that the line at the front of a text takes. The first element of the text has `first`
+/// bytes and takes `columns` terminal columns. If the element is wider than a line, `columns` can
+/// be any number above the width of the line.
 pub(crate) fn line_end(
     text: &str,
     first: usize,
@@ -177,8 +179,8 @@ pub(crate) fn line_end(
     }
 }
 
-// The bytes of a word that is wider than a line which the line takes: its head, or at least its
-// first character.
+// The bytes that a line takes of a word that is wider than the line: the head of the word, or its
+// first character if the head is empty.
 fn end_within(word: &str, width: usize) -> usize
     ensures { result ≡ length (head_or_first width word.now) }
 {
@@ -192,8 +194,8 @@ fn end_within(word: &str, width: usize) -> usize
     }
 }
 
-// What a line takes after its first element, which fills this many terminal columns. The line's
-// columns are counted as those of a delimiter that adds one between any texts.
+// The part that a line takes after its first element, which is `first` terminal columns wide. The
+// columns of the result are right if the delimiter adds one terminal column between any texts.
 fn taken_behind(first: usize, behind: &str, width: usize, delimiter: char) -> Taken
     requires narrow { width ≤ 65535 }
     ensures value { (es : List Text) → Follow delimiter es behind.now
@@ -234,8 +236,9 @@ fn taken_behind(first: usize, behind: &str, width: usize, delimiter: char) -> Ta
     }
 }
 
-// The bytes that a line takes of the next element, which takes this many terminal columns and has
-// no room as a whole, and of the delimiter before it.
+// The bytes that a line takes of the delimiter and of the next element, which has no room as a
+// whole. `columns` is the width of this element in terminal columns, `filled` that of the line
+// before it.
 fn part_of_next(next: &str, columns: usize, filled: usize, width: usize, delimiter: char) -> usize
     requires columns { columns ≡ measure next.now }
     requires narrow { filled ≤ 65535 }

@@ -1,4 +1,4 @@
-//! Which texts fit each column that is as wide as the widest of their characters.
+//! A test for texts that fit each column that is at least as wide as their widest character.
 
 ghost use Rattle.std.specs.Prelude.{◌≡◌, chars};
 ghost use Rattle.std.specs.List.{list_all};
@@ -7,12 +7,11 @@ ghost use Rattle.comfy_parts.specs.Columns.{character_fits, characters_fit};
 
 use super::width::char_width;
 
-/// Whether each character of the text, by itself, takes at most this many terminal columns, and
-/// U+FE01 is nowhere directly beside U+FE0E or U+FE0F. Such a text is sure to fit a column of
-/// this width, in every script: wrapped at a delimiter that adds one column, none of its lines is
-/// wider. Two columns are enough for every character but U+17D8, which takes three. The second text
-/// here is two ideographs, which one column can't hold.
-///
+/// Returns true if each character of the text, by itself, takes at most `width` terminal columns,
+/// and U+FE01 is never directly next to U+FE0E or U+FE0F. Such a text fits a column of this width
+/// in every script: if it is wrapped at a delimiter that adds one terminal column, no line is
+/// wider. Two terminal columns are enough for every character except U+17D8, which takes three. The
+/// second text below is two ideographs, for which one terminal column is too narrow.
 /// ```
 /// let is_so = characters_fit("كتاب 👨‍👩‍👧", 2) && !characters_fit("年度", 1);
 /// // true
@@ -23,14 +22,14 @@ pub fn characters_fit(text: &str, width: usize) -> bool
     characters_are_narrow(text, width) && selectors_agree(text)
 }
 
-// Whether each character of the text, by itself, takes at most this many terminal columns.
+// Returns true if each character of the text, by itself, takes at most `width` terminal columns.
 fn characters_are_narrow(text: &str, width: usize) -> bool
     ensures { result ≡ list_all (character_fits width) (chars text.now) }
 {
     text.chars().all(|character| char_width(character) <= width)
 }
 
-// Whether U+FE01 is nowhere directly beside U+FE0E or U+FE0F.
+// Returns true if U+FE01 is never directly next to U+FE0E or U+FE0F.
 fn selectors_agree(text: &str) -> bool
     ensures { result ≡ selectors_agree (chars text.now) }
 {
@@ -44,7 +43,7 @@ fn selectors_agree(text: &str) -> bool
     true
 }
 
-// Whether one of two characters is U+FE01, and the other is U+FE0E or U+FE0F.
+// Returns true if one of two characters is U+FE01, and the other is U+FE0E or U+FE0F.
 fn clash(first: char, second: char) -> bool
     ensures { result ≡ clash first second }
 {

@@ -1,4 +1,4 @@
-//! Which characters add one terminal column wherever they are.
+//! Tests for characters that add one terminal column next to any text.
 
 ghost use Rattle.std.specs.Prelude.{◌≡◌, true, unwrap_or};
 ghost use Rattle.std.specs.List.{list_all};
@@ -6,13 +6,13 @@ ghost use Rattle.comfy_parts.specs.Columns.{AddsOneColumn, IsOneColumnStyle, has
 
 use crate::style::TableStyle;
 
-/// Whether the character adds one terminal column between any two texts, of every script. So do box
-/// and block characters, `…`, and printable ASCII but for `#`, `*` and the digits, which a
-/// variation selector after them makes wide. Of every other character this says no, though some of
-/// them do too.
+/// Returns true only if the character adds one terminal column between any two texts, of every
+/// script. True for box and block characters, `…`, and printable ASCII except `#`, `*` and the
+/// digits, which a variation selector after them makes wide. False for every other character,
+/// though some of them add one too.
 ///
-/// It is one of the things that a straight right edge asks for: of the characters of a style, of
-/// delimiters, and of the first character of an indicator.
+/// Tables with straight right edges need this of each character of the style, of the delimiters,
+/// and of the first character of the indicator.
 #[tactic(auto, using(crate::proofs::FrameCharacterLemmas::frame_adds))]
 pub fn adds_one_column(character: char) -> bool
     ensures test { result ≡ is_frame_character character }
@@ -21,7 +21,7 @@ pub fn adds_one_column(character: char) -> bool
     is_frame_character(character)
 }
 
-// Whether it is one of these.
+// Returns true if the character is in the list of `adds_one_column`.
 fn is_frame_character(character: char) -> bool
     ensures { result ≡ is_frame_character character }
 {
@@ -33,9 +33,9 @@ fn is_frame_character(character: char) -> bool
 }
 
 impl TableStyle {
-    /// Whether each of its characters adds one terminal column between any texts, as
-    /// `adds_one_column` tells. All presets say yes, rounded or with solid inner borders too. It is
-    /// one of the three things that straight right edges ask for.
+    /// Returns true if each character of the style adds one terminal column between any texts, by
+    /// `adds_one_column`. True for all presets, also rounded or with solid inner borders. It is one
+    /// of the three conditions for straight right edges.
     pub fn is_one_column(&self) -> bool
         ensures test { result ≡ has_frame_characters self.now }
         ensures adds { result ≡ true → IsOneColumnStyle self.now }
@@ -44,7 +44,8 @@ impl TableStyle {
     }
 }
 
-// Whether each of these characters adds one terminal column; a missing one is a space.
+// Returns true if each of these characters adds one terminal column. A missing character counts as
+// a space.
 fn are_one_column(characters: &[Option<char>]) -> bool
     ensures { result ≡ list_all (λ c. is_frame_character (unwrap_or c 0x20)) characters.now }
 {

@@ -15,12 +15,12 @@ use crate::content_split::printable::{printable_line_end, printable_longest_line
 use crate::content_split::width::{measure_text_width, wide_end};
 use std::marker::Model;
 
-// A text of this many bytes for each column of a line may begin with a word that isn't worth
-// measuring whole.
+// If a text has more than this many bytes for each terminal column of a line, its first word may be
+// very long. Then the word isn't measured as a whole.
 const FAR: usize = 32;
 
-/// The lines of a wrapped text that are still to come, in order. Each is borrowed from the text,
-/// and none takes memory.
+/// The remaining lines of a wrapped text, in order. Each is borrowed from the text, and none takes
+/// memory.
 #[derive(Drop)]
 pub struct WrappedLines<'a> {
     // the text from the first character of the next line on
@@ -30,24 +30,24 @@ pub struct WrappedLines<'a> {
     delimiter: char,
 }
 
-// What is known where a line begins.
+// The known facts about the text at the start of a line.
 #[derive(Clone, Copy)]
 enum Next {
-    // text and delimiter are printable ASCII, and lines have a column
+    // text and delimiter are printable ASCII, and the width is at least 1
     Printable,
-    // any other text, by its first element
+    // any other text, with its first element
     Element(Element),
 }
 
 // The first element of a text that is wrapped.
 #[derive(Clone, Copy)]
 struct Element {
-    // its bytes
+    // the bytes of the element
     len: usize,
-    // its columns; where it is wider than a line, any number above the line's width
+    // its width in terminal columns; any number above the width of a line if it is wider than that
     columns: usize,
-    // how many bytes of its end show that it is wider than a line; more than it has where this
-    // isn't known
+    // each suffix of the element with at least this many bytes is wider than a line; more bytes
+    // than the element has if no such number is known
     wide: usize,
 }
 
@@ -64,7 +64,7 @@ impl<'a> Model for WrappedLines<'a> {
 }
 
 /// The lines of a text that is wrapped at the column's content width, one after another. They are
-/// those of `split_line`.
+/// the lines of `split_line`.
 #[inline(always)]
 pub fn wrapped_lines<'a>(
     line: &'a str,
@@ -81,7 +81,7 @@ pub fn wrapped_lines<'a>(
     lines_behind(line, width, delimiter, None)
 }
 
-// The lines of printable ASCII after the delimiters at its front.
+// The lines of a printable ASCII text. Delimiters at its front are skipped.
 fn printable_lines<'a>(text: &'a str, width: usize, delimiter: char) -> WrappedLines<'a>
     requires printable { IsPrintable width delimiter text.now }
     ensures { result ≡ wrapped width delimiter text.now }
@@ -90,7 +90,7 @@ fn printable_lines<'a>(text: &'a str, width: usize, delimiter: char) -> WrappedL
     lines_from(rest, Next::Printable, width, delimiter)
 }
 
-// The line at the front of printable ASCII, and the text from the next line on.
+// The first line of a printable ASCII text, and the text from the next line on.
 #[inline(always)]
 fn split_printable_line(text: &str, width: usize, delimiter: char) -> (&str, &str)
     requires printable { IsPrintable width delimiter text.now }
@@ -107,8 +107,8 @@ fn split_printable_line(text: &str, width: usize, delimiter: char) -> (&str, &st
     (line, line_start(behind, delimiter))
 }
 
-// The lines of a text after the delimiters at its front. Where it begins with a measured element
-// that fits a line, that isn't measured again.
+// The lines of a text. Delimiters at its front are skipped. If `measured` is the first element
+// after them, and fits a line, it isn't measured again.
 fn lines_behind<'a>(
     text: &'a str,
     width: usize,
@@ -142,7 +142,7 @@ fn lines_behind<'a>(
     lines_from(rest, next, width, delimiter)
 }
 
-// The lines of a text of which so much is known.
+// The lines of a text whose first line has these known facts.
 fn lines_from<'a>(rest: &'a str, next: Next, width: usize, delimiter: char) -> WrappedLines<'a>
     requires at { IsAtNext next width delimiter rest.now }
     ensures { result ≡ wrapped width delimiter rest.now }
@@ -155,8 +155,8 @@ fn lines_from<'a>(rest: &'a str, next: Next, width: usize, delimiter: char) -> W
     }
 }
 
-// The line at the front of a text that begins with this element, its terminal columns where they
-// are known, and the lines after it.
+// The first line of a text that begins with this element, the line's width in terminal columns if
+// it is known, and the lines after it.
 fn split_at_element<'a>(
     rest: &'a str,
     element: Element,
@@ -174,7 +174,7 @@ fn split_at_element<'a>(
         let lines = lines_behind(behind, width, delimiter, taken.measured);
         return (line, taken.columns, lines);
     }
-    // The line ends inside a long element, and its rest comes next.
+    // The line ends inside a long element. The rest of the element begins the next line.
     let (len, wide) = (element.len - taken.bytes, element.wide);
     let columns = columns_up_to(behind.split_at(len).0, wide, width);
     let next = Next::Element(Element { len, columns, wide });
@@ -183,8 +183,9 @@ fn split_at_element<'a>(
 }
 
 impl<'a> WrappedLines<'a> {
-    /// The next line, and the terminal columns that it takes. Neither printable ASCII is measured
-    /// again nor a line of whole words, if its delimiter adds one column wherever it is.
+    /// Returns the next line and its width in terminal columns, or `None` after the last line. A
+    /// line of printable ASCII isn't measured again. Neither is a line of whole words if its
+    /// delimiter is in the list of `adds_one_column`.
     #[inline(always)]
     pub fn next_measured(&mut self) -> Option<(&'a str, usize)>
         ensures ended { result ≡ None → self.old ≡ [] }
@@ -199,7 +200,7 @@ impl<'a> WrappedLines<'a> {
         Some((line, columns))
     }
 
-    // The next line, and its terminal columns where they are known without measuring it.
+    // The next line, and its width in terminal columns if it is known without measuring the line.
     #[inline(always)]
     fn next_line(&mut self) -> Option<(&'a str, Option<usize>)>
         ensures ended { result ≡ None → (self.old ≡ []) × (self.new ≡ []) }
@@ -229,7 +230,7 @@ impl<'a> WrappedLines<'a> {
         }
     }
 
-    /// The terminal columns of the longest line that is still to come.
+    /// The width in terminal columns of the widest remaining line, 0 if no line remains.
     pub fn longest(self) -> usize
         ensures { result ≡ greatest (map measure self.entry) }
     {
@@ -258,8 +259,8 @@ impl<'a> Iterator for WrappedLines<'a> {
     }
 }
 
-// The columns of a word, or more than a line has where the bytes of its end show that it is wider.
-// Then it isn't measured.
+// The width of a word in terminal columns. If the word has at least `wide` bytes, it is wider than
+// a line: then it isn't measured, and the result is `width + 1`.
 fn columns_up_to(word: &str, wide: usize, width: usize) -> usize
     requires wide { IsWideFrom width wide word.now }
     requires narrow { width ≤ 65535 }

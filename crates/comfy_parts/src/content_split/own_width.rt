@@ -1,4 +1,4 @@
-//! The terminal columns of a character that joins no other.
+//! The width in terminal columns of each character that joins no other.
 
 ghost use Rattle.std.specs.Prelude.{◌≡◌};
 ghost use Rattle.comfy_parts.specs.OwnWidth.{begins_wide, own_width};
@@ -7,15 +7,15 @@ use table::{INDEX, TAIL, WORDS};
 
 mod table;
 
-// What the table has for a character that joins others.
+// The table's entry for a character that joins others.
 const JOINS: u32 = 3;
 
-/// The bytes of a character by which a text `begins_wide`.
+/// The number of bytes of a character for which `begins_wide` is true.
 pub const WIDE_LEN: usize = 3;
 
-/// Whether a text begins with a character from U+4E00 to U+9FFF or from U+B000 to U+CFFF: most
-/// ideographs and Hangul syllables. Each adds two terminal columns to every text, so these needn't
-/// be decoded.
+/// Returns true if a text begins with a character from U+4E00 to U+9FFF or from U+B000 to U+CFFF.
+/// Most ideographs and Hangul syllables are among these. Each of them adds two terminal columns to
+/// every text, so it needn't be decoded.
 #[inline]
 pub fn begins_wide(text: &[u8]) -> bool
     ensures { result ≡ begins_wide text.now }
@@ -28,19 +28,19 @@ pub fn begins_wide(text: &[u8]) -> bool
     }
 }
 
-/// The terminal columns that a character adds to every text, and none where it joins others.
+/// The terminal columns that a character adds to every text. `None` if it may join others.
 #[inline]
 pub fn own_width(character: char) -> Option<usize>
     ensures { result ≡ own_width character }
 {
-    // Many characters are printable ASCII. A test of its own keeps these from being looked up.
+    // Many characters are printable ASCII, and need no look-up after this test.
     if character <= '~' {
         return if character < ' ' { None } else { Some(1) };
     }
     tabled_width(character)
 }
 
-// The same of every character, by the table.
+// The width of any character, by the table.
 #[inline]
 fn tabled_width(character: char) -> Option<usize>
     ensures { result ≡ own_width character }

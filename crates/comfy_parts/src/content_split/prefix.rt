@@ -1,4 +1,4 @@
-//! The head of a text for some terminal columns.
+//! The head of a text for a number of terminal columns.
 
 ghost use Rattle.std.specs.Prelude.{◌≡◌, ◌++◌, IfSome, IsUtf8, None, length};
 ghost use Rattle.comfy_parts.specs.Following.{EndsHead, IsFirstWide};
@@ -8,18 +8,18 @@ use crate::content_split::bytes::is_printable;
 use unicode_segmentation::UnicodeSegmentation;
 use unicode_width::UnicodeWidthStr;
 
-// How many times longer the next front is. If none of them shows the end of the head, all
-// together have at most a third of the word's bytes.
+// Each prefix that is tried is this many times as long as the one before it. So all prefixes that
+// don't show the end of the head have together at most a third of the word's bytes.
 const GROWTH: usize = 4;
 
-/// The longest front of whole grapheme clusters whose summed measures are at most `allowed_width`
-/// terminal columns, and the rest of the word. It takes no memory.
+/// Splits a word into its head and its rest. The head is the longest prefix of whole grapheme
+/// clusters whose measures add up to at most `allowed_width` terminal columns. It takes no memory.
 pub fn split_long_word(allowed_width: usize, word: &str) -> (&str, &str)
     ensures head { result.0.now ≡ head allowed_width word.now }
     ensures rest { result.0.now ++ result.1.now ≡ word.now }
 {
-    // Where a character of printable ASCII is after another, it begins a cluster of its own. So
-    // the second byte past the head shows that nothing joins the first one.
+    // A printable ASCII character that follows another one begins a grapheme cluster of its own. So
+    // the second byte after the head shows that nothing joins the first byte after it.
     let looked_at = allowed_width.saturating_add(2).min(word.len());
     if is_printable(&word.as_bytes()[..looked_at]) {
         return word.split_at(allowed_width.min(word.len()));
@@ -30,7 +30,7 @@ pub fn split_long_word(allowed_width: usize, word: &str) -> (&str, &str)
     word.split_at(end_by_clusters(word, allowed_width))
 }
 
-// Where the head of a word ends, by its clusters up to there.
+// The end of a word's head, found by its grapheme clusters up to there.
 fn end_by_clusters(word: &str, columns: usize) -> usize
     ensures { EndsHead columns word.now result }
 {
@@ -40,13 +40,13 @@ fn end_by_clusters(word: &str, columns: usize) -> usize
     }
 }
 
-// Where the head of a word ends, where a front of it shows that. A cluster may be long, and isn't
-// read further than it takes to see that it is too wide.
+// The end of a word's head, if a prefix of the word shows it. A grapheme cluster may be long, and
+// isn't read further than is needed to see that it is too wide.
 fn end_by_front(word: &str, columns: usize) -> Option<usize>
     ensures { IfSome result (λ end. EndsHead columns word.now end) }
 {
-    // A front shows that its cluster is too wide where it measures three columns more. Conjuncts
-    // have six bytes for a column.
+    // A prefix shows that its last cluster is too wide if the prefix measures three terminal
+    // columns more. Conjuncts have up to six bytes for a terminal column.
     let mut size = columns.saturating_add(3).saturating_mul(6);
     while size <= word.len() / GROWTH {
         let (front, _) = word.split_at(word.floor_char_boundary(size));
@@ -58,14 +58,14 @@ fn end_by_front(word: &str, columns: usize) -> Option<usize>
     None
 }
 
-// Where the head of each text with this front ends, where the front shows that.
+// The end of the head of every text with this prefix, if the prefix shows it.
 fn shown_end(front: &str, columns: usize) -> Option<usize>
     ensures { IfSome result (λ end. (rest : Text) → IsUtf8 rest
         → EndsHead columns (front.now ++ rest) end) }
 {
     let wide = first_wide_cluster(front, columns)?;
-    // The last cluster may go on after the front. It then measures at most two columns less than
-    // its front does.
+    // The last cluster may continue after the prefix. The whole cluster then measures at most two
+    // terminal columns less than its part in the prefix.
     let goes_on = wide.len == front.len() - wide.at;
     if goes_on && wide.beyond <= 2 {
         None
@@ -74,26 +74,25 @@ fn shown_end(front: &str, columns: usize) -> Option<usize>
     }
 }
 
-// A cluster that is wider than the columns that are left for it.
+// A grapheme cluster that is wider than the terminal columns that are left for it.
 #[derive(Clone, Copy)]
 struct WideCluster {
-    // where it begins
+    // the position of its first byte in the text
     at: usize,
     // its bytes
     len: usize,
-    // how many columns it is too wide by
+    // the terminal columns by which it is too wide
     beyond: usize,
 }
 
-// The first cluster of a text that has no room in these columns, after those before it.
+// The first cluster that has no room in these terminal columns after the clusters before it.
 fn first_wide_cluster(text: &str, columns: usize) -> Option<WideCluster>
     ensures some { IfSome result (λ wide.
         IsFirstWide columns text.now wide.at wide.len wide.beyond) }
     ensures none { result ≡ None → EndsHead columns text.now (length text.now) }
 {
     let mut left = columns;
-    // Most clusters of such a text aren't ASCII, so they are measured without a look at their
-    // bytes.
+    // Most clusters of such a text aren't ASCII, so a test for printable ASCII isn't worthwhile.
     for (at, cluster) in text.grapheme_indices(true) {
         let width = cluster.width();
         if width > left {

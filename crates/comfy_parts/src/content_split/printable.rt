@@ -1,5 +1,5 @@
-//! Where lines of printable ASCII end. Each byte takes a terminal column, so an end is looked for
-//! from a line's last column backwards.
+//! The ends of lines of printable ASCII. Each byte takes one terminal column, so the search for a
+//! line's end begins at the line's last column and goes backwards.
 
 ghost use Rattle.std.specs.Prelude.{◌≡◌, ◌<◌, ◌≤◌, ◌+◌, ◌-◌, ◌==◌, ◌∷◌, List, drop, false, length, map, max, nat_lt, take};
 ghost use Rattle.std.specs.List.{list_any, slice_index, slice_split};
@@ -7,8 +7,8 @@ ghost use Rattle.comfy_parts.specs.Laws.{IsPrintable};
 ghost use Rattle.comfy_parts.specs.Text.{Text, begins_with, greatest, measure};
 ghost use Rattle.comfy_parts.specs.Wrapping.{line_end, wrapped};
 
-/// The terminal columns of the longest line that printable ASCII is wrapped into. No line is made
-/// for it.
+/// The width in terminal columns of the longest line that a printable ASCII text is wrapped into.
+/// The lines themselves aren't made.
 pub fn printable_longest_line(text: &[u8], width: usize, delimiter: char) -> usize
     requires printable { IsPrintable width delimiter text.now }
     ensures { result ≡ greatest (map measure (wrapped width delimiter text.now)) }
@@ -23,7 +23,8 @@ pub fn printable_longest_line(text: &[u8], width: usize, delimiter: char) -> usi
     longest
 }
 
-// The end of what is passed at once, a delimiter or a line, and the terminal columns of that line.
+// The end of the first part of the text, a delimiter or a line, and the width of that line in
+// terminal columns. The width of a delimiter is 0, because no line has it.
 fn part_at_front(text: &[u8], width: usize, delimiter: char) -> (usize, usize)
     requires printable { IsPrintable width delimiter text.now }
     requires some { 0 < length text.now }
@@ -39,7 +40,7 @@ fn part_at_front(text: &[u8], width: usize, delimiter: char) -> (usize, usize)
     (end, end)
 }
 
-/// The end of the line that begins at the front of printable ASCII.
+/// The end of the line that begins at the front of a printable ASCII text.
 pub fn printable_line_end(text: &[u8], width: usize, delimiter: char) -> usize
     requires printable { IsPrintable width delimiter text.now }
     requires begins { begins_with delimiter text.now ≡ false }
@@ -64,8 +65,8 @@ pub fn printable_line_end(text: &[u8], width: usize, delimiter: char) -> usize
     end
 }
 
-// The end of a line that the text fills, or that a delimiter follows: without a delimiter in its
-// last column.
+// The end of a line that fills the width, and that the end of the text or a delimiter follows. A
+// delimiter in the line's last column is left out.
 fn last_column(text: &[u8], width: usize, delimiter: char) -> usize
     requires printable { IsPrintable width delimiter text.now }
     requires begins { begins_with delimiter text.now ≡ false }
@@ -79,8 +80,8 @@ fn last_column(text: &[u8], width: usize, delimiter: char) -> usize
     width
 }
 
-// The last position up to the width at which a delimiter is, or the text ends; 0 if there is
-// none.
+// The last position, at most the width, that has a delimiter or is the end of the text; 0 if there
+// is none.
 fn last_break(text: &[u8], width: usize, delimiter: char) -> usize
     requires { width ≤ length text.now }
     ensures bound { result ≤ width }
@@ -99,7 +100,7 @@ fn last_break(text: &[u8], width: usize, delimiter: char) -> usize
     at
 }
 
-// Whether more bytes than a line has columns are before the first delimiter.
+// Returns true if more than `width` bytes come before the first delimiter.
 fn begins_with_long_part(text: &[u8], width: usize, delimiter: char) -> bool
     ensures { (part : Text) (parts : List Text)
         → slice_split (λ c. c == delimiter) text.now ≡ part ∷ parts

@@ -1,4 +1,5 @@
-//! SGR sequences in texts: ESC, `[`, digits, `;` and `:`, then `m`. They count nothing.
+//! Colour sequences (SGR) in texts: ESC, `[`, any number of digits, `;` and `:`, then `m`. They
+//! take no terminal columns.
 
 ghost use Rattle.std.specs.Prelude.{◌≡◌, ◌<◌, ◌≤◌, ◌∷◌, ◌++◌, ◌==◌, not, length, map, take, slice_index, IfNone, IfOk, IfSome, IsUtf8, string_bytes};
 ghost use Rattle.std.specs.Str.{IsCharBoundary};
@@ -12,18 +13,18 @@ pub mod written;
 use crate::error::Result;
 use std::alloc::Global;
 
-// The byte that a sequence begins with.
+// The first byte of a sequence.
 const ESC: u8 = 0x1b;
 
 // The sequence that closes all others.
 pub(crate) const RESET: &str = "\u{1b}[0m";
 
-/// Whether ESC is in a text. A text without one has no sequence.
+/// Returns true if a text contains ESC. A text without ESC has no sequence.
 pub(crate) fn has_escape(text: &str) -> bool
     ensures { result ≡ has_escape text.now }
 {
     let bytes = text.as_bytes();
-    // All bytes are looked at without a test between them, which is faster.
+    // All bytes are read without a test between them, which is faster.
     let mut found = false;
     for byte in bytes {
         found |= *byte == ESC;
@@ -31,15 +32,15 @@ pub(crate) fn has_escape(text: &str) -> bool
     found
 }
 
-/// A part of a text.
+/// A part of a text: a sequence, or visible text.
 #[derive(Clone, Copy)]
 pub(crate) enum TextPart<'a> {
     Sequence(&'a str),
-    // visible text up to the next ESC
+    // visible text up to the next ESC, which may begin with an ESC that begins no sequence
     Visible(&'a str),
 }
 
-/// The parts of a text, in order.
+/// The remaining parts of a text, in order.
 #[derive(Drop)]
 pub(crate) struct TextParts<'a>(&'a str);
 
@@ -64,8 +65,8 @@ impl<'a> Iterator for TextParts<'a> {
     }
 }
 
-/// What is visible of a text: the text without its SGR sequences. What joins where one was taken
-/// out isn't looked at again.
+/// The visible text of a text: the text without its sequences. Bytes that come together because a
+/// sequence between them is removed don't become a sequence. The only error is `OutOfMemory`.
 pub fn visible_text(alloc: Global, text: &str) -> Result<String>
     ensures { IfOk result (λ visible. string_bytes visible ≡ visible_text text.now) }
 {
@@ -78,7 +79,7 @@ pub fn visible_text(alloc: Global, text: &str) -> Result<String>
     Ok(joined)
 }
 
-/// Whether a text leaves a sequence open: its last sequence is another than `ESC[0m`.
+/// Returns true if a text leaves a sequence open: its last sequence isn't `ESC[0m`.
 pub fn leaves_sequence_open(text: &str) -> bool
     ensures { result ≡ not (length (open_after (parts text.now)) == 0) }
 {
@@ -91,7 +92,8 @@ pub fn leaves_sequence_open(text: &str) -> bool
     is_open
 }
 
-/// The sequence at a text's front, and what is after it.
+/// The sequence at the front of a text, and the text after it. `None` if the text doesn't begin
+/// with a sequence.
 pub(crate) fn split_sequence(text: &str) -> Option<(&str, &str)>
     ensures some { IfSome result (λ halves. parts text.now
         ≡ sequence_part halves.0.now ∷ parts halves.1.now) }
@@ -105,8 +107,8 @@ pub(crate) fn split_sequence(text: &str) -> Option<(&str, &str)>
     Some(text.split_at(len))
 }
 
-/// Visible text up to the next ESC, at most this many bytes, and what is after it. The text begins
-/// with no sequence.
+/// The visible text up to the next ESC, at most `most` bytes, and the text after it. The text must
+/// not begin with a sequence.
 pub(crate) fn split_visible(text: &str, most: usize) -> (&str, &str)
     requires none { sequence_len text.now ≡ 0 }
     requires fits { most ≤ length text.now → IsUtf8 (take most (visible_text text.now)) }
@@ -123,7 +125,7 @@ pub(crate) fn split_visible(text: &str, most: usize) -> (&str, &str)
     if end == 0 {
         return ("", text);
     }
-    // An ESC that begins no sequence is visible.
+    // A first byte ESC is visible, because the text doesn't begin with a sequence.
     let mut run = 1;
     'run: while run < end && bytes[run] != ESC {
         run += 1;
@@ -131,7 +133,7 @@ pub(crate) fn split_visible(text: &str, most: usize) -> (&str, &str)
     text.split_at(run)
 }
 
-/// The bytes of the sequence at a text's front, 0 if there is none.
+/// The length in bytes of the sequence at the front of a text, 0 if there is none.
 pub fn sequence_len(text: &str) -> usize
     ensures value { result ≡ sequence_len text.now }
     ensures boundary { IsCharBoundary text.now result }
@@ -151,7 +153,7 @@ pub fn sequence_len(text: &str) -> usize
     }
 }
 
-// A digit, `;` or `:`.
+// Returns true if the byte is a digit, `;` or `:`.
 fn is_parameter(byte: u8) -> bool
     ensures { result ≡ is_parameter byte }
 {

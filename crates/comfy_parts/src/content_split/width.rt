@@ -1,4 +1,4 @@
-//! How many terminal columns a text takes.
+//! The widths of texts and characters in terminal columns.
 
 ghost use Rattle.std.specs.Prelude.{◌≡◌, ◌+◌, ◌*◌, ◌≤◌, IfSome, length, nat_lt, encode_utf8};
 ghost use Rattle.comfy_parts.specs.Following.{IsWideFrom};
@@ -9,11 +9,11 @@ use crate::content_split::bytes::is_printable;
 use crate::content_split::own_width::{WIDE_LEN, begins_wide, own_width};
 use unicode_width::UnicodeWidthStr;
 
-// How many bytes more or less aren't looked for.
+// The search for the shortest wide suffix stops within this many bytes.
 const CLOSE: usize = 8;
 
-/// The terminal columns that a text takes, by the Unicode rules for terminals. They are at most two
-/// for each of its bytes.
+/// The width of a text in terminal columns, by the Unicode rules for terminals. It is at most two
+/// for each byte of the text.
 pub fn measure_text_width(text: &str) -> usize
     ensures value { result ≡ measure text.now }
     ensures bound { result ≤ 2 * length text.now }
@@ -27,8 +27,9 @@ pub fn measure_text_width(text: &str) -> usize
     joined_columns(text)
 }
 
-/// The terminal columns of a text whose characters join no other, which add up: counted in one
-/// walk. Such a text has no control character, so it is one text line without ESC.
+/// The width of a text whose characters join no other, as the sum of their widths, counted in one
+/// pass. `None` if a character may join others. A text with a width here has no control character,
+/// so it is one text line without ESC.
 pub fn summed_columns(text: &str) -> Option<usize>
     ensures clear { IfSome result (IsClearLine text.now) }
     ensures bound { IfSome result (λ columns. columns ≤ 2 * length text.now) }
@@ -48,7 +49,7 @@ pub fn summed_columns(text: &str) -> Option<usize>
     Some(columns)
 }
 
-/// The terminal columns of a text, by a walk that knows how characters join.
+/// The width of a text in terminal columns, by rules that know how characters join.
 pub fn joined_columns(text: &str) -> usize
     ensures value { result ≡ measure text.now }
     ensures bound { result ≤ 2 * length text.now }
@@ -56,8 +57,9 @@ pub fn joined_columns(text: &str) -> usize
     text.width()
 }
 
-/// How many bytes of a word's end show that the word is wider than these columns: each end of the
-/// word with at least this many bytes is wider. If none shows it, more bytes than the word has.
+/// A number of bytes that shows that a word is wider than `columns` terminal columns: each suffix
+/// of the word with at least this many bytes is wider. If no number shows it, the result is greater
+/// than the length of the word.
 pub fn wide_end(word: &str, columns: usize) -> usize
     ensures { IsWideFrom columns result word.now }
 {
@@ -75,8 +77,8 @@ pub fn wide_end(word: &str, columns: usize) -> usize
     wide
 }
 
-// The first of the ends that double by which the word is known to be wide; more bytes than it has
-// if none is.
+// The length of the first suffix that shows that the word is wide, where each suffix that is tried
+// is twice as long as the one before it. If none shows it, the length of the word plus 1.
 fn first_wide_end(word: &str, columns: usize) -> usize
     ensures { IsWideFrom columns result word.now }
 {
@@ -95,15 +97,15 @@ fn first_wide_end(word: &str, columns: usize) -> usize
     }
 }
 
-// What is before an end takes at most one of its columns away, so an end that is wider than one
-// column more shows that the whole is wide.
+// Returns true if a suffix is at least two terminal columns too wide. Text before a suffix reduces
+// its width by at most one, so then each longer suffix is too wide as well.
 fn shows_wide(end: &str, columns: usize) -> bool
     ensures { result ≡ nat_lt (columns + 1) (measure end.now) }
 {
     measure_text_width(end) > columns.saturating_add(1)
 }
 
-/// The terminal columns that a character takes as a text.
+/// The width in terminal columns of a text that is this character alone.
 pub fn char_width(character: char) -> usize
     ensures value { result ≡ measure (encode_utf8 character) }
     ensures bound { result ≤ 8 }

@@ -1,4 +1,4 @@
-//! Borrowed lists as cells. Their items are copied.
+//! Cells from borrowed lists, whose items are copied.
 
 ghost use Rattle.std.specs.Prelude.{map};
 

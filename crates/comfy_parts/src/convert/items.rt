@@ -1,4 +1,4 @@
-//! Lists of values, and iterators over them, that come to an end.
+//! Finite lists of values, and finite iterators over them.
 
 ghost use Rattle.std.specs.Prelude.{List};
 ghost use Rattle.std.proofs.Common.{ap};
@@ -8,9 +8,9 @@ ghost use Rattle.comfy_parts.specs.ItemsGiven.{array_gives, vec_gives};
 
 use std::vec;
 
-/// Values in order that come to an end, as `Table::add_rows` and `Table::set_constraints` take
-/// them: a `Vec`, an array, or the iterator that a `Vec` makes. For an iterator of your own, say in
-/// an `impl` which items it gives, as the crate `test_callers` does in `src/uses/items.rt`.
+/// A finite list of values in order, as `Table::add_rows` and `Table::set_constraints` take it: a
+/// `Vec`, an array, or the iterator of a `Vec`. For your own iterator, write an `impl` that states
+/// which items it returns, as the crate `test_callers` does in `src/uses/items.rt`.
 ///
 /// ```
 /// let constraints = [ColumnConstraint::ContentWidth, ColumnConstraint::Hidden];
@@ -20,7 +20,7 @@ pub trait Items: IntoIterator {
     // the values, in their order
     ghost items_of: { Self → List Self.Item };
 
-    // the iterator gives these values, and ends
+    // the iterator returns these values, and ends
     ghost gives_items: { (values : Self) (from : Self.IntoIter) → Self.into_iter_gives values from
         → GivesAll Self.IntoIter.can_next Self.IntoIter.next_gives Self.IntoIter.remaining from
         (items_of values) };

@@ -1,4 +1,4 @@
-//! Whole numbers as cells, in decimal digits.
+//! Cells from whole numbers, written in decimal digits.
 
 ghost use Rattle.comfy_parts.specs.CellValue.{number_cell, signed_cell};
 

@@ -1,5 +1,5 @@
-//! Tuples as cells: values of several types in one row. Each tuple is the shorter one before it,
-//! and one more cell.
+//! Cells from tuples: values of several types in one row. The cells of a tuple are those of the
+//! next shorter tuple, and one more.
 
 ghost use Rattle.std.specs.Prelude.{[], ◌∷◌};
 

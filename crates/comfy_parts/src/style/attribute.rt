@@ -1,7 +1,7 @@
-//! What a terminal does to a text beside colouring it.
+//! Attributes of a text in a terminal, besides its colours.
 
-/// An attribute of a text in a terminal. Without the sequences that it writes, the second line here
-/// is `| Sum |`.
+/// An attribute of a text in a terminal. Without the sequences that are written for it, the second
+/// line of this example is `| Sum |`.
 ///
 /// ```
 /// let mut table = Table::new(alloc);
@@ -37,7 +37,7 @@ pub enum Attribute {
     SlowBlink,
     /// Blinks 150 times a minute or more.
     RapidBlink,
-    /// Text and background change their colours.
+    /// Text and background colours are swapped.
     Reverse,
     /// Not shown.
     Hidden,

@@ -1,6 +1,6 @@
-//! Where the text of a cell is.
+//! Alignments.
 
-/// Where a line of a cell is within the width of its column.
+/// The position of a line of a cell within the width of its column.
 ///
 /// ```
 /// let mut table = Table::new(alloc);
@@ -23,7 +23,7 @@ pub enum CellAlignment {
     Left,
     /// At the right.
     Right,
-    /// In the middle. Where an odd number of terminal columns is free, one more of them is at the
-    /// left.
+    /// In the middle. If an odd number of terminal columns is free, the left side gets one more
+    /// than the right side.
     Center,
 }

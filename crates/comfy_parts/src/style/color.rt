@@ -1,7 +1,7 @@
 //! The colours of a terminal.
 
-/// A colour of a terminal: the terminal's own, one of sixteen, one by its three parts, or one of
-/// 256.
+/// A colour of a terminal: its default colour, one of sixteen named colours, a colour given by red,
+/// green and blue, or one of 256 colours.
 ///
 /// ```
 /// let late = Cell::new(alloc, "late")?.fg(Color::Black).bg(Color::Yellow);
@@ -9,7 +9,7 @@
 /// ```
 #[derive(Copy, Clone, Debug, PartialEq, Eq, PartialOrd, Ord, Hash)]
 pub enum Color {
-    /// The terminal's own colour.
+    /// The default colour of the terminal.
     Reset,
     /// Colour 0 of 256.
     Black,
@@ -43,8 +43,8 @@ pub enum Color {
     White,
     /// Colour 7 of 256.
     Grey,
-    /// A colour by its red, green and blue part.
+    /// A colour given by its red, green and blue parts.
     Rgb { r: u8, g: u8, b: u8 },
-    /// One of 256 colours by its number.
+    /// One of 256 colours, given by its number.
     AnsiValue(u8),
 }

@@ -1,16 +1,16 @@
 //! Widths of columns, and constraints on them.
 
-/// The whole width of a column, its paddings included.
+/// The width of a whole column, paddings included.
 ///
 /// ```
 /// let third = ColumnConstraint::UpperBoundary(Width::Percentage(33));
 /// ```
 #[derive(Copy, Clone, Debug, PartialEq, Eq)]
 pub enum Width {
-    /// That many terminal columns.
+    /// This many terminal columns.
     Fixed(u16),
-    /// That many percent, at most 100, of the table's width without its borders. Where the table's
-    /// width isn't known, this is as if it weren't there.
+    /// This many percent, at most 100, of the table's width minus its border characters. If the
+    /// table's width isn't known, a constraint with this width is ignored.
     Percentage(u16),
 }
 
@@ -37,14 +37,13 @@ pub enum ColumnConstraint {
     Hidden,
     /// The column is exactly as wide as its content and its paddings.
     ContentWidth,
-    /// The column has this width, or that of its paddings and one terminal column where that is
-    /// more.
+    /// The column has this width, but at least that of its paddings and one terminal column.
     Absolute(Width),
-    /// The column is at least this wide, where the arrangement allows it.
+    /// The column is at least this wide, if the arrangement allows it.
     LowerBoundary(Width),
-    /// The column is at most this wide, where the arrangement allows it.
+    /// The column is at most this wide, if the arrangement allows it.
     UpperBoundary(Width),
-    /// The column is at least as wide as `lower` and at most as wide as `upper`, where the
-    /// arrangement allows it.
+    /// The column is at least as wide as `lower` and at most as wide as `upper`, if the arrangement
+    /// allows it.
     Boundaries { lower: Width, upper: Width },
 }

@@ -1,4 +1,4 @@
-//! Styles that are ready to be used. There are thirteen:
+//! Styles that are ready to use. There are thirteen:
 //!
 //! ```text
 //! ASCII_FULL            ASCII_FULL_CONDENSED   ASCII_NO_BORDERS
@@ -44,7 +44,7 @@
 //!                       ───────────────
 //! ```
 //!
-//! A table takes one by `load_style`, changed or as it is, and `by_name` finds one by its name:
+//! `load_style` sets a preset, changed or not, and `by_name` finds one by its name:
 //!
 //! ```
 //! table.load_style(UTF8_FULL.with_rounded_corners());
@@ -55,9 +55,9 @@ ghost use Rattle.comfy_parts.specs.Presets.{ascii_full, ascii_full_condensed, as
 
 use crate::style::table_style::{ContentLineStyle, LineStyle, TableStyle};
 
-// Lines that several presets share, each with what it draws.
+// Lines of several presets. Each has a comment that shows its drawing.
 
-// No character is set: no line is drawn.
+// No character is set, so the line isn't drawn.
 const NO_LINE: LineStyle = LineStyle {
     left: None,
     fill: None,
@@ -65,7 +65,7 @@ const NO_LINE: LineStyle = LineStyle {
     right: None,
 };
 
-// No character is set: nothing is beside or between the cells.
+// No character is set, so nothing is drawn beside or between the cells.
 const NO_CONTENT: ContentLineStyle = ContentLineStyle {
     left: None,
     junction: None,
@@ -162,7 +162,7 @@ const UTF8_OPEN_LINE: LineStyle = LineStyle {
     right: None,
 };
 
-/// All borders, of ASCII characters; the style of a new table.
+/// All borders, of ASCII characters. The style of a new table.
 ///
 /// ```text
 /// +-------+-------+
@@ -187,7 +187,7 @@ pub const ASCII_FULL: TableStyle = TableStyle {
     bottom_border: ASCII_BORDER,
 };
 
-/// Outer borders, lines between columns and the header's separator, of ASCII characters; no lines
+/// Outer borders, lines between columns and the header's separator, of ASCII characters. No lines
 /// between rows.
 ///
 /// ```text
@@ -207,7 +207,7 @@ pub const ASCII_FULL_CONDENSED: TableStyle = TableStyle {
     bottom_border: ASCII_BORDER,
 };
 
-/// Lines between columns and between rows, of ASCII characters; no outer borders.
+/// Lines between columns and between rows, of ASCII characters. No outer borders.
 ///
 /// ```text
 ///  Hello | there
@@ -230,7 +230,7 @@ pub const ASCII_NO_BORDERS: TableStyle = TableStyle {
     bottom_border: NO_LINE,
 };
 
-/// Outer borders and the header's separator, of ASCII characters; an empty line between rows.
+/// Outer borders and the header's separator, of ASCII characters. A line of spaces between rows.
 ///
 /// ```text
 /// +---------------+
@@ -255,7 +255,7 @@ pub const ASCII_BORDERS_ONLY: TableStyle = TableStyle {
     bottom_border: ASCII_PLAIN_BORDER,
 };
 
-/// Outer borders and the header's separator, of ASCII characters; no line between rows.
+/// Outer borders and the header's separator, of ASCII characters. No lines between rows.
 ///
 /// ```text
 /// +---------------+
@@ -274,7 +274,7 @@ pub const ASCII_BORDERS_ONLY_CONDENSED: TableStyle = TableStyle {
     bottom_border: ASCII_PLAIN_BORDER,
 };
 
-/// Horizontal lines alone, of ASCII characters.
+/// Only horizontal lines, of ASCII characters.
 ///
 /// ```text
 /// ---------------
@@ -294,7 +294,7 @@ pub const ASCII_HORIZONTAL_ONLY: TableStyle = TableStyle {
     bottom_border: ASCII_OPEN_LINE,
 };
 
-/// A table of Markdown.
+/// A Markdown table.
 ///
 /// ```text
 /// | Hello | there |
@@ -356,7 +356,7 @@ pub const UTF8_FULL: TableStyle = TableStyle {
     },
 };
 
-/// Outer borders, lines between columns and the header's separator, of box drawing characters; no
+/// Outer borders, lines between columns and the header's separator, of box drawing characters. No
 /// lines between rows.
 ///
 /// ```text
@@ -391,7 +391,7 @@ pub const UTF8_FULL_CONDENSED: TableStyle = TableStyle {
     },
 };
 
-/// Lines between columns and between rows, of box drawing characters; no outer borders.
+/// Lines between columns and between rows, of box drawing characters. No outer borders.
 ///
 /// ```text
 ///  Hello ┆ there
@@ -453,7 +453,7 @@ pub const UTF8_BORDERS_ONLY: TableStyle = TableStyle {
     },
 };
 
-/// Horizontal lines alone, of box drawing characters.
+/// Only horizontal lines, of box drawing characters.
 ///
 /// ```text
 /// ───────────────
@@ -494,8 +494,8 @@ pub const NOTHING: TableStyle = TableStyle {
     bottom_border: NO_LINE,
 };
 
-/// All presets with their names, which are those of their constants. A preset keeps its position,
-/// so that programs in other languages can name it by a number.
+/// All presets with their names. A name is that of the constant. The position of a preset never
+/// changes, because programs in other languages choose presets by position.
 pub static ALL: [(&str, TableStyle); 13] = [
     ("ASCII_FULL", ASCII_FULL),
     ("ASCII_FULL_CONDENSED", ASCII_FULL_CONDENSED),
@@ -512,7 +512,7 @@ pub static ALL: [(&str, TableStyle); 13] = [
     ("NOTHING", NOTHING),
 ];
 
-/// The preset of this name, written as its constant is. Of another name there is none.
+/// The preset whose constant has this name. `None` if no preset has it.
 ///
 /// ```
 /// table.load_style(by_name("UTF8_FULL").unwrap_or(ASCII_FULL));
@@ -529,7 +529,7 @@ pub fn by_name(name: &str) -> Option<TableStyle>
 }
 
 /// The preset at this position of `ALL`, counted from 0: `ASCII_FULL` comes first, `NOTHING` last.
-/// At a greater position there is none.
+/// `None` at a greater position.
 ///
 /// ```
 /// let is_so = by_position(7) == Some(UTF8_FULL);
@@ -546,7 +546,7 @@ pub fn by_position(position: usize) -> Option<TableStyle>
 }
 
 /// Each preset has the characters of its definition in `specs/Presets`. The function does nothing:
-/// its clauses say so.
+/// its clauses are the law.
 pub fn presets_are_as_tabled()
     ensures of_ascii_full { ASCII_FULL ≡ ascii_full }
     ensures of_ascii_full_condensed { ASCII_FULL_CONDENSED ≡ ascii_full_condensed }

@@ -1,6 +1,6 @@
-//! How the widths of a table's columns are found.
+//! Arrangements: the ways to find the widths of a table's columns.
 
-/// How the widths of a table's columns are found.
+/// The way to find the widths of a table's columns.
 ///
 /// ```
 /// let mut table = Table::new(alloc);
@@ -17,13 +17,14 @@
 /// ```
 #[derive(Copy, Clone, Debug, PartialEq, Eq)]
 pub enum ContentArrangement {
-    /// Each column is as wide as its content, unless its constraint says otherwise.
+    /// Each column is as wide as its content, unless its constraint fixes or limits the width.
     Disabled,
-    /// Where the table's width is known, the table keeps to it, and contents are wrapped. It is
-    /// wider where its columns can't be narrow enough: each has one terminal column at least, and
-    /// constraints can ask for more. If no width is known, this is as `Disabled`.
+    /// If the table's width is known, contents are wrapped so that the table isn't wider. It is
+    /// wider only if its columns can't be narrow enough: each has at least one terminal column, and
+    /// constraints can require more. If no width is known, this is the same as `Disabled`.
     Dynamic,
-    /// As `Dynamic`, and what is left of the width is spread over the shown columns, also over
-    /// those with a constraint if no others take it.
+    /// Like `Dynamic`, but the table fills its width. If no column is left that shares the rest of
+    /// the width evenly, the rest is spread over all shown columns, also over those with a
+    /// constraint.
     DynamicFullWidth,
 }

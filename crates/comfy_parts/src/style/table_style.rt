@@ -6,10 +6,10 @@ ghost use Rattle.comfy_parts.specs.Columns.{style_characters};
 ghost use Rattle.comfy_parts.specs.Presets.{nothing};
 ghost use Rattle.comfy_parts.specs.StyleModifiers.{with_rounded_corners, with_solid_inner_borders, RoundingTwiceIsOnce, SolidTwiceIsOnce};
 
-/// A horizontal line of the frame. With no part set it isn't drawn.
+/// A horizontal line of the frame. If none of its parts is set, it isn't drawn.
 ///
-/// A fill that isn't set is spaces. A left, right or junction character that isn't set is a space
-/// where another line of the style has one, and takes no room if none has.
+/// A missing fill is a space. A missing left, right or junction character is a space if another
+/// line of the style has a character there. If no line has one, it takes no terminal column.
 ///
 /// ```text
 /// ├╌╌╌╌╌╌╌╌┼╌╌╌╌╌╌╌╌┤
@@ -34,7 +34,7 @@ pub struct LineStyle {
 }
 
 impl LineStyle {
-    /// A line with all four parts set.
+    /// A line with all four characters set.
     pub fn new(left: char, fill: char, junction: char, right: char) -> LineStyle
         ensures { result ≡ record {
           left = Some left;
@@ -51,14 +51,14 @@ impl LineStyle {
         }
     }
 
-    /// A line with no part set, so one that isn't drawn.
+    /// A line without characters, which isn't drawn.
     pub fn none() -> LineStyle
         ensures { result ≡ record { left = None; fill = None; junction = None; right = None } }
     {
         LineStyle::default()
     }
 
-    /// Sets the left end.
+    /// Sets the character at the left end.
     pub fn left(self, end: char) -> LineStyle
         ensures { result ≡ record self { left = Some end } }
     {
@@ -68,7 +68,7 @@ impl LineStyle {
         }
     }
 
-    /// Sets what is repeated along the columns.
+    /// Sets the character that fills the widths of the columns.
     pub fn fill(self, character: char) -> LineStyle
         ensures { result ≡ record self { fill = Some character } }
     {
@@ -78,7 +78,7 @@ impl LineStyle {
         }
     }
 
-    /// Sets what is between two columns.
+    /// Sets the character between two columns.
     pub fn junction(self, crossing: char) -> LineStyle
         ensures { result ≡ record self { junction = Some crossing } }
     {
@@ -88,7 +88,7 @@ impl LineStyle {
         }
     }
 
-    /// Sets the right end.
+    /// Sets the character at the right end.
     pub fn right(self, end: char) -> LineStyle
         ensures { result ≡ record self { right = Some end } }
     {
@@ -99,10 +99,10 @@ impl LineStyle {
     }
 }
 
-/// A line that holds contents.
+/// The characters of a line with contents.
 ///
-/// A character that isn't set is a space where a horizontal line of the style has one at this
-/// place, and takes no room if none has.
+/// A missing character is a space if another line of the style has a character there. If no line
+/// has one, it takes no terminal column.
 ///
 /// ```text
 /// │ Hello  ┆ there  │
@@ -125,7 +125,7 @@ pub struct ContentLineStyle {
 }
 
 impl ContentLineStyle {
-    /// A line with all three parts set.
+    /// A line with all three characters set.
     pub fn new(left: char, junction: char, right: char) -> ContentLineStyle
         ensures { result ≡ record {
           left = Some left;
@@ -139,14 +139,14 @@ impl ContentLineStyle {
             .right(right)
     }
 
-    /// A line with no part set.
+    /// A line without characters.
     pub fn none() -> ContentLineStyle
         ensures { result ≡ record { left = None; junction = None; right = None } }
     {
         ContentLineStyle::default()
     }
 
-    /// Sets the left border.
+    /// Sets the character of the left border.
     pub fn left(self, border: char) -> ContentLineStyle
         ensures { result ≡ record self { left = Some border } }
     {
@@ -156,7 +156,7 @@ impl ContentLineStyle {
         }
     }
 
-    /// Sets what is between two columns.
+    /// Sets the character between two columns.
     pub fn junction(self, divider: char) -> ContentLineStyle
         ensures { result ≡ record self { junction = Some divider } }
     {
@@ -166,7 +166,7 @@ impl ContentLineStyle {
         }
     }
 
-    /// Sets the right border.
+    /// Sets the character of the right border.
     pub fn right(self, border: char) -> ContentLineStyle
         ensures { result ≡ record self { right = Some border } }
     {
@@ -177,7 +177,7 @@ impl ContentLineStyle {
     }
 }
 
-/// The six kinds of lines of a table.
+/// A style: the characters of the six kinds of lines of a table.
 ///
 /// ```text
 /// ┌───┬───┐ top_border
@@ -205,22 +205,22 @@ impl ContentLineStyle {
 /// ```
 #[derive(Copy, Clone, Debug, Default, PartialEq, Eq)]
 pub struct TableStyle {
-    /// The line above everything.
+    /// The frame line above the table.
     pub top_border: LineStyle,
-    /// The borders of the header's lines.
+    /// The characters in the lines of the header.
     pub header_lines: ContentLineStyle,
-    /// The line below the header.
+    /// The frame line below the header.
     pub header_separator: LineStyle,
-    /// The borders of the rows' lines.
+    /// The characters in the lines of rows.
     pub content_lines: ContentLineStyle,
-    /// The line between two rows.
+    /// The frame line between two rows.
     pub row_separator: LineStyle,
-    /// The line below everything.
+    /// The frame line below the table.
     pub bottom_border: LineStyle,
 }
 
 impl TableStyle {
-    /// A style with nothing set: contents alone are drawn.
+    /// A style without characters: only contents are drawn.
     pub fn new() -> TableStyle
         ensures { result ≡ nothing }
     {
@@ -234,7 +234,7 @@ impl TableStyle {
         }
     }
 
-    /// Sets the line above all others.
+    /// Sets the frame line above the table.
     pub fn top_border(self, line: LineStyle) -> TableStyle
         ensures { result ≡ record self { top_border = line } }
     {
@@ -244,7 +244,7 @@ impl TableStyle {
         }
     }
 
-    /// Sets the lines that hold the header's contents.
+    /// Sets the characters in the lines of the header.
     pub fn header_lines(self, line: ContentLineStyle) -> TableStyle
         ensures { result ≡ record self { header_lines = line } }
     {
@@ -254,7 +254,7 @@ impl TableStyle {
         }
     }
 
-    /// Sets the line below the header.
+    /// Sets the frame line below the header.
     pub fn header_separator(self, line: LineStyle) -> TableStyle
         ensures { result ≡ record self { header_separator = line } }
     {
@@ -264,7 +264,7 @@ impl TableStyle {
         }
     }
 
-    /// Sets the lines that hold the rows' contents.
+    /// Sets the characters in the lines of rows.
     pub fn content_lines(self, line: ContentLineStyle) -> TableStyle
         ensures { result ≡ record self { content_lines = line } }
     {
@@ -274,7 +274,7 @@ impl TableStyle {
         }
     }
 
-    /// Sets the line between two rows.
+    /// Sets the frame line between two rows.
     pub fn row_separator(self, line: LineStyle) -> TableStyle
         ensures { result ≡ record self { row_separator = line } }
     {
@@ -284,7 +284,7 @@ impl TableStyle {
         }
     }
 
-    /// Sets the line below all others.
+    /// Sets the frame line below the table.
     pub fn bottom_border(self, line: LineStyle) -> TableStyle
         ensures { result ≡ record self { bottom_border = line } }
     {
@@ -294,7 +294,7 @@ impl TableStyle {
         }
     }
 
-    /// Whether lines begin with a border: any of the six lines has a left character.
+    /// Returns true if lines begin with a border: any of the six lines has a left character.
     pub fn draws_left_border(&self) -> bool
         ensures { result ≡ draws_left_border self.now }
     {
@@ -306,7 +306,7 @@ impl TableStyle {
             || self.bottom_border.left.is_some()
     }
 
-    /// Whether lines end with a border: any of the six lines has a right character.
+    /// Returns true if lines end with a border: any of the six lines has a right character.
     pub fn draws_right_border(&self) -> bool
         ensures { result ≡ draws_right_border self.now }
     {
@@ -318,7 +318,8 @@ impl TableStyle {
             || self.bottom_border.right.is_some()
     }
 
-    /// Whether lines are between the columns: any of the six lines has a junction.
+    /// Returns true if vertical lines are drawn between the columns: any of the six lines has a
+    /// junction.
     pub fn draws_vertical_lines(&self) -> bool
         ensures { result ≡ draws_vertical_lines self.now }
     {
@@ -330,7 +331,7 @@ impl TableStyle {
             || self.bottom_border.junction.is_some()
     }
 
-    /// All characters, line by line.
+    /// All characters, line by line from the top. A content line has no fill.
     pub(crate) fn characters(&self) -> [Option<char>; 22]
         ensures { result ≡ style_characters self.now }
     {

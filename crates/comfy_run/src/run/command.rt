@@ -16,21 +16,21 @@ use std::alloc::Global;
 
 const USAGE: &str = "usage: ctable [WIDTH|- [disabled|dynamic|full [STYLE]]]\n";
 
-// The statuses that aren't success.
+// Statuses of a program that doesn't succeed.
 const FAILED: u8 = 1;
 
 const MISUSED: u8 = 2;
 
-/// Draws the table of the source, as the arguments after the program's name ask for, and returns
-/// the status that the program ends with.
+/// Draws the table of the source with the settings that the arguments mean, and returns the status
+/// of the program. `args` are the arguments after the program's name.
 ///
-/// The arguments are `[WIDTH|- [disabled|dynamic|full [STYLE]]]`: the table's width, or a hyphen
-/// for none, the arrangement of its columns, and the name of a preset.
+/// The arguments are `[WIDTH|- [disabled|dynamic|full [STYLE]]]`: the table's width, or a hyphen if
+/// it isn't set, the arrangement of its columns, and the name of a preset.
 ///
-/// The status is 0 if all was read and written, and no device failed; then `messages` is left as
-/// it was. It is 1 after an error, and 2 where the arguments ask for nothing that is known; the
-/// source isn't read then. A line written to `messages` says which it was. A fault of `messages`
-/// changes no status.
+/// The status is 0 if the whole input was read, its drawing was written, and no device failed. Then
+/// nothing is written to `messages`. The status is 1 after an error, and 2 if an argument is
+/// unknown, in which case the source isn't read. Then a line with the reason is written to
+/// `messages`. A failure of `messages` doesn't change the status.
 pub fn program<R: Source, W: Sink, F: Sink>(
     alloc: Global,
     args: &[&str],
@@ -68,7 +68,7 @@ pub fn program<R: Source, W: Sink, F: Sink>(
     }
 }
 
-// The line on an error.
+// The message for an error, as a line.
 fn line_for(error: RunError) -> &'static str
     ensures { result.now ≡ error_line error }
 {
@@ -80,7 +80,7 @@ fn line_for(error: RunError) -> &'static str
     }
 }
 
-// Writes a line. Where that fails there is nowhere left to report it.
+// Writes a line. A failure is ignored, because it can't be reported anywhere.
 fn report<F: Sink>(messages: &mut F, line: &str)
     ensures { Reports line.now (F.taken messages.old) (F.taken messages.new)
         (F.has_failed messages.new) }

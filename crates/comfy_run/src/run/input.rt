@@ -9,8 +9,8 @@ use crate::settings::Settings;
 use comfy_table::{Result, Table};
 use std::alloc::Global;
 
-/// The table of a text, with the settings that are wanted. A carriage return before a line
-/// feed is no part of a line, and an empty last piece is no line.
+/// Makes the table of a text, with these settings. A carriage return before a line feed isn't part
+/// of a line, and an empty last piece isn't a line. The only error is `OutOfMemory`.
 pub fn table_of(alloc: Global, text: &str, settings: Settings) -> Result<Table>
     ensures { IfOk result (λ table. table
         ≡ input_table settings.width settings.arrangement settings.style text.now) }
@@ -31,7 +31,7 @@ pub fn table_of(alloc: Global, text: &str, settings: Settings) -> Result<Table>
     Ok(table)
 }
 
-// A table without rows that has the settings.
+// A table without rows, with these settings.
 fn empty_table(alloc: Global, settings: Settings) -> Table
     ensures { result ≡ record (new_table settings.style)
         { set_width = settings.width; arrangement = settings.arrangement } }

@@ -1,4 +1,4 @@
-//! The whole program, as a process runs it: its arguments, its standard streams and its status.
+//! The whole program as a process runs it: its arguments, its standard streams and its status.
 
 use crate::error::RunError;
 use crate::run::command::program;
@@ -8,8 +8,8 @@ use std::io;
 use std::process::ExitCode;
 
 /// Runs `program` over the standard streams, with the arguments after the process's name, and
-/// returns its status. Where the arguments can't be fetched, since one isn't text or there is no
-/// memory for them, the status is 1, and nothing is read.
+/// returns its status. If an argument isn't UTF-8, or memory runs out for the arguments, the status
+/// is 1, and nothing is read. The message then always is `out of memory`.
 ///
 /// ```
 /// fn main(rt: HostRuntime) -> ExitCode {

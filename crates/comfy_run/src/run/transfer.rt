@@ -11,17 +11,22 @@ use crate::settings::Settings;
 use devices::{Render, Rendered, Sink, Source};
 use std::alloc::Global;
 
-/// Reads the whole source, and writes the drawing of its table to the sink, each line followed by a
+/// Reads the whole source, and writes the drawing of its table to the sink, each line ended by a
 /// line feed.
 ///
-/// All memory is asked for before the first write. Where the input can't be read, isn't UTF-8 or
-/// memory runs out, nothing is written. Where the output can't be written, a beginning of it was.
+/// All memory is taken before the first write. The clauses on bytes hold for devices whose bytes
+/// are known. The clauses on failures and on the end hold for all devices, also for the standard
+/// streams.
 ///
-/// The result says which device failed: `Read` comes only where a call of the source failed,
-/// `Write` only where a call of the sink failed. After `Ok` and every other error, no call of
-/// either failed; after `Ok` the end of the source was read. That holds of all devices, the
-/// standard streams among them. Which bytes were read and written is said of devices whose bytes
-/// are known.
+/// # Errors
+///
+/// - `Read`: a call of the source failed. Nothing was written.
+/// - `Write`: a call of the sink failed. A beginning of the drawing was written, perhaps no byte,
+///   but not all of the drawing.
+/// - `NotUtf8`: the input isn't UTF-8. No device failed, and nothing was written.
+/// - `Table`: memory ran out. No device failed, and nothing was written.
+///
+/// After `Ok` no device failed, and the end of the source was read.
 ///
 /// ```
 /// let mut source = FromReader::new(rt.stdin());
@@ -45,9 +50,9 @@ pub fn run<R: Source, W: Sink>(
 
 impl Render for Settings {
     type Error = RunError;
-    // A drawing is whole in memory before the first write.
+    // A drawing is in memory as a whole before the first write.
     type Output = Option<String>;
-    // There is nothing to say.
+    // No findings are reported.
     type Findings = ();
 
     ghost is_not_enough = { λ _ _. ⊤ };
@@ -73,7 +78,7 @@ impl Render for Settings {
         })
     }
 
-    // Each line is a row, so that the input is read whole.
+    // Each line is a row, so the whole input has to be read.
     fn render_beginning(
         &self,
         _alloc: Global,
@@ -83,9 +88,9 @@ impl Render for Settings {
     }
 }
 
-/// The drawing of the table that a text represents, each line followed by a line feed: what `run`
-/// writes for this input. The text's first line is the header, the others are rows, and cells are
-/// between TABs.
+/// The drawing of the table of a text, each line ended by a line feed. `run` writes it for this
+/// input. The first line of the text is the header, the others are rows, and TABs are between
+/// cells. The only error is `OutOfMemory`.
 ///
 /// ```
 /// let drawing = render_tsv(rt.alloc(), "name\tdays\noats\t3\n", settings)?;

@@ -1,4 +1,4 @@
-//! The rows and columns of a table, read and borrowed mutably.
+//! Reading and changing the rows and columns of a table.
 
 ghost use Rattle.std.specs.Prelude.{◌≡◌, ◌<◌, ◌==◌, ◌↔◌, IfSome, IsSome, length, option_copied, slice_get, slice_index_or};
 ghost use Rattle.std.specs.Borrow.{sem};
@@ -19,29 +19,29 @@ impl Table {
         self.rows.len()
     }
 
-    /// Whether there are no rows. A header doesn't count.
+    /// Returns true if there are no rows. A header doesn't count.
     pub fn is_empty(&self) -> bool
         ensures { result ≡ (length self.now.rows == 0) }
     {
         self.rows.is_empty()
     }
 
-    /// The header, where one is set.
+    /// The header, if there is one.
     pub fn header(&self) -> Option<&Row>
         ensures { option_copied result ≡ self.now.header }
     {
         self.header.as_ref()
     }
 
-    /// The column at a position, counted from 0; none past the last.
+    /// The column at a position, counted from 0; `None` after the last one.
     pub fn column(&self, index: usize) -> Option<&Column>
         ensures { option_copied result ≡ slice_get self.now.columns index }
     {
         self.columns.get(index)
     }
 
-    /// The column at a position, counted from 0, to be changed; none past the last. What is written
-    /// through it changes that column, and nothing else of the table.
+    /// A mutable reference to the column at a position, counted from 0; `None` after the last one.
+    /// Writing through it changes this column, and nothing else of the table.
     ///
     /// ```
     /// if let Some(column) = table.column_mut(1) {
@@ -65,7 +65,7 @@ impl Table {
         self.columns.iter()
     }
 
-    /// The columns in order, to be changed. What is written through them changes these columns, and
+    /// Mutable references to the columns, in order. Writing through them changes these columns, and
     /// nothing else of the table.
     pub fn column_iter_mut(&mut self) -> slice::IterMut<'_, Column>
         ensures* lent { sem 𝓛 (LendsColumns self.entry result) }
@@ -75,16 +75,16 @@ impl Table {
         self.columns.iter_mut()
     }
 
-    /// The row at a position, counted from 0 and without the header; none past the last.
+    /// The row at a position, counted from 0 and without the header; `None` after the last one.
     pub fn row(&self, index: usize) -> Option<&Row>
         ensures { option_copied result ≡ slice_get self.now.rows index }
     {
         self.rows.get(index)
     }
 
-    /// The row at a position, counted from 0 and without the header, to be changed; none past the
-    /// last. What is written through it changes that row, and nothing else of the table: a cell
-    /// past the last column isn't drawn.
+    /// A mutable reference to the row at a position, counted from 0 and without the header; `None`
+    /// after the last one. Writing through it changes this row, and nothing else of the table. No
+    /// columns are added for new cells: a cell after the last column isn't drawn.
     pub fn row_mut(&mut self, index: usize) -> Option<&mut Row>
         ensures* lent { sem 𝓛 (LendsRow self.entry index result) }
         ensures found { IsSome result ↔ (index < length self.old.rows) }
@@ -102,8 +102,9 @@ impl Table {
         self.rows.iter()
     }
 
-    /// The rows in order and without the header, to be changed. What is written through them
-    /// changes these rows, and nothing else of the table: a cell past the last column isn't drawn.
+    /// Mutable references to the rows, in order and without the header. Writing through them
+    /// changes these rows, and nothing else of the table. No columns are added for new cells: a
+    /// cell after the last column isn't drawn.
     pub fn row_iter_mut(&mut self) -> slice::IterMut<'_, Row>
         ensures* lent { sem 𝓛 (LendsRows self.entry result) }
         ensures rest { iter_mut_rest result ≡ self.old.rows }

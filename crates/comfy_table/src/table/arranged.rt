@@ -1,4 +1,4 @@
-//! A table whose widths are found, and its parts.
+//! Tables with widths for their columns, and parts of such tables.
 
 ghost use Rattle.std.specs.Prelude.{◌≡◌, ◌++◌, IfOk, IfSome, OnErr, OnOk, drop, string_bytes, take};
 ghost use Rattle.std.specs.List.{All};
@@ -18,10 +18,10 @@ use comfy_parts::content_split::ColumnDisplayInfo;
 use comfy_parts::{Column, Result, Row};
 use std::marker::Model;
 
-/// A table whose widths are found. It is drawn in parts, each some of its rows with header and
-/// borders, all at the widths of the whole table: pages of a large table, or records under each
-/// other. `Table::arranged` makes it of a table, and `ArrangedTable::of_contents` of a table whose
-/// rows are elsewhere.
+/// A table with the widths of its columns. It is drawn in parts: some of its rows, with header and
+/// borders, all at the widths of the whole table. Parts are pages of a large table, or records one
+/// below the other. `Table::arranged` makes it from a table, and `ArrangedTable::of_contents` from
+/// a table whose rows are kept elsewhere.
 ///
 /// Each line of a part is a line of the whole drawing: `laws::parts_have_lines_of_the_table`.
 ///
@@ -64,7 +64,8 @@ impl<C: TableSource> Model for ArrangedTable<C> {
 }
 
 impl Table {
-    /// The table as it is now, with the widths of its columns, to be drawn in parts.
+    /// The table as it is now, with the widths of its columns, for drawing it in parts. The only
+    /// error is `OutOfMemory`.
     pub fn arranged(&self) -> Result<ArrangedTable<&Table>>
         ensures table { IfOk result (λ arranged. arranged.contents.now ≡ self.now) }
         ensures infos { IfOk result (λ arranged. IsArrangedTable self.now
@@ -76,8 +77,9 @@ impl Table {
 }
 
 impl<C: TableSource> ArrangedTable<C> {
-    /// A table with the widths of its columns, whose rows may be elsewhere. The caller who draws it
-    /// shows that these are rows: each has texts in its cells.
+    /// A table with the widths of its columns, whose rows may be kept elsewhere. The caller's proof
+    /// has to show that its rows are rows: that all their cells have texts. The only error is
+    /// `OutOfMemory`.
     pub fn of_contents(contents: C) -> Result<ArrangedTable<C>>
         ensures contents { IfOk result (λ arranged. arranged.contents ≡ contents) }
         ensures drawing { IfOk result (λ arranged. All IsRow (C.whole contents).rows
@@ -95,14 +97,14 @@ impl<C: TableSource> ArrangedTable<C> {
         })
     }
 
-    /// The table that it was made from.
+    /// The contents that were given to `of_contents`, or the table of `Table::arranged`.
     pub fn contents(&self) -> &C
         ensures { result.now ≡ self.now.contents }
     {
         &self.contents
     }
 
-    /// What draws rows of the table one after another.
+    /// A writer that draws rows of the table one after another.
     pub fn row_writer(&self) -> Result<RowWriter<'_>>
         ensures table { IfOk result (λ writer. with_other_rows
             (C.whole self.now.contents).rows writer.table ≡ C.whole self.now.contents) }
@@ -111,15 +113,15 @@ impl<C: TableSource> ArrangedTable<C> {
         RowWriter::new(self.contents.table(), self.infos.as_slice(), &self.frame)
     }
 
-    /// What each column is drawn by, in list order, hidden columns too.
+    /// The width and settings of each column, in list order, including hidden columns.
     pub fn infos(&self) -> &[ColumnDisplayInfo]
         ensures { result.now ≡ self.now.infos }
     {
         self.infos.as_slice()
     }
 
-    // Appends the lines of some of the rows. After `OutOfMemory` the output begins with what it
-    // was.
+    // Appends the lines of some of the rows. After `OutOfMemory` the output still begins with its
+    // old content.
     pub(crate) fn draw<O: Output>(
         &self,
         rows: &[Row],
@@ -138,9 +140,9 @@ impl<C: TableSource> ArrangedTable<C> {
 }
 
 impl<'a> ArrangedTable<&'a Table> {
-    /// Appends a part: the drawing of the table with `count` of its rows alone, from the one at
-    /// position `first` on. Each line is followed by a line feed. Rows beyond the last are none, so
-    /// a part may have no row, but a header and borders. After `OutOfMemory` the text is as it was.
+    /// Appends a part of the drawing: the table with only `count` of its rows, starting at position
+    /// `first`. Each line is followed by a line feed. Rows after the last one are left out, so a
+    /// part may have only a header and borders. After `OutOfMemory` the text is unchanged.
     ///
     /// ```
     /// let mut page = String::new(alloc);
@@ -160,7 +162,7 @@ impl<'a> ArrangedTable<&'a Table> {
     }
 }
 
-// What each column of such a table is drawn by.
+// The width and settings of each column, in list order.
 fn infos_of<C: TableSource>(contents: &C) -> Result<Vec<ColumnDisplayInfo>>
     ensures drawing { IfOk result (λ infos. All IsRow (C.whole contents.now).rows
         → IsArrangedTable (C.whole contents.now)
@@ -170,13 +172,13 @@ fn infos_of<C: TableSource>(contents: &C) -> Result<Vec<ColumnDisplayInfo>>
     let table = contents.table();
     look_at_columns(table.columns.as_slice());
     look_at_header(&table.header);
-    // Read for the proof: what was looked at is known to be UTF-8.
+    // Proof only: reading the indicator shows that it is UTF-8.
     let _ = &table.indicator;
     let infos = arrange(contents)?;
     Ok(infos)
 }
 
-// The first `count` rows from a position on. Rows beyond the last are none.
+// The first `count` rows starting at position `first`. There are fewer if the rows end before.
 fn rows_from(rows: &[Row], first: usize, count: usize) -> &[Row]
     ensures { result.now ≡ take count (drop first rows.now) }
 {
@@ -184,7 +186,7 @@ fn rows_from(rows: &[Row], first: usize, count: usize) -> &[Row]
     &rest[..count.min(rest.len())]
 }
 
-// These show what each column, the header and each row keep.
+// Proof only: looking at columns, the header and rows shows their invariants.
 fn look_at_columns(columns: &[Column])
     ensures { All IsColumn columns.now }
 {

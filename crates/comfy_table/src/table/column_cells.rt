@@ -8,7 +8,7 @@ use crate::table::Table;
 use comfy_parts::{Cell, Row};
 use std::marker::Model;
 
-/// The cells of one column, one item for each row, and none where a row has no such cell.
+/// The cells of one column, one item for each row, which is `None` if the row has no such cell.
 /// `Table::column_cells_iter` and `Table::column_cells_with_header_iter` make it.
 ///
 /// ```
@@ -18,7 +18,7 @@ use std::marker::Model;
 /// ```
 #[derive(Drop)]
 pub struct ColumnCellIter<'a> {
-    // the item of the header, where one is still to come
+    // the item of the header, if it is still to come
     first: Option<Option<&'a Cell>>,
     rows: &'a [Row],
     position: usize,
@@ -36,8 +36,8 @@ impl<'a> Model for ColumnCellIter<'a> {
 }
 
 impl Table {
-    /// The cells of the column at a position, one item for each row and none where the row has no
-    /// such cell. The header's isn't among them.
+    /// The cells of the column at a position, one item for each row, which is `None` if the row has
+    /// no such cell. The header is left out.
     pub fn column_cells_iter(&self, position: usize) -> ColumnCellIter<'_>
         ensures { result ≡ cells_by_row self.now position }
     {
@@ -48,8 +48,8 @@ impl Table {
         }
     }
 
-    /// The cells of the column at a position, first that of the header and then one item for each
-    /// row; none where there is no header, or where it or the row has no such cell.
+    /// The cells of the column at a position: first an item for the header, and then one for each
+    /// row. An item is `None` if there is no header, or if the header or the row has no such cell.
     pub fn column_cells_with_header_iter(&self, position: usize) -> ColumnCellIter<'_>
         ensures { result ≡ cells_with_header self.now position }
     {
@@ -82,7 +82,7 @@ impl<'a> Iterator for ColumnCellIter<'a> {
     }
 }
 
-/// The cell of a row at a position, if it has one.
+/// The cell of a row at a position, or `None` if the row has fewer cells.
 pub(crate) fn cell_at(row: &Row, position: usize) -> Option<&Cell>
     ensures { option_copied result ≡ slice_get row.now.cells position }
 {

@@ -1,4 +1,4 @@
-//! The columns of a table: how many there are, and their constraints.
+//! The columns of a table: their number and their constraints.
 
 ghost use Rattle.std.specs.Prelude.{◌≡◌, ◌<◌, ◌≤◌, IfOk, IsOk, OnOk, OnErr, Some, length, slice_index_or, slice_set};
 ghost use Rattle.comfy_parts.specs.CellValue.{ColumnValue};
@@ -10,9 +10,9 @@ use comfy_parts::{Column, Items, Result, Row};
 use std::mem;
 
 impl Table {
-    /// Sets the constraints of the columns: the first item is that of the first column, and so on.
-    /// Items past the last column are ignored, so the columns have to be there: add the header and
-    /// the rows before. Columns past the last item keep what they have.
+    /// Sets the constraints of the columns: the first item for the first column, and so on. Items
+    /// after the last column are ignored, so add the header and the rows first. Columns after the
+    /// last item keep their constraints.
     pub fn set_constraints<I>(&mut self, constraints: I) -> &mut Self
     where
         I: Items<Item = ColumnConstraint>,
@@ -26,10 +26,10 @@ impl Table {
         self
     }
 
-    /// Appends default columns until there are as many as each row has cells. The calls that add
-    /// rows do this themselves; it serves after cells were added to a row through `row_mut` or
-    /// `row_iter_mut`. After `OutOfMemory` the table is unchanged. Where no column is missing it
-    /// takes no memory and succeeds.
+    /// Appends default columns until there are as many as the longest row has cells. The functions
+    /// that add rows do this themselves. It is needed only after cells were added to a row through
+    /// `row_mut` or `row_iter_mut`. After `OutOfMemory` the table is unchanged. If no column is
+    /// missing, it takes no memory and succeeds.
     pub fn discover_columns(&mut self) -> Result<()>
         ensures ok { OnOk result (self.new ≡ discovered self.old) }
         ensures every_cell { OnOk result (AllCellsHaveColumns (discovered self.old)) }
@@ -41,9 +41,8 @@ impl Table {
         grow_columns(&mut self.columns, count)
     }
 
-    /// The number of columns, once `discover_columns` was called, as this does first. After
-    /// `OutOfMemory` the table is unchanged. Where no column is missing it takes no memory and
-    /// succeeds.
+    /// Calls `discover_columns`, and returns the number of columns. After `OutOfMemory` the table
+    /// is unchanged. If no column is missing, it takes no memory and succeeds.
     pub fn column_count(&mut self) -> Result<usize>
         ensures value { IfOk result (λ count. count ≡ length (discovered self.old).columns) }
         ensures ok { OnOk result (self.new ≡ discovered self.old) }
@@ -56,7 +55,7 @@ impl Table {
     }
 }
 
-// Sets the constraints of these columns, as far as there are constraints and columns.
+// Sets the constraints of the first columns, until the constraints or the columns end.
 fn set_each<I>(columns: &mut [Column], constraints: I)
 where
     I: Items<Item = ColumnConstraint>,
@@ -72,8 +71,8 @@ where
     }
 }
 
-// Sets the constraint of the column at a position. The column is taken out of the list meanwhile:
-// what a list holds after a builder's call on one of its elements can't be proved.
+// Sets the constraint of the column at a position. The column is taken out of the list meanwhile,
+// because nothing can be proved of a list after a builder's call on one of its elements.
 fn set_at(columns: &mut [Column], position: usize, constraint: ColumnConstraint)
     requires { position < length columns.old }
     ensures { (d : ColumnValue)
@@ -91,7 +90,7 @@ fn with_constraint(mut column: Column, constraint: ColumnConstraint) -> Column
     column
 }
 
-// The greatest number of cells that one of these rows has.
+// The greatest number of cells in one of the rows; 0 if there are no rows.
 fn greatest_cell_count(rows: &[Row]) -> usize
     ensures { result ≡ greatest_cell_count rows.now }
 {

@@ -1,4 +1,4 @@
-//! How wide the contents of a column are.
+//! The widths of the contents of columns.
 
 ghost use Rattle.std.specs.Prelude.{◌≡◌, IfOk, length, map, max, replicate, slice_index_or, slice_set, string_bytes};
 ghost use Rattle.comfy_parts.specs.Text.{measure};
@@ -8,9 +8,9 @@ use crate::table::Table;
 use comfy_parts::for_tables::measured_lines;
 use comfy_parts::{Cell, Result, Row};
 
-/// The greatest measure, in terminal columns, of a text line of the column at a position, over
-/// header and rows. Each cell counts at least 1, a measure above 65535 counts 65535, and a column
-/// without a cell gives 0.
+/// The content of the column at a position: the greatest measure of its text lines, in terminal
+/// columns, over header and rows. Each cell counts at least 1, a greater measure than 65535 counts
+/// 65535, and a column without cells gives 0.
 pub(crate) fn column_content_width(table: &Table, position: usize) -> u16
     ensures { result ≡ column_content_width table.now position }
 {
@@ -24,8 +24,8 @@ pub(crate) fn column_content_width(table: &Table, position: usize) -> u16
 }
 
 impl Table {
-    // The text lines of a cell as widths, line ends and cuts see them, with custom styling without
-    // their sequences, and the columns that each takes.
+    // The text lines of a cell as they are measured, and the terminal columns that each takes. With
+    // custom styling, these are the text lines without their sequences.
     pub(crate) fn measured_lines<'a>(&self, cell: &'a Cell) -> (&'a [String], &'a [usize])
         ensures texts { map string_bytes result.0.now
             ≡ (measured_cell self.now cell.now).text_lines }
@@ -34,7 +34,7 @@ impl Table {
         measured_lines(cell, self.custom_styling)
     }
 
-    /// The greatest measure of a cell's text lines, in terminal columns: at least 1, and at most
+    /// The greatest measure of a cell's text lines, in terminal columns, at least 1 and at most
     /// 65535.
     pub fn cell_content_width(&self, cell: &Cell) -> u16
         ensures { result ≡ cell_content_width (measured_cell self.now cell.now) }
@@ -47,9 +47,10 @@ impl Table {
         widest.min(65535) as u16
     }
 
-    /// For each column, in list order, the greatest measure of a text line over header and rows, in
-    /// terminal columns. Each cell counts at least 1, a measure above 65535 counts 65535, and a
-    /// column without a cell gives 0. Cells past the last column are left out.
+    /// The content of each column, in list order: the greatest measure of its text lines, in
+    /// terminal columns, over header and rows. Each cell counts at least 1, a greater measure than
+    /// 65535 counts 65535, and a column without cells gives 0. Cells after the last column are
+    /// ignored. The only error is `OutOfMemory`.
     pub fn column_max_content_widths(&self) -> Result<Vec<u16>>
         ensures { IfOk result (λ widths. widths.items ≡ max_content_widths self.now) }
     {
@@ -63,7 +64,7 @@ impl Table {
         Ok(widths)
     }
 
-    // 0 for each column.
+    // A list with a 0 for each column.
     fn no_widths(&self) -> Result<Vec<u16>>
         ensures { IfOk result (λ widths. widths.items ≡ replicate (length self.now.columns) 0) }
     {
@@ -76,8 +77,8 @@ impl Table {
     }
 }
 
-// Makes columns as wide as the cells of a row. A row may have fewer cells than there are columns,
-// so a table is looked at row by row: that takes no longer than it has cells.
+// Makes columns at least as wide as the cells of a row. Rows may have fewer cells than there are
+// columns. Going through a table row by row takes time for its cells only.
 fn widen(table: &Table, row: &Row, widths: &mut Vec<u16>)
     ensures { widths.new.items ≡ widened table.now row.now.cells widths.old.items }
 {
@@ -86,7 +87,7 @@ fn widen(table: &Table, row: &Row, widths: &mut Vec<u16>)
     }
 }
 
-// Makes a column at least so wide, where it is there.
+// Makes a column at least this wide, if it exists.
 fn widen_at(widths: &mut Vec<u16>, position: usize, least: u16)
     ensures { widths.new.items ≡ slice_set widths.old.items position
         (max (slice_index_or widths.old.items position 0) least) }

@@ -12,12 +12,12 @@ use comfy_parts::Result;
 use std::marker::Model;
 use std::vec;
 
-/// The drawn lines of a table that are still to come, from the top. None holds a line feed, where
-/// neither the style nor the truncation indicator does.
+/// The drawn lines of a table that are still to come, from the top. If neither the style nor the
+/// truncation indicator has a line feed, no line has one.
 ///
-/// After `custom_styling` none leaves a sequence open, where no cell's own colours are written but
-/// beside an attribute, neither the style nor the indicator holds ESC, and each shown column has a
-/// padding at its right.
+/// After `custom_styling` no line leaves a sequence open under three conditions. A cell's own
+/// colours are written only together with an attribute. Neither the style nor the indicator has
+/// ESC. Each shown column has a padding at its right.
 ///
 /// ```
 /// let top = table.lines()?.next();
@@ -59,22 +59,22 @@ impl Iterator for Lines {
 }
 
 impl Table {
-    /// The drawn lines of the table as it is now, from the top.
+    /// The drawn lines of the table as it is now, from the top. The only error is `OutOfMemory`.
     ///
-    /// Where memory is found, these are frame lines and rows of padded pieces, in the order of the
-    /// drawing. Without colours and attributes all of them are equally many terminal columns wide,
-    /// for texts of every script, where the table is straight: `IsStraightTable` has the
-    /// conditions, which a table that is as wide as its texts meets in all presets. They have the
-    /// same number of characters, where texts and delimiters are printable ASCII and each indicator
-    /// that is written adds one column for each of its characters.
+    /// The lines are frame lines, and rows of padded pieces, in the order of the drawing. Without
+    /// colours and attributes, all lines of a straight table take the same number of terminal
+    /// columns, for texts of every script. `IsStraightTable` has the conditions; in all presets a
+    /// table that is as wide as its texts meets them. All lines have the same number of characters
+    /// if texts and delimiters are printable ASCII, and if each indicator that is written adds one
+    /// terminal column for each of its characters.
     ///
-    /// Where the table's width is known, a frame line keeps to it, whatever the texts: under
-    /// `ContentArrangement::Dynamic` it has at most so many characters, and under
-    /// `DynamicFullWidth` exactly so many, if a column is shown. Where the borders, the paddings
-    /// and one character for each shown column need more than this width, what they need stands in
-    /// its place. A column with a constraint may need more than the one character: where its width
-    /// is fixed or its lower boundary is taken, it needs that width. For printable ASCII this holds
-    /// for every line, without its styles, and for a straight table in terminal columns.
+    /// If the table's width is known, frame lines keep to it, whatever the texts are. Under
+    /// `ContentArrangement::Dynamic` a frame line has at most that many characters, and under
+    /// `DynamicFullWidth` exactly that many, if a column is shown. If the borders, the paddings and
+    /// one character for each shown column need more than this width, their sum takes its place. A
+    /// column with a fixed width, or whose lower boundary is taken, counts with that width instead
+    /// of one character. For printable ASCII this holds of every line, without its styles, and for
+    /// a straight table in terminal columns.
     ///
     /// ```
     /// let mut table = Table::new(alloc);
@@ -94,8 +94,9 @@ impl Table {
         build_table(self)
     }
 
-    /// The drawn lines, joined by line feeds. If neither the style nor the truncation indicator has
-    /// a line feed, the lines are the texts between these: `laws::lines_are_found_in_their_texts`.
+    /// The drawn lines, joined by line feeds. The only error is `OutOfMemory`. If neither the style
+    /// nor the truncation indicator has a line feed, splitting the text at line feeds gives the
+    /// lines: `laws::lines_are_found_in_their_texts`.
     ///
     /// ```
     /// let drawing = table.to_text()?;
@@ -104,25 +105,27 @@ impl Table {
         ensures { IfOk result (λ text. JoinsLines self.now (string_bytes text)) }
     {
         let mut text = self.to_terminated_text()?;
-        // the last line's line feed
+        // the line feed of the last line
         text.pop();
         Ok(text)
     }
 
-    /// The drawn lines, each without its trailing white space, joined by line feeds.
+    /// The drawn lines, each without its trailing white space, joined by line feeds. The only error
+    /// is `OutOfMemory`.
     pub fn trim_fmt(&self) -> Result<String>
         ensures { IfOk result (λ text. JoinsTrimmedLines self.now (string_bytes text)) }
     {
         let mut lines = TrimmedText::new(*self.columns.allocator());
         draw(self, &mut lines)?;
         let mut text = lines.into_text();
-        // the last line's line feed
+        // the line feed of the last line
         text.pop();
         Ok(text)
     }
 
-    /// The drawn lines, each followed by a line feed, as a program prints them. If neither the
-    /// style nor the truncation indicator has a line feed, the lines are the texts before each one.
+    /// The drawn lines, each followed by a line feed, ready to print. The only error is
+    /// `OutOfMemory`. If neither the style nor the truncation indicator has a line feed, each line
+    /// is the text before one.
     pub fn to_terminated_text(&self) -> Result<String>
         ensures { IfOk result (λ text. TerminatesLines self.now (string_bytes text)) }
     {

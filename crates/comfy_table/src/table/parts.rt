@@ -1,4 +1,4 @@
-//! A table made of its parts at once.
+//! Making a table from all its parts at once.
 
 ghost use Rattle.std.specs.Prelude.{◌≡◌};
 ghost use Rattle.comfy_table.specs.MadeTable.{table_of_parts};
@@ -8,12 +8,11 @@ use crate::table::terminal::Terminal;
 use comfy_parts::style::{ContentArrangement, TableStyle};
 use comfy_parts::{Column, Row};
 
-/// All that a table holds. Who has the columns, the rows and the settings at hand makes a table of
-/// them by `Table::from_parts`, which takes no memory.
+/// All parts of a table. `Table::from_parts` makes a table of them without taking memory.
 #[derive(Debug, Drop)]
 pub struct TableParts {
-    /// The columns. They need not be as many as the cells of a row: cells that no column knows are
-    /// left out.
+    /// The columns. Cells after the last column are left out, so there may be fewer columns than
+    /// cells in a row.
     pub columns: Vec<Column>,
     /// The header.
     pub header: Option<Row>,
@@ -21,30 +20,30 @@ pub struct TableParts {
     pub rows: Vec<Row>,
     /// The characters of the frame.
     pub style: TableStyle,
-    /// How the widths of the columns are found.
+    /// The rule by which the widths of the columns are found.
     pub arrangement: ContentArrangement,
-    /// The character at which texts may break; none where that is a space.
+    /// The character at which texts may break; `None` for a space.
     pub delimiter: Option<char>,
-    /// The text that stands after a line which a row's height cuts; none where that is `…`.
+    /// The text that follows a line that a row's height cuts; `None` for `…`.
     pub indicator: Option<String>,
-    /// The width in terminal columns.
+    /// The width in terminal columns; `None` if it isn't set.
     pub set_width: Option<u16>,
-    /// What is known of the terminal.
+    /// The facts that are known of the terminal.
     pub terminal: Terminal,
-    /// Whether the table is drawn as where the output is no terminal.
+    /// If true, the table is drawn as if the output were no terminal.
     pub no_tty: bool,
-    /// Whether standard error is the output.
+    /// If true, the output is standard error instead of standard output.
     pub use_stderr: bool,
-    /// Whether colours and attributes are written where the output is no terminal.
+    /// If true, colours and attributes are written even if the output is no terminal.
     pub enforce_styling: bool,
-    /// Whether they stand round the texts alone.
+    /// If true, colours and attributes surround only the texts, not paddings and spaces.
     pub style_text_only: bool,
-    /// Whether SGR sequences in cells count nothing.
+    /// If true, SGR sequences in cells are ignored in widths, line ends and cuts.
     pub custom_styling: bool,
 }
 
 impl Table {
-    /// The table of these parts. It takes no memory.
+    /// The table of these parts. Takes no memory.
     pub fn from_parts(parts: TableParts) -> Table
         ensures { result ≡ table_of_parts parts }
     {

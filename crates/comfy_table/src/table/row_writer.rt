@@ -1,4 +1,4 @@
-//! Rows of a table that are drawn one after another.
+//! Drawing rows of a table one after another.
 
 ghost use Rattle.std.specs.Prelude.{◌≡◌, ◌++◌, ◌∷◌, [], IfOk, OnErr, OnOk, map, string_bytes};
 ghost use Rattle.comfy_table.specs.Drawing.{outer_widths, part_of_drawing, terminated_text_of};
@@ -13,7 +13,7 @@ use comfy_parts::content_split::ColumnDisplayInfo;
 use comfy_parts::{Result, Row};
 use std::marker::Model;
 
-/// A writer of rows of a table, one after another, in the memory of those before.
+/// Draws rows of a table one after another, and reuses its memory for each next row.
 /// `ArrangedTable::row_writer` makes it.
 ///
 /// ```
@@ -47,17 +47,18 @@ impl<'a> RowWriter<'a> {
         Ok(RowWriter { writer })
     }
 
-    /// What each column is drawn by, in list order, hidden columns too.
+    /// The width and settings of each column, in list order, including hidden columns.
     pub fn infos(&self) -> &[ColumnDisplayInfo]
         ensures { result.now ≡ self.now.infos }
     {
         self.writer.infos()
     }
 
-    /// Appends the lines of some rows, each followed by a line feed. If the first row of the table
-    /// is among them, the top border and the header are above them, else the row separator. It is
-    /// also between each two of them. If the last row of the table is among them, the bottom border
-    /// is below them. After `OutOfMemory` the text is as it was.
+    /// Appends the lines of these rows, each followed by a line feed. `extent` says whether they
+    /// include the first or the last row of the table. If they include the first row, the top
+    /// border and the header are above them, and otherwise the row separator. It is also between
+    /// each two of them. If they include the last row, the bottom border is below them. After
+    /// `OutOfMemory` the text is unchanged.
     pub fn push_rows(&mut self, text: &mut String, rows: &[Row], extent: PartEnds) -> Result<()>
         ensures ok { OnOk result (string_bytes text.new
             ≡ string_bytes text.old ++ terminated_text_of
@@ -74,8 +75,9 @@ impl<'a> RowWriter<'a> {
         drawn
     }
 
-    /// Appends the lines of a row of these cells, as `push_rows` does of one row. At most `limit`
-    /// lines are drawn of it; 0 counts as 1. After `OutOfMemory` the text is as it was.
+    /// Appends the lines of a row of these cells, as `push_rows` does for one row. At most `limit`
+    /// lines of the row are drawn. A limit of 0 counts as 1. After `OutOfMemory` the text is
+    /// unchanged.
     #[inline(always)]
     pub fn push_cells(
         &mut self,
@@ -99,8 +101,9 @@ impl<'a> RowWriter<'a> {
         drawn
     }
 
-    /// How many lines a row of these cells has, of which at most `limit` are drawn; 0 counts as 1.
-    /// In a table without visible columns it has none.
+    /// The number of lines of a row of these cells, if at most `limit` are drawn. A limit of 0
+    /// counts as 1. In a table without visible columns a row has no lines. The only error is
+    /// `OutOfMemory`.
     pub fn height_of_cells(&self, cells: &[RowCell<'_>], limit: Option<usize>) -> Result<usize>
         ensures { IfOk result (λ height. height ≡ row_height self.now.table self.now.infos
             (row_with (map cell_of cells.now) limit)) }

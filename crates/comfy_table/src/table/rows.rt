@@ -1,4 +1,4 @@
-//! Several rows added at once, a table made of them, and rows added on a condition.
+//! Adding several rows at once, making a table of rows, and adding rows on a condition.
 
 ghost use Rattle.std.specs.Prelude.{◌≡◌, ◌++◌, ◌∷◌, Bool, List, None, Some, true, IfOk, OnOk, OnErr, if◌then◌else◌, length, map};
 ghost use Rattle.std.specs.Borrow.{sem};
@@ -17,7 +17,7 @@ use std::vec;
 
 impl Table {
     /// A table with this header and these rows, in the style `ASCII_FULL`. It has as many columns
-    /// as the longest of them has cells.
+    /// as the longest of them has cells. The only error is `OutOfMemory`.
     ///
     /// ```
     /// let bikes = [["17", "dock 3"], ["18", "rented"]];
@@ -38,8 +38,8 @@ impl Table {
     }
 
     /// Appends rows in their order, each as `add_row` does. Returns the table for further calls.
-    /// After `OutOfMemory` it has the rows before the refused one, which is dropped with those
-    /// after it. `try_add_rows` tells which one that was.
+    /// After `OutOfMemory` the table has the rows before the refused one. The refused row and the
+    /// rows after it are dropped. To learn which row was refused, use `try_add_rows`.
     ///
     /// ```
     /// table.add_rows([["17", "dock 3"], ["18", "rented"]])?;
@@ -58,10 +58,10 @@ impl Table {
         into_reference(self.with_rows_added(rows))
     }
 
-    /// Asks the predicate once, with the number of rows and the row. On yes it appends the row as
-    /// `add_row` does; on no it changes nothing and takes no memory, and the row is dropped.
-    /// Returns the table for further calls. After `OutOfMemory` the table is unchanged; a caller's
-    /// own proof can use that of `try_add_row_if` only.
+    /// Calls the predicate once, with the number of rows and the row. If it returns true, the row
+    /// is appended as by `add_row`. Otherwise nothing changes, no memory is taken, and the row is
+    /// dropped. Returns the table for further calls. After `OutOfMemory` the table is unchanged. A
+    /// caller's own proof can use this only if it calls `try_add_row_if` instead.
     pub fn add_row_if<P, T>(&mut self, predicate: P, row: T) -> Result<&mut Self>
     where
         P: Fn(usize, &T) -> bool + Drop,
@@ -78,9 +78,10 @@ impl Table {
         into_reference(self.with_row_added_if(predicate, row))
     }
 
-    /// Asks the predicate once, with the number of rows and the new rows. On yes it appends them as
-    /// `add_rows` does; on no it changes nothing and takes no memory, and they are dropped. Returns
-    /// the table for further calls. After `OutOfMemory` it has the rows before the refused one.
+    /// Calls the predicate once, with the number of rows and the new rows. If it returns true, they
+    /// are appended as by `add_rows`. Otherwise nothing changes, no memory is taken, and they are
+    /// dropped. Returns the table for further calls. After `OutOfMemory` the table has the rows
+    /// before the refused one.
     pub fn add_rows_if<P, I>(&mut self, predicate: P, rows: I) -> Result<&mut Self>
     where
         P: Fn(usize, &I) -> bool + Drop,
@@ -102,10 +103,10 @@ impl Table {
         into_reference(self.with_rows_added_if(predicate, rows))
     }
 
-    /// Appends the rows that are left of a `Vec`, in their order, each as `add_row` does. This is
-    /// for callers that go on with the table after `OutOfMemory`. Then it has the rows before the
-    /// refused one, with the columns that these made; that one is dropped, and those after it are
-    /// still to come.
+    /// Appends the rows that are left of a `Vec`, in their order, each as `add_row` does. Use it to
+    /// go on with the table after `OutOfMemory`. The table then has the rows before the refused
+    /// one, with the columns that these added. The refused row is dropped, and the iterator still
+    /// has the rows after it.
     ///
     /// ```
     /// let mut rows = vec![in alloc; ["17", "dock 3"], ["18", "rented"]]?.into_iter();
@@ -121,9 +122,9 @@ impl Table {
         self.push_rows(rows)
     }
 
-    /// Asks the predicate once, with the number of rows and the row, and appends the row on yes.
-    /// This is for callers that go on with the table after `OutOfMemory`, which comes on yes alone:
-    /// then the table is unchanged, and the caller's own proof can use that.
+    /// Calls the predicate once, with the number of rows and the row, and appends the row if it
+    /// returns true. Use it to go on with the table after `OutOfMemory`, which is possible only
+    /// after true. The table is then unchanged, and the caller's own proof can use that.
     pub fn try_add_row_if<P, T>(&mut self, predicate: P, row: T) -> Result<()>
     where
         P: Fn(usize, &T) -> bool + Drop,
@@ -141,7 +142,7 @@ impl Table {
         self.try_add_row(row)
     }
 
-    // Appends the rows that an iterator gives, until it ends or a row is refused.
+    // Appends the rows of an iterator, until it ends or a row is refused.
     fn push_rows<R>(&mut self, rows: &mut R) -> Result<()>
     where
         R: Iterator,
@@ -160,7 +161,7 @@ impl Table {
         Ok(())
     }
 
-    // Appends rows in their order.
+    // Appends rows in their order. After an error the table has the rows before the refused one.
     fn push_items<I>(&mut self, rows: I) -> Result<()>
     where
         I: Items,
@@ -175,7 +176,7 @@ impl Table {
         self.push_rows(&mut rows)
     }
 
-    // What a predicate returns for the number of rows and a value.
+    // The result of a predicate for the number of rows and a value.
     fn answer_of<P, T>(&self, predicate: &P, value: &T) -> bool
     where
         P: Fn(usize, &T) -> bool,
@@ -185,7 +186,7 @@ impl Table {
         predicate(self.row_count(), value)
     }
 
-    // `add_rows` with the reference in a struct: so its clause on `OutOfMemory` can be proved.
+    // `add_rows` with the reference in a struct, so that its clause on `OutOfMemory` can be proved.
     fn with_rows_added<I>(&mut self, rows: I) -> Result<TableReference<'_>>
     where
         I: Items,
@@ -202,7 +203,8 @@ impl Table {
         Ok(TableReference { table: self })
     }
 
-    // `add_row_if` with the reference in a struct: so its clause on `OutOfMemory` can be proved.
+    // `add_row_if` with the reference in a struct, so that its clause on `OutOfMemory` can be
+    // proved.
     fn with_row_added_if<P, T>(&mut self, predicate: P, row: T) -> Result<TableReference<'_>>
     where
         P: Fn(usize, &T) -> bool + Drop,
@@ -221,7 +223,8 @@ impl Table {
         Ok(TableReference { table: self })
     }
 
-    // `add_rows_if` with the reference in a struct: so its clause on `OutOfMemory` can be proved.
+    // `add_rows_if` with the reference in a struct, so that its clause on `OutOfMemory` can be
+    // proved.
     fn with_rows_added_if<P, I>(&mut self, predicate: P, rows: I) -> Result<TableReference<'_>>
     where
         P: Fn(usize, &I) -> bool + Drop,

@@ -1,4 +1,4 @@
-//! The settings of a table. Only the indicator takes memory.
+//! The settings of a table. Only the truncation indicator takes memory.
 
 ghost use Rattle.std.specs.Prelude.{◌≡◌, Some, true, IfOk, OnOk, OnErr, unwrap_or};
 ghost use Rattle.std.specs.Borrow.{sem};
@@ -24,14 +24,14 @@ impl Table {
         self
     }
 
-    /// The style.
+    /// The characters of the frame.
     pub fn style(&self) -> TableStyle
         ensures { result ≡ self.now.style }
     {
         self.style
     }
 
-    /// The style, to be changed. What is written through it changes the style, and nothing else of
+    /// A mutable reference to the style. Writing through it changes the style, and nothing else of
     /// the table.
     pub fn style_mut(&mut self) -> &mut TableStyle
         ensures* lent { sem 𝓛 (LendsStyle self.entry result) }
@@ -40,8 +40,8 @@ impl Table {
         &mut self.style
     }
 
-    /// Sets the character at which texts may break, unless their column or cell has one of its own.
-    /// Without it that is a space.
+    /// Sets the character at which texts may break, unless their column or cell has its own. In a
+    /// new table this is a space.
     pub fn set_delimiter(&mut self, delimiter: char) -> &mut Self
         ensures same_reference { result.ghost_name ≡ self.entry.ghost_name }
         ensures value { result.now ≡ record self.old { delimiter = Some delimiter } }
@@ -50,10 +50,10 @@ impl Table {
         self
     }
 
-    /// Sets the text that stands after a line which `Row::max_height` cuts; a new table has `…`. In
-    /// a column that is narrower than the text none stands there. Returns the table for further
-    /// calls. After `OutOfMemory` the table is unchanged; a caller's own proof can use that of
-    /// `try_set_truncation_indicator` only.
+    /// Sets the truncation indicator, which follows a line that `Row::max_height` cuts. A new table
+    /// has `…`. A column that is narrower than the indicator is drawn without it. Returns the table
+    /// for further calls. After `OutOfMemory` the table is unchanged. A caller's own proof can use
+    /// this only if it calls `try_set_truncation_indicator` instead.
     pub fn set_truncation_indicator(&mut self, indicator: &str) -> Result<&mut Self>
         ensures* err { sem 𝓛 (TableStaysIfErr self.entry result) }
         ensures same_reference { IfOk result (λ table. table.ghost_name ≡ self.entry.ghost_name) }
@@ -64,9 +64,9 @@ impl Table {
         into_reference(self.with_indicator_set(indicator))
     }
 
-    /// Sets the text that stands after a line which `Row::max_height` cuts, as
-    /// `set_truncation_indicator` does. This is for callers that go on with the table after
-    /// `OutOfMemory`: then it is unchanged, and the caller's own proof can use that.
+    /// Sets the truncation indicator, as `set_truncation_indicator` does. Use it to go on with the
+    /// table after `OutOfMemory`: the table is then unchanged, and the caller's own proof can use
+    /// that.
     pub fn try_set_truncation_indicator(&mut self, indicator: &str) -> Result<()>
         ensures ok { OnOk result (self.new ≡ record self.old { indicator = indicator.now }) }
         ensures err { OnErr result (self.new ≡ self.old) }
@@ -76,8 +76,8 @@ impl Table {
         Ok(())
     }
 
-    // `set_truncation_indicator` with the reference in a struct: so its clause on `OutOfMemory` can
-    // be proved.
+    // `set_truncation_indicator` with the reference in a struct, so that its clause on
+    // `OutOfMemory` can be proved.
     fn with_indicator_set<'a>(&'a mut self, indicator: &str) -> Result<TableReference<'a>>
         ensures* err { sem 𝓛 (TableStaysIfErr self.entry (reference_of result)) }
         ensures same_reference { IfOk (reference_of result)
@@ -90,7 +90,7 @@ impl Table {
     }
 
     /// Sets how the widths of the columns are found. A new table has `Disabled`. The dynamic
-    /// arrangements keep to the table's width, and are as `Disabled` where none is known.
+    /// arrangements keep to the table's width, and act as `Disabled` if this width isn't known.
     pub fn set_content_arrangement(&mut self, arrangement: ContentArrangement) -> &mut Self
         ensures same_reference { result.ghost_name ≡ self.entry.ghost_name }
         ensures value { result.now ≡ record self.old { arrangement = arrangement } }
@@ -99,7 +99,7 @@ impl Table {
         self
     }
 
-    /// How the widths of the columns are found.
+    /// The rule by which the widths of the columns are found.
     pub fn content_arrangement(&self) -> ContentArrangement
         ensures { result ≡ self.now.arrangement }
     {
@@ -107,7 +107,7 @@ impl Table {
     }
 
     /// Sets the width of the table in terminal columns. The dynamic arrangements keep to it, and
-    /// the percentages of constraints are taken of it.
+    /// percentages in constraints are of this width less the borders.
     ///
     /// ```
     /// table
@@ -122,11 +122,11 @@ impl Table {
         self
     }
 
-    /// Has SGR sequences in cells (ESC, `[`, digits, `;` and `:`, then `m`) count nothing. Widths,
-    /// line ends and cuts are then those of the table without them. Each line resumes the sequences
-    /// that are active where it begins, and ends with `ESC[0m` where one is still open. A line that
-    /// a row's height cuts has none of its text's sequences. No call turns this off, and a new
-    /// table has it off.
+    /// Ignores SGR sequences in cells (ESC, `[`, digits, `;` and `:`, then `m`) in widths, line
+    /// ends and cuts, which are then the same as without the sequences. Each line begins with the
+    /// sequences that are active at its start, and ends with `ESC[0m` if one is still open. A line
+    /// that a row's height cuts has none of its text's sequences. In a new table this is off, and
+    /// it can't be turned off again.
     ///
     /// ```
     /// let mut table = Table::new(alloc);
@@ -149,14 +149,14 @@ impl Table {
         self
     }
 
-    /// Whether SGR sequences in cells count nothing, as after `custom_styling`.
+    /// Returns true if SGR sequences in cells are ignored in widths, as after `custom_styling`.
     pub fn has_custom_styling(&self) -> bool
         ensures { result ≡ self.now.custom_styling }
     {
         self.custom_styling
     }
 
-    // What stands after a line that is cut.
+    // The text that follows a line that is cut.
     pub(crate) fn truncation_indicator(&self) -> &str
         ensures { result.now ≡ self.now.indicator }
     {
@@ -176,8 +176,8 @@ impl Table {
         }
     }
 
-    // The character at which the texts of a cell without a delimiter may break, in a column with
-    // this one.
+    // The character at which the texts of a cell without its own delimiter may break, in a column
+    // with this delimiter.
     pub(crate) fn delimiter_in(&self, column_delimiter: Option<char>) -> char
         ensures { result ≡ unwrap_or column_delimiter (unwrap_or self.now.delimiter 0x20) }
     {

@@ -1,17 +1,17 @@
-//! What is known of the terminal that a table is printed on, and what a table draws from that.
+//! Facts about the terminal that a table is printed on, and their effects on the drawing.
 
 ghost use Rattle.std.specs.Prelude.{◌≡◌, true};
 ghost use Rattle.comfy_table.specs.TableValue.{is_tty, should_style, table_width};
 
 use crate::table::Table;
 
-/// Facts about a terminal, as the caller found them. `Table::set_terminal` passes them in. With
-/// them colours and attributes are written where the output is a terminal, and nowhere else, and a
-/// table without a width of its own takes the terminal's.
+/// Facts about a terminal, as the caller found them. `Table::set_terminal` takes them. With them,
+/// colours and attributes are written only if the output is a terminal, and a table without a width
+/// of its own takes the terminal's width.
 ///
-/// A program finds them so, where the shell passes on the width in `COLUMNS`. Interactive shells
-/// keep it to themselves: a line like `alias program='COLUMNS=$COLUMNS program'` in the shell's
-/// start file passes it on.
+/// A program finds them as follows, if the shell exports the width in `COLUMNS`. Interactive shells
+/// don't export it: a line like `alias program='COLUMNS=$COLUMNS program'` in the shell's start
+/// file does.
 ///
 /// ```
 /// use std::env;
@@ -27,11 +27,11 @@ use crate::table::Table;
 /// ```
 #[derive(Copy, Clone, Debug)]
 pub struct Terminal {
-    /// Whether standard output is a terminal.
+    /// True if standard output is a terminal.
     pub stdout_is_tty: bool,
-    /// Whether standard error is a terminal.
+    /// True if standard error is a terminal.
     pub stderr_is_tty: bool,
-    /// How many terminal columns a line of it has; none where that isn't known.
+    /// The terminal columns of its lines; `None` if their number isn't known.
     pub width: Option<u16>,
 }
 
@@ -45,8 +45,8 @@ impl Terminal {
 }
 
 impl Table {
-    /// Passes in what is known of the terminal; a new table knows of none. No call asks the
-    /// terminal itself, so the caller looks up these facts, as the example at `Terminal` does.
+    /// Sets the facts about the terminal. A new table has none. No function of a table asks the
+    /// terminal itself, so the caller has to find the facts, as in the example of `Terminal`.
     pub fn set_terminal(&mut self, terminal: Terminal) -> &mut Self
         ensures same_reference { result.ghost_name ≡ self.entry.ghost_name }
         ensures value { result.now ≡ record self.old { terminal = terminal } }
@@ -55,9 +55,8 @@ impl Table {
         self
     }
 
-    /// Has the table drawn as where the output is no terminal, whatever is known of it: the
-    /// terminal's width isn't taken, and without `enforce_styling` no colours and attributes are
-    /// written.
+    /// Draws the table as if the output were no terminal, whatever the facts say. The terminal's
+    /// width isn't taken, and no colours and attributes are written without `enforce_styling`.
     pub fn force_no_tty(&mut self) -> &mut Self
         ensures same_reference { result.ghost_name ≡ self.entry.ghost_name }
         ensures value { result.now ≡ record self.old { no_tty = true } }
@@ -66,7 +65,7 @@ impl Table {
         self
     }
 
-    /// Takes standard error for the output. Without this call it is standard output.
+    /// Makes standard error the output. Without this call, standard output is.
     pub fn use_stderr(&mut self) -> &mut Self
         ensures same_reference { result.ghost_name ≡ self.entry.ghost_name }
         ensures value { result.now ≡ record self.old { use_stderr = true } }
@@ -75,8 +74,8 @@ impl Table {
         self
     }
 
-    /// Has colours and attributes written, also where the output is no terminal: a file, or the
-    /// input of another program.
+    /// Writes colours and attributes even if the output is no terminal, but a file or the input of
+    /// another program.
     pub fn enforce_styling(&mut self) -> &mut Self
         ensures same_reference { result.ghost_name ≡ self.entry.ghost_name }
         ensures value { result.now ≡ record self.old { enforce_styling = true } }
@@ -85,16 +84,16 @@ impl Table {
         self
     }
 
-    /// Has colours and attributes written round the text of a cell alone, and not round its
-    /// paddings and the spaces beside it.
+    /// Writes colours and attributes only around the texts of cells, and not around paddings and
+    /// the spaces beside the texts.
     pub fn style_text_only(&mut self)
         ensures { self.new ≡ record self.old { style_text_only = true } }
     {
         self.style_text_only = true;
     }
 
-    /// The width in terminal columns: the one that was set, else the terminal's where the output is
-    /// one; none otherwise.
+    /// The width in terminal columns: the one that was set, or else the terminal's width if the
+    /// output is a terminal. Otherwise `None`.
     pub fn width(&self) -> Option<u16>
         ensures { result ≡ table_width self.now }
     {
@@ -108,8 +107,8 @@ impl Table {
         }
     }
 
-    /// Whether the output is a terminal, by the facts that were passed in. It is looked up anew at
-    /// each call.
+    /// Returns true if the output is a terminal, according to the facts that were set. Each call
+    /// decides anew.
     pub fn is_tty(&self) -> bool
         ensures { result ≡ is_tty self.now }
     {
@@ -123,8 +122,8 @@ impl Table {
         }
     }
 
-    /// Whether colours and attributes are written: after `enforce_styling`, or where the output is
-    /// a terminal.
+    /// Returns true if colours and attributes are written: after `enforce_styling`, or if the
+    /// output is a terminal.
     pub fn should_style(&self) -> bool
         ensures { result ≡ should_style self.now }
     {

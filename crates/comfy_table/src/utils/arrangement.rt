@@ -1,4 +1,4 @@
-//! How wide each column is drawn.
+//! Finds the width of each column.
 
 ghost use Rattle.std.specs.Prelude.{◌≡◌, IfOk};
 ghost use Rattle.comfy_table.specs.AllWidths.{all_widths};
@@ -26,14 +26,15 @@ use helper::count_visible_columns;
 pub use longest::longest_line;
 use source::TableSource;
 
-/// What each column is drawn by, in list order, hidden columns too.
+/// The width and settings of each column, in list order, including hidden columns. The only error
+/// is `OutOfMemory`.
 pub fn arrange_content(table: &Table) -> Result<Vec<ColumnDisplayInfo>>
     ensures { IfOk result (λ infos. AreInfosOf table.now infos.items) }
 {
     arrange(table)
 }
 
-// What each column of a table is drawn by, whose rows may stand elsewhere.
+// The width and settings of each column of a table whose rows may be kept elsewhere.
 pub(crate) fn arrange<C: TableSource>(contents: &C) -> Result<Vec<ColumnDisplayInfo>>
     ensures { IfOk result (λ infos. AreInfosOf (C.whole contents.now) infos.items) }
 {
@@ -46,7 +47,7 @@ pub(crate) fn arrange<C: TableSource>(contents: &C) -> Result<Vec<ColumnDisplayI
     }
 }
 
-// The width that a dynamic arrangement keeps to; none under `Disabled`.
+// The width that a dynamic arrangement keeps to; `None` under `Disabled`, or if no width is known.
 fn kept_width(table: &Table) -> Option<u16>
     ensures { result ≡ width_kept table.now.arrangement (table_width table.now) }
 {
@@ -56,8 +57,8 @@ fn kept_width(table: &Table) -> Option<u16>
     }
 }
 
-// Each column with its width: the visible ones get these in list order, and 1 where there are no
-// more; a hidden column has its content's.
+// Each column with its width. The visible ones get these widths in list order, and 1 if there are
+// no more widths. A hidden column gets its content's width.
 fn infos_with<C: TableSource>(contents: &C, widths: &[u16]) -> Result<Vec<ColumnDisplayInfo>>
     ensures { IfOk result (λ infos. infos.items
         ≡ infos_of (C.whole contents.now) (all_widths (C.whole contents.now) widths.now)) }
@@ -79,7 +80,7 @@ fn infos_with<C: TableSource>(contents: &C, widths: &[u16]) -> Result<Vec<Column
     Ok(infos)
 }
 
-// Each column with the width that its content and its constraint alone give.
+// Each column with the width that follows from its content and its constraint alone.
 fn infos_by_content<C: TableSource>(contents: &C) -> Result<Vec<ColumnDisplayInfo>>
     ensures { IfOk result (λ infos. infos.items
         ≡ infos_of (C.whole contents.now) (widths_by_content (C.whole contents.now))) }
@@ -95,8 +96,8 @@ fn infos_by_content<C: TableSource>(contents: &C) -> Result<Vec<ColumnDisplayInf
     Ok(infos)
 }
 
-// The content width of the column at a position under `Disabled`: a hidden column has its
-// content's.
+// The content width of the column at a position under `Disabled`. A hidden column gets its
+// content's width.
 fn width_by_content<C: TableSource>(
     contents: &C,
     position: usize,

@@ -1,4 +1,4 @@
-//! How the contents of cells become lines of text.
+//! Turns the contents of cells into lines of text.
 
 pub mod borders;
 mod cell_lines;
@@ -20,7 +20,7 @@ pub(crate) use drawing::{PartEnds, Writer};
 pub(crate) use frame_lines::FrameLines;
 pub(crate) use output::{Output, TrimmedText};
 
-/// How texts are measured, cut and wrapped.
+/// Measuring, cutting and wrapping texts.
 pub mod content_split {
     pub use comfy_parts::content_split::{
         ColumnDisplayInfo, adds_one_column, characters_fit, measure_text_width, split_line,

@@ -1,5 +1,5 @@
-//! A cursor that passes the text lines of a cell once, and knows the SGR sequences that are open
-//! where it is.
+//! A cursor that passes once over the text lines of a cell, and knows the sequences that are open
+//! at its position.
 
 ghost use Rattle.std.specs.Prelude.{◌≡◌, ◌<◌, ◌++◌, [], true, false, map, take, drop, IfOk, IsUtf8, OnOk, string_bytes};
 ghost use Rattle.std.specs.List.{concat};
@@ -13,7 +13,7 @@ use crate::error::Result;
 use std::alloc::Global;
 use std::marker::Model;
 
-/// Where one is in a text line of a cell, and the sequences that are open there.
+/// A position in a text line of a cell, and the sequences that are open there.
 #[derive(Drop)]
 pub(crate) struct Cursor<'a> {
     rest: &'a str,
@@ -36,7 +36,7 @@ impl<'a> Model for Cursor<'a> {
 }
 
 impl<'a> Cursor<'a> {
-    /// Before a cell.
+    /// A cursor before the first text line of a cell.
     pub(crate) fn new(alloc: Global) -> Cursor<'a>
         ensures { result ≡ record { sequences = []; ahead = [] } }
     {
@@ -46,8 +46,8 @@ impl<'a> Cursor<'a> {
         }
     }
 
-    /// Goes on to the front of the next text line. The sequences stay open that are so at this
-    /// one's end.
+    /// Moves to the front of the next text line. Sequences that are open at the end of the text
+    /// line before it stay open.
     pub(crate) fn begin(&mut self, text: &'a str) -> Result<()>
         ensures { OnOk result (self.new ≡ record {
           sequences = open_at_end self.old;
@@ -74,7 +74,8 @@ impl<'a> Cursor<'a> {
         Ok(())
     }
 
-    /// The text that is written for a line of this many visible bytes, which are passed.
+    /// Returns the text that is written for a line of `bytes` visible bytes, and passes these
+    /// bytes. A line of no bytes has an empty text.
     pub(crate) fn take_line(&mut self, bytes: usize) -> Result<String>
         requires { IsUtf8 (take bytes (visible_ahead self.old)) }
         ensures written { IfOk result
@@ -95,7 +96,7 @@ impl<'a> Cursor<'a> {
         Ok(line)
     }
 
-    // The sequences that are open, one after another.
+    // The open sequences, joined.
     fn resumed(&self) -> Result<String>
         ensures { IfOk result (λ text. string_bytes text ≡ concat self.now.sequences) }
     {
@@ -103,8 +104,8 @@ impl<'a> Cursor<'a> {
         Ok(sequences.concat(*self.sequences.allocator())?)
     }
 
-    // Passes this many visible bytes and the sequences before each of them, and gives the text that
-    // it passed.
+    // Passes `bytes` visible bytes and the sequences before each of them, and returns the text that
+    // was passed.
     fn take_visible(&mut self, bytes: usize) -> Result<&'a str>
         requires { IsUtf8 (take bytes (visible_ahead self.old)) }
         ensures taken { IfOk result (λ taken. taken.now ≡ bytes_up_to bytes self.old) }
@@ -118,8 +119,8 @@ impl<'a> Cursor<'a> {
         Ok(taken)
     }
 
-    // Passes this many visible bytes and the sequences before each of them, or all of a text that
-    // has fewer.
+    // Passes `bytes` visible bytes and the sequences before each of them, or the whole rest of the
+    // text line if it has fewer.
     fn pass_visible(&mut self, bytes: usize) -> Result<()>
         requires { IsUtf8 (take bytes (visible_ahead self.old)) }
         ensures passed { OnOk result (self.new ≡ behind_bytes bytes self.old) }
@@ -141,7 +142,7 @@ impl<'a> Cursor<'a> {
         Ok(())
     }
 
-    // Passes the sequences that come next.
+    // Passes the sequences at the position of the cursor.
     fn pass_sequences(&mut self) -> Result<()>
         ensures { OnOk result (self.new ≡ at_byte 0 self.old) }
     {
@@ -149,7 +150,7 @@ impl<'a> Cursor<'a> {
         Ok(())
     }
 
-    // Passes the sequence that comes next, and says whether there was one.
+    // Passes a sequence at the position of the cursor. Returns true if there is one.
     fn pass_sequence(&mut self) -> Result<bool>
         ensures passed { IfOk result (λ passed. passed ≡ begins_with_sequence self.old.ahead) }
         ensures after { OnOk result (self.new ≡ past_sequence self.old) }
@@ -162,7 +163,7 @@ impl<'a> Cursor<'a> {
         Ok(true)
     }
 
-    // Adds a sequence to those that are open. A reset closes them.
+    // Adds a sequence to the open ones, or closes all if it is a reset.
     fn add(&mut self, sequence: &'a str) -> Result<()>
         ensures { OnOk result (self.new ≡ record self.old {
           sequences = opened_by self.old.sequences (sequence_part sequence.now);
@@ -176,7 +177,7 @@ impl<'a> Cursor<'a> {
         Ok(())
     }
 
-    // Passes the delimiter, where it comes next.
+    // Passes a delimiter at the position of the cursor. Returns true if there is one.
     fn pass_delimiter(&mut self, delimiter: char) -> bool
         requires { begins_with_sequence self.old.ahead ≡ false }
         ensures passed { result ≡ true → self.old ≡ record self.new {

@@ -1,4 +1,4 @@
-//! The texts that are written for the lines of a cell whose text holds SGR sequences.
+//! The texts that are written for the lines of a cell whose text has sequences.
 
 ghost use Rattle.std.specs.Prelude.{◌≡◌, ◌++◌, [], length, map, true, OnOk, string_bytes};
 ghost use Rattle.comfy_parts.specs.Cursor.{open_at_end, visible_ahead};
@@ -12,9 +12,9 @@ use crate::content_split::sequences::cursor::Cursor;
 use crate::content_split::sequences::{RESET, TextPart, TextParts};
 use crate::error::Result;
 
-/// Appends the texts that are written for the lines of the text line that the cursor is before.
-/// Each resumes the sequences that are open where it begins, and ends with a reset where one is
-/// open then.
+/// Appends the texts that are written for the lines of the text line at the front of which the
+/// cursor is. Each text begins with the sequences that are open at the start of its line, and ends
+/// with a reset if a sequence is then open.
 pub(crate) fn push_lines(
     lines: &mut Vec<String>,
     cursor: &mut Cursor<'_>,
@@ -37,7 +37,7 @@ pub(crate) fn push_lines(
     push_wrapped(lines, cursor, visible, info, delimiter)
 }
 
-// Appends those of a text line that is wrapped.
+// Appends the texts of the lines of a text line that is wrapped.
 fn push_wrapped(
     lines: &mut Vec<String>,
     cursor: &mut Cursor<'_>,
@@ -58,9 +58,9 @@ fn push_wrapped(
     Ok(())
 }
 
-/// Whether a text that is a cell's only line is written as it is: each reset in it follows visible
-/// text and closes a sequence, and none is open at its end. Other texts may be written as they are
-/// too.
+/// Returns true only if a text, as the only line of its cell, is written unchanged. Each reset in
+/// such a text follows visible text and closes a sequence, and no sequence is open at its end.
+/// After false it may be unchanged too.
 pub(crate) fn needs_no_rewrite(text: &str) -> bool
     ensures { result ≡ true → line_text [] text.now 0 (length (visible_text text.now)) ≡ text.now }
 {

@@ -9,7 +9,7 @@ use Rattle.comfy_parts.specs.Text.{Text}
 use Rattle.comfy_run.specs.Arguments.{is_short_number, number_for}
 use Rattle.comfy_run.proofs.arguments.number_of.Goals as goal
 
--- of digits, `parse` gives the number where it is at most 65535
+-- for at most five digits, `parse` returns their number if that is at most 65535
 parsed : (argument : Text) {E : Type 0} (r : Result ℕ E) → ParsesUnsigned 16 10 argument r → length argument ≤ 5 → list_all is_ascii_digit argument ≡ true → result_ok r ≡ number_for argument
 parsed argument {E} (Ok n) h short all =
     let e = parse_digits digits {E = E} 16 argument (Ok n) h all in

@@ -5,7 +5,7 @@ use Rattle.std.specs.List.{range_with_len}
 use Rattle.comfy_parts.specs.CellValue.{new_column}
 use Rattle.comfy_table.proofs.table.grow_columns.Goals as goal
 
--- one column more, at the next position
+-- one more column, at the next position
 next : (h i : ℕ) → h ≤ i → map new_column (range_with_len h (i + 1 - h)) ≡ map new_column (range_with_len h (i - h)) ++ new_column i ∷ []
 next h i le =
     let one : i + 1 - h ≡ i - h + 1 = omega arith in

@@ -1,4 +1,4 @@
-//! The widths and boundaries of constraints, as numbers of terminal columns.
+//! The widths and boundaries of constraints, in terminal columns.
 
 ghost use Rattle.std.specs.Prelude.{◌≡◌};
 ghost use Rattle.comfy_table.specs.Widths.{lower_boundary, resolved_width, upper_boundary};
@@ -7,8 +7,8 @@ use crate::table::Table;
 use crate::utils::arrangement::helper::count_border_columns;
 use comfy_parts::style::{ColumnConstraint, Width};
 
-/// The lower boundary of a constraint on a column's whole width, in terminal columns. None for a
-/// constraint without one, and for a percentage where the table's width isn't known.
+/// The lower boundary that a constraint sets for a column's whole width, in terminal columns.
+/// `None` if the constraint has none, or if it is a percentage and the table's width isn't known.
 pub fn min(
     table: &Table,
     constraint: &Option<ColumnConstraint>,
@@ -25,8 +25,8 @@ pub fn min(
     }
 }
 
-/// The upper boundary of a constraint on a column's whole width, in terminal columns. None for a
-/// constraint without one, and for a percentage where the table's width isn't known.
+/// The upper boundary that a constraint sets for a column's whole width, in terminal columns.
+/// `None` if the constraint has none, or if it is a percentage and the table's width isn't known.
 pub fn max(
     table: &Table,
     constraint: &Option<ColumnConstraint>,
@@ -43,8 +43,8 @@ pub fn max(
     }
 }
 
-/// A width in terminal columns. A fixed one is itself. A percentage, at most 100, is of the table's
-/// width less its borders, rounded down, and is none where that width isn't known.
+/// The terminal columns of a width. A percentage, at most 100, is of the table's width less its
+/// borders, rounded down; it is `None` if the table's width isn't known.
 pub fn absolute_value_from_width(table: &Table, width: &Width, shown_columns: usize) -> Option<u16>
     ensures { result ≡ resolved_width table.now shown_columns width.now }
 {

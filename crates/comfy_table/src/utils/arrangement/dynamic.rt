@@ -1,10 +1,10 @@
-//! Widths under `Dynamic` and `DynamicFullWidth`, where the table's width is known.
+//! Widths under `Dynamic` and `DynamicFullWidth`, if the table's width is known.
 //!
-//! Each step decides some of the columns that are still undecided, and takes their widths from the
-//! room that is left. The average is that room over the number of undecided columns. First come the
-//! columns with a fixed width, then lower boundaries above the average, then upper boundaries and
-//! contents that fit, then columns whose lines need less than the average. The others share what is
-//! left.
+//! Each step decides some of the columns that are still undecided, and subtracts their widths from
+//! the room that is left. The average is this room divided by the number of undecided columns. The
+//! first step takes the columns with a fixed width. The next ones take lower boundaries above the
+//! average, then upper boundaries and contents that fit, then columns whose lines need less than
+//! the average. The remaining columns share the remaining room.
 
 ghost use Rattle.std.specs.Prelude.{◌≡◌, IfOk};
 ghost use Rattle.comfy_table.specs.Arrangement.{is_full_width, room_beside_borders};
@@ -54,7 +54,7 @@ pub fn dynamic_widths<C: TableSource>(contents: &C, width: u16) -> Result<Vec<u1
     final_widths(&budget, fills_width(table), *table.columns.allocator())
 }
 
-// Whether what is left over is spread over all columns.
+// Returns true if room that is left over is spread over all columns.
 fn fills_width(table: &Table) -> bool
     ensures { result ≡ is_full_width table.now.arrangement }
 {

@@ -1,4 +1,4 @@
-//! Widths that need no look at the other columns.
+//! Widths that don't depend on the other columns.
 
 ghost use Rattle.std.specs.Prelude.{◌≡◌};
 ghost use Rattle.comfy_parts.specs.CellValue.{column_padding};
@@ -10,8 +10,9 @@ use crate::utils::arrangement::helper::absolute_width_with_padding;
 use comfy_parts::Column;
 use comfy_parts::style::ColumnConstraint;
 
-// The content width that a column has by its constraint alone: its content's, its absolute width's,
-// or that of a lower boundary which the content with its paddings doesn't pass.
+// The content width that follows from a column's constraint alone: the width of its content, its
+// absolute width, or its lower boundary if the content with its paddings isn't wider. `None` if the
+// constraint doesn't decide the width.
 pub fn fixed_width(
     table: &Table,
     column: &Column,

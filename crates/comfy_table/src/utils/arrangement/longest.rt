@@ -1,4 +1,4 @@
-//! How wide the lines of a column are, once its cells are wrapped.
+//! Widths of the lines of a column after its cells are wrapped.
 
 ghost use Rattle.std.specs.Prelude.{◌≡◌, ◌≤◌, IfOk, IsOk, map};
 ghost use Rattle.comfy_parts.specs.Text.{greatest, measure};
@@ -13,9 +13,9 @@ use crate::utils::formatting::row_cell::{LinesCell, RowCell, TextCell};
 use comfy_parts::content_split::{ColumnDisplayInfo, measure_text_width, wrapped_lines};
 use comfy_parts::{Cell, Result};
 
-/// The terminal columns that the widest line of a table's column takes, over header and rows, where
-/// each cell is wrapped at this content width. Greatest heights of rows cut nothing off. A width of
-/// 0 counts as 1, and a position without a column gives 0. It takes no memory and always succeeds.
+/// The terminal columns of the widest line of a table's column, over header and rows, if each cell
+/// is wrapped at this content width. Greatest heights of rows aren't applied. A width of 0 counts
+/// as 1, and a position without a column gives 0. It takes no memory and always succeeds.
 pub fn longest_line(table: &Table, position: usize, content_width: u16) -> Result<usize>
     ensures value { IfOk result (λ columns. columns
         ≡ longest_line_at table.now position content_width) }
@@ -30,9 +30,9 @@ pub fn longest_line(table: &Table, position: usize, content_width: u16) -> Resul
     }
 }
 
-/// The longest line of all cells at a position, in a column with this delimiter and content width.
-/// The cells are looked at until one passes the limit; a result above it may be less than the
-/// longest line.
+/// The width of the widest line of all cells at a position, in terminal columns, if they are
+/// wrapped in a column with this delimiter and content width. Stops at the first cell that passes
+/// the limit, so a result above the limit may be too small.
 pub fn column_longest_line(
     table: &Table,
     position: usize,
@@ -57,8 +57,8 @@ pub fn column_longest_line(
 }
 
 impl Table {
-    /// The longest line of a cell, in terminal columns, where it is wrapped in a column of this
-    /// content width.
+    /// The width of a cell's widest line, in terminal columns, if the cell is wrapped in a column
+    /// of this content width.
     pub fn cell_longest_line(&self, cell: &Cell, info: &ColumnDisplayInfo) -> usize
         ensures { result ≡ cell_longest_line self.now info.now (measured_cell self.now cell.now) }
     {
@@ -74,8 +74,9 @@ impl Table {
 }
 
 impl<'a> RowCell<'a> {
-    /// The longest line of the cell, in terminal columns, if it is wrapped in a column of this
-    /// content width. Only a text with spaces after it that doesn't fit takes memory for this.
+    /// The width of the cell's widest line, in terminal columns, if the cell is wrapped in a column
+    /// of this content width. It takes memory only for a text with spaces after it that doesn't
+    /// fit.
     pub fn longest_line(&self, table: &Table, info: &ColumnDisplayInfo) -> Result<usize>
         ensures { IfOk result (λ longest. longest ≡ cell_longest_line table.now info.now
             (measured_cell table.now (cell_of self.now))) }
@@ -88,7 +89,7 @@ impl<'a> RowCell<'a> {
     }
 }
 
-// The longest line of the cell of a text.
+// The width of the widest line of a text's cell, in terminal columns.
 fn cell_text_longest_line(
     cell: &TextCell<'_>,
     table: &Table,
@@ -111,7 +112,7 @@ fn cell_text_longest_line(
     Ok(text_longest_line(spaced.as_str(), columns, info, delimiter))
 }
 
-// The longest line of the cell of a text of several lines.
+// The width of the widest line of the cell of a text of several lines, in terminal columns.
 fn cell_lines_longest_line(cell: &LinesCell<'_>, table: &Table, info: &ColumnDisplayInfo) -> usize
     ensures { result ≡ cell_longest_line table.now info.now (measured_cell table.now cell.now) }
 {
@@ -124,7 +125,7 @@ fn cell_lines_longest_line(cell: &LinesCell<'_>, table: &Table, info: &ColumnDis
     longest
 }
 
-// The longest line of a text line that takes so many columns.
+// The width of the widest wrapped line of a text line that measures `columns`.
 fn text_longest_line(text: &str, columns: usize, info: &ColumnDisplayInfo, delimiter: char) -> usize
     requires { columns ≡ measure text.now }
     ensures { result ≡ text_longest_line info.now.content_width delimiter text.now }

@@ -1,4 +1,4 @@
-//! What the widths of columns are found from.
+//! The measures that the widths of columns depend on.
 
 ghost use Rattle.std.specs.Prelude.{◌≡◌, ◌≤◌, IfOk};
 ghost use Rattle.comfy_table.specs.Lines.{longest_line};
@@ -10,24 +10,24 @@ use crate::utils::arrangement::longest::column_longest_line;
 use comfy_parts::Result;
 use comfy_parts::content_split::ColumnDisplayInfo;
 
-/// A table whose rows may be elsewhere, as its widths see it.
+/// A table whose rows may be kept elsewhere, with the measures that its widths depend on.
 pub trait TableSource: Drop {
     /// The table with all of its rows.
     ghost whole: { Self → TableValue };
 
-    /// The table, whatever rows it has itself.
+    /// The table's settings, columns and header. Its own rows are ignored.
     fn table(&self) -> &Table
         ensures { with_other_rows (whole self.now).rows result.now ≡ whole self.now };
 
-    /// The greatest measure, in terminal columns, of a text line of the column at a position, over
-    /// header and rows. Each cell counts at least 1, a measure above 65535 counts 65535, and a
-    /// column without a cell gives 0.
+    /// The content of the column at a position: the greatest measure of its text lines, in terminal
+    /// columns, over header and rows. Each cell counts at least 1, a greater measure than 65535
+    /// counts 65535, and a column without cells gives 0.
     fn content_width(&self, position: usize) -> Result<u16>
         ensures { IfOk result (λ width. width ≡ column_content_width (whole self.now) position) };
 
-    /// The longest line of all cells at a position, in terminal columns, each wrapped in a column
-    /// with this delimiter and content width. Where it is above the limit, the result is above the
-    /// limit too, and may be less.
+    /// The width of the widest line of all cells at a position, in terminal columns, each wrapped
+    /// in a column with this delimiter and content width. If the true width is above the limit, the
+    /// result is above the limit too, but may be smaller.
     fn longest_line(&self, position: usize, info: &ColumnDisplayInfo, limit: usize) -> Result<usize>
         ensures at_most { IfOk result (λ longest. longest
             ≤ longest_line (whole self.now) position info.now.delimiter info.now.content_width) }
@@ -57,7 +57,7 @@ impl TableSource for Table {
     }
 }
 
-/// Contents that are elsewhere.
+/// A reference to a table source is one too.
 impl<C: TableSource> TableSource for &C {
     ghost whole = { λ contents. C.whole contents.now };
 

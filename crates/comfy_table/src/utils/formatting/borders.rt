@@ -10,28 +10,31 @@ use crate::utils::formatting::shown_column::ShownColumn;
 use comfy_parts::Result;
 use comfy_parts::style::LineStyle;
 
-/// Whether lines begin with a border: any of the six lines of the style has a left character.
+/// Returns true if lines begin with a border: if any of the six lines of the style has a left
+/// character.
 pub fn should_draw_left_border(table: &Table) -> bool
     ensures { result ≡ draws_left_border table.now.style }
 {
     table.style.draws_left_border()
 }
 
-/// Whether lines end with a border: any of the six lines of the style has a right character.
+/// Returns true if lines end with a border: if any of the six lines of the style has a right
+/// character.
 pub fn should_draw_right_border(table: &Table) -> bool
     ensures { result ≡ draws_right_border table.now.style }
 {
     table.style.draws_right_border()
 }
 
-/// Whether lines stand between the columns: any of the six lines of the style has a junction.
+/// Returns true if vertical lines are drawn between the columns: if any of the six lines of the
+/// style has a junction.
 pub fn should_draw_vertical_lines(table: &Table) -> bool
     ensures { result ≡ draws_vertical_lines table.now.style }
 {
     table.style.draws_vertical_lines()
 }
 
-/// A line of the frame over these columns, where it is drawn: any of its four parts is set.
+/// A frame line over these columns, if it is drawn: if any of its four parts is set.
 pub(crate) fn optional_frame_line(
     table: &Table,
     line: &LineStyle,
@@ -50,7 +53,7 @@ pub(crate) fn optional_frame_line(
     Ok(Some(text))
 }
 
-/// Appends a line of the frame, drawn whatever parts are set.
+/// Appends a frame line, even if none of its parts is set.
 pub(crate) fn push_frame_line(
     text: &mut String,
     table: &Table,
@@ -70,21 +73,22 @@ pub(crate) fn push_frame_line(
     push_border(text, table.style.draws_right_border(), line.right)
 }
 
-/// Whether a line of the frame is drawn.
+/// Returns true if a frame line is drawn: if any of its four parts is set.
 pub(crate) fn is_drawn(line: &LineStyle) -> bool
     ensures { result ≡ is_drawn line.now }
 {
     line.left.is_some() || line.fill.is_some() || line.junction.is_some() || line.right.is_some()
 }
 
-// A junction stands before each column but the first.
+// Returns true if there is a junction before the column at a position: if vertical lines are drawn,
+// before each column but the first.
 fn needs_junction(vertical: bool, position: usize) -> bool
     ensures { result ≡ (vertical && nat_lt 0 position) }
 {
     vertical && position > 0
 }
 
-/// Appends a character of the style, a space for a missing one, where it is drawn.
+/// Appends a character of the style if it is drawn, and a space for a missing one.
 pub(crate) fn push_border(text: &mut String, drawn: bool, part: Option<char>) -> Result<()>
     ensures { OnOk result (string_bytes text.new
         ≡ string_bytes text.old ++ (if drawn then character part else [])) }
@@ -95,7 +99,7 @@ pub(crate) fn push_border(text: &mut String, drawn: bool, part: Option<char>) ->
     Ok(())
 }
 
-// Appends a character that many times.
+// Appends a character `count` times.
 fn push_repeated(text: &mut String, fill: char, count: usize) -> Result<()>
     ensures { OnOk result (string_bytes text.new
         ≡ string_bytes text.old ++ repeat count (encode_utf8 fill)) }
@@ -106,8 +110,8 @@ fn push_repeated(text: &mut String, fill: char, count: usize) -> Result<()>
     Ok(())
 }
 
-/// The bytes of a line over these columns, whose borders take at most as many as this character in
-/// each column.
+/// The bytes to reserve for a line over these columns. A frame line needs no more, if none of its
+/// borders has more bytes than `fill`.
 pub(crate) fn room_for(columns: &[ShownColumn], fill: char) -> usize {
     let mut room = columns.len().saturating_add(1);
     for column in columns {

@@ -1,5 +1,5 @@
-//! The lines of a cell in its row: its text lines wrapped at the column's width, and cut to the
-//! row's height.
+//! The lines of a cell in its row: its text lines, wrapped at the column's width and cut to the
+//! row's greatest height.
 
 ghost use Rattle.std.specs.Prelude.{◌≡◌, ◌≤◌, ◌++◌, ◌∷◌, ◌&&◌, [], false, IfOk, IfSome, OnOk, length, map, option_map, slice_get, string_bytes};
 ghost use Rattle.std.specs.List.{list_any};
@@ -27,7 +27,7 @@ use std::alloc::Global;
 use std::borrow::CowStr;
 use std::marker::Model;
 
-// How many lines a new list has room for.
+// The capacity of a new list of lines.
 const MOST_LINES: usize = 8;
 
 /// A line of a cell: its terminal columns, and the text that is written.
@@ -35,7 +35,7 @@ const MOST_LINES: usize = 8;
 pub struct Line<'a> {
     columns: usize,
     text: CowStr<'a>,
-    // the indicator after the head of a line that is cut, or nothing
+    // the indicator, if the line is cut and `text` is its head, or nothing
     end: &'a str,
 }
 
@@ -53,7 +53,7 @@ impl<'a> Model for Line<'a> {
 }
 
 impl<'a> Line<'a> {
-    /// A line that is written as it is in the text of its cell.
+    /// A line that is a slice of its cell's text.
     fn of_text(columns: usize, text: &'a str) -> Line<'a>
         ensures { result ≡ record { columns = columns; written = text.now } }
     {
@@ -64,7 +64,7 @@ impl<'a> Line<'a> {
         }
     }
 
-    /// Its terminal columns, and the two parts of the text that is written for it.
+    /// The terminal columns of the line, and the two parts of the text that is written for it.
     #[inline(always)]
     pub fn parts(&self) -> (usize, &str, &str)
         ensures { record {
@@ -75,7 +75,7 @@ impl<'a> Line<'a> {
         (self.columns, self.text.as_str(), self.end)
     }
 
-    // The same line, with a text of its own.
+    // A copy of the line, with a text of its own.
     fn copied<'b>(&self, alloc: Global) -> Result<Line<'b>>
         ensures { IfOk result (λ line. line ≡ self.now) }
     {
@@ -103,7 +103,7 @@ pub enum CellLines<'a> {
 }
 
 impl<'a> CellLines<'a> {
-    /// How many lines there are.
+    /// The number of lines.
     pub fn len(&self) -> usize
         ensures { result ≡ length (lines_of self.now) }
     {
@@ -113,7 +113,7 @@ impl<'a> CellLines<'a> {
         }
     }
 
-    /// A line by its position, counted from 0.
+    /// The line at a position, counted from 0.
     #[inline(always)]
     pub fn get(&self, position: usize) -> Option<&Line<'a>>
         ensures { option_map (λ line. line.now) result
@@ -126,8 +126,8 @@ impl<'a> CellLines<'a> {
     }
 }
 
-/// The lines of a cell in a row of at most `limit` lines. One text line that fits and is written as
-/// it is needs no list. Others are in one of the spare lists, if there is one.
+/// The lines of a cell in a row of at most `limit` lines. A text line that is the only one, fits,
+/// and is written as it is needs no list. Other lines take one of the spare lists, if there is one.
 pub fn row_cell_lines<'a>(
     table: &'a Table,
     limit: Option<usize>,
@@ -150,8 +150,7 @@ pub fn row_cell_lines<'a>(
     Ok(CellLines::Multiple(lines))
 }
 
-// A list without lines, in the memory of a spare one, or else with room for the lines of most
-// cells.
+// An empty list: a spare one, or else a new one with room for the lines of most cells.
 fn empty_list<'a>(spare: &mut Vec<Vec<Line<'a>>>) -> Result<Vec<Line<'a>>>
     ensures { IfOk result (λ list. list.items ≡ []) }
 {
@@ -162,8 +161,8 @@ fn empty_list<'a>(spare: &mut Vec<Vec<Line<'a>>>) -> Result<Vec<Line<'a>>>
     Ok(list)
 }
 
-/// The columns and the two parts of the text of a cell's one line, if it fits and is written as it
-/// is.
+/// The columns and the two parts of the text of a cell's only line, if it fits and is written as it
+/// is. Otherwise `None`.
 #[inline(always)]
 pub fn only_line<'a>(
     table: &Table,
@@ -186,8 +185,8 @@ pub fn only_line<'a>(
     }
 }
 
-// The columns of a text that fits, the text, and the spaces after it. More spaces than are copied
-// at once are none of them.
+// The columns of a text that fits, the text, and the spaces after it. `None` if it doesn't fit, or
+// if there are more spaces than are copied at once.
 #[inline(always)]
 fn fitting_text<'a>(
     cell: &TextCell<'a>,
@@ -207,7 +206,8 @@ fn fitting_text<'a>(
     Some((cell.columns(), text, end))
 }
 
-// The columns and the text of a cell's one text line, if it fits and is written as it is.
+// The columns and the text of a cell's only text line, if it fits and is written as it is.
+// Otherwise `None`.
 #[inline(always)]
 fn fitting_line<'a>(
     table: &Table,
@@ -232,14 +232,14 @@ fn fitting_line<'a>(
     Some((widths[0], text))
 }
 
-// Whether what is written for the lines of the cell may differ from what is measured of them.
+// Returns true if the written lines of the cell may differ from its measured lines.
 fn is_custom_styled(table: &Table, cell: &Cell) -> bool
     ensures { result ≡ (table.now.custom_styling && list_any has_escape cell.now.text_lines) }
 {
     table.custom_styling && has_escape(cell)
 }
 
-// The lines of a cell in its row, in an empty list. Most cells need none.
+// The lines of a cell in its row, in the given empty list. Most cells don't need this.
 #[inline(always)]
 fn listed_lines<'a>(
     table: &'a Table,
@@ -265,8 +265,8 @@ fn listed_lines<'a>(
     Ok(lines)
 }
 
-// The lines of a cell in a column as they are measured, in an empty list: each text line as it is
-// if it fits, else wrapped.
+// The lines of a cell in a column as they are measured, in the given empty list. Text lines that
+// fit are kept, and others are wrapped.
 fn measured_lines<'a>(
     table: &Table,
     cell: CellSource<'a>,
@@ -286,7 +286,7 @@ fn measured_lines<'a>(
     }
 }
 
-// The lines of a text in a column, in an empty list.
+// The lines of a text in a column, in the given empty list.
 fn text_lines<'a>(
     table: &Table,
     cell: &TextCell<'a>,
@@ -331,7 +331,7 @@ fn push_spaced<'a>(
     Ok(())
 }
 
-// The lines of a text of several lines in a column, in an empty list.
+// The lines of a text of several lines in a column, in the given empty list.
 fn several_lines<'a>(
     table: &Table,
     cell: &LinesCell<'a>,
@@ -351,7 +351,7 @@ fn several_lines<'a>(
     Ok(lines)
 }
 
-// The lines of a cell that is made, in an empty list.
+// The lines of a `Cell` in a column, in the given empty list.
 fn cell_lines<'a>(
     table: &Table,
     cell: &'a Cell,
@@ -372,7 +372,7 @@ fn cell_lines<'a>(
     Ok(lines)
 }
 
-// Appends the lines of a text line of so many columns.
+// Appends the lines of a text line that takes `columns` terminal columns.
 #[inline(always)]
 fn push_lines<'a>(
     lines: &mut Vec<Line<'a>>,
@@ -411,7 +411,7 @@ fn push_wrapped<'a>(
     Ok(())
 }
 
-// Lines of a cell as they are measured, with what is written for each.
+// The lines of a cell as they are written, made from its measured lines.
 #[inline(always)]
 fn uncut_lines<'a>(
     table: &Table,
@@ -429,12 +429,13 @@ fn uncut_lines<'a>(
 {
     match cell {
         CellSource::Line(cell) => {
-            // its clause says that there is no ESC, so each line is written as it is measured
+            // Proof only: its clause says that there is no ESC, so each line is written as it is
+            // measured.
             let _ = cell.line();
             Ok(measured)
         }
         CellSource::Lines(cell) => {
-            // so does that of a text of several lines
+            // Proof only: as above, for a text of several lines.
             let _ = cell.text();
             Ok(measured)
         }
@@ -442,7 +443,7 @@ fn uncut_lines<'a>(
     }
 }
 
-// Lines of a cell that is made as they are measured, with what is written for each.
+// The lines of a `Cell` as they are written, made from its measured lines.
 #[inline(always)]
 fn written_cell_lines<'a>(
     table: &Table,
@@ -464,7 +465,7 @@ fn written_cell_lines<'a>(
     Ok(with_texts(measured, texts))
 }
 
-// Lines of which the first get texts of their own.
+// The lines, with these texts in place of the texts of the first ones.
 fn with_texts<'a>(mut lines: Vec<Line<'a>>, texts: Vec<String>) -> Vec<Line<'a>>
     ensures { result.items ≡ with_texts lines.entry.items (map string_bytes texts.items) }
 {
@@ -479,8 +480,8 @@ fn with_texts<'a>(mut lines: Vec<Line<'a>>, texts: Vec<String>) -> Vec<Line<'a>>
     lines
 }
 
-// The line that is cut, by what is measured of it. Only with custom styling it has a text of its
-// own: a reset closes the sequences that are left open.
+// The line that is cut by the row's height, made from its measured text. Only with custom styling
+// it needs a text of its own: a reset ends the sequences that are left open.
 fn cut_line<'a>(table: &'a Table, measured: &Line<'a>, info: &ColumnDisplayInfo) -> Result<Line<'a>>
     ensures { IfOk result (λ line. line
         ≡ drawn_line (cut_line table.now.custom_styling info.now.content_width table.now.indicator
@@ -499,7 +500,7 @@ fn cut_line<'a>(table: &'a Table, measured: &Line<'a>, info: &ColumnDisplayInfo)
     }
 }
 
-// The line that is cut, in a text of its own.
+// The line that is cut by the row's height, with a text of its own.
 fn closed_line<'a>(table: &Table, measured: &Line, info: &ColumnDisplayInfo) -> Result<Line<'a>>
     ensures { IfOk result (λ line. line
         ≡ drawn_line (cut_line table.now.custom_styling info.now.content_width table.now.indicator
@@ -520,7 +521,7 @@ fn closed_line<'a>(table: &Table, measured: &Line, info: &ColumnDisplayInfo) -> 
     })
 }
 
-// The head of a line for the columns beside the indicator, and the indicator.
+// The head of a line that leaves room for the indicator, and the indicator.
 fn cut_text<'a>(table: &'a Table, line: &'a str, info: &ColumnDisplayInfo) -> (&'a str, &'a str)
     ensures { result.0.now ++ result.1.now
         ≡ cut_text info.now.content_width table.now.indicator line.now }
@@ -532,8 +533,8 @@ fn cut_text<'a>(table: &'a Table, line: &'a str, info: &ColumnDisplayInfo) -> (&
     (head, indicator)
 }
 
-// The terminal columns of a text and another one after it. Only if the second may join the first,
-// both are measured in a text of their own.
+// The terminal columns of two texts, one after the other. Only if the second may join the end of
+// the first, both are measured as one text.
 fn joined_width(alloc: Global, text: &str, end: &str) -> Result<usize>
     ensures { IfOk result (λ columns. columns ≡ measure (text.now ++ end.now)) }
 {
@@ -545,7 +546,7 @@ fn joined_width(alloc: Global, text: &str, end: &str) -> Result<usize>
     Ok(measure_text_width(joined(alloc, text, end)?.as_str()))
 }
 
-// Whether the first character of a text may join one before it.
+// Returns false only if the first character of a text can't join a character before it.
 fn may_join(text: &str) -> bool
     ensures { result ≡ false → IsApart text.now }
 {
@@ -555,7 +556,7 @@ fn may_join(text: &str) -> bool
     }
 }
 
-// A text with another one after it.
+// The two texts as one.
 fn joined(alloc: Global, text: &str, end: &str) -> Result<String>
     ensures { IfOk result (λ joined. string_bytes joined ≡ text.now ++ end.now) }
 {
@@ -565,7 +566,7 @@ fn joined(alloc: Global, text: &str, end: &str) -> Result<String>
     Ok(joined)
 }
 
-// An indicator that is wider than the column counts as empty.
+// The indicator, or an empty text if the indicator is wider than the column.
 fn fitting_indicator(indicator: &str, columns: usize) -> &str
     ensures { result.now ≡ fitting_indicator columns indicator.now }
 {

@@ -13,8 +13,8 @@ use comfy_parts::content_split::ColumnDisplayInfo;
 use comfy_parts::{Cell, Result, Row};
 use std::alloc::Global;
 
-/// The lines of a row, from the top, each as its pieces from the left. The i-th info serves the
-/// i-th cell, and cells past the last info are left out.
+/// The lines of a row, from the top, each as its pieces from the left. The i-th info is for the
+/// i-th cell, and cells after the last info are left out. The only error is `OutOfMemory`.
 ///
 /// ```text
 /// | one   | two | => [[" one   ", " two "],
@@ -41,8 +41,8 @@ pub fn format_row(
     Ok(lines)
 }
 
-/// The lines of the header, if there is one, and then those of each row in order: lists of lines,
-/// each as its pieces.
+/// The lines of the header, if there is one, and then the lines of each row: for each of them its
+/// lines, each as its pieces. The only error is `OutOfMemory`.
 pub fn format_content(
     table: &Table,
     display_infos: &[ColumnDisplayInfo],
@@ -83,8 +83,8 @@ pub fn delimiter(cell: &Cell, info: &ColumnDisplayInfo, table: &Table) -> char
     table.delimiter_of(cell, info.delimiter)
 }
 
-// One line of a row, with no gap between its pieces. Each is drawn in the text first, so that its
-// own memory is asked for once, for exactly its bytes.
+// The pieces of one line of a row, without gaps between them. Each piece is drawn into `text`
+// first, so that its own memory is allocated once, with its exact length.
 fn row_line(text: &mut String, none: &Gap, cells: &[DrawnCell], line: usize) -> Result<Vec<String>>
     requires { none.now ≡ [] }
     ensures { IfOk result (λ pieces. map string_bytes pieces.items

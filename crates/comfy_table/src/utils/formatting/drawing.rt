@@ -1,4 +1,4 @@
-//! The lines of a table, in their order.
+//! Draws the lines of a table in their order.
 
 ghost use Rattle.std.specs.Prelude.{◌≡◌, ◌<◌, ◌≤◌, ◌-◌, ◌∷◌, [], IfOk, OnErr, OnOk, Some, if◌then◌else◌, length, map, string_bytes, option_to_list};
 ghost use Rattle.std.specs.List.{range_with_len};
@@ -23,12 +23,12 @@ use comfy_parts::content_split::ColumnDisplayInfo;
 use comfy_parts::{Result, Row};
 use std::marker::Model;
 
-/// Which rows of a table some rows are.
+/// Says whether some rows include the first and the last row of their table.
 #[derive(Clone, Copy)]
 pub struct PartEnds {
-    /// Whether the first one is among them. The top border and the header are above it.
+    /// True if they include the first row. The top border and the header are then above it.
     pub is_first: bool,
-    /// Whether the last one is among them. The bottom border is below it.
+    /// True if they include the last row. The bottom border is then below it.
     pub is_last: bool,
 }
 
@@ -40,14 +40,14 @@ impl PartEnds {
     };
 }
 
-/// What draws a table, line by line.
+/// Draws a table line by line.
 #[derive(Drop)]
 pub struct Writer<'a> {
     table: &'a Table,
     infos: &'a [ColumnDisplayInfo],
     frame: &'a FrameLines,
     columns: Vec<ShownColumn<'a>>,
-    // the line that is drawn now
+    // the line that is being drawn
     line: String,
 }
 
@@ -67,7 +67,7 @@ impl<'a> Model for Writer<'a> {
 }
 
 impl<'a> Writer<'a> {
-    /// What draws a table in this frame, whose columns are drawn by these infos.
+    /// A writer of a table with this frame, whose columns have these widths and settings.
     pub fn new(
         table: &'a Table,
         infos: &'a [ColumnDisplayInfo],
@@ -89,15 +89,15 @@ impl<'a> Writer<'a> {
         })
     }
 
-    /// What each column is drawn by.
+    /// The width and settings of each column, in list order, including hidden columns.
     pub fn infos(&self) -> &[ColumnDisplayInfo]
         ensures { result.now ≡ self.now.infos }
     {
         self.infos
     }
 
-    /// Appends the lines of these rows, and those around them, to an output. After `OutOfMemory`
-    /// the output begins with what it was.
+    /// Appends the lines of these rows, and the lines around them, to an output. After
+    /// `OutOfMemory` the output still begins with its old content.
     pub fn draw<'r, O: Output>(
         &mut self,
         rows: &'r [Row],
@@ -116,8 +116,8 @@ impl<'a> Writer<'a> {
         self.write_below(extent.is_last, output)
     }
 
-    /// Appends the lines of a row of these cells, which has at most `limit` lines, and those around
-    /// it, to an output. After `OutOfMemory` the output begins with what it was.
+    /// Appends at most `limit` lines of a row of these cells, and the lines around it, to an
+    /// output. After `OutOfMemory` the output still begins with its old content.
     #[inline(always)]
     pub fn draw_cells<'r, O: Output>(
         &mut self,
@@ -138,8 +138,8 @@ impl<'a> Writer<'a> {
         self.write_below(extent.is_last, output)
     }
 
-    /// How many lines a row of these cells has, of which at most `limit` are drawn. Without columns
-    /// it has none.
+    /// The number of lines of a row of these cells, if at most `limit` are drawn. Without shown
+    /// columns it has none.
     pub fn height_of_cells(&self, cells: &[RowCell<'_>], limit: Option<usize>) -> Result<usize>
         ensures { IfOk result (λ height. height ≡ row_height self.now.table self.now.infos
             (row_with (map cell_of cells.now) limit)) }
@@ -148,7 +148,7 @@ impl<'a> Writer<'a> {
         row_height(row, self.columns.as_slice(), self.table)
     }
 
-    // The lines of a row, below the top border and the header, or below another row.
+    // Appends the lines of a row, below the top border and the header, or below another row.
     #[inline(always)]
     fn write_row_below<'r, O: Output>(
         &mut self,
@@ -175,7 +175,7 @@ impl<'a> Writer<'a> {
         self.write_row(&mut drawn, &frame.gaps, row, output)
     }
 
-    // The lines of these rows, below the top border and the header, or below other rows.
+    // Appends the lines of these rows, below the top border and the header, or below other rows.
     fn write_rows_below<'r, O: Output>(
         &mut self,
         rows: &'r [Row],
@@ -200,7 +200,7 @@ impl<'a> Writer<'a> {
         }
     }
 
-    // The bottom border, below the last row.
+    // Appends the bottom border, if the last row was drawn.
     fn write_below<O: Output>(&self, is_last: bool, output: &mut O) -> Result<()>
         ensures ok { OnOk result (O.kept output.new
             ≡ with_lines O.kept_of (if is_last
@@ -217,7 +217,7 @@ impl<'a> Writer<'a> {
         }
     }
 
-    // The top border and the header.
+    // Appends the top border and the header.
     fn write_above<'r, O: Output>(
         &mut self,
         drawn: &mut RowCursor<'a, 'r>,
@@ -236,7 +236,7 @@ impl<'a> Writer<'a> {
         self.write_header(drawn, output)
     }
 
-    // The header's lines and the header separator, if there is a header.
+    // Appends the header's lines and the header separator, if there is a header.
     fn write_header<'r, O: Output>(
         &mut self,
         drawn: &mut RowCursor<'a, 'r>,
@@ -257,7 +257,7 @@ impl<'a> Writer<'a> {
         }
     }
 
-    // The lines of this header, and the header separator.
+    // Appends the lines of this header, and the header separator.
     fn write_header_lines<'r, O: Output>(
         &mut self,
         drawn: &mut RowCursor<'a, 'r>,
@@ -281,7 +281,7 @@ impl<'a> Writer<'a> {
         push_frame_line(output, &separator)
     }
 
-    // The lines of these rows, with the row separator between each two rows.
+    // Appends the lines of these rows, with the row separator between them.
     fn write_rows<'r, O: Output>(
         &mut self,
         drawn: &mut RowCursor<'a, 'r>,
@@ -306,7 +306,7 @@ impl<'a> Writer<'a> {
         }
     }
 
-    // The lines of these rows, with the row separator above each of them.
+    // Appends the lines of these rows, with the row separator above each of them.
     fn write_further_rows<'r, O: Output>(
         &mut self,
         drawn: &mut RowCursor<'a, 'r>,
@@ -329,7 +329,7 @@ impl<'a> Writer<'a> {
         Ok(())
     }
 
-    // The lines of a row, in the memory of rows before it.
+    // Appends the lines of a row, and reuses the memory of rows before it.
     fn write_row<'r, O: Output>(
         &mut self,
         drawn: &mut RowCursor<'a, 'r>,
@@ -356,7 +356,7 @@ impl<'a> Writer<'a> {
     }
 }
 
-// Appends a line of the frame, if it is drawn.
+// Appends a frame line, if it is drawn.
 fn push_frame_line<O: Output>(output: &mut O, line: &Option<String>) -> Result<()>
     ensures ok { OnOk result (O.kept output.new
         ≡ with_lines O.kept_of (map string_bytes (option_to_list line.now)) (O.kept output.old)) }
@@ -368,8 +368,8 @@ fn push_frame_line<O: Output>(output: &mut O, line: &Option<String>) -> Result<(
     }
 }
 
-// Appends the first `height` lines of a row. The first is drawn in the text already, and each other
-// one is drawn there.
+// Appends the first `height` lines of a row. The first line is in `text` already, and the others
+// are drawn there.
 #[inline(always)]
 fn push_row<'a, O: Output>(
     output: &mut O,

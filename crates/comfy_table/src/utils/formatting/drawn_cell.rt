@@ -15,8 +15,8 @@ use comfy_parts::{Result, Row};
 use std::alloc::Global;
 use std::marker::Model;
 
-// For how many lines a list has room at most that is used again, so that a tall cell's memory comes
-// back before the next row.
+// The greatest capacity, in lines, of a list that is kept for later rows. Larger lists are dropped,
+// so that a tall cell's memory is returned before the next row.
 const KEPT_LINES: usize = 256;
 
 /// A cell of a row as a shown column draws it.
@@ -24,7 +24,7 @@ const KEPT_LINES: usize = 256;
 pub struct DrawnCell<'a, 'r> {
     styles: Styles,
     info: &'a ColumnDisplayInfo,
-    // the cell and its lines, or none if no cell is in the column
+    // the cell and its lines; `None` if the row has no cell in this column
     cell: Option<(CellSource<'r>, CellLines<'r>)>,
 }
 
@@ -41,7 +41,7 @@ impl<'a, 'r> Model for DrawnCell<'a, 'r> {
 }
 
 impl<'a, 'r> DrawnCell<'a, 'r> {
-    /// How many lines the cell has. A missing one takes one line.
+    /// The number of lines. A missing cell has one.
     pub fn height(&self) -> usize
         ensures { result ≡ length self.now.pieces }
     {
@@ -51,7 +51,7 @@ impl<'a, 'r> DrawnCell<'a, 'r> {
         }
     }
 
-    /// The piece of the cell in a line of its row, which is counted from 0.
+    /// The piece of the cell in a line of its row. Lines are counted from 0.
     #[inline(always)]
     pub fn piece_at(&self, line: usize) -> Piece<'_>
         ensures { result ≡ piece_at line self.now }
@@ -67,7 +67,8 @@ impl<'a, 'r> DrawnCell<'a, 'r> {
     }
 }
 
-/// Takes a cell that isn't drawn any more. The list of its lines is kept, unless it is long.
+/// Takes a cell that has been drawn, and keeps the list of its lines for later cells, unless the
+/// list is long.
 #[inline(always)]
 pub fn take_list<'r>(cell: DrawnCell<'_, 'r>, spare: &mut Vec<Vec<Line<'r>>>) -> Result<()> {
     let Some((_, lines)) = cell.cell else {
@@ -84,7 +85,7 @@ pub fn take_list<'r>(cell: DrawnCell<'_, 'r>, spare: &mut Vec<Vec<Line<'r>>>) ->
     Ok(())
 }
 
-/// The cells of a row in these columns, each the one at its column's own position.
+/// The cells of a row in these columns, each at its column's position.
 pub fn drawn_cells<'a, 'r>(
     row: &'r Row,
     columns: &[ShownColumn<'a>],
@@ -104,7 +105,7 @@ pub fn drawn_cells<'a, 'r>(
     Ok(cells)
 }
 
-/// The height of a row: that of its highest shown cell.
+/// The height of a row in lines: the greatest height of its shown cells.
 pub fn greatest_height(cells: &[DrawnCell]) -> usize
     ensures { result ≡ greatest_height cells.now }
 {
@@ -115,7 +116,7 @@ pub fn greatest_height(cells: &[DrawnCell]) -> usize
     height
 }
 
-/// The height of a row in these columns: that of its highest cell.
+/// The height of a row in these columns, in lines: the greatest height of its cells.
 pub fn row_height(row: RowSource<'_>, columns: &[ShownColumn<'_>], table: &Table) -> Result<usize>
     ensures { IfOk result (λ height. height
         ≡ greatest_height (map (drawn_cell table.now (row_in row.entry)) columns.now)) }
@@ -135,8 +136,9 @@ pub fn row_height(row: RowSource<'_>, columns: &[ShownColumn<'_>], table: &Table
     Ok(height)
 }
 
-/// The piece of a cell in its column, if it has one line, which fits and is written as it is, or if
-/// no cell is there. Most cells are drawn by this, without a list and without a `DrawnCell`.
+/// The piece of a cell in its column, if the cell has one line that fits and is written as it is,
+/// or if there is no cell. Otherwise `None`. Most cells are drawn this way, without a list and
+/// without a `DrawnCell`.
 #[inline(always)]
 pub fn only_piece<'r>(
     row: RowSource<'r>,
@@ -149,7 +151,7 @@ pub fn only_piece<'r>(
         ≡ pieces_at table.now (row_in row.entry) column.now) }
 {
     let info = column.info;
-    // the clause of a limit says that it is at least 1
+    // Proof only: reading the limit shows that it is at least 1.
     let _limit = row.height_limit();
     let Some(cell) = row.cell_at(column.position) else {
         return Some(Piece::blank(info));
@@ -158,7 +160,7 @@ pub fn only_piece<'r>(
     Some(Piece::new(styles, cell, info, columns, text, end))
 }
 
-/// A shown column with the cell at its position in a row. Its lines may be in a spare list.
+/// The cell of a row in a shown column. Its lines may take a spare list.
 pub fn drawn_cell<'a, 'r>(
     row: RowSource<'r>,
     column: &ShownColumn<'a>,

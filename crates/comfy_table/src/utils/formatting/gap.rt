@@ -1,4 +1,4 @@
-//! A border between spaces, which are copied along with it.
+//! A border and the spaces on its sides, which are copied together.
 
 ghost use Rattle.std.specs.Prelude.{◌≡◌, ◌++◌, IfOk, IfSome, OnOk, string_bytes};
 ghost use Rattle.comfy_parts.specs.Text.{spaces};
@@ -9,15 +9,15 @@ use comfy_parts::Result;
 use std::alloc::Global;
 use std::marker::Model;
 
-/// What stands between two texts of a line: spaces, a border, and spaces.
+/// The part of a line between two texts: spaces, a border, and spaces.
 #[derive(Drop)]
 pub struct Gap {
-    // whether the border is drawn, and its character
+    // true if the border is drawn, and its character
     drawn: bool,
     part: Option<char>,
-    // the border between two runs of spaces, from which a gap is copied at once
+    // the border between two runs of spaces, so that a gap is a slice of it
     text: String,
-    // the bytes of the border
+    // the length of the border in bytes
     border_len: usize,
 }
 
@@ -36,7 +36,7 @@ impl Model for Gap {
 }
 
 impl Gap {
-    /// The gap of a character of the style, where it is drawn.
+    /// The gap with a character of the style. If `drawn` is false it has no border.
     pub fn new(alloc: Global, drawn: bool, part: Option<char>) -> Result<Gap>
         ensures { IfOk result (λ gap. gap ≡ drawn_character drawn part) }
     {
@@ -54,7 +54,7 @@ impl Gap {
         })
     }
 
-    /// Appends so many spaces, the border, and so many spaces.
+    /// Appends `before` spaces, the border, and `after` spaces.
     #[inline(always)]
     pub fn push(&self, text: &mut String, before: usize, after: usize) -> Result<()>
         ensures { OnOk result (string_bytes text.new
@@ -70,7 +70,7 @@ impl Gap {
         Ok(())
     }
 
-    // Appends a gap of more spaces than are copied at once.
+    // Appends a gap with more spaces than `text` has.
     #[inline(never)]
     fn push_long(&self, text: &mut String, before: usize, after: usize) -> Result<()>
         ensures { OnOk result (string_bytes text.new
@@ -82,7 +82,7 @@ impl Gap {
     }
 }
 
-/// Appends that many spaces.
+/// Appends `count` spaces.
 pub fn push_spaces(text: &mut String, count: usize) -> Result<()>
     ensures { OnOk result (string_bytes text.new ≡ string_bytes text.old ++ spaces count) }
 {
@@ -97,7 +97,7 @@ pub fn push_spaces(text: &mut String, count: usize) -> Result<()>
     Ok(())
 }
 
-/// This many spaces, if they are copied at once.
+/// A text of `count` spaces; `None` for more than 64.
 pub fn few_spaces(count: usize) -> Option<&'static str>
     ensures { IfSome result (λ few. few.now ≡ spaces count) }
 {
@@ -109,7 +109,7 @@ pub fn few_spaces(count: usize) -> Option<&'static str>
     Some(front)
 }
 
-// As many spaces as are copied at once.
+// 64 spaces, the most that are copied at once.
 fn run_of_spaces() -> &'static str
     ensures { result.now ≡ spaces 64 }
 {

@@ -1,4 +1,4 @@
-//! Where drawn lines go.
+//! The outputs that drawn lines are appended to.
 
 ghost use Rattle.std.specs.Prelude.{◌≡◌, ◌++◌, ◌∷◌, [], OnErr, OnOk, string_bytes};
 ghost use Rattle.comfy_table.specs.Output.{BeginsWith, with_lines};
@@ -7,28 +7,28 @@ use comfy_parts::Result;
 use std::alloc::Global;
 use std::marker::Model;
 
-/// Where drawn lines go: a list of texts, or one text.
+/// An output for drawn lines: a list of texts, or one text.
 pub trait Output {
     ghost use Rattle.std.specs.Prelude.{List};
     ghost use Rattle.comfy_parts.specs.Text.{Text};
 
-    // what the output consists of
+    // the type of the output's elements
     ghost Kept: { Type 0 };
 
-    // what is kept so far
+    // the elements that the output has
     ghost kept: { Self → List Kept };
 
-    // what is kept of a line
+    // the elements that a line adds
     ghost kept_of: { Text → List Kept };
 
-    /// Appends a drawn line. After `OutOfMemory` the output begins with what it was.
+    /// Appends a drawn line. After `OutOfMemory` the output still begins with its old elements.
     fn push_line(&mut self, line: &str) -> Result<()>
         ensures ok { OnOk result (kept self.new
             ≡ with_lines kept_of (line.now ∷ []) (kept self.old)) }
         ensures err { OnErr result (BeginsWith (kept self.new) (kept self.old)) };
 }
 
-/// Each line is a text of its own.
+/// Each line becomes a text of its own.
 impl Output for Vec<String> {
     ghost use Rattle.std.specs.Prelude.{◌∷◌, [], map, string_bytes};
     ghost use Rattle.comfy_parts.specs.Text.{Text};
@@ -79,7 +79,7 @@ impl Model for TrimmedText {
 }
 
 impl TrimmedText {
-    /// No lines. It takes no memory.
+    /// An empty text. Takes no memory.
     pub fn new(alloc: Global) -> TrimmedText
         ensures { result ≡ [] }
     {

@@ -1,4 +1,4 @@
-//! A line of a cell as it stands in its column.
+//! The lines of cells, aligned and padded in their columns.
 
 ghost use Rattle.std.specs.Prelude.{◌≡◌, ◌+◌, ◌-◌, ◌^◌, ◌≤◌, ◌++◌, [], IfOk, None, OnOk, false, string_bytes, unwrap_or};
 ghost use Rattle.comfy_parts.specs.Text.{spaces};
@@ -20,18 +20,18 @@ use comfy_parts::content_split::ColumnDisplayInfo;
 use comfy_parts::style::CellAlignment;
 use std::marker::Model;
 
-/// Where a table writes the colours and attributes of its cells.
+/// The places where a table writes the colours and attributes of its cells.
 #[derive(Clone, Copy)]
 pub enum Styles {
     Nowhere,
-    /// Round the text of each piece.
+    /// Around the text of each piece.
     RoundTexts,
-    /// Round whole pieces, paddings too.
+    /// Around whole pieces, with their paddings.
     RoundPieces,
 }
 
 impl Styles {
-    /// Where this table writes them.
+    /// The places where this table writes them.
     pub fn of(table: &Table) -> Styles
         ensures { result ≡ styles_of table.now }
     {
@@ -46,16 +46,16 @@ impl Styles {
     }
 }
 
-/// A line of a cell as it stands in its column: a text between spaces. Where styles are written,
-/// they stand round the whole piece, or round the text alone.
+/// A line of a cell in its column: a text between spaces. If styles are written, they surround the
+/// whole piece or only the text.
 #[derive(Drop)]
 pub struct Piece<'a> {
     left: usize,
     text: &'a str,
-    // what follows the text without a gap
+    // a second text directly after the first
     end: &'a str,
     right: usize,
-    // the cell whose styles are written, and the spaces between them and the text
+    // the cell whose styles are written, and the spaces between the styles and the text
     styles: Option<(CellSource<'a>, (usize, usize))>,
 }
 
@@ -73,8 +73,8 @@ impl<'a> Model for Piece<'a> {
 }
 
 impl<'a> Piece<'a> {
-    /// The piece of a line: the text that is written for it, in two parts, aligned by the line's
-    /// columns.
+    /// The piece of a line. The line is written as two texts and measures `columns`, by which it is
+    /// aligned.
     #[inline(always)]
     pub fn new(
         styles: Styles,
@@ -113,7 +113,7 @@ impl<'a> Piece<'a> {
         }
     }
 
-    /// A text between so many spaces, without styles.
+    /// A text with `left` spaces before it and `right` spaces after it, without styles.
     pub fn bare(left: usize, text: &'a str, right: usize) -> Piece<'a>
         ensures { result ≡ spaced (left, right) text.now }
     {
@@ -126,15 +126,15 @@ impl<'a> Piece<'a> {
         }
     }
 
-    /// What stands where a column has no line.
+    /// The piece of a column that has no line here: spaces.
     pub fn blank(info: &ColumnDisplayInfo) -> Piece<'a>
         ensures { result ≡ blank_piece info.now }
     {
         Piece::bare(info.width(), "", 0)
     }
 
-    /// Appends a gap, with so many spaces before it, and the piece without the spaces at its end.
-    /// Returns how many these are: the next gap takes them.
+    /// Appends a gap with `free` spaces before it, and then the piece without its trailing spaces.
+    /// Returns the number of these spaces, to be the `free` of the next gap.
     #[inline(always)]
     pub fn push(&self, line: &mut String, gap: &Gap, free: usize) -> Result<usize>
         ensures { IfOk result (λ right. string_bytes line.new ++ spaces right
@@ -154,7 +154,7 @@ impl<'a> Piece<'a> {
     }
 }
 
-// Appends a text in two parts between spaces, in styles. Most tables write none.
+// Appends two texts between spaces, in styles. Most tables have no styles.
 #[inline(never)]
 fn push_styled(
     line: &mut String,
@@ -176,8 +176,8 @@ fn push_styled(
     push_style_end(line, style)
 }
 
-/// The spaces before and after a line of this measure, with this alignment or else that of the
-/// column: those that it leaves, and the paddings.
+/// The spaces before and after a line of this measure: the paddings, and the rest of the column's
+/// width. The cell's alignment `own` is used, or else the column's.
 pub fn spaces_around(
     own: Option<CellAlignment>,
     info: &ColumnDisplayInfo,
@@ -196,7 +196,7 @@ pub fn spaces_around(
     (left as usize + before, free - before + right as usize)
 }
 
-// A cell's own alignment, else its column's, else left.
+// The cell's alignment, or else the column's, or else left.
 fn alignment_in(own: Option<CellAlignment>, info: &ColumnDisplayInfo) -> CellAlignment
     ensures { result ≡ unwrap_or own (unwrap_or info.now.alignment Left) }
 {
@@ -206,7 +206,8 @@ fn alignment_in(own: Option<CellAlignment>, info: &ColumnDisplayInfo) -> CellAli
     }
 }
 
-// Of the free columns those before the line: in the centre an odd one goes before it.
+// The part of the free terminal columns before the line. If the line is centred, half of them,
+// rounded up.
 fn free_before(alignment: CellAlignment, free: usize) -> usize
     ensures value { result ≡ free_before alignment free }
     ensures bound { result ≤ free }

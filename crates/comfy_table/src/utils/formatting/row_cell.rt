@@ -1,4 +1,4 @@
-//! Cells that are drawn without a row being made of them.
+//! Cells that are drawn without making a row of them.
 
 ghost use Rattle.std.specs.Prelude.{◌≡◌, ◌≤◌, ◌++◌, ◌∷◌, [], IfOk, IfSome, None, false, map, option_map, slice_get, string_bytes, true};
 ghost use Rattle.std.specs.List.{list_any};
@@ -19,14 +19,14 @@ use comfy_parts::{Cell, Result, Row};
 use std::alloc::Global;
 use std::marker::Model;
 
-/// A text of one line that is drawn as a cell, with spaces after it. It has no escape sequence, and
-/// takes no memory.
+/// A borrowed text of one line that is drawn as a cell, with spaces after it. It has no escape
+/// sequence, and the cell takes no memory.
 #[derive(Drop)]
 pub struct TextCell<'a> {
     text: &'a str,
-    // how many spaces are after the text
+    // the number of spaces after the text
     after: usize,
-    // the terminal columns of both
+    // the terminal columns of the text and the spaces
     columns: usize,
     alignment: Option<CellAlignment>,
     style: Option<&'a TextStyle<'a>>,
@@ -52,7 +52,7 @@ impl<'a> Model for TextCell<'a> {
 }
 
 impl<'a> TextCell<'a> {
-    /// The cell of printable ASCII and some spaces after it; none for any other text.
+    /// The cell of a text of printable ASCII and `after` spaces; `None` for any other text.
     #[inline(always)]
     pub fn of_printable(
         text: &'a str,
@@ -77,7 +77,7 @@ impl<'a> TextCell<'a> {
         })
     }
 
-    /// The cell of a text; none for a text of several lines, or one with ESC.
+    /// The cell of a text; `None` for a text of several lines, or with ESC.
     pub fn of_line(
         text: &'a str,
         alignment: Option<CellAlignment>,
@@ -99,7 +99,7 @@ impl<'a> TextCell<'a> {
         })
     }
 
-    /// The text, and how many spaces are after it.
+    /// The text, and the number of spaces after it.
     #[inline(always)]
     pub fn line(&self) -> (&'a str, usize)
         ensures line { self.now.text_lines ≡ (result.0.now ++ spaces result.1) ∷ [] }
@@ -127,7 +127,7 @@ impl<'a> TextCell<'a> {
         self.columns
     }
 
-    // The alignment, if it has one.
+    // The alignment of the cell; `None` if it isn't set.
     #[inline(always)]
     fn alignment(&self) -> Option<CellAlignment>
         ensures { result ≡ self.now.alignment }
@@ -135,7 +135,7 @@ impl<'a> TextCell<'a> {
         self.alignment
     }
 
-    // The colours and the attributes.
+    // The colours and attributes of the cell.
     fn style(&self) -> TextStyle<'a>
         ensures { styling result ≡ style_alone self.now }
     {
@@ -146,7 +146,8 @@ impl<'a> TextCell<'a> {
     }
 }
 
-/// A text of several lines that is drawn as a cell. It has no escape sequence, and takes no memory.
+/// A borrowed text of several lines that is drawn as a cell. It has no escape sequence, and the
+/// cell takes no memory.
 #[derive(Drop)]
 pub struct LinesCell<'a> {
     text: &'a str,
@@ -174,7 +175,8 @@ impl<'a> Model for LinesCell<'a> {
 }
 
 impl<'a> LinesCell<'a> {
-    /// The cell of a text, each line of which is a text line; none for a text with ESC.
+    /// The cell of a text, which is split into text lines at its line feeds; `None` for a text with
+    /// ESC.
     pub fn of_lines(
         text: &'a str,
         alignment: Option<CellAlignment>,
@@ -194,7 +196,7 @@ impl<'a> LinesCell<'a> {
         })
     }
 
-    /// The text, whose lines are the text lines.
+    /// The text. Its lines are the text lines of the cell.
     #[inline(always)]
     pub fn text(&self) -> &'a str
         ensures lines { self.now.text_lines ≡ (plain_cell result.now).text_lines }
@@ -213,7 +215,7 @@ impl<'a> LinesCell<'a> {
         self.columns
     }
 
-    // The alignment, if it has one.
+    // The alignment of the cell; `None` if it isn't set.
     #[inline(always)]
     fn alignment(&self) -> Option<CellAlignment>
         ensures { result ≡ self.now.alignment }
@@ -221,7 +223,7 @@ impl<'a> LinesCell<'a> {
         self.alignment
     }
 
-    // The colours and the attributes.
+    // The colours and attributes of the cell.
     fn style(&self) -> TextStyle<'a>
         ensures { styling result ≡ style_alone self.now }
     {
@@ -246,17 +248,17 @@ fn widest_line(text: &str) -> usize
 /// A cell of a row that is drawn without a `Row` (`RowWriter::push_cells`).
 #[derive(Drop)]
 pub enum RowCell<'a> {
-    /// A text of one line that is lent.
+    /// A borrowed text of one line.
     Lent(TextCell<'a>),
-    /// A text of several lines that is lent.
+    /// A borrowed text of several lines.
     Several(LinesCell<'a>),
-    /// A cell that had to be made: of a text that isn't there yet, or with escape sequences.
+    /// A `Cell`, for a text that has to be made first, or that has escape sequences.
     Made(Box<Cell>),
 }
 
 impl<'a> RowCell<'a> {
-    /// The greatest measure of its text lines in a table, in terminal columns: at least 1, and at
-    /// most 65535.
+    /// The greatest measure of the cell's text lines in a table, in terminal columns, at least 1
+    /// and at most 65535.
     #[inline(always)]
     pub fn content_width(&self, table: &Table) -> u16
         ensures { result ≡ cell_content_width (measured_cell table.now (cell_of self.now)) }
@@ -269,7 +271,7 @@ impl<'a> RowCell<'a> {
     }
 }
 
-/// A cell that is drawn, wherever it comes from.
+/// A cell that is drawn, from any source.
 #[derive(Clone, Copy)]
 pub(crate) enum CellSource<'r> {
     Line(&'r TextCell<'r>),
@@ -278,7 +280,7 @@ pub(crate) enum CellSource<'r> {
 }
 
 impl<'r> CellSource<'r> {
-    /// The alignment, if it has one.
+    /// The alignment of the cell; `None` if it isn't set.
     #[inline(always)]
     pub fn alignment(self) -> Option<CellAlignment>
         ensures { result ≡ (cell_in self.entry).alignment }
@@ -290,7 +292,7 @@ impl<'r> CellSource<'r> {
         }
     }
 
-    /// The colours and the attributes.
+    /// The colours and attributes of the cell.
     pub fn style(self) -> TextStyle<'r>
         ensures { styling result ≡ style_alone (cell_in self.entry) }
     {
@@ -301,7 +303,7 @@ impl<'r> CellSource<'r> {
         }
     }
 
-    /// Whether it has a colour or an attribute.
+    /// Returns false only if the cell has neither a colour nor an attribute.
     pub fn has_style(self) -> bool
         ensures background { result ≡ false → (cell_in self.entry).background ≡ None }
         ensures foreground { result ≡ false → (cell_in self.entry).foreground ≡ None }
@@ -312,7 +314,7 @@ impl<'r> CellSource<'r> {
     }
 }
 
-/// A row that is drawn: one that is made, or some cells and their greatest height.
+/// A row that is drawn: a `Row`, or some cells and their greatest height.
 #[derive(Clone, Copy)]
 pub(crate) enum RowSource<'r> {
     Whole(&'r Row),
@@ -320,7 +322,7 @@ pub(crate) enum RowSource<'r> {
 }
 
 impl<'r> RowSource<'r> {
-    /// The cell at a position, if there is one.
+    /// The cell at a position, or `None` if the row has fewer cells.
     #[inline(always)]
     pub fn cell_at(self, position: usize) -> Option<CellSource<'r>>
         ensures { option_map cell_in result ≡ slice_get (row_in self.entry).cells position }
@@ -335,7 +337,7 @@ impl<'r> RowSource<'r> {
         }
     }
 
-    /// The greatest height of the row, at least 1.
+    /// The greatest height of the row in lines, at least 1; `None` if it isn't set.
     #[inline(always)]
     pub fn height_limit(self) -> Option<usize>
         ensures limit { result ≡ (row_in self.entry).max_height }

@@ -1,4 +1,4 @@
-//! A row that is drawn line by line.
+//! Drawing a row line by line.
 
 ghost use Rattle.std.specs.Prelude.{◌≡◌, ◌++◌, ◌<◌, ◌≤◌, [], IfOk, OnOk, length, map, string_bytes};
 ghost use Rattle.comfy_table.specs.DrawnCells.{AreFurther, drawn_cell, filled, greatest_height, piece_at};
@@ -16,14 +16,14 @@ use comfy_parts::Result;
 use std::alloc::Global;
 use std::marker::Model;
 
-/// The row that is drawn now. Its first line is drawn while its cells are found, and only cells
-/// that may have further lines are kept: most rows have none. One row after another is drawn by it,
-/// in the memory of those before.
+/// The row that is being drawn. Its first line is drawn while its cells are found, and only cells
+/// that may have further lines are kept: most rows have none. One cursor draws many rows, and
+/// reuses its memory.
 #[derive(Drop)]
 pub struct RowCursor<'a, 'r> {
-    // the cells from the first one on that may have more than one line
+    // the cells starting at the first one that may have more than one line
     further: Vec<DrawnCell<'a, 'r>>,
-    // lists that had the lines of earlier rows
+    // the lists that held the lines of earlier rows
     spare: Vec<Vec<Line<'r>>>,
 }
 
@@ -37,7 +37,7 @@ impl<'a, 'r> Model for RowCursor<'a, 'r> {
 }
 
 impl<'a, 'r> RowCursor<'a, 'r> {
-    /// No row. It takes no memory.
+    /// A cursor without a row. Takes no memory.
     pub fn new(alloc: Global) -> RowCursor<'a, 'r>
         ensures { result ≡ [] }
     {
@@ -47,8 +47,8 @@ impl<'a, 'r> RowCursor<'a, 'r> {
         }
     }
 
-    /// Goes on to a row, appends its first line, and returns its height. In no columns it has no
-    /// line.
+    /// Moves to a row, appends its first line, and returns its height in lines. Without columns the
+    /// height is 0 and the row has no line.
     #[inline(always)]
     pub fn push_first_line(
         &mut self,
@@ -92,7 +92,7 @@ impl<'a, 'r> RowCursor<'a, 'r> {
         Ok(height)
     }
 
-    // Leaves the row before.
+    // Removes the cells of the row before, and keeps their lists.
     fn clear(&mut self) -> Result<()>
         ensures { OnOk result (self.new ≡ []) }
     {
@@ -102,7 +102,7 @@ impl<'a, 'r> RowCursor<'a, 'r> {
         Ok(())
     }
 
-    /// Appends a line after the first, in the columns of that one. Lines are counted from 0.
+    /// Appends a line after the first one, in the same columns. Lines are counted from 0.
     #[inline(never)]
     pub fn push_further_line(
         &self,
@@ -132,7 +132,7 @@ impl<'a, 'r> RowCursor<'a, 'r> {
     }
 }
 
-// Lets an empty list have room for a cell in each column.
+// Reserves room for a cell in each column, if the list is empty.
 fn make_room(cells: &mut Vec<DrawnCell<'_, '_>>, columns: usize) -> Result<()>
     ensures { OnOk result (cells.new.items ≡ cells.old.items) }
 {

@@ -10,7 +10,8 @@ use comfy_parts::Result;
 use comfy_parts::style::ContentLineStyle;
 use std::marker::Model;
 
-/// The gaps in the lines of a row: before the first piece, between two, and after the last.
+/// The gaps in the lines of rows: before the first piece, between two pieces, and after the last
+/// one.
 #[derive(Drop)]
 pub struct RowGaps {
     left: Gap,
@@ -27,7 +28,7 @@ impl Model for RowGaps {
 }
 
 impl RowGaps {
-    /// The gaps of a line of a table's rows.
+    /// The gaps of a content line of the table's style.
     pub fn new(table: &Table, line: &ContentLineStyle) -> Result<RowGaps>
         ensures { IfOk result (λ gaps. gaps ≡ row_gaps table.now.style line.now) }
     {
@@ -54,7 +55,7 @@ impl RowGaps {
         &self.junction
     }
 
-    /// Appends what ends a line: so many spaces and the last gap.
+    /// Appends the end of a line: `free` spaces and the last gap.
     #[inline(always)]
     pub fn push_end(&self, text: &mut String, free: usize) -> Result<()>
         ensures { OnOk result (string_bytes text.new

@@ -24,7 +24,7 @@ impl<'a> Model for ShownColumn<'a> {
     ghost view = { λ c. (c.position, c.info.now) };
 }
 
-/// The columns of these infos that aren't hidden, in order.
+/// The shown columns of these infos, in order.
 pub fn shown_infos<'a>(
     alloc: Global,
     infos: &'a [ColumnDisplayInfo],

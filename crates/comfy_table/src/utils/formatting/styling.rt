@@ -1,4 +1,4 @@
-//! Colours and attributes as the sequences that a terminal takes them in: ESC, `[`, a code, `m`.
+//! Colours and attributes as escape sequences: ESC, `[`, a code, `m`.
 
 ghost use Rattle.std.specs.Prelude.{◌≡◌, ◌++◌, OnOk, codes, filter, flat_map, string_bytes};
 ghost use Rattle.comfy_parts.specs.VisibleText.{reset};
@@ -42,8 +42,8 @@ const ALL_ATTRIBUTES: [Attribute; 28] = [
     Attribute::NotOverLined,
 ];
 
-/// Appends the sequences before a styled text: background, foreground, attributes. If there are
-/// none, the line stays as it is.
+/// Appends the sequences before a styled text: background, foreground, attributes. Appends nothing
+/// if the style has none of them.
 pub(crate) fn push_style_begin(line: &mut String, style: &TextStyle<'_>) -> Result<()>
     ensures { OnOk result (string_bytes line.new
         ≡ string_bytes line.old ++ style_begin (styling style.now)) }
@@ -70,7 +70,7 @@ pub(crate) fn push_style_end(line: &mut String, style: &TextStyle<'_>) -> Result
     Ok(())
 }
 
-/// Appends the sequence that closes all others.
+/// Appends the sequence that ends all colours and attributes.
 pub(crate) fn push_reset(line: &mut String) -> Result<()>
     ensures { OnOk result (string_bytes line.new ≡ string_bytes line.old ++ reset) }
 {
@@ -78,7 +78,8 @@ pub(crate) fn push_reset(line: &mut String) -> Result<()>
     Ok(())
 }
 
-// Appends the sequence of a colour, where there is one. Each begins and resets with these.
+// Appends the sequence of a colour, if there is one: `begin` and the colour's code, or `reset` for
+// `Color::Reset`.
 fn push_color(line: &mut String, color: Option<Color>, begin: &str, reset: &str) -> Result<()>
     ensures { OnOk result (string_bytes line.new
         ≡ string_bytes line.old ++ color_sequence begin.now reset.now color) }
@@ -94,7 +95,7 @@ fn push_color(line: &mut String, color: Option<Color>, begin: &str, reset: &str)
     push_color_code(line, color)
 }
 
-// The sequences of these attributes, each once and in the order of all.
+// Appends the sequences of these attributes, each once, in the order of `ALL_ATTRIBUTES`.
 fn push_attributes(line: &mut String, given: &[Attribute]) -> Result<()>
     ensures { OnOk result (string_bytes line.new
         ≡ string_bytes line.old ++ attribute_sequences given.now) }
@@ -110,7 +111,7 @@ fn push_attributes(line: &mut String, given: &[Attribute]) -> Result<()>
     }
 }
 
-// The sequences of those attributes that were given.
+// Appends the sequences of the `attributes` that are in `given`.
 fn push_given(line: &mut String, attributes: &[Attribute], given: &[Attribute]) -> Result<()>
     ensures { OnOk result (string_bytes line.new
         ≡ string_bytes line.old ++ flat_map (λ a. sequence (attribute_code a))
@@ -130,8 +131,8 @@ fn has_attribute(given: &[Attribute], attribute: Attribute) -> bool
     given.contains(&attribute)
 }
 
-// Appends the code of a colour other than `Reset`, and the `m` that ends its sequence: by its
-// number of sixteen or of 256, or by its three parts.
+// Appends the code of a colour other than `Reset`, and the `m` that ends its sequence. The code is
+// `5;` and a number below 256, or `2;` and the red, green and blue parts.
 fn push_color_code(line: &mut String, color: Color) -> Result<()>
     ensures { OnOk result (string_bytes line.new
         ≡ string_bytes line.old ++ (color_code color ++ codes "m")) }

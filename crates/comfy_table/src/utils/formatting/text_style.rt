@@ -16,7 +16,7 @@ pub struct TextStyle<'a> {
 }
 
 impl<'a> TextStyle<'a> {
-    /// Neither a colour nor an attribute.
+    /// A style without colours and attributes.
     pub fn none() -> TextStyle<'a>
         ensures { styling result ≡ plain_cell [] }
     {
@@ -27,7 +27,7 @@ impl<'a> TextStyle<'a> {
         }
     }
 
-    /// Those of a cell.
+    /// The colours and attributes of a cell.
     pub fn of(cell: &'a Cell) -> TextStyle<'a>
         ensures { styling result ≡ style_alone cell.now }
     {

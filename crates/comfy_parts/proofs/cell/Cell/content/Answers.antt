@@ -2,7 +2,7 @@ use Rattle.std.proofs.Common.{◌≡◌, ◌∷◌, ◌++◌, List, [], ℕ, map
 use Rattle.std.specs.List.{flat_map, join_by, join_with_byte}
 use Rattle.comfy_parts.proofs.cell.Cell.content.Goals as goal
 
--- the first text, and a line feed before each other
+-- the first text, and each other text with a line feed before it
 joined : {A : Type 0} (f : A → List ℕ) (x : A) (xs : List A) → f x ++ flat_map (λ s. 10 ∷ f s) xs ≡ join_with_byte 10 (f x ∷ map f xs)
 joined f x [] = search rules
 joined f x (y ∷ ys) = ap (λ t. f x ++ 10 ∷ t) (joined f y ys)

@@ -7,14 +7,14 @@ use Rattle.comfy_parts.specs.Comparisons.{alignment_eq, attribute_eq, color_eq}
 use Rattle.comfy_parts.proofs.cell.CellPartialEq.eq.Goals.{Joined-eq-4, then-eq, else-eq, then-eq-2, else-eq-2, then-eq-3, else-eq-3, then-eq-4, else-eq-4}
 use Rattle.comfy_parts.proofs.cell.CellPartialEq.eq.Goals as goal
 
--- the values that `s && t` takes, by what s is
+-- the value of `s && t`, by the value of s
 and_true : {s t v r : Bool} → s ≡ true → v ≡ r → r ≡ t → v ≡ (s && t)
 and_true {t} h value test = value ∙ test ∙ ap (λ b. b && t) (sym h)
 
 and_false : {s v : Bool} (t : Bool) → s ≡ false → v ≡ s → v ≡ (s && t)
 and_false t h value = value ∙ h ∙ ap (λ b. b && t) (sym h)
 
--- the test of all fields but the last
+-- the test of all fields except the last one
 abbrev same_up_to_attributes : CellValue → CellValue → Bool
 same_up_to_attributes a b =
     pointwise (pointwise nat_eq) a.text_lines b.text_lines
@@ -23,7 +23,7 @@ same_up_to_attributes a b =
     && option_eq color_eq a.foreground b.foreground
     && option_eq color_eq a.background b.background
 
--- it is what the code has found before it looks at the attributes
+-- the code's result before it compares the attributes is this test
 found : (c : Joined-eq-4) → c.if-eq-4.value ≡ same_up_to_attributes c.args.self.now c.args.other.now
 found c =
     let a = c.self.view_is in

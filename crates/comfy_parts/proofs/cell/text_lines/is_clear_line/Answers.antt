@@ -3,7 +3,7 @@ use Rattle.std.specs.List.{list_any}
 use Rattle.comfy_parts.proofs.EscapedLemmas.{none_by_characters, none_of_control}
 use Rattle.comfy_parts.proofs.cell.text_lines.is_clear_line.Goals as goal
 
--- without a control character
+-- the text has no control character
 pub returns-then-not-has_control-clause-unbroken : goal.returns-then-not-has_control-clause-unbroken
 returns-then-not-has_control-clause-unbroken c =
     let none : list_any (λ b. nat_lt b 0x20) c.args.text.now ≡ false = ap (λ (bs : List ℕ). list_any (λ b. nat_lt b 0x20) bs) (sym c.as_bytes.ensures.value) ∙ sym c.has_control.ensures ∙ c.if-not-has_control.true in

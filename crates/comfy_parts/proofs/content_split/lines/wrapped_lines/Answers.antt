@@ -6,7 +6,7 @@ use Rattle.comfy_parts.specs.Wrapping.{IsWrapped, wrapped}
 use Rattle.comfy_parts.proofs.WrappedLemmas.{wrapped_is_wrapped}
 use Rattle.comfy_parts.proofs.content_split.lines.wrapped_lines.Goals as goal
 
--- at a width that is known by another name
+-- the lines are wrapped also at a width with another name
 wrapped_at : (w n d : ℕ) (text : Text) (lines : List Text) → IsScalar d → IsUtf8 text → n ≡ w → lines ≡ wrapped n d text → IsWrapped w d text lines
 wrapped_at w n d text lines scalar utf8 width are = subst (IsWrapped w d text) (sym (are ∙ ap (λ n. wrapped n d text) width)) (wrapped_is_wrapped w d text scalar utf8)
 

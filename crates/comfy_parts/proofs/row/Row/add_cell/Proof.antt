@@ -80,7 +80,7 @@ add_cell_spec {M} 𝓤 𝓛 𝓜 𝓡 wired =
     some (λ (ws : Lasts g.ended κs a). ‵ (lasts g.ended κs a ws) ⊛ raw (Ends (reference_of r)))))) (id⊢ 𝓤 _) $
     await ! tt $ pick ! (λ r. split ! $ split ! $ move ! (1 ∷ []) $ peeks ! Held _ (shows 𝓛 Held) r (v ∷ []) (λ is.
     move ! (2 ∷ []) $ pick ! (λ ws. split ! $ drop ! $
-    -- [what is ensured; the result; the tokens]
+    -- [the ensured formula; the result; the tokens]
     lands_as ! refl refl ((g_kinds.r.laws M 𝓤 𝓛).typed κs r v is [] (spot_of 𝓤 𝓛.H (env code.function.locals l) 3).0 refl) $
     let x : H.Ghost = ((κs, qs, y.0.2, (r, tt), (v ∷ [], tt)), tt) in
     nothing ! $ move ! (2 ∷ 0 ∷ []) $ join ! $ move ! (2 ∷ 0 ∷ []) $ join ! $
@@ -91,9 +91,9 @@ add_cell_spec {M} 𝓤 𝓛 𝓜 𝓡 wired =
     some (λ (ws' : Lasts h.ended κs (r, tt)). ‵ (lasts h.ended κs (r, tt) ws') ⊛ raw (fact 𝓤 (r' ≡ reference_of r)))))) (id⊢ 𝓤 _) $
     await ! tt $ pick ! (λ r'. split ! $ split ! $ move ! (1 ∷ []) $ peeks ! Lent _ (shows 𝓛 Lent) r' (v' ∷ []) (λ is'.
     move ! (2 ∷ []) $ pick ! (λ ws'. split ! $ drop ! $ heard ! _ (λ e.
-    -- [the result; the tokens; what is ensured]
+    -- [the result; the tokens; the ensured formula]
     lands_as ! refl refl ((f_kinds.r.laws M 𝓤 𝓛).typed κs r' v' is' [] (spot_of 𝓤 𝓛.H (env code.function.locals l) 0).0 refl) $
     rewrite ! 2 (λ (t : Lent.Denot). raw (Ends t)) (sym e) refl $
     returns ! (look_at ! 0 refl) $ free_all ! refl $ nothing ! $ nothing ! $ join ! $ nothing ! $ join ! $
-    -- [what is left of the parameters; the result; the tokens; what is ensured]
+    -- [the rest of the parameters; the result; the tokens; the ensured formula]
     move ! (2 ∷ 0 ∷ 1 ∷ 3 ∷ []) $ by ! (leaves 𝓛 f.ended stayed c (At us) v' r' (tt, (tt, tt)) (tt, (tt, tt)))))))))))))))

@@ -2,7 +2,7 @@ use Rattle.std.proofs.Common.{◌≡◌, length, min}
 use Rattle.comfy_table.specs.TableValue.{constrained}
 use Rattle.comfy_table.proofs.table.columns.set_each.Given as goal
 
--- the constraints so far were set, as far as there are columns
+-- the constraints so far have been set, as far as there are columns
 abbrev pub invariant-loop-constraint : goal.invariant-loop-constraint
 invariant-loop-constraint g l =
     record {

@@ -1,4 +1,4 @@
-//! What is decided of the widths, and the room that is left.
+//! The widths that are decided, and the room that is left.
 
 ghost use Rattle.std.specs.Prelude.{◌≡◌, ◌-◌, IfOk, Some, length, map, slice_set};
 ghost use Rattle.comfy_table.specs.Arrangement.{room_beside_borders};
@@ -14,15 +14,15 @@ use comfy_parts::Result;
 // The content widths of the shown columns while they are decided.
 #[derive(Drop)]
 pub struct Budget {
-    // in list order; none while a column is undecided
+    // in list order; `None` while a column is undecided
     pub widths: Vec<Option<u16>>,
-    // the terminal columns that are left for the contents of the undecided columns
+    // the terminal columns that are left for the contents of undecided columns
     pub room: usize,
 }
 
 impl Budget {
-    // The fixed widths alone, and the room that they, the borders and all paddings leave of the
-    // table's width.
+    // Only fixed widths are decided. The room is the table's width less these widths, the borders
+    // and all paddings.
     pub fn new<C: TableSource>(
         contents: &C,
         columns: &[WidthNeeds<'_>],
@@ -50,14 +50,14 @@ impl Budget {
         Ok(Budget { widths, room })
     }
 
-    // Whether the column at a position is undecided.
+    // Returns true if the column at a position is undecided.
     pub fn is_undecided(&self, position: usize) -> bool
         ensures { result ≡ is_undecided self.now.widths.items position }
     {
         matches!(self.widths.get(position), Some(None))
     }
 
-    // How many columns are undecided.
+    // The number of undecided columns.
     pub fn undecided(&self) -> usize
         ensures { result ≡ undecided_count self.now.widths.items }
     {
@@ -70,8 +70,8 @@ impl Budget {
         count
     }
 
-    // The room that an undecided column has on average, rounded down; 0 where none is undecided.
-    // Their number is passed in, so that a loop needn't count them each time.
+    // The average room of an undecided column, rounded down; 0 if no column is undecided. The
+    // number of undecided columns is a parameter, so that a loop needn't count them each time.
     pub fn average(&self, undecided: usize) -> usize
         requires { undecided ≡ undecided_count self.now.widths.items }
         ensures { result ≡ average_room self.now }
@@ -79,8 +79,7 @@ impl Budget {
         self.room.checked_div(undecided).unwrap_or(0)
     }
 
-    // Decides the width of the column at a position, and takes it from the room, which never falls
-    // below 0.
+    // Decides the width of the column at a position, and subtracts it from the room, down to 0.
     pub fn claim(&mut self, position: usize, width: u16)
         ensures widths { self.new.widths.items
             ≡ slice_set self.old.widths.items position (Some width) }

@@ -1,4 +1,4 @@
-//! Columns whose upper boundary or content the average allows.
+//! Decides columns whose upper boundary or content is at most the level.
 
 ghost use Rattle.std.specs.Prelude.{◌≡◌, ◌≤◌, ◌<◌, Some, length};
 ghost use Rattle.comfy_table.specs.Deciding.{HasSettled, HasTaken, all_needs, average_room, needs_in, undecided_among};
@@ -9,8 +9,8 @@ use super::budget::Budget;
 use super::needs::WidthNeeds;
 use crate::utils::arrangement::helper::absolute_width_with_padding;
 
-// Settles each undecided column whose upper boundary or content is within the level: the average
-// room of the columns that the level leaves. With an average of 0 none is settled.
+// Settles each undecided column whose upper boundary or content is at most the level: the average
+// room of the columns that the level leaves undecided. If the average is 0, no column is settled.
 pub fn settle(columns: &[WidthNeeds<'_>], budget: &mut Budget)
     requires { length budget.old.widths.items ≡ length columns.now }
     ensures { (table : TableValue)
@@ -23,7 +23,8 @@ pub fn settle(columns: &[WidthNeeds<'_>], budget: &mut Budget)
     }
 }
 
-// The level: from the average up, until what it settles leaves no more room on average than it is.
+// The level: starts at the average, and rises until the columns that it leaves undecided have no
+// more average room than the level.
 fn level_from(columns: &[WidthNeeds<'_>], budget: &Budget, average: usize) -> usize
     requires widths { length budget.now.widths.items ≡ length columns.now }
     requires average { average ≡ average_room budget.now }
@@ -41,7 +42,7 @@ fn level_from(columns: &[WidthNeeds<'_>], budget: &Budget, average: usize) -> us
     level
 }
 
-// The average room of the undecided columns that a level leaves; 0 where it leaves none.
+// The average room of the columns that a level leaves undecided; 0 if it leaves none.
 fn average_beside(columns: &[WidthNeeds<'_>], budget: &Budget, level: usize) -> usize
     ensures at_most { result ≤ budget.now.room }
     ensures average { (table : TableValue)
@@ -79,8 +80,8 @@ fn settle_at(columns: &[WidthNeeds<'_>], budget: &mut Budget, level: usize)
     }
 }
 
-// What an undecided column gets at a level: its upper boundary, where the level allows it and the
-// content reaches it, else a content that is at most the level.
+// The width of an undecided column at a level: its upper boundary, if that is at most the level and
+// the content reaches it, or else its content, if that is at most the level.
 fn settled_width(column: &WidthNeeds<'_>, level: usize) -> Option<u16>
     ensures { (table : TableValue) → result ≡ settled_at (Some level) (needs_in table column.now) }
 {

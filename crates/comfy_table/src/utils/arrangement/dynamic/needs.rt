@@ -1,4 +1,4 @@
-//! What the widths of shown columns depend on.
+//! The numbers that the widths of shown columns depend on.
 
 ghost use Rattle.std.specs.Prelude.{◌≡◌, IfOk};
 ghost use Rattle.comfy_parts.specs.CellValue.{column_padding};
@@ -11,23 +11,24 @@ use crate::utils::arrangement::helper::count_visible_columns;
 use crate::utils::arrangement::source::TableSource;
 use comfy_parts::{Column, Result};
 
-// A shown column, and what its width depends on beside its cells. All widths are terminal columns.
+// A shown column with the numbers that its width depends on, besides its cells. All widths are in
+// terminal columns.
 #[derive(Drop)]
 pub struct WidthNeeds<'a> {
     pub column: &'a Column,
-    // in the table's list of columns
+    // its position in the table's list of columns
     pub position: usize,
     // the width of its widest text line
     pub content: u16,
-    // its content width, where the column needs no look at the others
+    // its content width, if that doesn't depend on the other columns
     pub fixed: Option<u16>,
-    // the boundaries of its whole width
+    // the boundaries of its whole width, with paddings
     pub lower: Option<u16>,
     pub upper: Option<u16>,
 }
 
 impl<'a> WidthNeeds<'a> {
-    // The column at a position of the table, over so many shown columns.
+    // The needs of the column at a position of a table with `shown_columns` shown columns.
     fn new<C: TableSource>(
         contents: &C,
         position: usize,
@@ -51,7 +52,7 @@ impl<'a> WidthNeeds<'a> {
         })
     }
 
-    // The paddings of both sides.
+    // The sum of the paddings on both sides.
     pub fn padding(&self) -> usize
         ensures { result ≡ column_padding self.now.column.now }
     {
@@ -60,7 +61,7 @@ impl<'a> WidthNeeds<'a> {
     }
 }
 
-// The shown columns of a table, in list order.
+// The needs of the shown columns of a table, in list order.
 pub fn shown_needs<C: TableSource>(contents: &C) -> Result<Vec<WidthNeeds<'_>>>
     ensures { IfOk result (λ columns. all_needs (C.whole contents.now) columns.items
         ≡ shown_needs (C.whole contents.now)) }

@@ -1,4 +1,4 @@
-//! Columns that take a width one after another, going round the list until none takes one.
+//! Columns that take a width in turn, round and round, until none takes one.
 
 ghost use Rattle.std.specs.Prelude.{◌≡◌, ◌<◌, ◌≤◌, IfOk, OnOk, length};
 ghost use Rattle.comfy_parts.specs.CellValue.{column_padding};
@@ -12,16 +12,16 @@ use crate::utils::arrangement::source::TableSource;
 use comfy_parts::Result;
 use comfy_parts::content_split::ColumnDisplayInfo;
 
-// By what an undecided column takes its width.
+// The reason for which an undecided column takes its width.
 #[derive(Copy, Clone)]
 pub enum Rule {
-    // by a lower boundary above the average
+    // its lower boundary is above the average
     Lower,
-    // by lines that leave three or more terminal columns of the average free
+    // its lines leave three or more terminal columns of the average free
     Shrunk,
 }
 
-// The columns that a rule is tried on.
+// The columns that a rule is applied to.
 #[derive(Drop)]
 pub struct Candidates<'a, C> {
     pub contents: &'a C,
@@ -30,8 +30,8 @@ pub struct Candidates<'a, C> {
 }
 
 impl<'a, C: TableSource> Candidates<'a, C> {
-    // Lets the columns take their widths in turn, until none takes one. A width that is taken
-    // changes the room, and with it the average. No column is tried twice at one average.
+    // Lets the columns take their widths in turn, until none takes one. Each width that is taken
+    // changes the room, and so perhaps the average. No column is tried twice at the same average.
     pub fn go_round(&self, budget: &mut Budget) -> Result<()>
         requires widths { length budget.old.widths.items ≡ length self.now.columns.now }
         requires room { budget.old.room ≤ 65535 }
@@ -40,7 +40,7 @@ impl<'a, C: TableSource> Candidates<'a, C> {
             budget.new) }
     {
         let mut position = 0;
-        // how many columns before the position, going round, take nothing at the average
+        // the number of columns in a row, going round, that took nothing at this average
         let mut passed = 0;
         let mut undecided = budget.undecided();
         let mut average = budget.average(undecided);
@@ -60,7 +60,7 @@ impl<'a, C: TableSource> Candidates<'a, C> {
         Ok(())
     }
 
-    // The position after this one, going round.
+    // The next position, going round.
     fn position_after(&self, position: usize) -> usize
         requires { position < length self.now.columns.now }
         ensures { result ≡ position_after (length self.now.columns.now) position }
@@ -72,8 +72,8 @@ impl<'a, C: TableSource> Candidates<'a, C> {
         }
     }
 
-    // The width that the column at a position takes at this average, where it is undecided and
-    // takes one.
+    // The width that the column at a position takes at this average; `None` if it is decided or
+    // takes none.
     fn width_at(&self, budget: &Budget, position: usize, average: usize) -> Result<Option<u16>>
         requires { average ≤ 65535 }
         ensures { IfOk result (λ width. width ≡ width_at self.now.rule average
@@ -93,7 +93,7 @@ impl<'a, C: TableSource> Candidates<'a, C> {
     }
 }
 
-// What a column takes by its lower boundary, where that is above the average.
+// The width that a column takes for its lower boundary, if that is above the average.
 fn lower_width(column: &WidthNeeds<'_>, average: usize) -> Option<u16>
     ensures { result ≡ lower_of_boundary average
         (column_padding column.now.column.now) column.now.lower }
@@ -106,8 +106,8 @@ fn lower_width(column: &WidthNeeds<'_>, average: usize) -> Option<u16>
     }
 }
 
-// What a column shrinks to where it has this average room: its longest line there, if that leaves
-// three or more terminal columns free.
+// The width that a column shrinks to if it gets this average room: the width of its longest line
+// there, if that leaves three or more terminal columns free.
 fn shrunk_width<C: TableSource>(
     contents: &C,
     column: &WidthNeeds<'_>,

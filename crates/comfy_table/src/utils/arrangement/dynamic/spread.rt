@@ -8,8 +8,8 @@ use super::budget::Budget;
 use comfy_parts::Result;
 use std::alloc::Global;
 
-// The widths at the end. The undecided columns share the room, and have at least one terminal
-// column each. Where none is undecided, full width spreads the room over all columns.
+// The final widths. The undecided columns share the room, and get at least one terminal column
+// each. If no column is undecided and `full` is set, the room is spread over all columns.
 pub fn final_widths(budget: &Budget, full: bool, alloc: Global) -> Result<Vec<u16>>
     requires { HasRoomToSpread budget.now }
     ensures { IfOk result (λ widths. widths.items ≡ final_widths full budget.now) }
@@ -22,7 +22,7 @@ pub fn final_widths(budget: &Budget, full: bool, alloc: Global) -> Result<Vec<u1
     }
 }
 
-// The widths with the undecided columns sharing the room.
+// All widths, with the room shared among the undecided columns.
 fn shared_evenly(budget: &Budget, undecided: usize, alloc: Global) -> Result<Vec<u16>>
     requires room { budget.now.room ≤ 65535 }
     requires count { undecided ≡ undecided_count budget.now.widths.items }
@@ -43,7 +43,7 @@ fn shared_evenly(budget: &Budget, undecided: usize, alloc: Global) -> Result<Vec
     Ok(widths)
 }
 
-// The widths with the room spread over all of them.
+// All widths, with the room spread over all of them.
 fn widened(budget: &Budget, alloc: Global) -> Result<Vec<u16>>
     requires { HasRoomToSpread budget.now }
     ensures { IfOk result (λ widths. widths.items ≡ with_room_spread budget.now) }
@@ -56,8 +56,8 @@ fn widened(budget: &Budget, alloc: Global) -> Result<Vec<u16>>
     Ok(widths)
 }
 
-// The part at an index of so many that share a room evenly: the first parts have one more each,
-// until all is shared.
+// The part at an index of a room in `count` even parts. The first parts are one larger, if the room
+// can't be divided evenly.
 fn even_part(room: usize, count: usize, index: usize) -> u16
     requires some { 0 < count }
     requires fits { room ≤ max 65535 count }

@@ -11,7 +11,7 @@ returns-in-Some c = λ adds.
     let frame : is_frame_character c.in-Some.first ≡ true = grind (arith, adds, c.adds_one_column.ensures.test) in
     subst IsApart (sym c.in-Some.ensures.steps.0 ∙ c.chars.ensures.rest) (frame_apart c.in-Some.first _ frame)
 
--- every text keeps its measure beside an empty one
+-- every text keeps its measure before an empty one
 nothing_apart : IsApart []
 nothing_apart text utf8 = let same = ap measure (append-nil text) in let none = measure-nil in omega (arith, same, none)
 

@@ -7,7 +7,7 @@ use Rattle.comfy_table.specs.RowCells.{cell_in}
 use Rattle.comfy_table.specs.Styling.{styled}
 use Rattle.comfy_table.proofs.utils.formatting.piece.Piece.push.Goals as goal
 
--- six texts in turn
+-- six texts, regrouped
 joined : (line free gap left text right : Text) → ((line ++ (free ++ (gap ++ left))) ++ text) ++ right ≡ line ++ (free ++ (gap ++ (left ++ (text ++ right))))
 joined line free gap left text right =
     append_assoc (line ++ (free ++ (gap ++ left))) text right
