@@ -134,7 +134,7 @@ points-few fields points narrow is = by_tests (marks.are_plain && has_mark marks
     by_tests false true is = let same : marks.comma.longest ≡ points.longest = cc is in let few = longest-few Comma fields narrow in omega (arith, same, few)
     by_tests false false is = absurd (cc is)
 
--- ---- a field with spaces behind it
+-- ---- a field with spaces after it
 
 spaces_printable : (n : ℕ) → Printable (spaces n)
 spaces_printable zero = refl

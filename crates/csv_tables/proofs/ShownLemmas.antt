@@ -14,7 +14,7 @@ use Rattle.csv_tables.specs.Contents.{plain_by, measured_at, shown_by}
 use Rattle.csv_tables.specs.declared.options.ColumnPlan.{ColumnPlan}
 use Rattle.csv_tables.specs.declared.rows.RecordRows.{RecordRows}
 
--- ---- spaces behind a field
+-- ---- spaces after a field
 
 pub spaces_printable : (n : ℕ) → is_printable_ascii (spaces n) ≡ true
 spaces_printable zero = refl
